@@ -1,0 +1,5 @@
+pub mod Units
+pub mod Areas
+pub mod Names
+pub mod Padded
+pub mod Lends
