@@ -1,0 +1,98 @@
+ghost use Rattle.std.specs.Prelude.{◌≡◌, ◌≤◌, None, Err, IfOk, take};
+ghost use Rattle.std.specs.Io.KnownBytes.{Appends};
+ghost use Rattle.outside.specs.Faults.{HasCauseOf, one_more};
+ghost use Rattle.outside.specs.Writing.{Writes, IsPartOf};
+
+use crate::{Failed, Sink, SinkError, Source};
+use std::io::{Read, Write};
+
+/// A source over a reader of std. It tells what is left where the reader does.
+#[derive(Drop)]
+pub struct StdSource<R> {
+    reader: R,
+    faults: u64,
+}
+
+impl<R: Read> StdSource<R> {
+    /// A source with no fault, over what the reader has left. Takes no memory.
+    pub fn new(reader: R) -> StdSource<R>
+        ensures left { ⟦<StdSource<R> as Source>⟧.left result ≡ R.remaining reader }
+        ensures faults { ⟦<StdSource<R> as Source>⟧.faults result ≡ 0 }
+    {
+        StdSource { reader, faults: 0 }
+    }
+}
+
+impl<R: Read> Source for StdSource<R> {
+    ghost left = { λ s. R.remaining s.reader };
+
+    ghost faults = { λ s. s.faults };
+
+    /// Counts each error of the reader.
+    fn read_piece(&mut self, room: &mut [u8]) -> Result<usize, Failed> {
+        match self.reader.read(room) {
+            Ok(count) => Ok(count),
+            Err(_) => {
+                self.faults = self.faults.saturating_add(1);
+                Err(Failed)
+            }
+        }
+    }
+}
+
+/// A sink over a writer of std, which flushes each piece. It does not tell what was written, since a writer may have taken bytes
+/// where the flush fails.
+#[derive(Drop)]
+pub struct StdSink<W> {
+    writer: W,
+    faults: u64,
+}
+
+impl<W: Write> StdSink<W> {
+    /// A sink with no fault. Takes no memory.
+    pub fn new(writer: W) -> StdSink<W>
+        ensures written { ⟦<StdSink<W> as Sink>⟧.written result ≡ None }
+        ensures faults { ⟦<StdSink<W> as Sink>⟧.faults result ≡ 0 }
+    {
+        StdSink { writer, faults: 0 }
+    }
+
+    /// Counts a fault.
+    fn fail(&mut self) -> SinkError
+        ensures error { result ≡ SinkError.Failed }
+        ensures faults { self.new.faults ≡ one_more self.old.faults }
+        ensures later { self.old.faults ≤ self.new.faults }
+    {
+        self.faults = self.faults.saturating_add(1);
+        SinkError::Failed
+    }
+}
+
+impl<W: Write> Sink for StdSink<W> {
+    ghost written = { λ _. None };
+
+    ghost faults = { λ s. s.faults };
+
+    /// Counts each error of the writer, and a piece that is not empty of which it takes nothing.
+    fn write_piece(&mut self, piece: &[u8]) -> Result<usize, SinkError>
+        ensures part { IfOk result (λ n. IsPartOf n piece.now) }
+        ensures bytes { Writes None None result piece.now }
+        ensures cause { HasCauseOf self.old.faults self.new.faults (result ≡ Err SinkError.Failed) }
+        ensures memory { result ≡ Err SinkError.NoMemory → self.new.faults ≡ self.old.faults }
+        ensures passed_on { IfOk result (λ n. Appends (W.contents self.old.writer) (W.contents self.new.writer) (take n piece.now)) }
+    {
+        match self.writer.write(piece) {
+            Ok(0) if !piece.is_empty() => Err(self.fail()),
+            Ok(count) => {
+                if self.writer.flush().is_err() {
+                    return Err(self.fail());
+                }
+                Ok(count)
+            }
+            Err(_) => Err(self.fail()),
+        }
+    }
+}
+
+#[cfg(test)]
+mod tests;

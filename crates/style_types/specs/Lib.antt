@@ -1,0 +1,4 @@
+pub mod Entries
+pub mod Order
+pub mod Styles
+pub mod Table

@@ -1,0 +1,345 @@
+use super::*;
+use lunit::{Area, Copied, LineValue, Lu, Name, NameSet, NoMemory, Sequence, Span};
+use std::alloc::Global;
+use std::process::Abort;
+use std::test::Fail;
+
+/// Each of these properties has this class and this initial value.
+fn begins(
+    rt: &impl Abort,
+    alloc: Global,
+    props: &[Prop],
+    class: Class,
+    value: &Value,
+) -> Result<(), NoMemory> {
+    for p in props {
+        assert_eq!(rt; class_of(*p), class, "class of {p:?}");
+        let initial = initial_of(alloc, *p)?;
+        assert!(rt; initial == *value, "initial value of {p:?}");
+    }
+    Ok(())
+}
+
+fn align(mode: AlignMode) -> Value {
+    Value::Align(Align { mode, safe: None })
+}
+
+fn size(size: Size) -> Value {
+    Value::Size(size)
+}
+
+#[test]
+fn grid_properties_begin_as_in_the_table(rt: HostRuntime) -> Result<(), Fail> {
+    let alloc = rt.alloc();
+    let templates = [Prop::GridTemplateColumns, Prop::GridTemplateRows];
+    begins(
+        &rt,
+        alloc,
+        &templates,
+        Class::Grid,
+        &Value::Template(Template::Absent),
+    )?;
+    begins(
+        &rt,
+        alloc,
+        &[Prop::GridTemplateAreas],
+        Class::Grid,
+        &Value::Areas(None),
+    )?;
+    let auto = TrackFn {
+        least: Breadth::Auto,
+        most: Breadth::Auto,
+        fit: None,
+    };
+    let tracks = Value::Sizes(Sequence::from_slice(alloc, &[auto])?);
+    begins(
+        &rt,
+        alloc,
+        &[Prop::GridAutoColumns, Prop::GridAutoRows],
+        Class::Grid,
+        &tracks,
+    )?;
+    let flow = Value::Flow {
+        column: false,
+        dense: false,
+    };
+    begins(&rt, alloc, &[Prop::GridAutoFlow], Class::Grid, &flow)?;
+    let lines = [
+        Prop::GridColumnStart,
+        Prop::GridColumnEnd,
+        Prop::GridRowStart,
+        Prop::GridRowEnd,
+    ];
+    begins(
+        &rt,
+        alloc,
+        &lines,
+        Class::Grid,
+        &Value::Line(LineValue::Auto),
+    )?;
+    begins(&rt, alloc, &[Prop::Order], Class::Grid, &Value::Order(0))?;
+    begins(
+        &rt,
+        alloc,
+        &[Prop::RowGap, Prop::ColumnGap],
+        Class::Grid,
+        &size(Size::Normal),
+    )?;
+    let edges = [
+        Prop::MarginTop,
+        Prop::MarginRight,
+        Prop::MarginBottom,
+        Prop::MarginLeft,
+        Prop::PaddingTop,
+        Prop::PaddingRight,
+        Prop::PaddingBottom,
+        Prop::PaddingLeft,
+        Prop::BorderTopWidth,
+        Prop::BorderRightWidth,
+        Prop::BorderBottomWidth,
+        Prop::BorderLeftWidth,
+    ];
+    begins(
+        &rt,
+        alloc,
+        &edges,
+        Class::Grid,
+        &size(Size::Length(Lu::of(0))),
+    )?;
+    Ok(())
+}
+
+#[test]
+fn other_properties_begin_as_in_the_table(rt: HostRuntime) -> Result<(), Fail> {
+    let alloc = rt.alloc();
+    let content = Class::Content;
+    let sizes = [
+        Prop::Width,
+        Prop::Height,
+        Prop::MinWidth,
+        Prop::MinHeight,
+        Prop::FlexBasis,
+    ];
+    begins(&rt, alloc, &sizes, content, &size(Size::Auto))?;
+    begins(
+        &rt,
+        alloc,
+        &[Prop::MaxWidth, Prop::MaxHeight],
+        content,
+        &size(Size::Absent),
+    )?;
+    begins(
+        &rt,
+        alloc,
+        &[Prop::BoxSizing],
+        content,
+        &Value::BorderBox(false),
+    )?;
+    begins(
+        &rt,
+        alloc,
+        &[Prop::Overflow],
+        content,
+        &Value::Overflow(Scroll::Visible),
+    )?;
+    let normal = [
+        Prop::JustifyContent,
+        Prop::AlignContent,
+        Prop::JustifyItems,
+        Prop::AlignItems,
+    ];
+    begins(&rt, alloc, &normal, content, &align(AlignMode::Normal))?;
+    begins(
+        &rt,
+        alloc,
+        &[Prop::JustifySelf, Prop::AlignSelf],
+        content,
+        &align(AlignMode::Auto),
+    )?;
+    begins(
+        &rt,
+        alloc,
+        &[Prop::FlexDirection],
+        content,
+        &Value::Column(false),
+    )?;
+    begins(&rt, alloc, &[Prop::FlexWrap], content, &Value::Wrap(false))?;
+    begins(&rt, alloc, &[Prop::FlexGrow], content, &Value::Factor(0))?;
+    begins(
+        &rt,
+        alloc,
+        &[Prop::FlexShrink],
+        content,
+        &Value::Factor(1000),
+    )?;
+    Ok(())
+}
+
+/// Whether the property is set to this value.
+fn holds(style: &Style, p: Prop, value: &Value) -> bool {
+    style.get(p).is_some_and(|held| *held == *value)
+}
+
+/// Sets the property, and finds the value in the style and in its copy.
+fn sets(
+    rt: &impl Abort,
+    alloc: Global,
+    style: &mut Style,
+    p: Prop,
+    value: &Value,
+) -> Result<(), NoMemory> {
+    style.set(p, value.copy(alloc)?)?;
+    assert!(rt; holds(style, p, value), "{p:?} is set");
+    let copy = style.copy(alloc)?;
+    assert!(rt; holds(&copy, p, value), "{p:?} is copied");
+    Ok(())
+}
+
+/// `[a b] 10px [] repeat(auto-fit, [c] minmax(5%, 1fr) []) [] fit-content(20px) []`.
+fn tracks(alloc: Global) -> Result<Template, Fail> {
+    let fixed = Breadth::Length(Lu::of(640));
+    let fixed = TrackFn {
+        least: fixed,
+        most: fixed,
+        fit: None,
+    };
+    let fit = TrackFn {
+        least: Breadth::Auto,
+        most: Breadth::MaxContent,
+        fit: Some(Breadth::Length(Lu::of(1280))),
+    };
+    let part = TrackFn {
+        least: Breadth::Percent(5000),
+        most: Breadth::Flex(1000),
+        fit: None,
+    };
+    let mut edge = NameSet::new(alloc);
+    edge.push(Name::read(b"a")?)?;
+    edge.push(Name::read(b"b")?)?;
+    let mut inner = NameSet::new(alloc);
+    inner.push(Name::read(b"c")?)?;
+    let mut names = Sequence::new(alloc);
+    names.push(edge)?;
+    for _ in 0..3 {
+        names.push(NameSet::new(alloc))?;
+    }
+    let mut repeated = Sequence::new(alloc);
+    repeated.push(inner)?;
+    repeated.push(NameSet::new(alloc))?;
+    Ok(Template::Tracks(TrackList {
+        sizes: Sequence::from_slice(alloc, &[fixed, fit])?,
+        names,
+        repeat: Some(Repeat {
+            before: 1,
+            auto_fit: true,
+            sizes: Sequence::from_slice(alloc, &[part])?,
+            names: repeated,
+        }),
+    }))
+}
+
+/// The areas of `"h h" "n ."`.
+fn areas(alloc: Global) -> Result<Areas, Fail> {
+    let top = Span { start: 0, end: 1 };
+    let bottom = Span { start: 1, end: 2 };
+    let both = Span { start: 0, end: 2 };
+    let head = Area {
+        columns: both,
+        rows: top,
+    };
+    let nav = Area {
+        columns: top,
+        rows: bottom,
+    };
+    Ok(Areas {
+        columns: 2,
+        rows: 2,
+        named: Sequence::from_slice(
+            alloc,
+            &[(Name::read(b"h")?, head), (Name::read(b"n")?, nav)],
+        )?,
+    })
+}
+
+#[test]
+fn each_form_of_value_is_set_and_copied(rt: HostRuntime) -> Result<(), Fail> {
+    let alloc = rt.alloc();
+    let mut style = Style::new(alloc);
+    let template = Value::Template(tracks(alloc)?);
+    sets(&rt, alloc, &mut style, Prop::GridTemplateColumns, &template)?;
+    let mut names = Sequence::new(alloc);
+    names.push(NameSet::new(alloc))?;
+    let subgrid = Value::Template(Template::Subgrid(names));
+    sets(&rt, alloc, &mut style, Prop::GridTemplateRows, &subgrid)?;
+    sets(
+        &rt,
+        alloc,
+        &mut style,
+        Prop::GridTemplateAreas,
+        &Value::Areas(Some(areas(alloc)?)),
+    )?;
+    let auto = initial_of(alloc, Prop::GridAutoRows)?;
+    sets(&rt, alloc, &mut style, Prop::GridAutoRows, &auto)?;
+    let flow = Value::Flow {
+        column: true,
+        dense: false,
+    };
+    sets(&rt, alloc, &mut style, Prop::GridAutoFlow, &flow)?;
+    let line = Value::Line(LineValue::Line(-1, Some(Name::read(b"a")?)));
+    sets(&rt, alloc, &mut style, Prop::GridRowEnd, &line)?;
+    sets(&rt, alloc, &mut style, Prop::Order, &Value::Order(-3))?;
+    sets(
+        &rt,
+        alloc,
+        &mut style,
+        Prop::Height,
+        &size(Size::Percent(50_000)),
+    )?;
+    sets(
+        &rt,
+        alloc,
+        &mut style,
+        Prop::BoxSizing,
+        &Value::BorderBox(true),
+    )?;
+    sets(
+        &rt,
+        alloc,
+        &mut style,
+        Prop::Overflow,
+        &Value::Overflow(Scroll::Hidden),
+    )?;
+    let center = Value::Align(Align {
+        mode: AlignMode::Center,
+        safe: Some(true),
+    });
+    sets(&rt, alloc, &mut style, Prop::AlignSelf, &center)?;
+    sets(
+        &rt,
+        alloc,
+        &mut style,
+        Prop::FlexDirection,
+        &Value::Column(true),
+    )?;
+    sets(&rt, alloc, &mut style, Prop::FlexWrap, &Value::Wrap(true))?;
+    sets(&rt, alloc, &mut style, Prop::FlexGrow, &Value::Factor(250))?;
+    assert!(rt; holds(&style, Prop::GridTemplateColumns, &template));
+    Ok(())
+}
+
+#[test]
+fn the_last_value_counts_until_it_is_unset(rt: HostRuntime) -> Result<(), Fail> {
+    let alloc = rt.alloc();
+    let mut style = Style::new(alloc);
+    assert!(rt; style.get(Prop::Order).is_none());
+    style.set(Prop::Order, Value::Order(1))?;
+    style.set(Prop::FlexGrow, Value::Factor(500))?;
+    style.set(Prop::Order, Value::Order(2))?;
+    assert!(rt; holds(&style, Prop::Order, &Value::Order(2)));
+    style.unset(Prop::Order);
+    assert!(rt; style.get(Prop::Order).is_none());
+    assert!(rt; holds(&style, Prop::FlexGrow, &Value::Factor(500)));
+    style.unset(Prop::Width);
+    assert!(rt; holds(&style, Prop::FlexGrow, &Value::Factor(500)));
+    Ok(())
+}

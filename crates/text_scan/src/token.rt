@@ -1,0 +1,119 @@
+ghost use Rattle.std.specs.Prelude.{◌≡◌, ◌+◌, ◌<◌, ◌≤◌, length, drop, None, IfOk, position};
+ghost use Rattle.std.specs.List.{list_all, position_or_len};
+ghost use Rattle.text_scan.specs.Tokens.{is_space, is_mark, is_separator, is_comment_mark, before_comment, front_length, tokens_from, tokens_of, is_skipped};
+
+use crate::line::Line;
+use crate::slices::from_index;
+use lunit::NoMemory;
+use std::alloc::Global;
+
+/// The span of a token in its line's bytes: from index `start` up to, not including, `end`.
+#[derive(Clone, Copy, Debug, PartialEq, Eq)]
+pub struct Token {
+    pub start: usize,
+    pub end: usize,
+}
+
+/// The tokens of a line without a fault, in order: each mark of `{ } ( ) [ ] : ; , /`, and each longest run of bytes
+/// that are neither spaces nor marks. The comment is left out first: it goes from the first `#` to the end of the
+/// line, also inside quotes (own rule). Answers `NoMemory` where memory is wanting.
+pub fn tokens(alloc: Global, line: &Line) -> Result<Vec<Token>, NoMemory>
+    requires { line.now.fault ≡ None }
+    ensures { IfOk result (λ tokens. tokens.items ≡ tokens_of line.now.bytes) }
+{
+    split_tokens(alloc, before_comment(line.bytes.as_slice()))
+}
+
+impl Line {
+    /// Whether the line is skipped: it has no fault and holds nothing but spaces and, perhaps, a comment (own rule).
+    /// Takes no memory.
+    pub fn is_skipped(&self) -> bool
+        ensures { result ≡ is_skipped self.now }
+    {
+        self.fault.is_none() && is_blank(before_comment(self.bytes.as_slice()))
+    }
+}
+
+fn split_tokens(alloc: Global, bytes: &[u8]) -> Result<Vec<Token>, NoMemory>
+    ensures { IfOk result (λ tokens. tokens.items ≡ tokens_from 0 bytes.now) }
+{
+    let mut tokens = Vec::new(alloc);
+    let mut at = 0;
+    while at < bytes.len() {
+        let length = front_length(bytes, at);
+        if length == 0 {
+            at += 1;
+        } else {
+            tokens.push(Token {
+                start: at,
+                end: at + length,
+            })?;
+            at += length;
+        }
+    }
+    Ok(tokens)
+}
+
+/// The length of the token at an index, or 0 where a space stands.
+fn front_length(bytes: &[u8], at: usize) -> usize
+    requires { at < length bytes.now }
+    ensures length { result ≡ front_length (drop at bytes.now) }
+    ensures within { at + result ≤ length bytes.now }
+{
+    if is_mark(bytes[at]) {
+        return 1;
+    }
+    word_length(from_index(bytes, at))
+}
+
+/// How many bytes stand before the first space or mark.
+fn word_length(bytes: &[u8]) -> usize
+    ensures { result ≡ position_or_len is_separator bytes.now }
+{
+    match first_separator(bytes) {
+        Some(at) => at,
+        None => bytes.len(),
+    }
+}
+
+fn first_separator(bytes: &[u8]) -> Option<usize>
+    ensures { result ≡ position is_separator bytes.now }
+{
+    bytes
+        .iter()
+        .position(|byte| *byte == b' ' || is_mark(*byte))
+}
+
+fn is_mark(byte: u8) -> bool
+    ensures { result ≡ is_mark byte }
+{
+    matches!(
+        byte,
+        b'{' | b'}' | b'(' | b')' | b'[' | b']' | b':' | b';' | b',' | b'/'
+    )
+}
+
+/// The bytes before the first `#`, or all where there is none.
+fn before_comment(bytes: &[u8]) -> &[u8]
+    ensures { result.now ≡ before_comment bytes.now }
+{
+    match comment_start(bytes) {
+        Some(at) => {
+            let (front, _) = bytes.split_at(at);
+            front
+        }
+        None => bytes,
+    }
+}
+
+fn comment_start(bytes: &[u8]) -> Option<usize>
+    ensures { result ≡ position is_comment_mark bytes.now }
+{
+    bytes.iter().position(|byte| *byte == b'#')
+}
+
+fn is_blank(bytes: &[u8]) -> bool
+    ensures { result ≡ list_all is_space bytes.now }
+{
+    bytes.iter().all(|byte| *byte == b' ')
+}
