@@ -95,12 +95,12 @@ pub enum Prop {
     FlexBasis,
 }
 
-/// What an edit of a property can change beyond the node itself and those above it (own rule).
+/// What an edit of a property reaches beside the node and those above it (own rule).
 #[derive(Clone, Copy, Debug, PartialEq, Eq)]
 pub enum Class {
-    /// The grid of the node or of its parent, and with it the subgrids below.
+    /// The subgrids below the node and below its parent too: it can change lines, gaps or edges that they see.
     Grid,
-    /// The size of the node and what stands in it, and no grid's lines or gutters.
+    /// No more: it changes sizes and positions alone.
     Content,
 }
 

@@ -180,22 +180,7 @@ fn holds(style: &Style, p: Prop, value: &Value) -> bool {
     style.get(p).is_some_and(|held| *held == *value)
 }
 
-/// Sets the property, and finds the value in the style and in its copy.
-fn sets(
-    rt: &impl Abort,
-    alloc: Global,
-    style: &mut Style,
-    p: Prop,
-    value: &Value,
-) -> Result<(), NoMemory> {
-    style.set(p, value.copy(alloc)?)?;
-    assert!(rt; holds(style, p, value), "{p:?} is set");
-    let copy = style.copy(alloc)?;
-    assert!(rt; holds(&copy, p, value), "{p:?} is copied");
-    Ok(())
-}
-
-/// `[a b] 10px [] repeat(auto-fit, [c] minmax(5%, 1fr) []) [] fit-content(20px) []`.
+/// `[a b] 10px [] repeat(auto-fit, [c] minmax(5%, 1fr) []) [] minmax(auto, 20px) []`.
 fn tracks(alloc: Global) -> Result<Template, Fail> {
     let fixed = Breadth::Length(Lu::of(640));
     let fixed = TrackFn {
@@ -203,10 +188,10 @@ fn tracks(alloc: Global) -> Result<Template, Fail> {
         most: fixed,
         fit: None,
     };
-    let fit = TrackFn {
+    let limited = TrackFn {
         least: Breadth::Auto,
-        most: Breadth::MaxContent,
-        fit: Some(Breadth::Length(Lu::of(1280))),
+        most: Breadth::Length(Lu::of(1280)),
+        fit: None,
     };
     let part = TrackFn {
         least: Breadth::Percent(5000),
@@ -227,7 +212,7 @@ fn tracks(alloc: Global) -> Result<Template, Fail> {
     repeated.push(inner)?;
     repeated.push(NameSet::new(alloc))?;
     Ok(Template::Tracks(TrackList {
-        sizes: Sequence::from_slice(alloc, &[fixed, fit])?,
+        sizes: Sequence::from_slice(alloc, &[fixed, limited])?,
         names,
         repeat: Some(Repeat {
             before: 1,
@@ -261,69 +246,75 @@ fn areas(alloc: Global) -> Result<Areas, Fail> {
     })
 }
 
+/// A value of each form that stands for lists.
+fn lists(alloc: Global) -> Result<Vec<(Prop, Value)>, Fail> {
+    let mut names = Sequence::new(alloc);
+    names.push(NameSet::new(alloc))?;
+    let subgrid = Template::Subgrid(names);
+    let template = tracks(alloc)?;
+    let areas = areas(alloc)?;
+    let fit = TrackFn {
+        least: Breadth::Auto,
+        most: Breadth::MaxContent,
+        fit: Some(Breadth::Percent(20_000)),
+    };
+    let rows = Sequence::from_slice(alloc, &[fit])?;
+    Ok(vec![in alloc;
+        (Prop::GridTemplateColumns, Value::Template(template)),
+        (Prop::GridTemplateRows, Value::Template(subgrid)),
+        (Prop::GridTemplateAreas, Value::Areas(Some(areas))),
+        (Prop::GridAutoRows, Value::Sizes(rows)),
+    ]?)
+}
+
+/// A value of each other form.
+fn words(alloc: Global) -> Result<Vec<(Prop, Value)>, Fail> {
+    let line = LineValue::Line(-1, Some(Name::read(b"a")?));
+    Ok(vec![in alloc;
+        (
+            Prop::GridAutoFlow,
+            Value::Flow {
+                column: true,
+                dense: false
+            }
+        ),
+        (Prop::GridRowEnd, Value::Line(line)),
+        (Prop::Order, Value::Order(-3)),
+        (Prop::Height, Value::Size(Size::Percent(50_000))),
+        (Prop::BoxSizing, Value::BorderBox(true)),
+        (Prop::Overflow, Value::Overflow(Scroll::Hidden)),
+        (
+            Prop::AlignSelf,
+            Value::Align(Align {
+                mode: AlignMode::Center,
+                safe: Some(true)
+            })
+        ),
+        (Prop::FlexDirection, Value::Column(true)),
+        (Prop::FlexWrap, Value::Wrap(true)),
+        (Prop::FlexGrow, Value::Factor(250)),
+    ]?)
+}
+
+/// Sets all of these, and finds each in the style and in its copy.
+fn sets(rt: &impl Abort, alloc: Global, values: &[(Prop, Value)]) -> Result<(), NoMemory> {
+    let mut style = Style::new(alloc);
+    for (p, value) in values {
+        style.set(*p, value.copy(alloc)?)?;
+    }
+    let copy = style.copy(alloc)?;
+    for (p, value) in values {
+        assert!(rt; holds(&style, *p, value), "{p:?} is set");
+        assert!(rt; holds(&copy, *p, value), "{p:?} is copied");
+    }
+    Ok(())
+}
+
 #[test]
 fn each_form_of_value_is_set_and_copied(rt: HostRuntime) -> Result<(), Fail> {
     let alloc = rt.alloc();
-    let mut style = Style::new(alloc);
-    let template = Value::Template(tracks(alloc)?);
-    sets(&rt, alloc, &mut style, Prop::GridTemplateColumns, &template)?;
-    let mut names = Sequence::new(alloc);
-    names.push(NameSet::new(alloc))?;
-    let subgrid = Value::Template(Template::Subgrid(names));
-    sets(&rt, alloc, &mut style, Prop::GridTemplateRows, &subgrid)?;
-    sets(
-        &rt,
-        alloc,
-        &mut style,
-        Prop::GridTemplateAreas,
-        &Value::Areas(Some(areas(alloc)?)),
-    )?;
-    let auto = initial_of(alloc, Prop::GridAutoRows)?;
-    sets(&rt, alloc, &mut style, Prop::GridAutoRows, &auto)?;
-    let flow = Value::Flow {
-        column: true,
-        dense: false,
-    };
-    sets(&rt, alloc, &mut style, Prop::GridAutoFlow, &flow)?;
-    let line = Value::Line(LineValue::Line(-1, Some(Name::read(b"a")?)));
-    sets(&rt, alloc, &mut style, Prop::GridRowEnd, &line)?;
-    sets(&rt, alloc, &mut style, Prop::Order, &Value::Order(-3))?;
-    sets(
-        &rt,
-        alloc,
-        &mut style,
-        Prop::Height,
-        &size(Size::Percent(50_000)),
-    )?;
-    sets(
-        &rt,
-        alloc,
-        &mut style,
-        Prop::BoxSizing,
-        &Value::BorderBox(true),
-    )?;
-    sets(
-        &rt,
-        alloc,
-        &mut style,
-        Prop::Overflow,
-        &Value::Overflow(Scroll::Hidden),
-    )?;
-    let center = Value::Align(Align {
-        mode: AlignMode::Center,
-        safe: Some(true),
-    });
-    sets(&rt, alloc, &mut style, Prop::AlignSelf, &center)?;
-    sets(
-        &rt,
-        alloc,
-        &mut style,
-        Prop::FlexDirection,
-        &Value::Column(true),
-    )?;
-    sets(&rt, alloc, &mut style, Prop::FlexWrap, &Value::Wrap(true))?;
-    sets(&rt, alloc, &mut style, Prop::FlexGrow, &Value::Factor(250))?;
-    assert!(rt; holds(&style, Prop::GridTemplateColumns, &template));
+    sets(&rt, alloc, lists(alloc)?.as_slice())?;
+    sets(&rt, alloc, words(alloc)?.as_slice())?;
     Ok(())
 }
 
