@@ -1,7 +1,7 @@
 -- When a line is due, and how long it is.
-use Rattle.std.proofs.Common.{◌≡◌, refl, ap, sym, subst, ◌∙◌, ℕ, zero, suc, ◌+◌, ◌<◌, ◌≤◌, Bool, true, false, not, ◌&&◌, ◌||◌, cond, eqb, List, length, Option, Some, None, MatchOption, inl, inr, ◌⊎◌, arith, rules}
-use Rattle.std.specs.List.{position_or_len, list_any}
-use Rattle.std.proofs.lemmas.Bool.{cases_lt, cases_Bool, cond-true, cond-false, lt-ltb, le-ltb, false≢true}
+use Rattle.std.proofs.Common.{◌≡◌, refl, ap, sym, subst, ◌∙◌, ℕ, zero, suc, ◌<◌, ◌≤◌, Bool, true, false, not, ◌&&◌, ◌||◌, cond, eqb, List, length, Option, Some, None, MatchOption, inl, inr, ◌⊎◌, arith}
+use Rattle.std.specs.List.{position_or_len}
+use Rattle.std.proofs.lemmas.Bool.{cases_lt, cases_Bool, cond-true, lt-ltb, le-ltb, false≢true}
 use Rattle.text_scan.specs.Lines.{is_line_feed, has_line_feed}
 use Rattle.text_scan.specs.Stream.{is_empty, is_line_due, due_length}
 use Rattle.text_scan.proofs.Front.{position_or_len-le, list_any_is}
@@ -46,9 +46,11 @@ due_cases ended held r e = by_cases (cases_lt (position_or_len is_line_feed held
   where
     result_is : (s : Option ℕ) → s ≡ due_length ended held → MatchOption s (NoneIsDue ended held) (LineIsDue ended held) → MatchOption r (NoneIsDue ended held) (LineIsDue ended held)
     result_is s q m = subst (λ (o : Option ℕ). MatchOption o (NoneIsDue ended held) (LineIsDue ended held)) (q ∙ sym e) m
+
     at_end : position_or_len is_line_feed held ≡ length held → ((ended && not (is_empty held)) ≡ true) ⊎ ((ended && not (is_empty held)) ≡ false) → MatchOption r (NoneIsDue ended held) (LineIsDue ended held)
     at_end same (inl t) = result_is (Some (length held)) (ap Some (sym same) ∙ sym (cond-true (is_line_due ended held) _ _ (due_at_end ended held same ∙ t))) (record { due = due_at_end ended held same ∙ t; at_feed = sym same; some = some_held ended (length held) t })
     at_end same (inr f) = result_is None (ap (λ (b : Bool). cond b (Some (length held)) None) (sym f) ∙ length_at_end ended held same) (record { none = due_at_end ended held same ∙ f; no_feed = same })
+
     by_cases : (position_or_len is_line_feed held < length held) ⊎ (length held ≤ position_or_len is_line_feed held) → MatchOption r (NoneIsDue ended held) (LineIsDue ended held)
     by_cases (inl lt) = result_is (Some (position_or_len is_line_feed held)) (length_by_feed ended held lt) (record { due = due_by_feed ended held lt; at_feed = refl; some = omega arith })
     by_cases (inr ge) = at_end (omega (arith, position_or_len-le is_line_feed held)) (cases_Bool (ended && not (is_empty held)))

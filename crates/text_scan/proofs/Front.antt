@@ -1,8 +1,8 @@
 -- The first element of a list that passes a test.
-use Rattle.std.proofs.Common.{◌≡◌, refl, ap, sym, subst, ◌∙◌, ℕ, zero, suc, ◌+◌, ◌-◌, ◌<◌, ◌≤◌, Bool, true, false, not, ◌||◌, cond, ltb, List, [], ◌∷◌, ◌++◌, length, take, drop, Option, Some, None, MatchOption, inl, inr, ◌⊎◌, arith, rules, length-drop}
+use Rattle.std.proofs.Common.{◌≡◌, refl, ap, sym, subst, ◌∙◌, ℕ, zero, suc, ◌+◌, ◌<◌, ◌≤◌, Bool, true, false, not, ◌||◌, cond, ltb, List, [], ◌∷◌, ◌++◌, length, drop, Option, Some, None, MatchOption, inl, inr, ◌⊎◌, arith, length-drop}
 use Rattle.std.specs.List.{position, position_or_len, list_any}
 use Rattle.std.specs.Option.{option_map}
-use Rattle.std.proofs.lemmas.Bool.{cases_lt, cases_Bool, cond-true, cond-false, lt-ltb, le-ltb}
+use Rattle.std.proofs.lemmas.Bool.{cases_lt, cond-true, cond-false, lt-ltb, le-ltb}
 use Rattle.std.proofs.lemmas.List.Sums.{prefix_len-le-length}
 
 pub position_or_len-le : {X : Type 0} (p : X → Bool) (xs : List X) → position_or_len p xs ≤ length xs
@@ -55,6 +55,7 @@ position-drop p xs k h = by_cases (cases_lt (position_or_len p xs) (length xs))
   where
     same : position_or_len p xs ≡ k + position_or_len p (drop k xs)
     same = position_or_len-drop p xs k h
+
     by_cases : (position_or_len p xs < length xs) ⊎ (length xs ≤ position_or_len p xs) → position p xs ≡ option_map (λ i. k + i) (position p (drop k xs))
     by_cases (inl lt) = position_found p xs lt ∙ ap Some same ∙ ap (option_map (λ i. k + i)) (sym (position_found p (drop k xs) (omega (arith, same, length-drop k xs))))
     by_cases (inr ge) = position_absent p xs ge ∙ ap (option_map (λ i. k + i)) (sym (position_absent p (drop k xs) (omega (arith, same, length-drop k xs))))
@@ -65,6 +66,7 @@ position_cases p xs r e = by_cases (cases_lt (position_or_len p xs) (length xs))
   where
     result_is : (s : Option ℕ) → r ≡ s → MatchOption s (position_or_len p xs ≡ length xs) (λ k. (k ≡ position_or_len p xs) × (k < length xs)) → MatchOption r (position_or_len p xs ≡ length xs) (λ k. (k ≡ position_or_len p xs) × (k < length xs))
     result_is s q m = subst (λ (o : Option ℕ). MatchOption o (position_or_len p xs ≡ length xs) (λ k. (k ≡ position_or_len p xs) × (k < length xs))) (sym q) m
+
     by_cases : (position_or_len p xs < length xs) ⊎ (length xs ≤ position_or_len p xs) → MatchOption r (position_or_len p xs ≡ length xs) (λ k. (k ≡ position_or_len p xs) × (k < length xs))
     by_cases (inl lt) = result_is (Some (position_or_len p xs)) (e ∙ position_found p xs lt) (refl, lt)
     by_cases (inr ge) = result_is None (e ∙ position_absent p xs ge) (omega (arith, position_or_len-le p xs))

@@ -5,3 +5,5 @@ pub mod Taken
 pub mod Splits
 pub mod Reading
 pub mod Runs
+pub mod Found
+pub mod Blank

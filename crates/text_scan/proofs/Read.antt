@@ -1,8 +1,7 @@
 -- A line that is read.
-use Rattle.std.proofs.Common.{◌≡◌, refl, ap, sym, ◌∙◌, ℕ, ◌+◌, ◌<◌, ◌≤◌, List, length, take, min, Option, inl, inr, ◌⊎◌, arith, rules, take_all}
+use Rattle.std.proofs.Common.{◌≡◌, ap, sym, ◌∙◌, ℕ, ◌<◌, ◌≤◌, List, length, take, min, Option, inl, inr, ◌⊎◌, arith, take_all}
 use Rattle.std.proofs.lemmas.Bool.{cases_lt}
 use Rattle.text_scan.specs.declared.line.Fault.{Fault}
-use Rattle.text_scan.specs.declared.line.Line.{Line}
 use Rattle.text_scan.specs.Lines.{line_fault, line_of}
 
 pub take_min : {X : Type 0} (xs : List X) (n : ℕ) → take (min (length xs) n) xs ≡ take n xs

@@ -1,10 +1,10 @@
 -- The token that bytes begin with, and the tokens after it.
-use Rattle.std.proofs.Common.{◌≡◌, refl, ap, sym, subst, ◌∙◌, ℕ, zero, suc, ◌+◌, ◌<◌, ◌≤◌, Bool, true, false, not, ◌||◌, cond, List, [], ◌∷◌, length, drop, inl, inr, ◌⊎◌, arith, length-drop, get_or, drop-cons}
+use Rattle.std.proofs.Common.{◌≡◌, refl, ap, sym, ◌∙◌, ℕ, suc, ◌+◌, ◌<◌, ◌≤◌, Bool, true, false, not, ◌||◌, cond, List, [], ◌∷◌, length, drop, inl, inr, ◌⊎◌, arith, length-drop, get_or, drop-cons}
 use Rattle.std.specs.List.{position_or_len}
-use Rattle.std.proofs.lemmas.Bool.{cases_Bool, cond-true, cond-false, false≢true}
+use Rattle.std.proofs.lemmas.Bool.{cases_Bool, cond-true, cond-false}
 use Rattle.std.proofs.lemmas.List.{drop-drop}
 use Rattle.text_scan.specs.declared.token.Token.{Token}
-use Rattle.text_scan.specs.Tokens.{is_space, is_mark, is_separator, word_goes_on, token_at, word_from, tokens_from, front_length}
+use Rattle.text_scan.specs.Tokens.{is_space, is_mark, is_separator, token_at, word_from, tokens_from, front_length}
 use Rattle.text_scan.proofs.Front.{position_or_len-le}
 
 alone : (at : ℕ) (tokens : List Token) → word_from at false tokens ≡ token_at at (at + 1) ∷ tokens
@@ -27,22 +27,22 @@ run_step false at c n cs e ih =
     ∙ ap (λ (k : ℕ). token_then at (at + 1 + (1 + n)) (drop k (c ∷ cs))) cut
 
 -- a byte of a word begins the longest run of such bytes
-run : (at b : ℕ) (bs : List ℕ) → is_separator b ≡ false → tokens_from at (b ∷ bs) ≡ token_then at (at + 1 + position_or_len is_separator bs) (drop (position_or_len is_separator bs) bs)
+pub run : (at b : ℕ) (bs : List ℕ) → is_separator b ≡ false → tokens_from at (b ∷ bs) ≡ token_then at (at + 1 + position_or_len is_separator bs) (drop (position_or_len is_separator bs) bs)
 run at b [] e = cond-false (is_separator b) _ _ e ∙ ap (λ (k : ℕ). token_at at k ∷ []) (omega arith)
 run at b (c ∷ cs) e = cond-false (is_separator b) _ _ e
     ∙ run_step (is_separator c) at c (position_or_len is_separator cs) cs refl (λ f. run (at + 1) c cs f)
 
-mark_separates : (b : ℕ) → is_mark b ≡ true → is_separator b ≡ true
+pub mark_separates : (b : ℕ) → is_mark b ≡ true → is_separator b ≡ true
 mark_separates b m = ap (λ (t : Bool). is_space b || t) m ∙ or_true (is_space b)
   where
     or_true : (a : Bool) → (a || true) ≡ true
     or_true true = refl
     or_true false = refl
 
-mark_first : (at b : ℕ) (bs : List ℕ) → is_mark b ≡ true → tokens_from at (b ∷ bs) ≡ token_then at (at + 1) bs
+pub mark_first : (at b : ℕ) (bs : List ℕ) → is_mark b ≡ true → tokens_from at (b ∷ bs) ≡ token_then at (at + 1) bs
 mark_first at b bs m = cond-true (is_separator b) _ _ (mark_separates b m) ∙ cond-true (is_mark b) _ _ m
 
-space_first : (at b : ℕ) (bs : List ℕ) → is_mark b ≡ false → is_separator b ≡ true → tokens_from at (b ∷ bs) ≡ tokens_from (at + 1) bs
+pub space_first : (at b : ℕ) (bs : List ℕ) → is_mark b ≡ false → is_separator b ≡ true → tokens_from at (b ∷ bs) ≡ tokens_from (at + 1) bs
 space_first at b bs m s = cond-true (is_separator b) _ _ s ∙ cond-false (is_mark b) _ _ m
 
 -- the length of a token is that of its mark or its run
@@ -55,10 +55,10 @@ word_length b bs m s = sym (cond-false (is_mark b) _ _ m ∙ ap (λ (t : Bool). 
 space_length : (b : ℕ) (bs : List ℕ) → is_mark b ≡ false → is_separator b ≡ true → 0 ≡ front_length (b ∷ bs)
 space_length b bs m s = sym (cond-false (is_mark b) _ _ m ∙ ap (λ (t : Bool). cond (not t) (1 + position_or_len is_separator bs) 0) s)
 
-record Kind (b : ℕ) : Type 0 where
+pub record Kind (b : ℕ) : Type 0 where
   pub kind : (is_mark b ≡ true) ⊎ ((is_mark b ≡ false) × (is_separator b ≡ false) ⊎ (is_mark b ≡ false) × (is_separator b ≡ true))
 
-kind_of : (b : ℕ) → Kind b
+pub kind_of : (b : ℕ) → Kind b
 kind_of b = by_mark (cases_Bool (is_mark b)) (cases_Bool (is_separator b))
   where
     by_mark : (is_mark b ≡ true) ⊎ (is_mark b ≡ false) → (is_separator b ≡ true) ⊎ (is_separator b ≡ false) → Kind b

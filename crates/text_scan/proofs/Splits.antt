@@ -1,7 +1,7 @@
 -- How the lines of a text follow from the lines of its parts.
-use Rattle.std.proofs.Common.{◌≡◌, refl, ap, sym, subst, ◌∙◌, ℕ, zero, suc, ◌+◌, ◌<◌, ◌≤◌, Bool, true, false, not, ◌||◌, cond, List, [], ◌∷◌, ◌++◌, length, take, drop, inl, inr, ◌⊎◌, arith, rules, append_assoc}
-use Rattle.std.specs.List.{position_or_len, before_first, after_first, list_any}
-use Rattle.std.proofs.lemmas.Bool.{cases_lt, cases_Bool, cond-true, cond-false, false≢true, eqb-true}
+use Rattle.std.proofs.Common.{◌≡◌, refl, ap, sym, subst, ◌∙◌, ℕ, suc, ◌+◌, ◌<◌, Bool, true, false, not, ◌||◌, cond, List, [], ◌∷◌, ◌++◌, length, take, drop, arith}
+use Rattle.std.specs.List.{position_or_len, before_first, after_first}
+use Rattle.std.proofs.lemmas.Bool.{cond-true, cond-false, false≢true, eqb-true}
 use Rattle.std.proofs.lemmas.List.Folds.{list_any-append}
 use Rattle.std.proofs.lemmas.List.Sums.{split_at_first, passes_at_first}
 use Rattle.text_scan.specs.declared.line.Line.{Line}
@@ -14,7 +14,7 @@ first_step : (t : Bool) (b n : ℕ) (bs more : List ℕ)
     → cond (not t) (1 + n) 0 < suc (length bs)
     → cond t ([] ∷ split_lines (bs ++ more)) (onto_first b (split_lines (bs ++ more))) ≡ take (cond (not t) (1 + n) 0) (b ∷ bs) ∷ split_lines (drop (cond (not t) (1 + n) 0 + 1) (b ∷ bs) ++ more)
 first_step true b n bs more ih h = refl
-first_step false b n bs more ih h = 
+first_step false b n bs more ih h =
     let front : suc n ≡ 1 + n = omega arith in
     let rest : suc (n + 1) ≡ 1 + n + 1 = omega arith in
     ap (onto_first b) (ih (omega arith))
@@ -35,7 +35,7 @@ line_step true b n bs more e ih h = refl
 line_step false b n bs more e ih h =
     let front : suc n ≡ 1 + n = omega arith in
     let step : split_lines (b ∷ take n bs ++ 10 ∷ more) ≡ (b ∷ take n bs) ∷ split_lines more =
-        cond-false (is_line_feed b) _ _ e ∙ ap (onto_first b) (ih (omega arith)) in
+    cond-false (is_line_feed b) _ _ e ∙ ap (onto_first b) (ih (omega arith)) in
     subst (λ (k : ℕ). split_lines (take k (b ∷ bs) ++ 10 ∷ more) ≡ take k (b ∷ bs) ∷ split_lines more) front step
 
 -- that line by itself

@@ -1,5 +1,5 @@
 -- What the fields of a reader of lines hold.
-use Rattle.std.specs.Prelude.{◌≡◌, ℕ, ◌+◌, ◌-◌, ◌≤◌, length, drop}
+use Rattle.std.specs.Prelude.{◌+◌, ◌-◌, ◌≤◌, length, drop}
 use Rattle.std.specs.List.{position_or_len}
 use Rattle.text_scan.specs.Lines.{is_line_feed}
 use Rattle.text_scan.specs.Stream.{Stream}

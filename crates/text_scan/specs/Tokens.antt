@@ -1,5 +1,5 @@
 -- The tokens of a line.
-use Rattle.std.specs.Prelude.{◌≡◌, refl, ℕ, ◌+◌, Bool, true, false, not, ◌&&◌, ◌||◌, ◌==◌, is_none, if◌then◌else◌, List, [], ◌∷◌, codes}
+use Rattle.std.specs.Prelude.{◌≡◌, refl, ℕ, ◌+◌, ◌<◌, ◌≤◌, ◌↔◌, ◌⊎◌, Bool, true, false, not, ◌&&◌, ◌||◌, ◌==◌, is_none, if◌then◌else◌, List, [], ◌∷◌, length, slice_index, Contains, AllPairs, codes}
 use Rattle.std.specs.List.{before_first, list_any, list_all, position_or_len}
 use Rattle.text_scan.specs.declared.line.Line.{Line}
 use Rattle.text_scan.specs.declared.token.Token.{Token}
@@ -43,6 +43,30 @@ tokens_from at [] = []
 tokens_from at (byte ∷ bytes) =
     if is_separator byte then (if is_mark byte then token_at at (at + 1) ∷ tokens_from (at + 1) bytes else tokens_from (at + 1) bytes)
     else word_from at (word_goes_on bytes) (tokens_from (at + 1) bytes)
+
+-- ---- the same by what a token is, whatever the order in which tokens are found
+
+-- A token that is one mark.
+pub record IsMarkToken (bytes : List ℕ) (token : Token) : Type 0 where
+  pub within : token.start < length bytes
+  pub mark : is_mark (slice_index bytes token.start) ≡ true
+  pub one : token.end ≡ token.start + 1
+
+-- A token that is a longest run of bytes that are neither spaces nor marks.
+pub record IsWordToken (bytes : List ℕ) (token : Token) : Type 0 where
+  pub some : token.start < token.end
+  pub within : token.end ≤ length bytes
+  pub run : (k : ℕ) → token.start ≤ k → k < token.end → is_separator (slice_index bytes k) ≡ false
+  pub before : (k : ℕ) → k + 1 ≡ token.start → is_separator (slice_index bytes k) ≡ true
+  pub after : token.end < length bytes → is_separator (slice_index bytes token.end) ≡ true
+
+abbrev pub IsToken : List ℕ → Token → Type 0
+IsToken bytes token = IsMarkToken bytes token ⊎ IsWordToken bytes token
+
+-- These are all tokens of the bytes, in order, and no others.
+pub record AreTokens (bytes : List ℕ) (tokens : List Token) : Type 0 where
+  pub each : (token : Token) → Contains tokens token ↔ IsToken bytes token
+  pub ordered : AllPairs (λ a b. a.end ≤ b.start) tokens
 
 -- The length of the token that the bytes begin with, or 0 where they begin with a space.
 abbrev pub front_length : List ℕ → ℕ

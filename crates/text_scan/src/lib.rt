@@ -4,9 +4,14 @@
 
 pub mod line;
 pub mod lines;
+pub mod pieces;
 mod slices;
 pub mod token;
 
-pub use line::{Fault, Line, Place};
-pub use lines::Lines;
-pub use token::{Token, tokens};
+pub use line::{BAD_BYTE, Fault, LINE_TOO_LONG, Line, MAX_LINE, Place};
+pub use lines::{Lines, MAX_FED};
+pub use pieces::read_lines;
+pub use token::{Token, tokens, tokens_in};
+
+#[cfg(test)]
+mod tests;

@@ -4,10 +4,16 @@ ghost use Rattle.text_scan.specs.Lines.{is_printable, line_fault, line_of};
 use lunit::{NoMemory, Sequence};
 use std::alloc::Global;
 
-/// How many bytes of a line are kept.
+/// How many bytes a line may have, and how many are kept of one that has more (own rule).
 pub const MAX_LINE: usize = 65_536;
 
-/// A place in a text: the line, counted from 1, and the byte column in it, counted from 1.
+/// The number of the fault of a byte that is not from 32 to 126.
+pub const BAD_BYTE: u8 = 1;
+
+/// The number of the fault of a line of more than [`MAX_LINE`] bytes.
+pub const LINE_TOO_LONG: u8 = 2;
+
+/// A place in a text: the line, and the byte in it, both counted from 1.
 #[derive(Clone, Copy, Debug, PartialEq, Eq)]
 pub struct Place {
     pub line: u32,
@@ -21,7 +27,9 @@ pub struct Fault {
     pub place: Place,
 }
 
-/// A line of a text without its line feed.
+/// A line of a text, without its line feed: its number, counted from 1, its first [`MAX_LINE`] bytes, and its fault.
+/// The fault is [`BAD_BYTE`] at the first byte that is not from 32 to 126, or [`LINE_TOO_LONG`] at column 65,537 of a
+/// line of more than 65,536 bytes; of both the one with the lesser column, and at one column the bad byte.
 #[derive(Debug, PartialEq, Eq, Drop)]
 pub struct Line {
     pub number: u32,
@@ -57,14 +65,14 @@ fn line_fault(number: u32, bytes: &[u8]) -> Option<Fault>
 {
     match first_bad(bytes) {
         Some(index) if index <= MAX_LINE => Some(Fault {
-            number: 1,
+            number: BAD_BYTE,
             place: Place {
                 line: number,
                 column: index as u32 + 1,
             },
         }),
         _ if bytes.len() > MAX_LINE => Some(Fault {
-            number: 2,
+            number: LINE_TOO_LONG,
             place: Place {
                 line: number,
                 column: MAX_LINE as u32 + 1,

@@ -1,4 +1,4 @@
-ghost use Rattle.std.specs.Prelude.{◌≡◌, ◌+◌, ◌-◌, ◌<◌, ◌≤◌, ◌↔◌, ◌++◌, ℕ, List, [], if◌then◌else◌, ◌&&◌, not, true, false, option_to_list, length, drop, Some, None, Ok, position, vec_len, IfOk, OnOk, OnErr};
+ghost use Rattle.std.specs.Prelude.{◌≡◌, ◌+◌, ◌-◌, ◌<◌, ◌≤◌, ◌↔◌, ◌++◌, ℕ, List, [], if◌then◌else◌, ◌&&◌, not, true, false, option_to_list, length, drop, Some, None, Ok, position, vec_len, IfOk, OnOk, OnErr, OnSome};
 ghost use Rattle.std.specs.List.{position_or_len};
 ghost use Rattle.text_scan.specs.Lines.{is_line_feed, line_of, lines_from};
 ghost use Rattle.text_scan.specs.Stream.{empty_stream, fed_with, is_empty, due_length, next_line, after_next, is_line_due, lines_ahead, HasRead, Takes};
@@ -10,16 +10,26 @@ use lunit::NoMemory;
 use std::alloc::Global;
 use std::marker::Model;
 
-/// How many bytes may be fed to one [`Lines`] in all.
+/// How many bytes may be fed to one [`Lines`] in all (own rule).
 pub const MAX_FED: usize = 134_217_728;
 
-/// Reads a text line by line from pieces of any size.
+/// Reads a text line by line, from pieces of any size. A line ends at a line feed or at the end of the text (own
+/// rule), and however the text is cut, the lines are those of the whole text.
+///
+/// Contracts see it as a `Stream`: the number of the next line, the count of all bytes fed, and the bytes that are held,
+/// which are those fed and not yet taken. Time is linear in the bytes: none is searched twice for a line feed, and a
+/// byte is moved only when more bytes have been taken before it than are held.
 #[derive(Drop)]
 pub struct Lines {
+    // The bytes fed, but for those that were taken and moved out.
     held: Vec<u8>,
+    // The bytes before this index are taken.
     start: usize,
+    // So many bytes from `start` on hold no line feed.
     searched: usize,
+    // The number of the next line.
     number: u32,
+    // The count of all bytes fed.
     fed: usize,
 }
 
@@ -37,6 +47,7 @@ impl Model for Lines {
 }
 
 impl Lines {
+    /// Nothing fed yet; lines are counted from 1. Takes no memory.
     pub fn new(alloc: Global) -> Lines
         ensures empty { result ≡ empty_stream }
         ensures reads { HasRead [] [] result }
@@ -50,6 +61,8 @@ impl Lines {
         }
     }
 
+    /// Adds a piece of the text behind what is held. All pieces fed to one `Lines` have at most [`MAX_FED`] bytes
+    /// together. `NoMemory`, where memory is wanting, changes nothing.
     pub fn feed(&mut self, piece: &[u8]) -> Result<(), NoMemory>
         requires { self.old.fed + length piece.now ≤ 134217728 }
         ensures ok { OnOk result (self.new ≡ fed_with piece.now self.old) }
@@ -64,6 +77,7 @@ impl Lines {
         Ok(())
     }
 
+    // Moves the held bytes to the front once more than half of all are taken.
     fn compact(&mut self)
         ensures { self.new ≡ self.old }
     {
@@ -73,6 +87,9 @@ impl Lines {
         }
     }
 
+    /// Takes the next line out. `ended` says that the whole text was fed: then what is held is a last line, also
+    /// without a line feed. `None` comes exactly where no line feed is held and, where `ended`, nothing is held.
+    /// `NoMemory`, where memory is wanting, changes nothing.
     pub fn take(&mut self, ended: bool) -> Result<Option<Line>, NoMemory>
         ensures none { (result ≡ Ok None) ↔ (is_line_due ended self.old.held ≡ false) }
         ensures line { IfOk result (λ found. found ≡ next_line ended self.old) }
@@ -81,10 +98,14 @@ impl Lines {
         // A line that is given, and then the lines ahead, are the lines that were ahead.
         ensures ahead { (more : List ℕ) → (ended ≡ true → more ≡ []) → IfOk result (λ found. option_to_list found ++ lines_ahead self.new more ≡ lines_ahead self.old more) }
         ensures reads { (fed : List ℕ) (taken : List Line) → HasRead fed taken self.old → IfOk result (λ found. Takes ended fed taken found self.new) }
+        ensures drained { ended ≡ true → result ≡ Ok None → self.new.held ≡ [] }
+        // So a loop that takes lines until none is due ends.
+        ensures falls { IfOk result (λ found. OnSome found (length self.new.held < length self.old.held)) }
     {
         self.take_due(ended)
     }
 
+    // `take`, without the laws that follow from these clauses.
     fn take_due(&mut self, ended: bool) -> Result<Option<Line>, NoMemory>
         ensures none { (result ≡ Ok None) ↔ (is_line_due ended self.old.held ≡ false) }
         ensures line { IfOk result (λ found. found ≡ next_line ended self.old) }
@@ -148,9 +169,12 @@ fn first_line_feed(bytes: &[u8]) -> Option<usize>
     bytes.iter().position(|byte| *byte == b'\n')
 }
 
+/// Takes the front out, and moves each byte behind it once.
 fn remove_front(bytes: &mut Vec<u8>, count: usize)
     requires { count ≤ vec_len bytes.old }
     ensures { bytes.new.items ≡ drop count bytes.old.items }
 {
-    drop(bytes.drain(..count));
+    let left = bytes.len() - count;
+    bytes.copy_within(count.., 0);
+    bytes.truncate(left);
 }

@@ -1,6 +1,6 @@
-ghost use Rattle.std.specs.Prelude.{◌≡◌, ◌+◌, ◌<◌, ◌≤◌, length, drop, None, IfOk, position};
+ghost use Rattle.std.specs.Prelude.{◌≡◌, ◌+◌, ◌<◌, ◌≤◌, ◌↔◌, [], true, length, drop, None, IfOk, position};
 ghost use Rattle.std.specs.List.{list_all, position_or_len};
-ghost use Rattle.text_scan.specs.Tokens.{is_space, is_mark, is_separator, is_comment_mark, before_comment, front_length, tokens_from, tokens_of, is_skipped};
+ghost use Rattle.text_scan.specs.Tokens.{is_space, is_mark, is_separator, is_comment_mark, before_comment, front_length, tokens_from, tokens_of, is_skipped, AreTokens};
 
 use crate::line::Line;
 use crate::slices::from_index;
@@ -19,22 +19,17 @@ pub struct Token {
 /// line, also inside quotes (own rule). Answers `NoMemory` where memory is wanting.
 pub fn tokens(alloc: Global, line: &Line) -> Result<Vec<Token>, NoMemory>
     requires { line.now.fault ≡ None }
-    ensures { IfOk result (λ tokens. tokens.items ≡ tokens_of line.now.bytes) }
+    ensures tokens { IfOk result (λ tokens. tokens.items ≡ tokens_of line.now.bytes) }
+    ensures all { IfOk result (λ tokens. AreTokens (before_comment line.now.bytes) tokens.items) }
+    ensures none { IfOk result (λ tokens. (tokens.items ≡ []) ↔ (is_skipped line.now ≡ true)) }
 {
-    split_tokens(alloc, before_comment(line.bytes.as_slice()))
+    let tokens = tokens_in(alloc, before_comment(line.bytes.as_slice()))?;
+    Ok(tokens)
 }
 
-impl Line {
-    /// Whether the line is skipped: it has no fault and holds nothing but spaces and, perhaps, a comment (own rule).
-    /// Takes no memory.
-    pub fn is_skipped(&self) -> bool
-        ensures { result ≡ is_skipped self.now }
-    {
-        self.fault.is_none() && is_blank(before_comment(self.bytes.as_slice()))
-    }
-}
-
-fn split_tokens(alloc: Global, bytes: &[u8]) -> Result<Vec<Token>, NoMemory>
+/// The tokens of bytes that have no comment, in order, as spans in these bytes. Answers `NoMemory` where memory is
+/// wanting.
+pub fn tokens_in(alloc: Global, bytes: &[u8]) -> Result<Vec<Token>, NoMemory>
     ensures { IfOk result (λ tokens. tokens.items ≡ tokens_from 0 bytes.now) }
 {
     let mut tokens = Vec::new(alloc);
@@ -52,6 +47,16 @@ fn split_tokens(alloc: Global, bytes: &[u8]) -> Result<Vec<Token>, NoMemory>
         }
     }
     Ok(tokens)
+}
+
+impl Line {
+    /// Whether the line is skipped: it has no fault and holds nothing but spaces and, perhaps, a comment (own rule).
+    /// Takes no memory.
+    pub fn is_skipped(&self) -> bool
+        ensures { result ≡ is_skipped self.now }
+    {
+        self.fault.is_none() && is_blank(before_comment(self.bytes.as_slice()))
+    }
 }
 
 /// The length of the token at an index, or 0 where a space stands.

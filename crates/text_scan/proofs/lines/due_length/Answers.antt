@@ -1,4 +1,4 @@
-use Rattle.std.proofs.Common.{◌≡◌, ◌<◌, ap, ◌∙◌, length, Some, None, arith}
+use Rattle.std.proofs.Common.{ap, ◌∙◌, Some, None, arith}
 use Rattle.text_scan.specs.Lines.{is_line_feed}
 use Rattle.text_scan.proofs.Front.{position_cases}
 use Rattle.text_scan.proofs.Due.{length_by_feed, length_at_end}

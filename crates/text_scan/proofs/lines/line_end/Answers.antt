@@ -1,5 +1,4 @@
-use Rattle.std.proofs.Common.{◌≡◌, ◌+◌, ◌≤◌, ℕ, ap, sym, ◌∙◌, length, drop, List, Some, None, Option, position, arith}
-use Rattle.std.specs.List.{position_or_len}
+use Rattle.std.proofs.Common.{◌+◌, ℕ, ap, sym, ◌∙◌, List, position, arith}
 use Rattle.std.specs.Option.{option_map}
 use Rattle.text_scan.specs.Lines.{is_line_feed}
 use Rattle.text_scan.proofs.Front.{position_or_len-le, position-drop}

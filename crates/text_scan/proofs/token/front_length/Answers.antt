@@ -1,4 +1,4 @@
-use Rattle.std.proofs.Common.{◌≡◌, ◌+◌, ◌≤◌, ℕ, List, ap, length, arith, length-drop}
+use Rattle.std.proofs.Common.{ℕ, List, ap, length, arith, length-drop}
 use Rattle.text_scan.specs.Tokens.{is_separator}
 use Rattle.text_scan.proofs.Front.{position_or_len-le}
 use Rattle.text_scan.proofs.token.front_length.Goals as goal

@@ -1,4 +1,4 @@
-use Rattle.std.proofs.Common.{◌≡◌, sym, None}
+use Rattle.std.proofs.Common.{sym, None}
 use Rattle.text_scan.specs.Tokens.{is_separator}
 use Rattle.text_scan.proofs.Front.{position_cases}
 use Rattle.text_scan.proofs.token.word_length.Goals as goal

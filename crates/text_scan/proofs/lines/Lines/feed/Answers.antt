@@ -1,4 +1,4 @@
-use Rattle.std.proofs.Common.{◌≡◌, ◌+◌, ◌≤◌, ℕ, List, ap, ◌∙◌, length, drop, arith, length-append}
+use Rattle.std.proofs.Common.{ℕ, List, ap, ◌∙◌, length, arith, length-append}
 use Rattle.text_scan.specs.Stream.{Stream}
 use Rattle.text_scan.proofs.Taken.{still_searched}
 use Rattle.text_scan.proofs.lines.Lines.feed.Goals as goal
@@ -15,5 +15,5 @@ invariant_of-self-2 c =
       stored = omega (arith, long, c.self.invariant.stored);
       from_one = c.self.invariant.from_one;
       counted = omega (arith, long, c.self.invariant.counted);
-      bounded = omega (arith, fed, c.requires)
+      bounded = omega (arith, fed, c.requires);
     }

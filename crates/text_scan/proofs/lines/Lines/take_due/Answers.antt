@@ -1,7 +1,7 @@
-use Rattle.std.proofs.Common.{◌≡◌, ◌+◌, ◌≤◌, ℕ, List, Some, None, ap, sym, ◌∙◌, length, drop, min, arith, length-drop}
+use Rattle.std.proofs.Common.{◌≡◌, ◌+◌, ◌≤◌, ℕ, List, Some, None, ap, ◌∙◌, length, drop, min, arith, length-drop}
 use Rattle.std.specs.List.{position_or_len}
 use Rattle.text_scan.specs.Lines.{is_line_feed}
-use Rattle.text_scan.specs.Stream.{Stream, after_next}
+use Rattle.text_scan.specs.Stream.{after_next}
 use Rattle.text_scan.proofs.Front.{position_or_len-le}
 use Rattle.text_scan.proofs.Due.{due_cases}
 use Rattle.text_scan.proofs.Taken.{took}
@@ -17,7 +17,7 @@ invariant_of-self c =
       stored = c.self.invariant.stored;
       from_one = c.self.invariant.from_one;
       counted = c.self.invariant.counted;
-      bounded = c.self.invariant.bounded
+      bounded = c.self.invariant.bounded;
     }
 
 pub read_line-requires-clause-front : goal.read_line-requires-clause-front

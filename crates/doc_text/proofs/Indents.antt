@@ -1,0 +1,17 @@
+-- The first byte other than a space.
+use Rattle.std.proofs.Common.{◌≡◌, ◌⊎◌, ℕ, ◌<◌, ◌≤◌, Bool, true, false, not, List, length, Option, Some, None, arith, cond, nat_lt, sym, inl, inr}
+use Rattle.std.proofs.lemmas.Bool.{cases_lt, lt-ltb, false≢true}
+use Rattle.std.proofs.lemmas.Option.{none-some}
+use Rattle.std.proofs.lemmas.List.Sums.{prefix_len-le-length}
+use Rattle.std.specs.List.{position, position_or_len}
+
+by_test : (found : ℕ) (test : Bool) → test ≡ true → cond test (Some found) None ≡ None → ⊥
+by_test found true t h = none-some found (sym h)
+by_test found false t h = false≢true t
+
+pub none_found : (p : ℕ → Bool) (bytes : List ℕ) → position p bytes ≡ None → length bytes ≡ position_or_len p bytes
+none_found p bytes h = by_cases (cases_lt (position_or_len p bytes) (length bytes))
+  where
+    by_cases : (position_or_len p bytes < length bytes) ⊎ (length bytes ≤ position_or_len p bytes) → length bytes ≡ position_or_len p bytes
+    by_cases (inl lt) = absurd (by_test (position_or_len p bytes) (nat_lt (position_or_len p bytes) (length bytes)) (lt-ltb _ _ lt) h)
+    by_cases (inr ge) = omega (arith, prefix_len-le-length (λ byte. not (p byte)) bytes)

@@ -1,0 +1,7 @@
+pub mod Nodes
+pub mod Limits
+pub mod Lengths
+pub mod Within
+pub mod Rows
+pub mod Indents
+pub mod Leaves

@@ -1,0 +1,77 @@
+-- Documents of the first form, and texts that are none. They hold by computation.
+use Rattle.std.specs.Prelude.{◌≡◌, refl, ℕ, ℤ, pos, List, [], ◌∷◌, ◌++◌, Option, Some, None, codes}
+use Rattle.text_scan.specs.Lines.{lines_of}
+use Rattle.doc_text.specs.declared.document.Doc.{Doc}
+use Rattle.doc_text.specs.declared.style.FirstLines.{FirstLines}
+use Rattle.doc_text.specs.Trees.{Trees, leafless, tree}
+use Rattle.doc_text.specs.Label.{Label}
+use Rattle.doc_text.specs.Forms.{unset_lines}
+use Rattle.doc_text.specs.Documents.{document_of}
+
+abbrev read : List ℕ → Option Doc
+read text = document_of (lines_of text)
+
+abbrev head : List ℕ
+head = codes "gridlay 1\nviewport 300 200\nmain grid { grid-template-columns: 100px 50px; grid-template-rows: 20px 30px }\n"
+
+abbrev lines : ℕ → ℕ → FirstLines
+lines start end = record { start = pos start; end = Some (pos end) }
+
+abbrev leaf : List ℕ → FirstLines → FirstLines → Label
+leaf name column row = record { name = name; style = record { columns = []; rows = []; column = column; row = row } }
+
+abbrev two_by_two : Trees Label → Option Doc
+two_by_two children = Some (record { width = pos 19200; height = pos 12800; root = record { name = codes "main"; style = record { columns = pos 6400 ∷ pos 3200 ∷ []; rows = pos 1280 ∷ pos 1920 ∷ []; column = unset_lines; row = unset_lines }; children = children } })
+
+two_leaves : read (head ++ codes "  a leaf 10 10 { grid-column: 1 / 3; grid-row: 1 / 2 }\n  b leaf 10 10 { grid-column: 2 / 3; grid-row: 2 / 3 }\n")
+    ≡ two_by_two (tree (leaf (codes "a") (lines 1 3) (lines 1 2)) leafless (tree (leaf (codes "b") (lines 2 3) (lines 2 3)) leafless leafless))
+two_leaves = refl
+
+spaced : read (codes "# a comment\n" ++ head ++ codes "\n  a  leaf 10px .5{grid-column:+1/03;grid-row:1/2}  # the end")
+    ≡ two_by_two (tree (leaf (codes "a") (lines 1 3) (lines 1 2)) leafless leafless)
+spaced = refl
+
+fraction : read (codes "gridlay 1\nviewport 300 200\nmain grid { grid-template-columns: 100px 1fr; grid-template-rows: 20px 30px }\n") ≡ None
+fraction = refl
+
+same_name_twice : read (head ++ codes "  a leaf 1 1 { grid-column: 1 / 2; grid-row: 1 / 2 }\n  a leaf 1 1 { grid-column: 2 / 3; grid-row: 2 / 3 }\n") ≡ None
+same_name_twice = refl
+
+name_of_the_grid : read (head ++ codes "  main leaf 1 1 { grid-column: 1 / 2; grid-row: 1 / 2 }\n") ≡ None
+name_of_the_grid = refl
+
+past_the_last_line : read (head ++ codes "  a leaf 1 1 { grid-column: 1 / 4; grid-row: 1 / 2 }\n") ≡ None
+past_the_last_line = refl
+
+no_track : read (head ++ codes "  a leaf 1 1 { grid-column: 2 / 2; grid-row: 1 / 2 }\n") ≡ None
+no_track = refl
+
+line_zero : read (head ++ codes "  a leaf 1 1 { grid-column: 0 / 2; grid-row: 1 / 2 }\n") ≡ None
+line_zero = refl
+
+not_indented : read (head ++ codes "a leaf 1 1 { grid-column: 1 / 2; grid-row: 1 / 2 }\n") ≡ None
+not_indented = refl
+
+one_space : read (head ++ codes " a leaf 1 1 { grid-column: 1 / 2; grid-row: 1 / 2 }\n") ≡ None
+one_space = refl
+
+three_spaces : read (head ++ codes "   a leaf 1 1 { grid-column: 1 / 2; grid-row: 1 / 2 }\n") ≡ None
+three_spaces = refl
+
+two_grids : read (head ++ codes "  b grid { grid-template-columns: 1px; grid-template-rows: 1px }\n") ≡ None
+two_grids = refl
+
+three_dashes : read (head ++ codes "---\n") ≡ None
+three_dashes = refl
+
+bare_length : read (codes "gridlay 1\nviewport 1 1\nm grid { grid-template-columns: 1; grid-template-rows: 0 }\n") ≡ None
+bare_length = refl
+
+below_zero : read (codes "gridlay 1\nviewport 1 1\nm grid { grid-template-columns: -0.001px; grid-template-rows: 0 }\n") ≡ None
+below_zero = refl
+
+too_long_a_track : read (codes "gridlay 1\nviewport 1 1\nm grid { grid-template-columns: 1048576.00000001px; grid-template-rows: 0 }\n") ≡ None
+too_long_a_track = refl
+
+bad_byte : read (head ++ codes "# \t\n") ≡ None
+bad_byte = refl

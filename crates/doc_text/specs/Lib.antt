@@ -1,0 +1,10 @@
+pub mod Trees
+pub mod Label
+pub mod View
+pub mod Falls
+pub mod Gives
+pub mod Words
+pub mod Numbers
+pub mod Forms
+pub mod Documents
+pub mod Examples

@@ -1,0 +1,6 @@
+pub mod Aligned
+pub mod Floor
+pub mod Fractions
+pub mod Placed
+pub mod Sharing
+pub mod WordLines

@@ -1,0 +1,11 @@
+pub mod Alignment
+pub mod FlexLines
+pub mod Fractions
+pub mod LineNames
+pub mod Lists
+pub mod Placement
+pub mod Repetition
+pub mod Sharing
+pub mod Tracks
+pub mod Views
+pub mod WordLines

@@ -1,0 +1,765 @@
+-- The sizes of the tracks of one axis (Grid 2, section 12).
+use Rattle.std.specs.Prelude.{◌≡◌, refl, ℕ, zero, suc, ◌+◌, ◌-◌, ◌==◌, max, ℤ, pos, ◌+ℤ◌, ◌-ℤ◌, ◌*ℤ◌, int_lt, int_le, Bool, true, false, not, ◌&&◌, ◌||◌, List, [], ◌∷◌, ◌++◌, map, filter, length, Option, Some, None, option_map, is_some, is_none, unwrap_or, if◌then◌else◌}
+use Rattle.std.specs.Int.{int_max, int_min}
+use Rattle.std.specs.List.{list_any}
+use Rattle.std.specs.Ordering.{int_eq}
+use Rattle.lunit.specs.Units.{clamp, floor_div}
+use Rattle.lunit.specs.declared.item.Item.{Item}
+use Rattle.lunit.specs.declared.item.Floor.{Floor}
+use Rattle.lunit.specs.declared.item.Floor.TheVariants.{Known, Content}
+use Rattle.part_rules.specs.declared.track.Least.{Least}
+use Rattle.part_rules.specs.declared.track.Least.TheVariants as least
+use Rattle.part_rules.specs.declared.track.Most.{Most}
+use Rattle.part_rules.specs.declared.track.Most.TheVariants as most
+use Rattle.part_rules.specs.declared.track.Rule.{Rule}
+use Rattle.part_rules.specs.declared.track.Space.{Space}
+use Rattle.part_rules.specs.declared.track.Space.TheVariants.{Definite, MinContent, MaxContent}
+use Rattle.part_rules.specs.declared.track.Fit.{Fit}
+use Rattle.part_rules.specs.declared.fraction.FrRow.{FrRow}
+use Rattle.part_rules.specs.declared.fraction.Fraction.{Fraction}
+use Rattle.part_rules.specs.Lists.{sum_of, total_of, zipped, at_most, at_least, sum_of_known, greatest_with}
+use Rattle.part_rules.specs.Sharing.{apportioned_whole, shares, unshared, rounds_with_room}
+use Rattle.part_rules.specs.Fractions.{found, expanded, no_fraction, left_flexible}
+
+-- ---- tracks and their functions
+
+-- a track while it is sized (Grid 2, 12.3)
+pub record Track : Type 0 where
+  -- the coordinate of its first line
+  pub at : ℤ
+  pub rule : Rule
+  pub base : ℤ
+  -- the growth limit; None is without end
+  pub limit : Option ℤ
+  -- infinitely growable (Grid 2, 12.5.1)
+  pub endless : Bool
+  -- what the item at hand has given it, and the greatest that one of the items gave it (Grid 2, 12.5.1)
+  pub incurred : ℤ
+  pub planned : ℤ
+
+abbrev pub is_flexible : Most → Bool
+is_flexible (most.Fixed x) = false
+is_flexible most.Auto = false
+is_flexible most.MinContent = false
+is_flexible most.MaxContent = false
+is_flexible (most.Fit x) = false
+is_flexible (most.Flex w) = true
+
+abbrev pub flexible : Track → Bool
+flexible t = is_flexible t.rule.most
+
+abbrev pub factor_of : Most → Option ℕ
+factor_of (most.Fixed x) = None
+factor_of most.Auto = None
+factor_of most.MinContent = None
+factor_of most.MaxContent = None
+factor_of (most.Fit x) = None
+factor_of (most.Flex w) = Some w
+
+abbrev pub fixed_least : Least → Option ℤ
+fixed_least (least.Fixed x) = Some x
+fixed_least least.Auto = None
+fixed_least least.MinContent = None
+fixed_least least.MaxContent = None
+
+abbrev pub fixed_most : Most → Option ℤ
+fixed_most (most.Fixed x) = Some x
+fixed_most most.Auto = None
+fixed_most most.MinContent = None
+fixed_most most.MaxContent = None
+fixed_most (most.Fit x) = None
+fixed_most (most.Flex w) = None
+
+-- the argument of `fit-content`
+abbrev pub fit_argument : Most → Option ℤ
+fit_argument (most.Fixed x) = None
+fit_argument most.Auto = None
+fit_argument most.MinContent = None
+fit_argument most.MaxContent = None
+fit_argument (most.Fit x) = Some x
+fit_argument (most.Flex w) = None
+
+abbrev pub is_auto_most : Most → Bool
+is_auto_most (most.Fixed x) = false
+is_auto_most most.Auto = true
+is_auto_most most.MinContent = false
+is_auto_most most.MaxContent = false
+is_auto_most (most.Fit x) = false
+is_auto_most (most.Flex w) = false
+
+abbrev pub is_min_content_most : Most → Bool
+is_min_content_most (most.Fixed x) = false
+is_min_content_most most.Auto = false
+is_min_content_most most.MinContent = true
+is_min_content_most most.MaxContent = false
+is_min_content_most (most.Fit x) = false
+is_min_content_most (most.Flex w) = false
+
+-- a max function that counts as `max-content`: `auto` and `fit-content` do
+abbrev pub counts_as_max_content : Most → Bool
+counts_as_max_content (most.Fixed x) = false
+counts_as_max_content most.Auto = true
+counts_as_max_content most.MinContent = false
+counts_as_max_content most.MaxContent = true
+counts_as_max_content (most.Fit x) = true
+counts_as_max_content (most.Flex w) = false
+
+abbrev pub has_intrinsic_most : Track → Bool
+has_intrinsic_most t = is_min_content_most t.rule.most || counts_as_max_content t.rule.most
+
+abbrev pub has_max_content_most : Track → Bool
+has_max_content_most t = counts_as_max_content t.rule.most
+
+abbrev pub is_auto_least : Least → Bool
+is_auto_least (least.Fixed x) = false
+is_auto_least least.Auto = true
+is_auto_least least.MinContent = false
+is_auto_least least.MaxContent = false
+
+abbrev pub is_max_content_least : Least → Bool
+is_max_content_least (least.Fixed x) = false
+is_max_content_least least.Auto = false
+is_max_content_least least.MinContent = false
+is_max_content_least least.MaxContent = true
+
+abbrev pub has_intrinsic_least : Track → Bool
+has_intrinsic_least t = is_none (fixed_least t.rule.least)
+
+-- `min-content` or `max-content`
+abbrev pub has_content_least : Track → Bool
+has_content_least t = has_intrinsic_least t && not (is_auto_least t.rule.least)
+
+abbrev pub has_max_content_least : Track → Bool
+has_max_content_least t = is_max_content_least t.rule.least
+
+-- `auto` or `max-content`
+abbrev pub has_auto_or_max_content_least : Track → Bool
+has_auto_or_max_content_least t = is_auto_least t.rule.least || is_max_content_least t.rule.least
+
+-- A collapsed track is sized as one of the fixed size 0 (Grid 2, 7.2.3.2).
+abbrev pub counted_rule : Rule → Rule
+counted_rule r = if r.collapsed then record { least = least.Fixed (pos 0); most = most.Fixed (pos 0); collapsed = true } else r
+
+-- Initialised (Grid 2, 12.4). The growth limit of a flexible track is without end (it could also be the base size: no
+-- step tells the two apart).
+abbrev pub initial : ℤ → Rule → Track
+initial at r =
+    let base = unwrap_or (fixed_least r.least) (pos 0) in
+    record { at = at; rule = r; base = base; limit = option_map (int_max base) (fixed_most r.most); endless = false; incurred = pos 0; planned = pos 0 }
+
+-- the tracks from this coordinate on
+abbrev pub initialised : ℤ → List Rule → List Track
+initialised at [] = []
+initialised at (r ∷ rest) = initial at (counted_rule r) ∷ initialised (at +ℤ pos 1) rest
+
+-- ---- items
+
+abbrev pub spans : Item → Track → Bool
+spans i t = int_le i.span.start t.at && int_lt t.at i.span.end
+
+abbrev pub spanned : Item → List Track → List Track
+spanned i ts = filter (spans i) ts
+
+abbrev pub span_length : Item → ℤ
+span_length i = i.span.end -ℤ i.span.start
+
+-- the gutters between the tracks of an item, of which none is collapsed
+abbrev pub inner_gutters : ℤ → Item → ℤ
+inner_gutters gap i = gap *ℤ (span_length i -ℤ pos 1)
+
+abbrev pub crosses_flexible : List Track → Item → Bool
+crosses_flexible ts i = list_any flexible (spanned i ts)
+
+-- Whether the automatic minimum is content-based for these tracks (Grid 2, 6.6): one has the min function `auto`, and the item
+-- spans one track or crosses no flexible one.
+abbrev pub is_content_based : List Track → Item → Bool
+is_content_based ts i = list_any (λ (t : Track). is_auto_least t.rule.least) (spanned i ts) && (int_eq (span_length i) (pos 1) || not (crosses_flexible ts i))
+
+-- the fixed max functions of the spanned tracks with the gutters between them, if all are fixed (Grid 2, 6.6)
+abbrev pub fixed_sum : ℤ → List Track → Item → Option ℤ
+fixed_sum gap ts i = option_map (λ s. s +ℤ inner_gutters gap i) (sum_of_known (map (λ (t : Track). fixed_most t.rule.most) (spanned i ts)))
+
+-- the automatic minimum, where it is content-based (Grid 2, 6.6)
+abbrev pub content_based : ℤ → List Track → Item → ℤ → ℤ → ℤ
+content_based gap ts i size margins = int_max (pos 0) (at_most (option_map (λ s. s -ℤ margins) (fixed_sum gap ts i)) size)
+
+abbrev pub minimum_by : ℤ → List Track → Item → Floor → ℤ
+minimum_by gap ts i (Known x) = x
+minimum_by gap ts i (Content size margins inner) = clamp (margins +ℤ int_max inner (if is_content_based ts i then content_based gap ts i size margins else pos 0))
+
+-- The minimum contribution (Grid 2, 12.5).
+abbrev pub minimum : ℤ → List Track → Item → ℤ
+minimum gap ts i = minimum_by gap ts i i.floor
+
+-- a fixed max function, as which the argument of `fit-content` counts
+abbrev pub capped_most : Most → Option ℤ
+capped_most m = if is_some (fit_argument m) then fit_argument m else fixed_most m
+
+-- A contribution limited by the max functions of the spanned tracks where all are fixed, and at least the minimum contribution
+-- (Grid 2, 12.5). The gutters are not counted here (they could be, as for the automatic minimum).
+abbrev pub limited : ℤ → (Item → ℤ) → List Track → Item → ℤ
+limited gap contribution ts i = int_max (minimum gap ts i) (at_most (sum_of_known (map (λ (t : Track). capped_most t.rule.most) (spanned i ts))) (contribution i))
+
+abbrev pub low : Item → ℤ
+low i = i.low
+
+abbrev pub high : Item → ℤ
+high i = i.high
+
+-- ---- the kind of the space (Grid 2, 12.1)
+
+abbrev pub is_definite : {axis : ℕ} → Space axis → Bool
+is_definite (Definite a) = true
+is_definite MinContent = false
+is_definite MaxContent = false
+
+abbrev pub is_max_content : {axis : ℕ} → Space axis → Bool
+is_max_content (Definite a) = false
+is_max_content MinContent = false
+is_max_content MaxContent = true
+
+-- what an item asks of an `auto` minimum: its minimum contribution, or its limited min-content contribution where the grid is
+-- sized for its content (Grid 2, 12.5)
+abbrev pub auto_asks : {axis : ℕ} → Space axis → ℤ → List Track → Item → ℤ
+auto_asks space gap ts i = if is_definite space then minimum gap ts i else limited gap low ts i
+
+-- ---- items that span one track (Grid 2, 12.5, step 2)
+
+-- the items that span this track alone
+abbrev pub alone : List Item → Track → List Item
+alone items t = filter (λ (i : Item). int_eq i.span.start t.at && int_eq i.span.end (t.at +ℤ pos 1)) items
+
+abbrev pub base_for : {axis : ℕ} → Space axis → ℤ → List Track → List Item → Least → ℤ → ℤ
+base_for space gap ts mine (least.Fixed x) base = base
+base_for space gap ts mine least.MinContent base = greatest_with base (map low mine)
+base_for space gap ts mine least.MaxContent base = greatest_with base (map high mine)
+base_for space gap ts mine least.Auto base = greatest_with base (map (auto_asks space gap ts) mine)
+
+-- the growth limit by at least one item
+abbrev pub limit_by : List Item → Most → Option ℤ → Option ℤ
+limit_by mine (most.Fixed x) limit = limit
+limit_by mine most.MinContent limit = Some (greatest_with (pos 0) (map low mine))
+limit_by mine most.Auto limit = Some (greatest_with (pos 0) (map high mine))
+limit_by mine most.MaxContent limit = Some (greatest_with (pos 0) (map high mine))
+limit_by mine (most.Fit x) limit = Some (int_min x (greatest_with (pos 0) (map high mine)))
+limit_by mine (most.Flex w) limit = limit
+
+abbrev pub limit_for : List Item → Most → Option ℤ → Option ℤ
+limit_for [] m limit = limit
+limit_for (i ∷ rest) m limit = limit_by (i ∷ rest) m limit
+
+-- a growth limit below the base size is raised to it
+abbrev pub raise_limit : Track → Track
+raise_limit t = let limit = option_map (int_max t.base) t.limit in record t { limit = limit }
+
+abbrev pub fit_items : {axis : ℕ} → Space axis → ℤ → List Track → List Item → Track → Track
+fit_items space gap ts mine t =
+    let base = base_for space gap ts mine t.rule.least t.base in
+    let limit = limit_for mine t.rule.most t.limit in
+    raise_limit (record t { base = base; limit = limit })
+
+-- A flexible track is left out here: its items of span 1 are among those that cross flexible tracks.
+abbrev pub fit_alone : {axis : ℕ} → Space axis → ℤ → List Item → List Track → List Track
+fit_alone space gap items ts = map (λ (t : Track). if flexible t then t else fit_items space gap ts (alone items t) t) ts
+
+-- ---- one step of distribution (modelled after Grid 2, 12.5.1; own rule as a whole)
+
+-- what one step does
+pub record Growth : Type 0 where
+  -- growth limits grow, else base sizes
+  pub limits : Bool
+  -- the items are those that cross a flexible track
+  pub crossing : Bool
+  -- the tracks that are affected, and those of them that receive beyond their limits
+  pub affected : Track → Bool
+  pub receives : Track → Bool
+  -- growth limits end at the argument of `fit-content`, and those that are infinitely growable have no end
+  pub to_argument : Bool
+  -- the contribution
+  pub asks : List Track → Item → ℤ
+
+-- a growth limit without end counts as the base size
+abbrev pub size_in : Bool → Track → ℤ
+size_in limits t = if limits then unwrap_or t.limit t.base else t.base
+
+-- the affected size with what the item at hand has given
+abbrev pub size_so_far : Bool → Track → ℤ
+size_so_far limits t = size_in limits t +ℤ t.incurred
+
+-- The space that an item needs beyond the sizes of its tracks and the gutters between them.
+abbrev pub needed : Growth → ℤ → List Track → Item → ℤ
+needed g gap ts i = clamp (int_max (pos 0) (g.asks ts i -ℤ sum_of (map (size_in g.limits) (spanned i ts)) -ℤ inner_gutters gap i))
+
+abbrev pub up_to : ℤ → Option ℤ → Option ℤ
+up_to size None = None
+up_to size (Some end) = let room = end -ℤ size in Some room
+
+-- the lesser of two rooms
+abbrev pub lesser : Option ℤ → Option ℤ → Option ℤ
+lesser None b = b
+lesser (Some a) b = Some (at_most b a)
+
+-- the room for those tracks, and none for the others
+abbrev pub only : (Track → Bool) → (Track → Option ℤ) → Track → Option ℤ
+only p room t = if p t then room t else Some (pos 0)
+
+abbrev pub affected_by : Growth → Item → Track → Bool
+affected_by g i t = g.affected t && spans i t
+
+-- up to limits: of base sizes, up to the growth limit, and for `fit-content` at most up to its argument
+abbrev pub base_to_limit : Track → Option ℤ
+base_to_limit t = lesser (up_to (size_so_far false t) t.limit) (up_to (size_so_far false t) (fit_argument t.rule.most))
+
+-- not affected tracks: up to the growth limit; one without end has room without end, also under `fit-content` (its argument
+-- could also be a cap here)
+abbrev pub other_to_limit : Track → Option ℤ
+other_to_limit t = up_to (size_so_far false t) t.limit
+
+-- beyond limits: without end, but for `fit-content` up to its argument
+abbrev pub base_to_argument : Track → Option ℤ
+base_to_argument t = up_to (size_so_far false t) (fit_argument t.rule.most)
+
+abbrev pub without_end : Track → Option ℤ
+without_end t = None
+
+abbrev pub receiving : Growth → Item → Track → Bool
+receiving g i t = affected_by g i t && g.receives t
+
+-- the receivers that are no `fit-content` tracks or, if there are none, all affected tracks of the item
+abbrev pub receiving_last : Growth → Item → List Track → Track → Bool
+receiving_last g i ts =
+    let open_ended = λ (t : Track). receiving g i t && is_none (fit_argument t.rule.most) in
+    if list_any open_ended ts then open_ended else affected_by g i
+
+-- Base sizes: to the affected tracks up to limits, to the other tracks, to the receivers, and last without limit.
+abbrev pub base_rooms : Growth → Item → List Track → List (Track → Option ℤ)
+base_rooms g i ts =
+    only (affected_by g i) base_to_limit
+    ∷ only (λ t. spans i t && not (g.affected t)) other_to_limit
+    ∷ only (receiving g i) base_to_argument
+    ∷ only (receiving_last g i ts) without_end
+    ∷ []
+
+-- the end of a growth limit that grows: the argument of `fit-content` where the step says so, else none
+abbrev pub limit_end : Growth → Track → Option ℤ
+limit_end g t = if g.to_argument then up_to (size_so_far true t) (fit_argument t.rule.most) else None
+
+-- up to limits: a growth limit has room where it had no end or is infinitely growable
+abbrev pub limit_to_limit : Growth → Track → Option ℤ
+limit_to_limit g t = if is_none t.limit || (g.to_argument && t.endless) then limit_end g t else Some (pos 0)
+
+-- Growth limits: to the affected tracks up to limits, and then to all of them. What then remains is dropped, so `fit-content`
+-- tracks alone are not lifted past their arguments (it could also be given without limit, as to base sizes).
+abbrev pub limit_rooms : Growth → Item → List (Track → Option ℤ)
+limit_rooms g i = only (affected_by g i) (limit_to_limit g) ∷ only (affected_by g i) (limit_end g) ∷ []
+
+abbrev pub incur : Track → ℤ → Track
+incur t share = let sum = t.incurred +ℤ share in record t { incurred = sum }
+
+-- a space handed out in turns: in equal parts as far as there is room, and what remains to the next rooms
+abbrev pub in_turns : List (Track → Option ℤ) → ℤ → List Track → List Track
+in_turns [] space ts = ts
+in_turns (room ∷ rooms) space ts =
+    let each = map room ts in
+    let next = zipped incur ts (shares space each) in
+    let left = unshared space each in
+    in_turns rooms left next
+
+-- the factor of a track that is affected by the item, and 0 for another
+abbrev pub crossing_weight : Growth → Item → Track → ℕ
+crossing_weight g i t = if affected_by g i t then unwrap_or (factor_of t.rule.most) 0 else 0
+
+-- Items that cross a flexible track: the whole space by the factors where they sum to more than 0, else in equal parts.
+abbrev pub by_factors : Growth → Item → ℤ → List Track → List Track
+by_factors g i space ts =
+    let weights = map (crossing_weight g i) ts in
+    if total_of weights == 0 then in_turns (only (affected_by g i) without_end ∷ []) space ts else zipped incur ts (apportioned_whole space weights)
+
+abbrev pub incurred_by : Growth → Item → ℤ → List Track → List Track
+incurred_by g i space ts =
+    let rooms = if g.limits then limit_rooms g i else base_rooms g i ts in
+    if g.crossing then by_factors g i space ts else in_turns rooms space ts
+
+-- The planned increase is the greatest that one of the items gave (Grid 2, 12.5.1).
+abbrev pub plan : Track → Track
+plan t = let greatest = int_max t.planned t.incurred in record t { planned = greatest; incurred = pos 0 }
+
+-- an item of the group that spans an affected track
+abbrev pub planned_by : Growth → ℤ → List Track → Item → List Track
+planned_by g gap ts i =
+    let space = needed g gap ts i in
+    let given = incurred_by g i space ts in
+    let more = map plan given in
+    if list_any (affected_by g i) ts then more else ts
+
+abbrev pub planned_by_all : Growth → ℤ → List Item → List Track → List Track
+planned_by_all g gap [] ts = ts
+planned_by_all g gap (i ∷ rest) ts = let next = planned_by g gap ts i in planned_by_all g gap rest next
+
+-- a base size is raised by its planned increase
+abbrev pub raised_base : Track → Track
+raised_base t = let base = clamp (t.base +ℤ t.planned) in record t { base = base; planned = pos 0 }
+
+-- The growth limit of an affected track of some item of the group is raised; one without end becomes the base size and the increase.
+abbrev pub raised_limit : Growth → List Item → Track → Track
+raised_limit g items t =
+    let limit = clamp (size_in true t +ℤ t.planned) in
+    let raised = record t { limit = Some limit; planned = pos 0 } in
+    if list_any (λ i. affected_by g i t) items then raised else t
+
+-- One step for a group of items.
+abbrev pub distributed : Growth → ℤ → List Item → List Track → List Track
+distributed g gap items ts =
+    let planned = planned_by_all g gap items ts in
+    map (λ t. if g.limits then raised_limit g items t else raised_base t) planned
+
+-- ---- the steps for a group of items (Grid 2, 12.5, step 3)
+
+-- among the tracks of the step only the flexible ones are affected by items that cross a flexible track
+abbrev pub in_group : Bool → (Track → Bool) → Track → Bool
+in_group crossing p t = p t && (flexible t || not crossing)
+
+abbrev pub base_growth : Bool → (Track → Bool) → (Track → Bool) → (List Track → Item → ℤ) → Growth
+base_growth crossing affected receives asks = record { limits = false; crossing = crossing; affected = in_group crossing affected; receives = receives; to_argument = false; asks = asks }
+
+abbrev pub limit_growth : Bool → (Track → Bool) → Bool → (Item → ℤ) → Growth
+limit_growth crossing affected to_argument contribution = record { limits = true; crossing = crossing; affected = in_group crossing affected; receives = affected; to_argument = to_argument; asks = λ ts. contribution }
+
+-- infinitely growable in the next step: its growth limit had no end before this one, and has one after it
+abbrev pub mark_endless : Track → Track → Track
+mark_endless before after = record after { endless = is_none before.limit && is_some after.limit }
+
+abbrev pub low_limits : Bool → ℤ → List Item → List Track → List Track
+low_limits crossing gap items ts =
+    let after = distributed (limit_growth crossing has_intrinsic_most false low) gap items ts in
+    zipped mark_endless ts after
+
+abbrev pub high_limits : Bool → ℤ → List Item → List Track → List Track
+high_limits crossing gap items ts = distributed (limit_growth crossing has_max_content_most true high) gap items ts
+
+-- the steps for base sizes, in their order
+abbrev pub base_growths : {axis : ℕ} → Space axis → ℤ → Bool → List Growth
+base_growths space gap crossing =
+    base_growth crossing has_intrinsic_least has_intrinsic_most (auto_asks space gap)
+    ∷ base_growth crossing has_content_least has_intrinsic_most (λ ts. low)
+    ∷ (if is_max_content space then base_growth crossing has_auto_or_max_content_least has_max_content_most (limited gap high) ∷ [] else [])
+    ++ base_growth crossing has_max_content_least has_max_content_most (λ ts. high)
+    ∷ []
+
+abbrev pub each_distributed : List Growth → ℤ → List Item → List Track → List Track
+each_distributed [] gap items ts = ts
+each_distributed (g ∷ rest) gap items ts = let next = distributed g gap items ts in each_distributed rest gap items next
+
+-- The six steps for a group of items.
+unfoldable pub group_fitted : {axis : ℕ} → Space axis → ℤ → Bool → List Item → List Track → List Track
+group_fitted space gap crossing items ts =
+    let bases = each_distributed (base_growths space gap crossing) gap items ts in
+    let raised = map raise_limit bases in
+    let lows = low_limits crossing gap items raised in
+    high_limits crossing gap items lows
+
+-- the items of one span that cross no flexible track
+abbrev pub of_span : List Track → List Item → ℕ → List Item
+of_span ts items n = filter (λ i. int_eq (span_length i) (pos n) && not (crosses_flexible ts i)) items
+
+-- the groups of so many spans, from this one up
+unfoldable pub spans_fitted : {axis : ℕ} → Space axis → ℤ → List Item → ℕ → ℕ → List Track → List Track
+spans_fitted space gap items zero n ts = ts
+spans_fitted space gap items (suc more) n ts =
+    let group = of_span ts items n in
+    let next = group_fitted space gap false group ts in
+    spans_fitted space gap items more (n + 1) next
+
+-- the growth limits that still have no end become the base size (Grid 2, 12.5, step 5)
+abbrev pub close_limit : Track → Track
+close_limit t = let limit = unwrap_or t.limit t.base in record t { limit = Some limit }
+
+-- Intrinsic sizes (Grid 2, 12.5): items of span 1, then those of span 2 and so on that cross no flexible track, then those that
+-- cross one as one group (this group is an own rule).
+abbrev pub content_sized : {axis : ℕ} → Space axis → ℤ → List Item → List Track → List Track
+content_sized space gap items ts =
+    let singles = fit_alone space gap items ts in
+    let spanning = spans_fitted space gap items (length ts) 2 singles in
+    let crossing = filter (crosses_flexible ts) items in
+    let all = group_fitted space gap true crossing spanning in
+    map close_limit all
+
+-- ---- the rest of the space (Grid 2, 12.6 to 12.8)
+
+-- the gutters between the tracks that are not collapsed (Grid 2, 7.2.3.2)
+abbrev pub all_gutters : ℤ → List Track → ℤ
+all_gutters gap ts = gap *ℤ pos (length (filter (λ (t : Track). not t.rule.collapsed) ts) - 1)
+
+-- the base sizes and the gutters
+abbrev pub total : ℤ → List Track → ℤ
+total gap ts = sum_of (map (λ (t : Track). t.base) ts) +ℤ all_gutters gap ts
+
+-- what a definite space leaves
+abbrev pub free_of : ℤ → ℤ → List Track → ℤ
+free_of gap a ts = clamp (int_max (pos 0) (a -ℤ total gap ts))
+
+abbrev pub grow_base : Track → ℤ → Track
+grow_base t share = let base = clamp (t.base +ℤ share) in record t { base = base }
+
+-- base sizes grown by a space in equal parts, as far as there is room
+abbrev pub grown : (Track → Option ℤ) → ℤ → List Track → List Track
+grown room space ts = zipped grow_base ts (shares space (map room ts))
+
+abbrev pub to_limit : Track → Option ℤ
+to_limit t = up_to t.base t.limit
+
+abbrev pub full : Track → Track
+full t = let base = unwrap_or t.limit t.base in record t { base = base }
+
+-- under a max-content space: each base size becomes its growth limit, unless the total then passes the declared maximum
+abbrev pub maximised_within : Option ℤ → ℤ → List Track → List Track
+maximised_within None gap ts = map full ts
+maximised_within (Some most) gap ts =
+    let less = grown to_limit (free_of gap most ts) ts in
+    let all = map full ts in
+    if int_lt most (total gap all) then less else all
+
+-- Maximised (Grid 2, 12.6).
+abbrev pub maximised : {axis : ℕ} → Space axis → Option ℤ → ℤ → List Track → List Track
+maximised (Definite a) most gap ts = grown to_limit (free_of gap a ts) ts
+maximised MinContent most gap ts = ts
+maximised MaxContent most gap ts = maximised_within most gap ts
+
+abbrev pub fr_row : Track → FrRow
+fr_row t = record { base = t.base; factor = factor_of t.rule.most }
+
+-- the fraction of a definite space: 0 where none of it is free
+abbrev pub definite_fraction : ℤ → ℤ → List Track → Fraction
+definite_fraction gap a ts =
+    let f = found (map fr_row ts) (all_gutters gap ts) a in
+    if int_lt (pos 0) (free_of gap a ts) then f else no_fraction
+
+-- the greater of two fractions
+abbrev pub greater : Fraction → Fraction → Fraction
+greater f g = if int_lt (f.space *ℤ pos g.weight) (g.space *ℤ pos f.weight) then g else f
+
+-- the fraction by which a flexible track keeps its base size: over its factor, or over 1 where that is less
+abbrev pub base_fraction : Track → Fraction
+base_fraction t = record { space = t.base; weight = max 1000 (unwrap_or (factor_of t.rule.most) 0) }
+
+-- the fraction by which the tracks of an item have room for its max-content contribution
+abbrev pub item_fraction : ℤ → List Track → Item → Fraction
+item_fraction gap ts i = found (map fr_row (spanned i ts)) (inner_gutters gap i) i.high
+
+abbrev pub greatest_fraction : List Fraction → Fraction
+greatest_fraction [] = no_fraction
+greatest_fraction (f ∷ rest) = greater f (greatest_fraction rest)
+
+-- The fraction (Grid 2, 12.7).
+abbrev pub fraction_for : {axis : ℕ} → Space axis → ℤ → List Item → List Track → Fraction
+fraction_for (Definite a) gap items ts = definite_fraction gap a ts
+fraction_for MinContent gap items ts = no_fraction
+fraction_for MaxContent gap items ts = greatest_fraction (map base_fraction (filter flexible ts) ++ map (item_fraction gap ts) (filter (crosses_flexible ts) items))
+
+abbrev pub with_base : Track → FrRow → Track
+with_base t r = record t { base = r.base }
+
+abbrev pub expanded_by : Fraction → List Track → List Track
+expanded_by f ts = zipped with_base ts (expanded f (map fr_row ts))
+
+-- Under a max-content space the step is done again, from the sizes as they were, with the total limited by the declared lengths as
+-- a definite space, where that is another.
+abbrev pub expanded_within : Option ℤ → Option ℤ → ℤ → List Track → List Track → List Track
+expanded_within min most gap ts done =
+    let bounded = at_least min (at_most most (total gap done)) in
+    let again = expanded_by (definite_fraction gap bounded ts) ts in
+    if int_eq bounded (total gap done) then done else again
+
+-- Flexible tracks expanded (Grid 2, 12.7).
+abbrev pub flexed : {axis : ℕ} → Fit axis → List Item → List Track → List Track
+flexed fit items ts =
+    let done = expanded_by (fraction_for fit.space fit.gap items ts) ts in
+    if is_max_content fit.space then expanded_within fit.min fit.max fit.gap ts done else done
+
+-- the space that `auto` tracks are stretched over: a definite space, else the declared minimum
+abbrev pub stretch_space : {axis : ℕ} → Space axis → Option ℤ → Option ℤ
+stretch_space (Definite a) min = Some a
+stretch_space MinContent min = min
+stretch_space MaxContent min = min
+
+abbrev pub auto_room : Track → Option ℤ
+auto_room t = if is_auto_most t.rule.most then None else Some (pos 0)
+
+abbrev pub stretched_over : Option ℤ → ℤ → List Track → List Track
+stretched_over None gap ts = ts
+stretched_over (Some a) gap ts = grown auto_room (free_of gap a ts) ts
+
+-- `auto` tracks stretched (Grid 2, 12.8).
+abbrev pub stretched : {axis : ℕ} → Fit axis → List Track → List Track
+stretched fit ts =
+    let more = stretched_over (stretch_space fit.space fit.min) fit.gap ts in
+    if fit.stretch then more else ts
+
+-- ---- the whole (Grid 2, 12.3)
+
+-- the tracks once sized
+unfoldable pub sized : {axis : ℕ} → List Rule → ℤ → List Item → Fit axis → List Track
+sized rules first items fit =
+    let start = initialised first rules in
+    let content = content_sized fit.space fit.gap items start in
+    let most = maximised fit.space fit.max fit.gap content in
+    let flex = flexed fit items most in
+    stretched fit flex
+
+-- The sizes of the tracks, the first of which lies at this coordinate, in their order.
+abbrev pub track_sizes : {axis : ℕ} → List Rule → ℤ → List Item → Fit axis → List ℤ
+track_sizes rules first items fit = map (λ (t : Track). t.base) (sized rules first items fit)
+
+-- ---- worked rows, in units
+
+abbrev rule : Least → Most → Rule
+rule a b = record { least = a; most = b; collapsed = false }
+
+abbrev autos : Rule
+autos = rule least.Auto most.Auto
+
+abbrev item : ℤ → ℤ → ℤ → ℤ → ℤ → Item
+item start end low high floor = record { span = record { start = start; end = end }; low = low; high = high; floor = Known floor }
+
+abbrev flex : ℕ → Rule
+flex w = rule least.Auto (most.Flex w)
+
+-- an item with an automatic minimum of this content size, without margins, borders and paddings
+abbrev content_item : ℤ → ℤ → ℤ → ℤ → ℤ → Item
+content_item start end low high size = record { span = record { start = start; end = end }; low = low; high = high; floor = Content size (pos 0) (pos 0) }
+
+abbrev fit : Space 0 → Option ℤ → Option ℤ → ℤ → Bool → Fit 0
+fit space min max gap stretch = record { space = space; min = min; max = max; gap = gap; stretch = stretch }
+
+abbrev within : Space 0 → Bool → Fit 0
+within space stretch = fit space None None (pos 0) stretch
+
+-- The minimum of 6401 goes to the two tracks in equal parts, the odd unit to the first. The limits follow, and nothing grows.
+two_auto : track_sizes (autos ∷ autos ∷ []) (pos 0) (item (pos 0) (pos 2) (pos 6401) (pos 6401) (pos 6401) ∷ []) (within (Definite (pos 19200)) false) ≡ pos 3201 ∷ pos 3200 ∷ []
+unfolding sized group_fitted spans_fitted rounds_with_room left_flexible clamp floor_div
+two_auto = refl
+
+-- Two items over both tracks need 50 of each. The greatest counts, not the sum.
+not_summed : track_sizes (autos ∷ autos ∷ []) (pos 0) (item (pos 0) (pos 2) (pos 100) (pos 100) (pos 100) ∷ item (pos 0) (pos 2) (pos 100) (pos 100) (pos 100) ∷ []) (within MaxContent false) ≡ pos 50 ∷ pos 50 ∷ []
+unfolding sized group_fitted spans_fitted rounds_with_room left_flexible clamp floor_div
+not_summed = refl
+
+-- The growth limit is the content of 7936, at most the argument 5120; the base size 3840 grows up to it.
+fit_content : track_sizes (rule least.Auto (most.Fit (pos 5120)) ∷ []) (pos 0) (item (pos 0) (pos 1) (pos 3840) (pos 7936) (pos 3840) ∷ []) (within (Definite (pos 19200)) false) ≡ pos 5120 ∷ []
+unfolding sized group_fitted spans_fitted rounds_with_room left_flexible clamp floor_div
+fit_content = refl
+
+-- The fixed track grows from 10 to its limit 20; the rest of 80 stretches the `auto` track.
+fixed_then_stretched : track_sizes (rule (least.Fixed (pos 10)) (most.Fixed (pos 20)) ∷ autos ∷ []) (pos 0) ([]) (within (Definite (pos 100)) true) ≡ pos 20 ∷ pos 80 ∷ []
+unfolding sized group_fitted spans_fitted rounds_with_room left_flexible clamp floor_div
+fixed_then_stretched = refl
+
+-- 6400 by three equal factors.
+three_fr : track_sizes (flex 1000 ∷ flex 1000 ∷ flex 1000 ∷ []) (pos 0) ([]) (within (Definite (pos 6400)) false) ≡ pos 2133 ∷ pos 2133 ∷ pos 2134 ∷ []
+unfolding sized group_fitted spans_fitted rounds_with_room left_flexible clamp floor_div
+three_fr = refl
+
+-- Half of 6400 is below the content of 5120, so the other track has what is left.
+fr_below_base : track_sizes (flex 1000 ∷ flex 1000 ∷ []) (pos 0) (item (pos 0) (pos 1) (pos 5120) (pos 5120) (pos 5120) ∷ item (pos 1) (pos 2) (pos 0) (pos 0) (pos 0) ∷ []) (within (Definite (pos 6400)) false) ≡ pos 5120 ∷ pos 1280 ∷ []
+unfolding sized group_fitted spans_fitted rounds_with_room left_flexible clamp floor_div
+fr_below_base = refl
+
+-- A factor of 0.5 alone takes half of 6400.
+half_fr : track_sizes (flex 500 ∷ []) (pos 0) ([]) (within (Definite (pos 6400)) false) ≡ pos 3200 ∷ []
+unfolding sized group_fitted spans_fitted rounds_with_room left_flexible clamp floor_div
+half_fr = refl
+
+-- For its content the grid gives a thousandth of an `fr` the greatest of 100 over 1000 and 0 over 3000.
+fr_by_content : track_sizes (flex 1000 ∷ flex 3000 ∷ []) (pos 0) (content_item (pos 0) (pos 1) (pos 100) (pos 100) (pos 100) ∷ []) (within MaxContent false) ≡ pos 100 ∷ pos 300 ∷ []
+unfolding sized group_fitted spans_fitted rounds_with_room left_flexible clamp floor_div
+fr_by_content = refl
+
+-- An `auto` track under a min-content space has the min-content contribution.
+smallest : track_sizes (autos ∷ []) (pos 0) (item (pos 0) (pos 1) (pos 30) (pos 80) (pos 30) ∷ []) (within MinContent false) ≡ pos 30 ∷ []
+unfolding sized group_fitted spans_fitted rounds_with_room left_flexible clamp floor_div
+smallest = refl
+
+-- And under a max-content space the max-content contribution.
+greatest : track_sizes (autos ∷ []) (pos 0) (item (pos 0) (pos 1) (pos 30) (pos 80) (pos 30) ∷ []) (within MaxContent false) ≡ pos 80 ∷ []
+unfolding sized group_fitted spans_fitted rounds_with_room left_flexible clamp floor_div
+greatest = refl
+
+-- With 50 it grows from 30 towards 80 as far as there is space.
+between_both : track_sizes (autos ∷ []) (pos 0) (item (pos 0) (pos 1) (pos 30) (pos 80) (pos 30) ∷ []) (within (Definite (pos 50)) false) ≡ pos 50 ∷ []
+unfolding sized group_fitted spans_fitted rounds_with_room left_flexible clamp floor_div
+between_both = refl
+
+-- A max function `min-content` limits growth to 30.
+min_content_limit : track_sizes (rule least.Auto most.MinContent ∷ []) (pos 0) (item (pos 0) (pos 1) (pos 30) (pos 80) (pos 30) ∷ []) (within (Definite (pos 100)) false) ≡ pos 30 ∷ []
+unfolding sized group_fitted spans_fitted rounds_with_room left_flexible clamp floor_div
+min_content_limit = refl
+
+-- The automatic minimum of 80 is limited by the fixed max function 50.
+automatic_minimum : track_sizes (rule least.Auto (most.Fixed (pos 50)) ∷ []) (pos 0) (content_item (pos 0) (pos 1) (pos 80) (pos 80) (pos 80) ∷ []) (within (Definite (pos 20)) false) ≡ pos 50 ∷ []
+unfolding sized group_fitted spans_fitted rounds_with_room left_flexible clamp floor_div
+automatic_minimum = refl
+
+-- Over two such tracks and a gutter of 10 it is limited to 110: less the gutter, 50 for each.
+automatic_minimum_gap : track_sizes (rule least.Auto (most.Fixed (pos 50)) ∷ rule least.Auto (most.Fixed (pos 50)) ∷ []) (pos 0) (content_item (pos 0) (pos 2) (pos 200) (pos 200) (pos 200) ∷ []) (fit (Definite (pos 20)) None None (pos 10) false) ≡ pos 50 ∷ pos 50 ∷ []
+unfolding sized group_fitted spans_fitted rounds_with_room left_flexible clamp floor_div
+automatic_minimum_gap = refl
+
+-- Over two tracks of which one is flexible there is no automatic minimum.
+no_automatic_minimum : track_sizes (autos ∷ flex 1000 ∷ []) (pos 0) (content_item (pos 0) (pos 2) (pos 80) (pos 80) (pos 80) ∷ []) (within (Definite (pos 0)) false) ≡ pos 0 ∷ pos 0 ∷ []
+unfolding sized group_fitted spans_fitted rounds_with_room left_flexible clamp floor_div
+no_automatic_minimum = refl
+
+-- The track between has no size and no gutters: 100 less one gutter of 10 stretches the others to 45.
+collapsed : track_sizes (autos ∷ record { least = least.Auto; most = most.Auto; collapsed = true } ∷ autos ∷ []) (pos 0) ([]) (fit (Definite (pos 100)) None None (pos 10) true) ≡ pos 45 ∷ pos 0 ∷ pos 45 ∷ []
+unfolding sized group_fitted spans_fitted rounds_with_room left_flexible clamp floor_div
+collapsed = refl
+
+-- Under a max-content space an `auto` track of 30 is stretched to the declared minimum of 100.
+stretched_to_minimum : track_sizes (autos ∷ []) (pos 0) (item (pos 0) (pos 1) (pos 30) (pos 30) (pos 30) ∷ []) (fit MaxContent (Some (pos 100)) None (pos 0) true) ≡ pos 100 ∷ []
+unfolding sized group_fitted spans_fitted rounds_with_room left_flexible clamp floor_div
+stretched_to_minimum = refl
+
+-- The limit 80 passes the declared maximum of 50, so 20 more than the base size 30 are given.
+within_maximum : track_sizes (autos ∷ []) (pos 0) (item (pos 0) (pos 1) (pos 30) (pos 80) (pos 30) ∷ []) (fit MaxContent None (Some (pos 50)) (pos 0) false) ≡ pos 50 ∷ []
+unfolding sized group_fitted spans_fitted rounds_with_room left_flexible clamp floor_div
+within_maximum = refl
+
+-- The total of 100 is below the declared minimum of 200, so the flexible track is sized for 200.
+fr_to_minimum : track_sizes (flex 1000 ∷ []) (pos 0) (item (pos 0) (pos 1) (pos 100) (pos 100) (pos 100) ∷ []) (fit MaxContent (Some (pos 200)) None (pos 0) false) ≡ pos 200 ∷ []
+unfolding sized group_fitted spans_fitted rounds_with_room left_flexible clamp floor_div
+fr_to_minimum = refl
+
+-- 100 less 10: 40 to the affected track up to its limit, 20 to the other up to its limit 30, and the rest of 30 to the affected track beyond.
+other_tracks : track_sizes (rule (least.Fixed (pos 10)) (most.Fixed (pos 30)) ∷ rule least.MinContent (most.Fixed (pos 40)) ∷ []) (pos 0) (item (pos 0) (pos 2) (pos 100) (pos 100) (pos 100) ∷ []) (within (Definite (pos 100)) false) ≡ pos 30 ∷ pos 70 ∷ []
+unfolding sized group_fitted spans_fitted rounds_with_room left_flexible clamp floor_div
+other_tracks = refl
+
+-- Base sizes 5 and 5; the limits follow the max-content contribution of 100 only up to the arguments, and the rest is dropped.
+fit_content_limits : track_sizes (rule least.Auto (most.Fit (pos 20)) ∷ rule least.Auto (most.Fit (pos 20)) ∷ []) (pos 0) (item (pos 0) (pos 2) (pos 10) (pos 100) (pos 10) ∷ []) (within (Definite (pos 200)) false) ≡ pos 20 ∷ pos 20 ∷ []
+unfolding sized group_fitted spans_fitted rounds_with_room left_flexible clamp floor_div
+fit_content_limits = refl
+
+-- Base sizes pass the arguments where nothing else can take what is needed: 20 each, and then 30 each.
+fit_content_passed : track_sizes (rule least.Auto (most.Fit (pos 20)) ∷ rule least.Auto (most.Fit (pos 20)) ∷ []) (pos 0) (item (pos 0) (pos 2) (pos 100) (pos 100) (pos 100) ∷ []) (within (Definite (pos 0)) false) ≡ pos 50 ∷ pos 50 ∷ []
+unfolding sized group_fitted spans_fitted rounds_with_room left_flexible clamp floor_div
+fit_content_passed = refl
+
+-- 20 as 10 and 10. The first limit had no end and becomes 10; for the max-content contribution of 60 it still grows, to 50.
+infinitely_growable : track_sizes (autos ∷ rule least.Auto (most.Fixed (pos 10)) ∷ []) (pos 0) (item (pos 0) (pos 2) (pos 20) (pos 60) (pos 20) ∷ []) (within MaxContent false) ≡ pos 50 ∷ pos 10 ∷ []
+unfolding sized group_fitted spans_fitted rounds_with_room left_flexible clamp floor_div
+infinitely_growable = refl
+
+-- Span 2 before span 3: 6 as 3 and 3, which are then the limits, so of 12 the third track takes the rest of 6.
+spans_in_order : track_sizes (autos ∷ autos ∷ autos ∷ []) (pos 0) (item (pos 0) (pos 3) (pos 12) (pos 12) (pos 12) ∷ item (pos 0) (pos 2) (pos 6) (pos 6) (pos 6) ∷ []) (within (Definite (pos 0)) false) ≡ pos 3 ∷ pos 3 ∷ pos 6 ∷ []
+unfolding sized group_fitted spans_fitted rounds_with_room left_flexible clamp floor_div
+spans_in_order = refl
+
+-- Factors of 0: equal parts.
+no_factors : track_sizes (flex 0 ∷ flex 0 ∷ []) (pos 0) (item (pos 0) (pos 2) (pos 7) (pos 7) (pos 7) ∷ []) (within (Definite (pos 0)) false) ≡ pos 4 ∷ pos 3 ∷ []
+unfolding sized group_fitted spans_fitted rounds_with_room left_flexible clamp floor_div
+no_factors = refl
+
+-- Of an item that crosses a flexible track only this one is affected: 50 less the fixed 10.
+only_flexible : track_sizes (rule (least.Fixed (pos 10)) (most.Fixed (pos 10)) ∷ flex 1000 ∷ []) (pos 0) (item (pos 0) (pos 2) (pos 50) (pos 50) (pos 50) ∷ []) (within (Definite (pos 0)) false) ≡ pos 10 ∷ pos 40 ∷ []
+unfolding sized group_fitted spans_fitted rounds_with_room left_flexible clamp floor_div
+only_flexible = refl

@@ -1,0 +1,14 @@
+/// How what is smaller or greater than its room is placed in it (Box Alignment 3, sections 4 and 5).
+///
+/// `Between`, `Around` and `Evenly` are `space-between`, `space-around` and `space-evenly`; they place content only.
+/// `Stretch` places as `Start`.
+#[derive(Clone, Copy, Debug, PartialEq, Eq)]
+pub enum Mode {
+    Start,
+    End,
+    Center,
+    Stretch,
+    Between,
+    Around,
+    Evenly,
+}

@@ -1,0 +1,3 @@
+pub mod Levels
+pub mod Rounds
+pub mod Parts
