@@ -83,7 +83,7 @@ rest_parts r s p c e =
     ∙ ap (λ (k : ℕ). k / (p * c)) (ap (λ (k : ℕ). r * k) (sym e) ∙ sym (mul_assoc r s c))
     ∙ mul-div-mul_right (r * s) p (scale_has s c e)
 
-parts_are : (n s p c : ℕ) → s * c ≡ 1000000 → 0 < p → n / p * s + n % p * 1000000 / p / c ≡ n * s / p
+pub parts_are : (n s p c : ℕ) → s * c ≡ 1000000 → 0 < p → n / p * s + n % p * 1000000 / p / c ≡ n * s / p
 parts_are n s p c e some =
     ap (λ (k : ℕ). n / p * s + k) (rest_parts (n % p) s p c e)
     ∙ sym (ap (λ (k : ℕ). k * s / p) (sym (div-add-mod' n p)) ∙ ap (λ (k : ℕ). k / p) (swap (n / p) p (n % p) s) ∙ add-mul-div_right (n % p * s) (n / p * s) some ∙ add_comm (n % p * s / p) (n / p * s))
@@ -160,3 +160,5 @@ size_signed true (suc n) = refl
 -- what a form reads fits 64 bits with its sign
 pub size_fits : (n m s : ℕ) → n ≤ m * s → m < 4294967296 → IsScale s → n < 9223372036854775808
 size_fits n m s h small scale = omega (arith, h, mul-le-mul_left {m = s} {n = 1000000} m (scale_within s scale), small)
+
+pub ruleset reading = (none_read, refused_read, whole_read, millionths_read)

@@ -1,5 +1,5 @@
 -- Spans of grid lines and areas of cells that overlap.
-use Rattle.std.specs.Prelude.{Bool, not, ◌&&◌, int_lt, List}
+use Rattle.std.specs.Prelude.{ℤ, ◌≤ℤ◌, ◌<ℤ◌, Bool, not, ◌&&◌, int_lt, List}
 use Rattle.std.specs.Int.{int_max, int_min}
 use Rattle.std.specs.List.{list_all}
 use Rattle.lunit.specs.declared.geometry.Area.{Area}
@@ -16,3 +16,16 @@ areas_overlap a b = spans_overlap a.columns b.columns && spans_overlap a.rows b.
 -- the area overlaps none of these
 abbrev pub is_free : Area → List Area → Bool
 is_free a held = list_all (λ b. not (areas_overlap a b)) held
+
+-- the track from a line to the next one lies in the span
+abbrev pub IsTrackOf : Span → ℤ → Type 0
+IsTrackOf span track = (span.start ≤ℤ track) × (track <ℤ span.end)
+
+-- some cell lies in both areas
+pub record HaveCell (a b : Area) : Type 0 where
+  pub column : ℤ
+  pub row : ℤ
+  pub first_column : IsTrackOf a.columns column
+  pub first_row : IsTrackOf a.rows row
+  pub second_column : IsTrackOf b.columns column
+  pub second_row : IsTrackOf b.rows row

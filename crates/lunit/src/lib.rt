@@ -7,6 +7,7 @@ mod copied;
 mod errors;
 mod geometry;
 mod item;
+mod laws;
 mod line_value;
 mod lu;
 mod name;
@@ -16,6 +17,8 @@ mod occupancy;
 mod print;
 mod sequence;
 mod steps;
+#[cfg(test)]
+mod tests;
 mod wide;
 
 pub use along::{Along, BLOCK, INLINE};
@@ -23,6 +26,7 @@ pub use copied::Copied;
 pub use errors::{BadName, BadNumber, NoMemory};
 pub use geometry::{Area, Rect, Span, Spot};
 pub use item::{Floor, Item};
+pub use laws::{overlap_is_a_cell, rounds_down, six_decimals_count};
 pub use line_value::LineValue;
 pub use lu::Lu;
 pub use name::Name;

@@ -203,7 +203,7 @@ impl NumberForm {
     /// The number in the text, times `scale` and truncated toward zero: an optional sign, digits, and optionally a point
     /// with digits; the digits before or after the point may be missing, not both. `None` exactly where the text is
     /// none, or one that the form does not allow, which is asked of the exact number. Linear in the text.
-    #[tactic(auto, using(crate::proofs::Allowed::none_read, crate::proofs::Allowed::refused_read, crate::proofs::Allowed::given_read, crate::proofs::Allowed::whole_read, crate::proofs::Allowed::millionths_read, crate::proofs::Allowed::size_read, crate::proofs::Allowed::scale_within, crate::proofs::Allowed::size_signed))]
+    #[tactic(auto, using(crate::proofs::Allowed::reading))]
     pub fn read(self, text: &[u8]) -> Option<i64>
         requires { IsScale self.scale }
         ensures value { result ≡ read_number self text.now }
