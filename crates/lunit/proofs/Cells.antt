@@ -1,5 +1,5 @@
 -- Areas overlap where they have a cell in common.
-use Rattle.std.proofs.Common.{arith, rules, ap, sym, ◌∙◌, ◌≡◌, ℤ, pos, ◌≤ℤ◌, ◌<ℤ◌, Bool, true, ◌&&◌, int_lt}
+use Rattle.std.proofs.Common.{arith, rules, ◌≡◌, ℤ, ◌<ℤ◌, true, int_lt}
 use Rattle.std.specs.Int.{int_max, int_min}
 use Rattle.std.proofs.lemmas.Int.{ints, int_max_is, int_min_is}
 use Rattle.std.proofs.lemmas.Bool.{and_parts, and_from}

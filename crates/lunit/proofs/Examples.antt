@@ -1,16 +1,13 @@
 -- The definitions, computed.
-use Rattle.std.proofs.Common.{◌≡◌, ℕ, ℤ, pos, negsuc, Bool, true, false, List, [], codes, Option, Some, None, Result, Ok, Err, refl}
+use Rattle.std.proofs.Common.{◌≡◌, ℤ, pos, negsuc, true, false, [], codes, Some, None, Ok, Err, refl}
 use Rattle.std.specs.Fmt.{digits}
 use Rattle.lunit.specs.Units.{clamp, floor_div, percent}
 use Rattle.lunit.specs.Decimals.{read_units, read_number}
 use Rattle.lunit.specs.Printed.{printed}
 use Rattle.lunit.specs.Names.{is_name, read_name, edge_of}
 use Rattle.lunit.specs.Areas.{areas_overlap}
-use Rattle.lunit.specs.declared.errors.BadNumber.{BadNumber}
-use Rattle.lunit.specs.declared.errors.BadName.{BadName}
 use Rattle.lunit.specs.declared.number.NumberForm.{NumberForm}
 use Rattle.lunit.specs.declared.geometry.Area.{Area}
-use Rattle.lunit.specs.declared.geometry.Span.{Span}
 
 -- limiting
 
