@@ -1,4 +1,5 @@
 pub mod Aligned
+pub mod Apart
 pub mod Floor
 pub mod Fractions
 pub mod Placed

@@ -1,5 +1,5 @@
 -- What is placed in a free place overlaps nothing that is placed before, and no earlier place was free.
-use Rattle.std.proofs.Common.{arith, ap, subst, ◌≡◌, ◌∙◌, refl, ℕ, zero, suc, ℤ, pos, negsuc, ◌+ℤ◌, ◌-ℤ◌, ◌≤ℤ◌, ◌<ℤ◌, ◌⊎◌, inl, inr, Bool, true, false, not, ◌&&◌, List, [], ◌∷◌, if◌then◌else◌, int_lt, int_le}
+use Rattle.std.proofs.Common.{arith, ap, subst, ◌≡◌, sym, ◌∙◌, refl, ℕ, zero, suc, ℤ, pos, negsuc, ◌+ℤ◌, ◌-ℤ◌, ◌≤ℤ◌, ◌<ℤ◌, ◌⊎◌, inl, inr, Bool, true, false, not, ◌&&◌, List, [], ◌∷◌, if◌then◌else◌, int_lt, int_le}
 use Rattle.std.specs.Int.{int_max, int_min}
 use Rattle.std.proofs.lemmas.Int.{ints, clamps}
 use Rattle.lunit.specs.Areas.{is_free, areas_overlap, spans_overlap}
@@ -8,7 +8,7 @@ use Rattle.lunit.specs.declared.geometry.Area.{Area}
 use Rattle.lunit.specs.declared.geometry.Spot.{Spot}
 use Rattle.lunit.specs.declared.geometry.Spot.TheVariants.{At, Free}
 use Rattle.part_rules.specs.Lists.{above_zero, greatest_with}
-use Rattle.part_rules.specs.Placement.{to_end, first_free, far_column, far_row, free_column, free_row, Position, free_position, rows_to_search, row_area, row_search_start, Field, column_search_start, free_search_start, area_at, next_area, IsFreeOf}
+use Rattle.part_rules.specs.Placement.{to_end, first_free, far_column, far_row, free_column, free_row, Position, free_position, rows_to_search, row_area, row_search_start, Field, column_search_start, free_search_start, area_at, next_area, IsFreeOf, IsEarlier, IsLeast}
 
 -- ---- the least place is free, and no place before it
 
@@ -138,3 +138,57 @@ next_area_free f placed cursor (At columns) (At rows) = tt
 next_area_free f placed cursor (At columns) (Free l) = free_row_free placed columns l (column_search_start f cursor columns)
 next_area_free f placed cursor (Free k) (At rows) = tt
 next_area_free f placed cursor (Free k) (Free l) = free_position_free placed f.columns k l (free_search_start f cursor)
+
+-- ---- no earlier position was free
+
+-- a later row's search begins at the first column of the next row
+next_row : (columns : Span) (k : ℕ) (from found q : Position) → IsEarlier columns k from found q → from.row <ℤ q.row → IsEarlier columns k (record { column = columns.start; row = from.row +ℤ pos 1 }) found q
+next_row columns k from found q e later = record {
+  starts = e.starts;
+  ends = e.ends;
+  reached = by (int_lt (from.row +ℤ pos 1) q.row) refl;
+  passed = e.passed;
+}
+  where
+    by : (t : Bool) → int_lt (from.row +ℤ pos 1) q.row ≡ t → ((from.row +ℤ pos 1) <ℤ q.row) ⊎ (((from.row +ℤ pos 1) ≡ q.row) × (columns.start ≤ℤ q.column))
+    by true k = inl (omega (arith, ints))
+    by false k = inr (omega (arith, ints), e.starts)
+
+in_this_row : (placed : List Area) (columns : Span) (k l : ℕ) (from q : Position) (c : ℤ) → from.row ≡ q.row → from.column ≤ℤ q.column → q.column <ℤ c
+    → first_free (λ x. record { columns = to_end x k; rows = to_end from.row l }) placed (above_zero (columns.end -ℤ pos k +ℤ pos 1 -ℤ from.column)) from.column ≡ c
+    → is_free (area_at q k l) placed ≡ false
+in_this_row placed columns k l from q c same low high e =
+    subst (λ (r : ℤ). is_free (record { columns = to_end q.column k; rows = to_end r l }) placed ≡ false) same
+    (none_before (λ x. record { columns = to_end x k; rows = to_end from.row l }) placed (above_zero (columns.end -ℤ pos k +ℤ pos 1 -ℤ from.column)) from.column q.column low (subst (λ (z : ℤ). q.column <ℤ z) (sym e) high))
+
+pub least_position : (placed : List Area) (columns : Span) (k l n : ℕ) (from : Position) → IsLeast placed columns k l from (free_position placed columns k l n from)
+least_position placed columns k l zero from q e = go e.reached e.passed
+  where
+    go : (from.row <ℤ q.row) ⊎ ((from.row ≡ q.row) × (from.column ≤ℤ q.column)) → (q.row <ℤ from.row) ⊎ ((q.row ≡ from.row) × (q.column <ℤ from.column)) → is_free (area_at q k l) placed ≡ false
+    go (inl a) (inl b) = absurd (omega (arith, ints))
+    go (inl a) (inr b) = let s = b.0 in absurd (omega (arith, ints))
+    go (inr a) (inl b) = let s = a.0 in absurd (omega (arith, ints))
+    go (inr a) (inr b) = let x = a.1 in let y = b.1 in absurd (omega (arith, ints))
+least_position placed columns k l (suc n) from q e =
+    go (first_free (λ c. record { columns = to_end c k; rows = to_end from.row l }) placed (above_zero (columns.end -ℤ pos k +ℤ pos 1 -ℤ from.column)) from.column) refl e
+    (least_position placed columns k l n (record { column = columns.start; row = from.row +ℤ pos 1 }) q)
+  where
+    go : (c : ℤ) → first_free (λ c. record { columns = to_end c k; rows = to_end from.row l }) placed (above_zero (columns.end -ℤ pos k +ℤ pos 1 -ℤ from.column)) from.column ≡ c
+        → IsEarlier columns k from (if int_le (c +ℤ pos k) columns.end then record { column = c; row = from.row } else free_position placed columns k l n (record { column = columns.start; row = from.row +ℤ pos 1 })) q
+        → (IsEarlier columns k (record { column = columns.start; row = from.row +ℤ pos 1 }) (free_position placed columns k l n (record { column = columns.start; row = from.row +ℤ pos 1 })) q → is_free (area_at q k l) placed ≡ false)
+        → is_free (area_at q k l) placed ≡ false
+    go c same e later = by (int_le (c +ℤ pos k) columns.end) refl e
+      where
+        at_found : IsEarlier columns k from (record { column = c; row = from.row }) q → (from.row <ℤ q.row) ⊎ ((from.row ≡ q.row) × (from.column ≤ℤ q.column)) → (q.row <ℤ from.row) ⊎ ((q.row ≡ from.row) × (q.column <ℤ c)) → is_free (area_at q k l) placed ≡ false
+        at_found e (inl a) (inl b) = absurd (omega (arith, ints))
+        at_found e (inl a) (inr b) = let s = b.0 in absurd (omega (arith, ints))
+        at_found e (inr a) (inl b) = let s = a.0 in absurd (omega (arith, ints))
+        at_found e (inr a) (inr b) = in_this_row placed columns k l from q c a.0 a.1 b.1 same
+
+        in_later : int_le (c +ℤ pos k) columns.end ≡ false → IsEarlier columns k from (free_position placed columns k l n (record { column = columns.start; row = from.row +ℤ pos 1 })) q → (from.row <ℤ q.row) ⊎ ((from.row ≡ q.row) × (from.column ≤ℤ q.column)) → is_free (area_at q k l) placed ≡ false
+        in_later t e (inl a) = later (next_row columns k from (free_position placed columns k l n (record { column = columns.start; row = from.row +ℤ pos 1 })) q e a)
+        in_later t e (inr a) = let ends = e.ends in in_this_row placed columns k l from q c a.0 a.1 (omega (arith, ints)) same
+
+        by : (t : Bool) → int_le (c +ℤ pos k) columns.end ≡ t → IsEarlier columns k from (if t then record { column = c; row = from.row } else free_position placed columns k l n (record { column = columns.start; row = from.row +ℤ pos 1 })) q → is_free (area_at q k l) placed ≡ false
+        by true t e = at_found e e.reached e.passed
+        by false t e = in_later t e e.reached

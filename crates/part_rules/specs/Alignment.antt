@@ -1,10 +1,10 @@
--- Where content stands in its container, and an item in its area (Box Alignment 3).
+-- Where content stands in its container, and an item in its area (CSS Box Alignment 3).
 use Rattle.std.specs.Prelude.{◌≡◌, refl, ℕ, ◌+◌, ◌-◌, ◌*◌, ℤ, pos, negsuc, ◌-ℤ◌, ◌*ℤ◌, int_lt, nat_le, Bool, true, false, ◌&&◌, ◌||◌, if◌then◌else◌}
 use Rattle.lunit.specs.Units.{floor_div}
 use Rattle.part_rules.specs.declared.mode.Mode.{Mode}
 use Rattle.part_rules.specs.declared.mode.Mode.TheVariants.{Start, End, Center, Stretch, Between, Around, Evenly}
 
--- ---- the content of a container (Box Alignment 3, section 5)
+-- ---- the content of a container (CSS Box Alignment 3, section 5)
 
 -- the three values that put space between the subjects
 abbrev pub spreads : Mode → Bool
@@ -17,7 +17,7 @@ spreads Center = false
 spreads Stretch = false
 
 -- How far subject k, from 0, of n is moved by the free space. `normal` and `stretch` place as start. The roundings are own
--- rules, and so is that one subject under `space-between` stands at the start (also Box Alignment 3, 5.3).
+-- rules, and so is that one subject under `space-between` stands at the start (as in CSS Box Alignment 3, 4.3).
 abbrev pub moved : Mode → ℤ → ℕ → ℕ → ℤ
 moved Start free k n = pos 0
 moved End free k n = free
@@ -27,18 +27,18 @@ moved Between free k n = if nat_le n 1 then pos 0 else floor_div (free *ℤ pos 
 moved Around free k n = floor_div (free *ℤ pos (2 * k + 1)) (2 * n)
 moved Evenly free k n = floor_div (free *ℤ pos (k + 1)) (n + 1)
 
--- Where the subjects pass the container, the three values that spread them and every `safe` value are start (Box Alignment 3,
--- 4.4 and 5.3).
+-- Where the subjects pass the container, the three values that spread them and every `safe` value are start (CSS Box Alignment 3,
+-- 4.3 and 4.4).
 abbrev pub content_moved : Mode → Bool → ℤ → ℕ → ℕ → ℤ
 content_moved mode safe free k n = if int_lt free (pos 0) && (safe || spreads mode) then pos 0 else moved mode free k n
 
--- ---- an item in its area (Box Alignment 3, section 6)
+-- ---- an item in its area (CSS Box Alignment 3, section 6)
 
 -- The start of an item in an area with this free space: area less outer size. A value that spreads has no meaning here and is start.
 abbrev pub self_moved : Mode → Bool → ℤ → ℤ
 self_moved mode safe free = if spreads mode || (safe && int_lt free (pos 0)) then pos 0 else moved mode free 0 1
 
--- ---- `auto` margins (Grid 2, 10.2)
+-- ---- `auto` margins (CSS Grid 2, 11.2)
 
 -- What the margins before and after an item take of its free space, where it is positive: one `auto` margin all of it; of two
 -- the first the half rounded down and the second the rest (the rounding is an own rule).
@@ -48,6 +48,8 @@ margins_of free true false = (free, pos 0)
 margins_of free false true = (pos 0, free)
 margins_of free true true = (floor_div free 2, free -ℤ floor_div free 2)
 
+-- what `auto` margins take: nothing where the free space is not positive, and the item is then aligned by its own value (it could
+-- also be start, as on a flex line)
 abbrev pub auto_taken : ℤ → Bool → Bool → ℤ × ℤ
 auto_taken free before after = if int_lt (pos 0) free then margins_of free before after else (pos 0, pos 0)
 

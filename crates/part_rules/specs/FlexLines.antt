@@ -1,4 +1,4 @@
--- The lines of a flex container, the main sizes of their items and their cross sizes (Flexbox 1, section 9).
+-- The lines of a flex container, the main sizes of their items and their cross sizes (CSS Flexbox 1, section 9).
 use Rattle.std.specs.Prelude.{◌≡◌, refl, ℕ, zero, suc, ◌+◌, ◌-◌, ◌*◌, nat_lt, ◌==◌, ℤ, pos, negsuc, ◌+ℤ◌, ◌-ℤ◌, ◌*ℤ◌, int_lt, int_le, Bool, true, false, ◌&&◌, ◌||◌, List, [], ◌∷◌, ◌++◌, map, length, Option, Some, None, is_some, unwrap_or, slice_range, if◌then◌else◌}
 use Rattle.std.specs.Int.{int_max, int_min}
 use Rattle.lunit.specs.Units.{clamp, floor_div}
@@ -6,16 +6,17 @@ use Rattle.part_rules.specs.declared.flex.FlexItem.{FlexItem}
 use Rattle.part_rules.specs.Lists.{sum_of, total_of, filled, zipped, at_most, greatest_with, above_zero}
 use Rattle.part_rules.specs.Sharing.{apportioned_whole, shares, rounds_with_room}
 
--- ---- lines (Flexbox 1, 9.3)
+-- ---- lines (CSS Flexbox 1, 9.3)
 
--- a size limited by the maximum, and then by the minimum and by borders and paddings (Flexbox 1, 9.7)
+-- a size limited by the maximum, and then by the minimum and by borders and paddings (CSS Flexbox 1, 9.7)
 abbrev pub limited_main : FlexItem → ℤ → ℤ
 limited_main i x = int_max i.inner (int_max i.min (at_most i.max x))
 
--- the hypothetical main size (Flexbox 1, 9.2)
+-- the hypothetical main size (CSS Flexbox 1, 9.2)
 abbrev pub hypothetical : FlexItem → ℤ
 hypothetical i = limited_main i i.base
 
+-- with the margins (CSS Flexbox 1, 9.2)
 abbrev pub outer_hypothetical : FlexItem → ℤ
 outer_hypothetical i = hypothetical i +ℤ i.margins
 
@@ -41,10 +42,11 @@ abbrev pub ranges_from : {A : Type 0} → ℕ → List (List A) → List (ℕ ×
 ranges_from n [] = []
 ranges_from n (line ∷ rest) = (n, n + length line) ∷ ranges_from (n + length line) rest
 
+-- The lines as ranges of the items (CSS Flexbox 1, 9.3).
 abbrev pub line_ranges : ℤ → ℤ → Bool → List FlexItem → List (ℕ × ℕ)
 line_ranges main gap wrap items = ranges_from 0 (lines_of main gap wrap items)
 
--- ---- the main sizes of one line (Flexbox 1, 9.7)
+-- ---- the main sizes of one line (CSS Flexbox 1, 9.7)
 
 -- an item of the line, with its size once it is frozen
 pub record Piece : Type 0 where
@@ -55,6 +57,7 @@ pub record Piece : Type 0 where
 abbrev pub grows : ℤ → ℤ → List FlexItem → Bool
 grows main gap line = int_lt (line_length gap line) main
 
+-- the grow factor where items grow, else the shrink factor (CSS Flexbox 1, 9.7)
 abbrev pub factor_of : Bool → FlexItem → ℕ
 factor_of grow i = if grow then i.grow else i.shrink
 
@@ -62,6 +65,7 @@ factor_of grow i = if grow then i.grow else i.shrink
 abbrev pub is_inflexible : Bool → FlexItem → Bool
 is_inflexible grow i = (factor_of grow i == 0) || (if grow then int_lt (hypothetical i) i.base else int_lt i.base (hypothetical i))
 
+-- an item as the line begins: frozen at its hypothetical size, or not (CSS Flexbox 1, 9.7, step 2)
 abbrev pub begin : Bool → FlexItem → Piece
 begin grow i = record { item = i; frozen = if is_inflexible grow i then Some (hypothetical i) else None }
 
@@ -76,6 +80,7 @@ free_space grow main gap line =
     let rest = main -ℤ gaps gap (length line) -ℤ sum_of (map outer_now line) in
     clamp (int_max (pos 0) (if grow then rest else pos 0 -ℤ rest))
 
+-- not frozen yet
 abbrev pub is_free : Piece → Bool
 is_free p = if is_some p.frozen then false else true
 
@@ -113,6 +118,7 @@ violation p size = if is_free p then limited_main p.item size -ℤ size else pos
 abbrev pub freezes : ℤ → ℤ → Bool
 freezes sum change = (int_le (pos 0) sum && int_le sum (pos 0)) || ((int_lt (pos 0) sum && int_lt (pos 0) change) || (int_lt sum (pos 0) && int_lt change (pos 0)))
 
+-- the item after its size was tried (CSS Flexbox 1, 9.7, step 4)
 abbrev pub frozen_by : ℤ → Piece → ℤ → Piece
 frozen_by sum p size = if is_free p && freezes sum (violation p size) then record p { frozen = Some (limited_main p.item size) } else p
 
@@ -127,6 +133,7 @@ unfoldable pub resolved : ℕ → Bool → ℤ → ℤ → ℤ → List Piece �
 resolved zero grow main gap initial line = line
 resolved (suc turns) grow main gap initial line = resolved turns grow main gap initial (turn grow main gap initial line)
 
+-- the size of a frozen item
 abbrev pub size_of : Piece → ℤ
 size_of p = unwrap_or p.frozen p.item.base
 
@@ -142,14 +149,14 @@ abbrev pub main_sizes : ℤ → ℤ → List FlexItem → List (ℕ × ℕ) → 
 main_sizes main gap items [] = []
 main_sizes main gap items (range ∷ rest) = line_sizes main gap (slice_range items range.0 range.1) ++ main_sizes main gap items rest
 
--- ---- the cross sizes of the lines (Flexbox 1, 9.4, steps 8 and 9)
+-- ---- the cross sizes of the lines (CSS Flexbox 1, 9.4, steps 8 and 9)
 
 -- the greatest outer hypothetical cross size of the items of a line, at least 0
 abbrev pub greatest_outer : List ℤ → ℕ × ℕ → ℤ
 greatest_outer outer range = greatest_with (pos 0) (slice_range outer range.0 range.1)
 
 -- A container without wrapping whose cross size is known gives it to its line; a single line of one that wraps does not get it
--- (as Flexbox 1, 9.4, step 8 has it: it speaks of single-line containers).
+-- (as CSS Flexbox 1, 9.4, step 8 has it: it speaks of single-line containers).
 abbrev pub own_cross : List ℤ → Option ℤ → Bool → ℕ × ℕ → ℤ
 own_cross outer (Some cross) false range = clamp cross
 own_cross outer (Some cross) true range = greatest_outer outer range
@@ -159,6 +166,7 @@ own_cross outer None wrap range = greatest_outer outer range
 abbrev pub cross_rest : ℤ → ℤ → List ℤ → ℤ
 cross_rest cross gap sizes = clamp (int_max (pos 0) (cross -ℤ gaps gap (length sizes) -ℤ sum_of sizes))
 
+-- lines that share what a known cross size leaves (CSS Flexbox 1, 9.4, step 9)
 abbrev pub stretched_lines : Option ℤ → ℤ → Bool → List ℤ → List ℤ
 stretched_lines (Some cross) gap true sizes = zipped (λ size share. clamp (size +ℤ share)) sizes (shares (cross_rest cross gap sizes) (map (λ (size : ℤ). let none : Option ℤ = None in none) sizes))
 stretched_lines (Some cross) gap false sizes = sizes
@@ -169,7 +177,7 @@ stretched_lines None gap stretch sizes = sizes
 abbrev pub line_crosses : List ℤ → List (ℕ × ℕ) → Option ℤ → ℤ → Bool → Bool → List ℤ
 line_crosses outer lines cross gap wrap stretch = stretched_lines cross gap (wrap && stretch) (map (own_cross outer cross wrap) lines)
 
--- ---- `auto` margins on a line (Flexbox 1, 9.5, step 12)
+-- ---- `auto` margins on a line (CSS Flexbox 1, 9.5, step 12)
 
 -- What the margins of a line take of its rest, in the order of the items and the start before the end: those that are `auto`
 -- share it in equal parts (the odd units to the first ones: own rule; the start margins could also have gone before all ends).

@@ -1,4 +1,4 @@
--- The size of an `fr` and the sizes that it gives (Grid 2, 12.7 and 12.7.1).
+-- The size of an `fr` and the sizes that it gives (CSS Grid 2, 12.7 and 12.7.1).
 use Rattle.std.specs.Prelude.{◌≡◌, refl, ℕ, zero, suc, max, ℤ, pos, ◌-ℤ◌, ◌*ℤ◌, ◌≤ℤ◌, int_lt, int_le, Bool, ◌&&◌, List, [], ◌∷◌, map, length, Some, None, is_some, unwrap_or, if◌then◌else◌}
 use Rattle.std.specs.Int.{int_max}
 use Rattle.std.specs.List.{list_all, list_any}
@@ -8,8 +8,9 @@ use Rattle.part_rules.specs.declared.fraction.Fraction.{Fraction}
 use Rattle.part_rules.specs.Lists.{sum_of, total_of, zipped}
 use Rattle.part_rules.specs.Sharing.{apportioned}
 
--- ---- the size of an `fr` (Grid 2, 12.7.1)
+-- ---- the size of an `fr` (CSS Grid 2, 12.7.1)
 
+-- a track with a factor (CSS Grid 2, 7.2.4)
 abbrev pub is_flexible : FrRow → Bool
 is_flexible r = is_some r.factor
 
@@ -34,9 +35,11 @@ weight_of rows = max 1000 (total_of (map factor_of rows))
 abbrev pub falls_short : ℤ → ℕ → FrRow → Bool
 falls_short left weight r = is_flexible r && int_lt (left *ℤ pos (factor_of r)) (r.base *ℤ pos weight)
 
+-- a track that counts as not flexible
 abbrev pub inflexible : FrRow → FrRow
 inflexible r = record r { factor = None }
 
+-- a track that falls short counts as not flexible, and another stays as it is
 abbrev pub settled : ℤ → ℕ → FrRow → FrRow
 settled left weight r = if falls_short left weight r then inflexible r else r
 
@@ -52,6 +55,7 @@ left_flexible (suc starts) space rows =
 abbrev pub no_fraction : Fraction
 no_fraction = record { space = pos 0; weight = 1000 }
 
+-- the leftover over the weight, or no fraction without flexible tracks
 abbrev pub fraction_of : ℤ → List FrRow → Fraction
 fraction_of space rows = if list_any is_flexible rows then record { space = leftover space rows; weight = weight_of rows } else no_fraction
 
@@ -59,7 +63,7 @@ fraction_of space rows = if list_any is_flexible rows then record { space = left
 abbrev pub found : List FrRow → ℤ → ℤ → Fraction
 found rows gutters space = fraction_of (space -ℤ gutters) (left_flexible (length rows) (space -ℤ gutters) rows)
 
--- ---- the sizes that a fraction gives (Grid 2, 12.7; the roundings are an own rule)
+-- ---- the sizes that a fraction gives (CSS Grid 2, 12.7; the roundings are an own rule)
 
 -- a flexible track to which the fraction gives at least its base size
 abbrev pub takes : Fraction → FrRow → Bool
@@ -69,6 +73,7 @@ takes f r = is_flexible r && int_le (r.base *ℤ pos f.weight) (f.space *ℤ pos
 abbrev pub weight_in : Fraction → FrRow → ℕ
 weight_in f r = if takes f r then factor_of r else 0
 
+-- a track that takes part has its part as its size, limited
 abbrev pub with_part : Fraction → FrRow → ℤ → FrRow
 with_part f r part = if takes f r then record r { base = clamp part } else r
 

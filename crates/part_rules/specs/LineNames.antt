@@ -1,4 +1,4 @@
--- The names of the lines of an axis, and the lines that the placement properties name (Grid 2, sections 7, 8.3 and 9).
+-- The names of the lines of an axis, and the lines that the placement properties name (CSS Grid 2, sections 7, 8.3 and 9).
 use Rattle.std.specs.Prelude.{◌≡◌, refl, ℕ, zero, suc, ◌+◌, ◌-◌, min, ℤ, pos, negsuc, neg_ℤ, ◌+ℤ◌, ◌-ℤ◌, int_lt, int_le, Bool, true, false, List, [], ◌∷◌, ◌++◌, filter, reverse, length, codes, bytes_eq, Option, Some, None, unwrap_or, slice_get, get_or, if◌then◌else◌}
 use Rattle.std.specs.Int.{int_max, int_min}
 use Rattle.std.specs.List.{list_any}
@@ -12,7 +12,7 @@ use Rattle.lunit.specs.declared.line_value.LineValue.{LineValue}
 use Rattle.lunit.specs.declared.line_value.LineValue.TheVariants.{Auto, Line, Reach, Named}
 use Rattle.part_rules.specs.Lists.{above_zero}
 
--- ---- tables of names (Grid 2, 7.2 and 9)
+-- ---- tables of names (CSS Grid 2, 7.2 and 9)
 
 -- a named area of cells, in one axis: its name and the lines between which it lies
 abbrev pub NamedSpan : Type 0
@@ -27,13 +27,14 @@ pub record Table : Type 0 where
   pub low : ℤ
   pub high : ℤ
 
--- the name that an area gives to this line at its start or its end (Grid 2, 7.3.2)
+-- the name that an area gives to this line at its start or its end (CSS Grid 2, 7.3.2)
 abbrev pub area_names : ℤ → NamedSpan → List (List ℕ)
 area_names line a =
     let start = if int_eq a.1.start line then edge_of false a.0 ∷ [] else [] in
     let end = if int_eq a.1.end line then edge_of true a.0 ∷ [] else [] in
     start ++ end
 
+-- the names that all these areas give to a line
 abbrev pub names_by_areas : ℤ → List NamedSpan → List (List ℕ)
 names_by_areas line [] = []
 names_by_areas line (a ∷ rest) = area_names line a ++ names_by_areas line rest
@@ -57,14 +58,15 @@ own_table sets tracks areas = record { tracks = tracks; lines = lines_by (λ lin
 abbrev pub cut_area : Span → NamedSpan → List NamedSpan
 cut_area span a = if spans_overlap span a.1 then (a.0, record { start = int_max span.start a.1.start -ℤ span.start; end = int_min span.end a.1.end -ℤ span.start }) ∷ [] else []
 
+-- all these areas, cut to a span
 abbrev pub cut_areas : Span → List NamedSpan → List NamedSpan
 cut_areas span [] = []
 cut_areas span (a ∷ rest) = cut_area span a ++ cut_areas span rest
 
--- The lines of a subgrid over a span of its parent (Grid 2, section 9): its own sets, of which spare ones are left out, the names by
+-- The lines of a subgrid over a span of its parent (CSS Grid 2, section 9): its own sets, of which spare ones are left out, the names by
 -- its own areas, and all names of the parent's lines. Areas of the parent, or taken over by it, that have a track of this axis in
--- common with the span are taken over, cut to it (own rule: only this axis counts). Of an own area wholly past the span nothing is
--- left (its start could also name the last line).
+-- common with the span are taken over, cut to it (own rule: only this axis counts; a line in common could also do). Of an own area
+-- wholly past the span nothing is left (its start could also name the last line).
 abbrev pub subgrid_table : Table → Span → List (List (List ℕ)) → List NamedSpan → Table
 subgrid_table parent span sets areas =
     let tracks = above_zero (span.end -ℤ span.start) in
@@ -72,8 +74,9 @@ subgrid_table parent span sets areas =
     let all = own ++ cut_areas span parent.areas in
     record { tracks = tracks; lines = lines_by (λ line. get_or sets line [] ++ names_by_areas (pos line) all ++ names_at parent (span.start +ℤ pos line)) (tracks + 1) 0; areas = all; low = pos 0; high = pos tracks }
 
--- ---- one line value (Grid 2, 8.3)
+-- ---- one line value (CSS Grid 2, 8.3)
 
+-- whether the name is among these
 abbrev pub holds_name : List ℕ → List (List ℕ) → Bool
 holds_name name names = list_any (λ held. bytes_eq held name) names
 
@@ -118,6 +121,7 @@ pub data Side : Type 0 where
   spanning : ℕ → Option (List ℕ) → Side
   open_side : Side
 
+-- what the value at the start, or at the end, stands for (CSS Grid 2, 8.3)
 abbrev pub side : Table → Bool → LineValue → Side
 side t end Auto = open_side
 side t end (Line k None) = line (numbered t k)
@@ -125,8 +129,9 @@ side t end (Line k (Some name)) = line (numbered_named t k name)
 side t end (Reach k name) = spanning k name
 side t end (Named name) = line (named t end name)
 
--- ---- both sides (Grid 2, 8.3 and 8.3.1)
+-- ---- both sides (CSS Grid 2, 8.3 and 8.3.1)
 
+-- a place from a line to a line
 abbrev pub definite : ℤ → ℤ → Spot
 definite start end = At (record { start = start; end = end })
 
@@ -161,7 +166,7 @@ both_sides t automatic open_side (line e) = definite (e -ℤ pos automatic) e
 both_sides t automatic open_side (spanning k name) = Free (free_span k name)
 both_sides t automatic open_side open_side = Free automatic
 
--- ---- the limit (Grid 2, 7.5; that it is at 10,000 is an own rule)
+-- ---- the limit (CSS Grid 2, 5.4; that it is at 10,000 is an own rule)
 
 -- A span cut to the limit; one wholly outside becomes the last track on that side.
 abbrev pub cut_span : ℤ → ℤ → Span → Span
@@ -170,6 +175,7 @@ cut_span low high s =
     else if int_le high s.start then record { start = high -ℤ pos 1; end = high }
     else record { start = int_max low s.start; end = int_min high s.end }
 
+-- a place within the limit: a definite span is cut, and a free one is no longer than the limit
 abbrev pub cut_spot : ℤ → ℤ → Spot → Spot
 cut_spot low high (At s) = At (cut_span low high s)
 cut_spot low high (Free k) = Free (min k (above_zero (high -ℤ low)))

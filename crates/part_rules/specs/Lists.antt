@@ -2,10 +2,12 @@
 use Rattle.std.specs.Prelude.{ℕ, ◌+◌, ℤ, pos, negsuc, ◌+ℤ◌, Bool, List, [], ◌∷◌, ◌++◌, Option, Some, None, option_map, if◌then◌else◌}
 use Rattle.std.specs.Int.{int_max, int_min}
 
+-- the sum of lengths
 abbrev pub sum_of : List ℤ → ℤ
 sum_of [] = pos 0
 sum_of (x ∷ xs) = x +ℤ sum_of xs
 
+-- the sum of weights
 abbrev pub total_of : List ℕ → ℕ
 total_of [] = 0
 total_of (x ∷ xs) = x + total_of xs

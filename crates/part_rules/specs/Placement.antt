@@ -1,8 +1,8 @@
--- The areas of the items of a grid (Grid 2, 8.5).
-use Rattle.std.specs.Prelude.{◌≡◌, refl, ℕ, zero, suc, ◌+◌, max, ℤ, pos, negsuc, neg_ℤ, ◌+ℤ◌, ◌-ℤ◌, int_lt, int_le, Bool, true, false, List, [], ◌∷◌, ◌++◌, map, filter, flat_map, Option, Some, None, option_to_list, unwrap_or, if◌then◌else◌}
+-- The areas of the items of a grid (CSS Grid 2, 8.5).
+use Rattle.std.specs.Prelude.{◌≡◌, refl, ℕ, zero, suc, ◌+◌, max, ℤ, pos, negsuc, neg_ℤ, ◌+ℤ◌, ◌-ℤ◌, ◌≤ℤ◌, ◌<ℤ◌, ◌⊎◌, int_lt, int_le, Bool, true, false, ◌&&◌, List, [], ◌∷◌, ◌++◌, map, filter, flat_map, Option, Some, None, option_to_list, unwrap_or, if◌then◌else◌}
 use Rattle.std.specs.Int.{int_max, int_min}
 use Rattle.std.specs.Ordering.{int_eq}
-use Rattle.lunit.specs.Areas.{is_free}
+use Rattle.lunit.specs.Areas.{areas_overlap, is_free}
 use Rattle.lunit.specs.declared.geometry.Span.{Span}
 use Rattle.lunit.specs.declared.geometry.Area.{Area}
 use Rattle.lunit.specs.declared.geometry.Spot.{Spot}
@@ -13,6 +13,7 @@ use Rattle.part_rules.specs.Lists.{above_zero, greatest_with}
 
 -- ---- ranges and least places
 
+-- so many tracks from a line on
 abbrev pub to_end : ℤ → ℕ → Span
 to_end start k = record { start = start; end = start +ℤ pos k }
 
@@ -36,6 +37,7 @@ first_free area placed (suc more) from =
 abbrev pub far_column : List Area → ℤ → ℤ
 far_column placed from = greatest_with from (map (λ (a : Area). a.columns.end) placed)
 
+-- the same of rows
 abbrev pub far_row : List Area → ℤ → ℤ
 far_row placed from = greatest_with from (map (λ (a : Area). a.rows.end) placed)
 
@@ -65,26 +67,29 @@ free_position placed columns k l (suc more) from =
 abbrev pub rows_to_search : List Area → ℤ → ℕ
 rows_to_search placed row = above_zero (far_row placed row -ℤ row) + 1
 
--- ---- flow `row` (Grid 2, 8.5)
+-- ---- flow `row` (CSS Grid 2, 8.5)
 
 -- an item with its area once it is placed
 pub record Entry : Type 0 where
   pub wish : Wish
   pub area : Option Area
 
--- an item with both axes definite has its area (Grid 2, 8.5, step 0)
+-- an item with both axes definite has its area (CSS Grid 2, 8.5, step 1)
 abbrev pub fixed_area : Spot → Spot → Option Area
 fixed_area (At c) (At r) = Some (record { columns = c; rows = r })
 fixed_area (At c) (Free l) = None
 fixed_area (Free k) (At r) = None
 fixed_area (Free k) (Free l) = None
 
+-- an item as placement begins (CSS Grid 2, 8.5, step 1)
 abbrev pub begun : Wish → Entry
 begun w = record { wish = w; area = fixed_area w.column w.row }
 
+-- the areas of those that are placed
 abbrev pub areas_of : List Entry → List Area
 areas_of entries = flat_map (λ (e : Entry). option_to_list e.area) entries
 
+-- the entry with this area, if there is one
 abbrev pub with_area : Entry → Option Area → Entry
 with_area e None = e
 with_area e (Some a) = record e { area = Some a }
@@ -94,7 +99,7 @@ with_area e (Some a) = record e { area = Some a }
 abbrev pub row_search_start : Bool → List Area → Span → ℤ
 row_search_start dense mine rows = if dense then pos 0 else greatest_with (pos 0) (map (λ (a : Area). a.columns.end) (filter (λ (a : Area). int_eq a.rows.start rows.start) mine))
 
--- the area of an item with a definite row (Grid 2, 8.5, step 1)
+-- the area of an item with a definite row (CSS Grid 2, 8.5, step 2)
 abbrev pub row_area : Bool → List Area → List Area → Spot → Spot → Option Area
 row_area dense placed mine (Free k) (At rows) = Some (record { columns = to_end (free_column placed k rows (row_search_start dense mine rows)) k; rows = rows })
 row_area dense placed mine (Free k) (Free l) = None
@@ -113,6 +118,7 @@ abbrev pub definite_span : Spot → List Span
 definite_span (At s) = s ∷ []
 definite_span (Free k) = []
 
+-- the span of a free place, and 0 for a definite one
 abbrev pub free_length : Spot → ℕ
 free_length (At s) = 0
 free_length (Free k) = k
@@ -122,11 +128,12 @@ abbrev pub waiting_in : Option Area → Spot → ℕ
 waiting_in None column = free_length column
 waiting_in (Some a) column = 0
 
+-- the greatest column span of the items that are not placed yet
 abbrev pub greatest_waiting : List Entry → ℕ
 greatest_waiting [] = 0
 greatest_waiting (e ∷ rest) = max (waiting_in e.area e.wish.column) (greatest_waiting rest)
 
--- The columns (Grid 2, 8.5, step 2): the least range that has the explicit ones, all definite column spans and all areas so far; where it
+-- The columns (CSS Grid 2, 8.5, step 3): the least range that has the explicit ones, all definite column spans and all areas so far; where it
 -- is narrower than an item that is left, its end grows to fit.
 abbrev pub columns_for : ℕ → List Entry → Span
 columns_for explicit entries =
@@ -153,10 +160,11 @@ column_search_start f cursor columns = if f.dense then f.first else if int_lt co
 abbrev pub free_search_start : Field → Position → Position
 free_search_start f cursor = if f.dense then record { column = f.columns.start; row = f.first } else cursor
 
+-- so many columns and rows from a position on
 abbrev pub area_at : Position → ℕ → ℕ → Area
 area_at p k l = record { columns = to_end p.column k; rows = to_end p.row l }
 
--- the area of an item that is left (Grid 2, 8.5, step 4)
+-- the area of an item that is left (CSS Grid 2, 8.5, step 4)
 abbrev pub next_area : Field → List Area → Position → Spot → Spot → Option Area
 next_area f placed cursor (At columns) (Free l) = Some (record { columns = columns; rows = to_end (free_row placed columns l (column_search_start f cursor columns)) l })
 next_area f placed cursor (Free k) (Free l) =
@@ -194,14 +202,16 @@ placed_by_rows columns rows dense items =
 
 -- ---- both flows
 
+-- with the axes exchanged
 abbrev pub turned_wish : Wish → Wish
 turned_wish w = record { column = w.row; row = w.column }
 
+-- with the axes exchanged
 abbrev pub turned_area : Area → Area
 turned_area a = record { columns = a.rows; rows = a.columns }
 
--- The areas of the items of a grid, in order-modified document order, before they are cut to the limit. Flow `column` is flow `row`
--- with the axes exchanged.
+-- The areas of the items of a grid, in order-modified document order, before they are cut to the limit: the search has none,
+-- also in a subgridded axis (it could also end at the limit). Flow `column` is flow `row` with the axes exchanged.
 abbrev pub placed : List Wish → Shape → List Area
 placed items shape =
     let turned = map turned_area (placed_by_rows shape.rows shape.columns shape.dense (map turned_wish items)) in
@@ -212,6 +222,43 @@ placed items shape =
 abbrev pub IsFreeOf : List Area → Option Area → Type 0
 IsFreeOf placed None = Unit {0}
 IsFreeOf placed (Some a) = is_free a placed ≡ true
+
+-- A position in the flow's order, from where a search begins up to before the place that was found, where an item of so many
+-- columns does not pass these columns.
+pub record IsEarlier (columns : Span) (k : ℕ) (from found q : Position) : Type 0 where
+  pub starts : columns.start ≤ℤ q.column
+  pub ends : (q.column +ℤ pos k) ≤ℤ columns.end
+  pub reached : (from.row <ℤ q.row) ⊎ ((from.row ≡ q.row) × (from.column ≤ℤ q.column))
+  pub passed : (q.row <ℤ found.row) ⊎ ((q.row ≡ found.row) × (q.column <ℤ found.column))
+
+-- no position before the one found was free
+abbrev pub IsLeast : List Area → Span → ℕ → ℕ → Position → Position → Type 0
+IsLeast held columns k l from found = (q : Position) → IsEarlier columns k from found q → is_free (area_at q k l) held ≡ false
+
+-- whether a place is definite
+abbrev pub is_at : Spot → Bool
+is_at (At s) = true
+is_at (Free k) = false
+
+-- an item that is definite in both axes
+abbrev pub is_definite : Wish → Bool
+is_definite w = is_at w.column && is_at w.row
+
+-- two items overlap only where both are definite in both axes
+abbrev pub MayMeet : Wish → Area → Wish → Area → Type 0
+MayMeet v a w b = areas_overlap a b ≡ true → (is_definite v && is_definite w) ≡ true
+
+-- this item and each of the others
+abbrev pub EachApart : Wish → Area → List Wish → List Area → Type 0
+EachApart v a [] bs = Unit {0}
+EachApart v a (w ∷ ws) [] = ⊥
+EachApart v a (w ∷ ws) (b ∷ bs) = MayMeet v a w b × EachApart v a ws bs
+
+-- each two items: the area of one that is not definite in both axes overlaps no other
+abbrev pub NoOverlap : List Wish → List Area → Type 0
+NoOverlap [] bs = Unit {0}
+NoOverlap (v ∷ vs) [] = ⊥
+NoOverlap (v ∷ vs) (a ∷ bs) = EachApart v a vs bs × NoOverlap vs bs
 
 -- ---- worked rows
 

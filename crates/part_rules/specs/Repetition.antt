@@ -1,4 +1,4 @@
--- How often an automatic repeat stands, which of its tracks collapse, and the functions of the tracks of an axis (Grid 2, 7.2.3.2 and 7.6).
+-- How often an automatic repeat stands, which of its tracks collapse, and the functions of the tracks of an axis (CSS Grid 2, 7.2.3.2 and 7.6).
 use Rattle.std.specs.Prelude.{◌≡◌, refl, ℕ, zero, suc, ◌+◌, ◌-◌, ◌*◌, ◌%◌, nat_lt, ℤ, pos, negsuc, ◌+ℤ◌, ◌*ℤ◌, int_lt, int_le, Bool, true, false, not, ◌&&◌, List, [], ◌∷◌, length, Option, Some, None, unwrap_or, slice_get, if◌then◌else◌}
 use Rattle.std.specs.Int.{int_max}
 use Rattle.std.specs.List.{list_any}
@@ -7,7 +7,7 @@ use Rattle.part_rules.specs.declared.names.RepeatSpace.{RepeatSpace}
 use Rattle.part_rules.specs.declared.names.RepeatSpace.TheVariants.{Fits, Fills, Endless}
 use Rattle.part_rules.specs.Lists.{sum_of}
 
--- ---- counting (Grid 2, 7.2.3.2)
+-- ---- counting (CSS Grid 2, 7.2.3.2)
 
 -- The length as which a track counts, from its min and its max function where these are a length or a percentage: the max function,
 -- floored by the min function; else the min function; at least 64 units, which is one pixel (own rule).
@@ -34,14 +34,15 @@ least_passing test (suc more) n =
     if test n then n else greater
 
 -- The number of repetitions: the most whose total does not pass the size, at least 1; or the fewest whose total reaches the least
--- size, at least 1; else 1. It is at most 10,000 (own rule).
+-- size, at least 1 (a least size of 0 could also ask for none); else 1. It is at most 10,000 (own rule).
 unfoldable pub repetitions : List ℤ → List ℤ → ℤ → RepeatSpace → ℕ
 repetitions fixed repeated gap (Fits size) = greatest_passing (λ count. int_le (total_with fixed repeated gap count) size) 10000
 repetitions fixed repeated gap (Fills size) = least_passing (λ count. int_le size (total_with fixed repeated gap count)) 9999 1
 repetitions fixed repeated gap Endless = 1
 
--- ---- `auto-fit` (Grid 2, 7.2.3.2)
+-- ---- `auto-fit` (CSS Grid 2, 7.2.3.2)
 
+-- whether a span has the track at this coordinate
 abbrev pub covers : ℤ → Span → Bool
 covers at s = int_le s.start at && int_lt at s.end
 
@@ -50,7 +51,7 @@ covers at s = int_le s.start at && int_lt at s.end
 abbrev pub collapses : ℤ → ℤ → List Span → ℤ → Bool
 collapses first after areas at = (int_le first at && int_lt at after) && not (list_any (covers at) areas)
 
--- ---- the functions of tracks (Grid 2, 7.1 and 7.6)
+-- ---- the functions of tracks (CSS Grid 2, 7.1 and 7.6)
 
 -- the item of a list that repeats without end
 abbrev pub cycled : {A : Type 0} → List A → ℕ → Option A

@@ -12,9 +12,11 @@ abbrev pub below : Option ℤ → ℤ → Bool
 below None got = true
 below (Some room) got = int_lt got room
 
+-- whether a row takes one unit more
 abbrev pub has_room : Share → Bool
 has_room s = below s.room s.got
 
+-- a row with one unit more
 abbrev pub one_more : Share → Share
 one_more s = record s { got = s.got +ℤ pos 1 }
 
@@ -23,6 +25,7 @@ pub record Handed : Type 0 where
   pub rows : List Share
   pub left : ℕ
 
+-- the same with this row before the others
 abbrev pub after_row : Share → Handed → Handed
 after_row s h = record { rows = s ∷ h.rows; left = h.left }
 
@@ -36,10 +39,12 @@ round (suc n) (s ∷ rest) =
     let passes = after_row s (round (suc n) rest) in
     if has_room s then takes else passes
 
+-- So many rounds, each with the units that the last one left.
 unfoldable pub rounds : ℕ → Handed → Handed
 rounds zero h = h
 rounds (suc k) h = rounds k (round h.left h.rows)
 
+-- a row before it has got anything
 abbrev pub with_nothing : Share → Share
 with_nothing s = record s { got = pos 0 }
 
@@ -80,6 +85,7 @@ roomy None = record { room = None; got = pos 0 }
 roomy (Some (pos n)) = record { room = Some (pos n); got = pos 0 }
 roomy (Some (negsuc n)) = record { room = Some (negsuc n); got = pos 0 }
 
+-- So many units handed out to rows with these rooms.
 abbrev pub handed_to : ℕ → List (Option ℤ) → Handed
 handed_to n rooms = rounds_with_room n (record { rows = map roomy rooms; left = n })
 

@@ -1,4 +1,4 @@
--- The sizes of the tracks of one axis (Grid 2, section 12).
+-- The sizes of the tracks of one axis (CSS Grid 2, section 12).
 use Rattle.std.specs.Prelude.{◌≡◌, refl, ℕ, zero, suc, ◌+◌, ◌-◌, ◌==◌, max, ℤ, pos, ◌+ℤ◌, ◌-ℤ◌, ◌*ℤ◌, int_lt, int_le, Bool, true, false, not, ◌&&◌, ◌||◌, List, [], ◌∷◌, ◌++◌, map, filter, length, Option, Some, None, option_map, is_some, is_none, unwrap_or, if◌then◌else◌}
 use Rattle.std.specs.Int.{int_max, int_min}
 use Rattle.std.specs.List.{list_any}
@@ -23,7 +23,7 @@ use Rattle.part_rules.specs.Fractions.{found, expanded, no_fraction, left_flexib
 
 -- ---- tracks and their functions
 
--- a track while it is sized (Grid 2, 12.3)
+-- a track while it is sized (CSS Grid 2, 12.3)
 pub record Track : Type 0 where
   -- the coordinate of its first line
   pub at : ℤ
@@ -31,12 +31,13 @@ pub record Track : Type 0 where
   pub base : ℤ
   -- the growth limit; None is without end
   pub limit : Option ℤ
-  -- infinitely growable (Grid 2, 12.5.1)
+  -- infinitely growable (CSS Grid 2, 12.5.1)
   pub endless : Bool
-  -- what the item at hand has given it, and the greatest that one of the items gave it (Grid 2, 12.5.1)
+  -- what the item at hand has given it, and the greatest that one of the items gave it (CSS Grid 2, 12.5.1)
   pub incurred : ℤ
   pub planned : ℤ
 
+-- a flexible max function (CSS Grid 2, 7.2.4)
 abbrev pub is_flexible : Most → Bool
 is_flexible (most.Fixed x) = false
 is_flexible most.Auto = false
@@ -45,9 +46,11 @@ is_flexible most.MaxContent = false
 is_flexible (most.Fit x) = false
 is_flexible (most.Flex w) = true
 
+-- a flexible track
 abbrev pub flexible : Track → Bool
 flexible t = is_flexible t.rule.most
 
+-- the factor of a flexible track
 abbrev pub factor_of : Most → Option ℕ
 factor_of (most.Fixed x) = None
 factor_of most.Auto = None
@@ -56,12 +59,14 @@ factor_of most.MaxContent = None
 factor_of (most.Fit x) = None
 factor_of (most.Flex w) = Some w
 
+-- a min function that is fixed
 abbrev pub fixed_least : Least → Option ℤ
 fixed_least (least.Fixed x) = Some x
 fixed_least least.Auto = None
 fixed_least least.MinContent = None
 fixed_least least.MaxContent = None
 
+-- a max function that is fixed
 abbrev pub fixed_most : Most → Option ℤ
 fixed_most (most.Fixed x) = Some x
 fixed_most most.Auto = None
@@ -79,6 +84,7 @@ fit_argument most.MaxContent = None
 fit_argument (most.Fit x) = Some x
 fit_argument (most.Flex w) = None
 
+-- the max function `auto`
 abbrev pub is_auto_most : Most → Bool
 is_auto_most (most.Fixed x) = false
 is_auto_most most.Auto = true
@@ -87,6 +93,7 @@ is_auto_most most.MaxContent = false
 is_auto_most (most.Fit x) = false
 is_auto_most (most.Flex w) = false
 
+-- the max function `min-content`
 abbrev pub is_min_content_most : Most → Bool
 is_min_content_most (most.Fixed x) = false
 is_min_content_most most.Auto = false
@@ -104,24 +111,29 @@ counts_as_max_content most.MaxContent = true
 counts_as_max_content (most.Fit x) = true
 counts_as_max_content (most.Flex w) = false
 
+-- a track with an intrinsic max function
 abbrev pub has_intrinsic_most : Track → Bool
 has_intrinsic_most t = is_min_content_most t.rule.most || counts_as_max_content t.rule.most
 
+-- a track whose max function counts as `max-content`
 abbrev pub has_max_content_most : Track → Bool
 has_max_content_most t = counts_as_max_content t.rule.most
 
+-- the min function `auto`
 abbrev pub is_auto_least : Least → Bool
 is_auto_least (least.Fixed x) = false
 is_auto_least least.Auto = true
 is_auto_least least.MinContent = false
 is_auto_least least.MaxContent = false
 
+-- the min function `max-content`
 abbrev pub is_max_content_least : Least → Bool
 is_max_content_least (least.Fixed x) = false
 is_max_content_least least.Auto = false
 is_max_content_least least.MinContent = false
 is_max_content_least least.MaxContent = true
 
+-- a track with an intrinsic min function: one that is not fixed
 abbrev pub has_intrinsic_least : Track → Bool
 has_intrinsic_least t = is_none (fixed_least t.rule.least)
 
@@ -129,6 +141,7 @@ has_intrinsic_least t = is_none (fixed_least t.rule.least)
 abbrev pub has_content_least : Track → Bool
 has_content_least t = has_intrinsic_least t && not (is_auto_least t.rule.least)
 
+-- a track with the min function `max-content`
 abbrev pub has_max_content_least : Track → Bool
 has_max_content_least t = is_max_content_least t.rule.least
 
@@ -136,11 +149,11 @@ has_max_content_least t = is_max_content_least t.rule.least
 abbrev pub has_auto_or_max_content_least : Track → Bool
 has_auto_or_max_content_least t = is_auto_least t.rule.least || is_max_content_least t.rule.least
 
--- A collapsed track is sized as one of the fixed size 0 (Grid 2, 7.2.3.2).
+-- A collapsed track is sized as one of the fixed size 0 (CSS Grid 2, 7.2.3.2).
 abbrev pub counted_rule : Rule → Rule
 counted_rule r = if r.collapsed then record { least = least.Fixed (pos 0); most = most.Fixed (pos 0); collapsed = true } else r
 
--- Initialised (Grid 2, 12.4). The growth limit of a flexible track is without end (it could also be the base size: no
+-- Initialised (CSS Grid 2, 12.4). The growth limit of a flexible track is without end (it could also be the base size: no
 -- step tells the two apart).
 abbrev pub initial : ℤ → Rule → Track
 initial at r =
@@ -154,12 +167,15 @@ initialised at (r ∷ rest) = initial at (counted_rule r) ∷ initialised (at +�
 
 -- ---- items
 
+-- whether an item spans a track
 abbrev pub spans : Item → Track → Bool
 spans i t = int_le i.span.start t.at && int_lt t.at i.span.end
 
+-- the tracks that an item spans
 abbrev pub spanned : Item → List Track → List Track
 spanned i ts = filter (spans i) ts
 
+-- the number of tracks that an item spans
 abbrev pub span_length : Item → ℤ
 span_length i = i.span.end -ℤ i.span.start
 
@@ -167,27 +183,30 @@ span_length i = i.span.end -ℤ i.span.start
 abbrev pub inner_gutters : ℤ → Item → ℤ
 inner_gutters gap i = gap *ℤ (span_length i -ℤ pos 1)
 
+-- whether an item spans a flexible track
 abbrev pub crosses_flexible : List Track → Item → Bool
 crosses_flexible ts i = list_any flexible (spanned i ts)
 
--- Whether the automatic minimum is content-based for these tracks (Grid 2, 6.6): one has the min function `auto`, and the item
+-- Whether the automatic minimum is content-based for these tracks (CSS Grid 2, 6.6): one has the min function `auto`, and the item
 -- spans one track or crosses no flexible one.
 abbrev pub is_content_based : List Track → Item → Bool
 is_content_based ts i = list_any (λ (t : Track). is_auto_least t.rule.least) (spanned i ts) && (int_eq (span_length i) (pos 1) || not (crosses_flexible ts i))
 
--- the fixed max functions of the spanned tracks with the gutters between them, if all are fixed (Grid 2, 6.6)
+-- the fixed max functions of the spanned tracks with the gutters between them, if all are fixed (CSS Grid 2, 6.6);
+-- the argument of `fit-content` is none here (it could also count)
 abbrev pub fixed_sum : ℤ → List Track → Item → Option ℤ
 fixed_sum gap ts i = option_map (λ s. s +ℤ inner_gutters gap i) (sum_of_known (map (λ (t : Track). fixed_most t.rule.most) (spanned i ts)))
 
--- the automatic minimum, where it is content-based (Grid 2, 6.6)
+-- the automatic minimum, where it is content-based (CSS Grid 2, 6.6)
 abbrev pub content_based : ℤ → List Track → Item → ℤ → ℤ → ℤ
 content_based gap ts i size margins = int_max (pos 0) (at_most (option_map (λ s. s -ℤ margins) (fixed_sum gap ts i)) size)
 
+-- the minimum contribution, which is known or goes by the automatic minimum (CSS Grid 2, 12.5)
 abbrev pub minimum_by : ℤ → List Track → Item → Floor → ℤ
 minimum_by gap ts i (Known x) = x
 minimum_by gap ts i (Content size margins inner) = clamp (margins +ℤ int_max inner (if is_content_based ts i then content_based gap ts i size margins else pos 0))
 
--- The minimum contribution (Grid 2, 12.5).
+-- The minimum contribution (CSS Grid 2, 12.5).
 abbrev pub minimum : ℤ → List Track → Item → ℤ
 minimum gap ts i = minimum_by gap ts i i.floor
 
@@ -196,39 +215,44 @@ abbrev pub capped_most : Most → Option ℤ
 capped_most m = if is_some (fit_argument m) then fit_argument m else fixed_most m
 
 -- A contribution limited by the max functions of the spanned tracks where all are fixed, and at least the minimum contribution
--- (Grid 2, 12.5). The gutters are not counted here (they could be, as for the automatic minimum).
+-- (CSS Grid 2, 12.5). The gutters are not counted here (they could be, as for the automatic minimum).
 abbrev pub limited : ℤ → (Item → ℤ) → List Track → Item → ℤ
 limited gap contribution ts i = int_max (minimum gap ts i) (at_most (sum_of_known (map (λ (t : Track). capped_most t.rule.most) (spanned i ts))) (contribution i))
 
+-- the min-content contribution
 abbrev pub low : Item → ℤ
 low i = i.low
 
+-- the max-content contribution
 abbrev pub high : Item → ℤ
 high i = i.high
 
--- ---- the kind of the space (Grid 2, 12.1)
+-- ---- the kind of the space (CSS Grid 2, 12.1)
 
+-- a definite space
 abbrev pub is_definite : {axis : ℕ} → Space axis → Bool
 is_definite (Definite a) = true
 is_definite MinContent = false
 is_definite MaxContent = false
 
+-- a max-content space
 abbrev pub is_max_content : {axis : ℕ} → Space axis → Bool
 is_max_content (Definite a) = false
 is_max_content MinContent = false
 is_max_content MaxContent = true
 
 -- what an item asks of an `auto` minimum: its minimum contribution, or its limited min-content contribution where the grid is
--- sized for its content (Grid 2, 12.5)
+-- sized for its content (CSS Grid 2, 12.5)
 abbrev pub auto_asks : {axis : ℕ} → Space axis → ℤ → List Track → Item → ℤ
 auto_asks space gap ts i = if is_definite space then minimum gap ts i else limited gap low ts i
 
--- ---- items that span one track (Grid 2, 12.5, step 2)
+-- ---- items that span one track (CSS Grid 2, 12.5, step 2)
 
 -- the items that span this track alone
 abbrev pub alone : List Item → Track → List Item
 alone items t = filter (λ (i : Item). int_eq i.span.start t.at && int_eq i.span.end (t.at +ℤ pos 1)) items
 
+-- the base size by the items that span this track alone
 abbrev pub base_for : {axis : ℕ} → Space axis → ℤ → List Track → List Item → Least → ℤ → ℤ
 base_for space gap ts mine (least.Fixed x) base = base
 base_for space gap ts mine least.MinContent base = greatest_with base (map low mine)
@@ -244,6 +268,7 @@ limit_by mine most.MaxContent limit = Some (greatest_with (pos 0) (map high mine
 limit_by mine (most.Fit x) limit = Some (int_min x (greatest_with (pos 0) (map high mine)))
 limit_by mine (most.Flex w) limit = limit
 
+-- the growth limit by these items; without items it stays
 abbrev pub limit_for : List Item → Most → Option ℤ → Option ℤ
 limit_for [] m limit = limit
 limit_for (i ∷ rest) m limit = limit_by (i ∷ rest) m limit
@@ -252,6 +277,7 @@ limit_for (i ∷ rest) m limit = limit_by (i ∷ rest) m limit
 abbrev pub raise_limit : Track → Track
 raise_limit t = let limit = option_map (int_max t.base) t.limit in record t { limit = limit }
 
+-- the track by the items that span it alone
 abbrev pub fit_items : {axis : ℕ} → Space axis → ℤ → List Track → List Item → Track → Track
 fit_items space gap ts mine t =
     let base = base_for space gap ts mine t.rule.least t.base in
@@ -262,7 +288,7 @@ fit_items space gap ts mine t =
 abbrev pub fit_alone : {axis : ℕ} → Space axis → ℤ → List Item → List Track → List Track
 fit_alone space gap items ts = map (λ (t : Track). if flexible t then t else fit_items space gap ts (alone items t) t) ts
 
--- ---- one step of distribution (modelled after Grid 2, 12.5.1; own rule as a whole)
+-- ---- one step of distribution (modelled after CSS Grid 2, 12.5.1; own rule as a whole)
 
 -- what one step does
 pub record Growth : Type 0 where
@@ -290,6 +316,7 @@ size_so_far limits t = size_in limits t +ℤ t.incurred
 abbrev pub needed : Growth → ℤ → List Track → Item → ℤ
 needed g gap ts i = clamp (int_max (pos 0) (g.asks ts i -ℤ sum_of (map (size_in g.limits) (spanned i ts)) -ℤ inner_gutters gap i))
 
+-- the room from a size to an end
 abbrev pub up_to : ℤ → Option ℤ → Option ℤ
 up_to size None = None
 up_to size (Some end) = let room = end -ℤ size in Some room
@@ -303,6 +330,7 @@ lesser (Some a) b = Some (at_most b a)
 abbrev pub only : (Track → Bool) → (Track → Option ℤ) → Track → Option ℤ
 only p room t = if p t then room t else Some (pos 0)
 
+-- a track that the step affects and the item spans
 abbrev pub affected_by : Growth → Item → Track → Bool
 affected_by g i t = g.affected t && spans i t
 
@@ -319,9 +347,11 @@ other_to_limit t = up_to (size_so_far false t) t.limit
 abbrev pub base_to_argument : Track → Option ℤ
 base_to_argument t = up_to (size_so_far false t) (fit_argument t.rule.most)
 
+-- room without end
 abbrev pub without_end : Track → Option ℤ
 without_end t = None
 
+-- a track that receives beyond limits from this item
 abbrev pub receiving : Growth → Item → Track → Bool
 receiving g i t = affected_by g i t && g.receives t
 
@@ -353,6 +383,7 @@ limit_to_limit g t = if is_none t.limit || (g.to_argument && t.endless) then lim
 abbrev pub limit_rooms : Growth → Item → List (Track → Option ℤ)
 limit_rooms g i = only (affected_by g i) (limit_to_limit g) ∷ only (affected_by g i) (limit_end g) ∷ []
 
+-- a track with this share more from the item at hand
 abbrev pub incur : Track → ℤ → Track
 incur t share = let sum = t.incurred +ℤ share in record t { incurred = sum }
 
@@ -375,12 +406,13 @@ by_factors g i space ts =
     let weights = map (crossing_weight g i) ts in
     if total_of weights == 0 then in_turns (only (affected_by g i) without_end ∷ []) space ts else zipped incur ts (apportioned_whole space weights)
 
+-- the tracks with what the item at hand gives them (CSS Grid 2, 12.5.1)
 abbrev pub incurred_by : Growth → Item → ℤ → List Track → List Track
 incurred_by g i space ts =
     let rooms = if g.limits then limit_rooms g i else base_rooms g i ts in
     if g.crossing then by_factors g i space ts else in_turns rooms space ts
 
--- The planned increase is the greatest that one of the items gave (Grid 2, 12.5.1).
+-- The planned increase is the greatest that one of the items gave (CSS Grid 2, 12.5.1).
 abbrev pub plan : Track → Track
 plan t = let greatest = int_max t.planned t.incurred in record t { planned = greatest; incurred = pos 0 }
 
@@ -392,6 +424,7 @@ planned_by g gap ts i =
     let more = map plan given in
     if list_any (affected_by g i) ts then more else ts
 
+-- and all items of the group, one after another
 abbrev pub planned_by_all : Growth → ℤ → List Item → List Track → List Track
 planned_by_all g gap [] ts = ts
 planned_by_all g gap (i ∷ rest) ts = let next = planned_by g gap ts i in planned_by_all g gap rest next
@@ -413,15 +446,17 @@ distributed g gap items ts =
     let planned = planned_by_all g gap items ts in
     map (λ t. if g.limits then raised_limit g items t else raised_base t) planned
 
--- ---- the steps for a group of items (Grid 2, 12.5, step 3)
+-- ---- the steps for a group of items (CSS Grid 2, 12.5, step 3)
 
 -- among the tracks of the step only the flexible ones are affected by items that cross a flexible track
 abbrev pub in_group : Bool → (Track → Bool) → Track → Bool
 in_group crossing p t = p t && (flexible t || not crossing)
 
+-- a step for base sizes
 abbrev pub base_growth : Bool → (Track → Bool) → (Track → Bool) → (List Track → Item → ℤ) → Growth
 base_growth crossing affected receives asks = record { limits = false; crossing = crossing; affected = in_group crossing affected; receives = receives; to_argument = false; asks = asks }
 
+-- a step for growth limits
 abbrev pub limit_growth : Bool → (Track → Bool) → Bool → (Item → ℤ) → Growth
 limit_growth crossing affected to_argument contribution = record { limits = true; crossing = crossing; affected = in_group crossing affected; receives = affected; to_argument = to_argument; asks = λ ts. contribution }
 
@@ -429,11 +464,13 @@ limit_growth crossing affected to_argument contribution = record { limits = true
 abbrev pub mark_endless : Track → Track → Track
 mark_endless before after = record after { endless = is_none before.limit && is_some after.limit }
 
+-- growth limits for min-content contributions, with the marks for the next step
 abbrev pub low_limits : Bool → ℤ → List Item → List Track → List Track
 low_limits crossing gap items ts =
     let after = distributed (limit_growth crossing has_intrinsic_most false low) gap items ts in
     zipped mark_endless ts after
 
+-- growth limits for max-content contributions
 abbrev pub high_limits : Bool → ℤ → List Item → List Track → List Track
 high_limits crossing gap items ts = distributed (limit_growth crossing has_max_content_most true high) gap items ts
 
@@ -446,6 +483,7 @@ base_growths space gap crossing =
     ++ base_growth crossing has_max_content_least has_max_content_most (λ ts. high)
     ∷ []
 
+-- these steps, one after another
 abbrev pub each_distributed : List Growth → ℤ → List Item → List Track → List Track
 each_distributed [] gap items ts = ts
 each_distributed (g ∷ rest) gap items ts = let next = distributed g gap items ts in each_distributed rest gap items next
@@ -470,11 +508,11 @@ spans_fitted space gap items (suc more) n ts =
     let next = group_fitted space gap false group ts in
     spans_fitted space gap items more (n + 1) next
 
--- the growth limits that still have no end become the base size (Grid 2, 12.5, step 5)
+-- the growth limits that still have no end become the base size (CSS Grid 2, 12.5, step 5)
 abbrev pub close_limit : Track → Track
 close_limit t = let limit = unwrap_or t.limit t.base in record t { limit = Some limit }
 
--- Intrinsic sizes (Grid 2, 12.5): items of span 1, then those of span 2 and so on that cross no flexible track, then those that
+-- Intrinsic sizes (CSS Grid 2, 12.5): items of span 1, then those of span 2 and so on that cross no flexible track, then those that
 -- cross one as one group (this group is an own rule).
 abbrev pub content_sized : {axis : ℕ} → Space axis → ℤ → List Item → List Track → List Track
 content_sized space gap items ts =
@@ -484,9 +522,9 @@ content_sized space gap items ts =
     let all = group_fitted space gap true crossing spanning in
     map close_limit all
 
--- ---- the rest of the space (Grid 2, 12.6 to 12.8)
+-- ---- the rest of the space (CSS Grid 2, 12.6 to 12.8)
 
--- the gutters between the tracks that are not collapsed (Grid 2, 7.2.3.2)
+-- the gutters between the tracks that are not collapsed (CSS Grid 2, 7.2.3.2)
 abbrev pub all_gutters : ℤ → List Track → ℤ
 all_gutters gap ts = gap *ℤ pos (length (filter (λ (t : Track). not t.rule.collapsed) ts) - 1)
 
@@ -498,6 +536,7 @@ total gap ts = sum_of (map (λ (t : Track). t.base) ts) +ℤ all_gutters gap ts
 abbrev pub free_of : ℤ → ℤ → List Track → ℤ
 free_of gap a ts = clamp (int_max (pos 0) (a -ℤ total gap ts))
 
+-- a track whose base size grows by a share
 abbrev pub grow_base : Track → ℤ → Track
 grow_base t share = let base = clamp (t.base +ℤ share) in record t { base = base }
 
@@ -505,13 +544,16 @@ grow_base t share = let base = clamp (t.base +ℤ share) in record t { base = ba
 abbrev pub grown : (Track → Option ℤ) → ℤ → List Track → List Track
 grown room space ts = zipped grow_base ts (shares space (map room ts))
 
+-- the room up to the growth limit
 abbrev pub to_limit : Track → Option ℤ
 to_limit t = up_to t.base t.limit
 
+-- a track whose base size is its growth limit
 abbrev pub full : Track → Track
 full t = let base = unwrap_or t.limit t.base in record t { base = base }
 
--- under a max-content space: each base size becomes its growth limit, unless the total then passes the declared maximum
+-- under a max-content space: each base size becomes its growth limit, unless the total then passes the declared maximum: then what
+-- that leaves is handed out up to the limits (it could also be without limit)
 abbrev pub maximised_within : Option ℤ → ℤ → List Track → List Track
 maximised_within None gap ts = map full ts
 maximised_within (Some most) gap ts =
@@ -519,12 +561,13 @@ maximised_within (Some most) gap ts =
     let all = map full ts in
     if int_lt most (total gap all) then less else all
 
--- Maximised (Grid 2, 12.6).
+-- Maximised (CSS Grid 2, 12.6).
 abbrev pub maximised : {axis : ℕ} → Space axis → Option ℤ → ℤ → List Track → List Track
 maximised (Definite a) most gap ts = grown to_limit (free_of gap a ts) ts
 maximised MinContent most gap ts = ts
 maximised MaxContent most gap ts = maximised_within most gap ts
 
+-- a track as the size of an `fr` sees it
 abbrev pub fr_row : Track → FrRow
 fr_row t = record { base = t.base; factor = factor_of t.rule.most }
 
@@ -546,31 +589,35 @@ base_fraction t = record { space = t.base; weight = max 1000 (unwrap_or (factor_
 abbrev pub item_fraction : ℤ → List Track → Item → Fraction
 item_fraction gap ts i = found (map fr_row (spanned i ts)) (inner_gutters gap i) i.high
 
+-- the greatest of some fractions, or none
 abbrev pub greatest_fraction : List Fraction → Fraction
 greatest_fraction [] = no_fraction
 greatest_fraction (f ∷ rest) = greater f (greatest_fraction rest)
 
--- The fraction (Grid 2, 12.7).
+-- The fraction (CSS Grid 2, 12.7).
 abbrev pub fraction_for : {axis : ℕ} → Space axis → ℤ → List Item → List Track → Fraction
 fraction_for (Definite a) gap items ts = definite_fraction gap a ts
 fraction_for MinContent gap items ts = no_fraction
 fraction_for MaxContent gap items ts = greatest_fraction (map base_fraction (filter flexible ts) ++ map (item_fraction gap ts) (filter (crosses_flexible ts) items))
 
+-- a track with the base size that a fraction gave it
 abbrev pub with_base : Track → FrRow → Track
 with_base t r = record t { base = r.base }
 
+-- the tracks with the sizes that a fraction gives
 abbrev pub expanded_by : Fraction → List Track → List Track
 expanded_by f ts = zipped with_base ts (expanded f (map fr_row ts))
 
 -- Under a max-content space the step is done again, from the sizes as they were, with the total limited by the declared lengths as
--- a definite space, where that is another.
+-- a definite space, where that is another (it could also be done on the sizes that it gave). The fraction is 0 there where nothing
+-- is free.
 abbrev pub expanded_within : Option ℤ → Option ℤ → ℤ → List Track → List Track → List Track
 expanded_within min most gap ts done =
     let bounded = at_least min (at_most most (total gap done)) in
     let again = expanded_by (definite_fraction gap bounded ts) ts in
     if int_eq bounded (total gap done) then done else again
 
--- Flexible tracks expanded (Grid 2, 12.7).
+-- Flexible tracks expanded (CSS Grid 2, 12.7).
 abbrev pub flexed : {axis : ℕ} → Fit axis → List Item → List Track → List Track
 flexed fit items ts =
     let done = expanded_by (fraction_for fit.space fit.gap items ts) ts in
@@ -582,20 +629,22 @@ stretch_space (Definite a) min = Some a
 stretch_space MinContent min = min
 stretch_space MaxContent min = min
 
+-- room without end for the max function `auto`, and none for another
 abbrev pub auto_room : Track → Option ℤ
 auto_room t = if is_auto_most t.rule.most then None else Some (pos 0)
 
+-- `auto` tracks that share what this space leaves; without a space nothing is done
 abbrev pub stretched_over : Option ℤ → ℤ → List Track → List Track
 stretched_over None gap ts = ts
 stretched_over (Some a) gap ts = grown auto_room (free_of gap a ts) ts
 
--- `auto` tracks stretched (Grid 2, 12.8).
+-- `auto` tracks stretched (CSS Grid 2, 12.8).
 abbrev pub stretched : {axis : ℕ} → Fit axis → List Track → List Track
 stretched fit ts =
     let more = stretched_over (stretch_space fit.space fit.min) fit.gap ts in
     if fit.stretch then more else ts
 
--- ---- the whole (Grid 2, 12.3)
+-- ---- the whole (CSS Grid 2, 12.3)
 
 -- the tracks once sized
 unfoldable pub sized : {axis : ℕ} → List Rule → ℤ → List Item → Fit axis → List Track

@@ -1,4 +1,4 @@
--- The tracks of its parent as a subgrid sees them, and the extra margins of its items (Grid 2, section 9).
+-- The tracks of its parent as a subgrid sees them, and the extra margins of its items (CSS Grid 2, section 9).
 use Rattle.std.specs.Prelude.{◌≡◌, refl, ℕ, ℤ, pos, negsuc, ◌+ℤ◌, ◌-ℤ◌, List, [], ◌∷◌, slice_range, if◌then◌else◌}
 use Rattle.std.specs.Int.{int_max}
 use Rattle.std.specs.Ordering.{int_eq}
@@ -14,10 +14,12 @@ use Rattle.part_rules.specs.Lists.{above_zero}
 abbrev pub tracks_over : List (ℤ × ℤ) → Span → List (ℤ × ℤ)
 tracks_over edges span = slice_range edges (above_zero span.start) (above_zero span.end)
 
+-- the start of the first track
 abbrev pub first_start : List (ℤ × ℤ) → ℤ
 first_start [] = pos 0
 first_start (e ∷ rest) = e.0
 
+-- the end of the last track
 abbrev pub last_end : List (ℤ × ℤ) → ℤ
 last_end [] = pos 0
 last_end (e ∷ []) = e.1
@@ -27,12 +29,13 @@ last_end (e ∷ f ∷ rest) = last_end (f ∷ rest)
 abbrev pub area_size : List (ℤ × ℤ) → ℤ
 area_size tracks = clamp (int_max (pos 0) (last_end tracks -ℤ first_start tracks))
 
--- ---- views (Grid 2, section 9; the moves of the inner edges and all roundings are own rules)
+-- ---- views (CSS Grid 2, section 9; the moves of the inner edges and all roundings are own rules)
 
 -- the half of a difference of gutters that lies before the gutter; the rest lies after it
 abbrev pub half_before : ℤ → ℤ
 half_before d = floor_div d 2
 
+-- what of the difference lies after the gutter
 abbrev pub half_after : ℤ → ℤ
 half_after d = d -ℤ half_before d
 
@@ -69,13 +72,15 @@ seen d before after tracks = all_tracks d (first_start tracks +ℤ before) (cont
 abbrev pub view_of : {axis : ℕ} → View axis → Span → ℤ → ℤ → ℤ → View axis
 view_of outer span gap before after = record { edges = seen (gap -ℤ outer.gap) before after (tracks_over outer.edges span); gap = gap }
 
--- ---- extra margins (Grid 2, section 9; the rule for inner lines is an own rule)
+-- ---- extra margins (CSS Grid 2, section 9; the rule for inner lines is an own rule)
 
+-- a subgrid's gutter less its parent's
 abbrev pub gap_difference : Level → ℤ
 gap_difference l = l.gap -ℤ l.outer_gap
 
 -- The extra margin before an item that starts at this line: at the subgrid's start its own margin, border and padding, at an inner
--- line the half difference of gutters that lies after the gutter; and at each what the parent gives at the same line.
+-- line the half difference of gutters that lies after the gutter; and at each what the parent gives at the same line (an inner line
+-- could also have the half difference alone). It is limited at each level (it could also be once).
 abbrev pub extra_before : List Level → ℤ → ℤ
 extra_before [] line = pos 0
 extra_before (l ∷ outer) line = clamp ((if int_eq line (pos 0) then l.before else half_after (gap_difference l)) +ℤ extra_before outer (l.span.start +ℤ line))

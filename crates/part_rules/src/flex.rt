@@ -1,6 +1,6 @@
 use lunit::Lu;
 
-/// An item of a flex container, along the main axis (Flexbox 1, section 9). Lengths are border-box sizes in units of 1/64 px.
+/// An item of a flex container, along the main axis (CSS Flexbox 1, section 9). Lengths are border-box sizes in units of 1/64 px.
 #[derive(Clone, Copy, Debug, PartialEq, Eq)]
 pub struct FlexItem {
     /// The flex base size, which is at least `inner`.

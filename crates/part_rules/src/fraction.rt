@@ -1,6 +1,6 @@
 use lunit::Lu;
 
-/// A track as the size of an `fr` sees it (Grid 2, section 12.7.1).
+/// A track as the size of an `fr` sees it (CSS Grid 2, section 12.7.1).
 #[derive(Clone, Copy, Debug, PartialEq, Eq)]
 pub struct FrRow {
     /// The base size.

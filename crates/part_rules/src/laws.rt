@@ -1,6 +1,6 @@
 //! What holds of the definitions. Each law is the contract of a function that does nothing.
 
-ghost use Rattle.std.specs.Prelude.{◌≡◌, Bool, List, false, ℤ, pos, length, ◌+ℤ◌, ◌-◌, ◌-ℤ◌, ◌≤ℤ◌, ◌<◌, map, IsTrue};
+ghost use Rattle.std.specs.Prelude.{◌≡◌, Bool, List, false, ℕ, ◌<ℤ◌, ℤ, pos, length, ◌+ℤ◌, ◌-◌, ◌-ℤ◌, ◌≤ℤ◌, ◌<◌, map, IsTrue};
 ghost use Rattle.std.specs.List.{list_any};
 ghost use Rattle.lunit.specs.declared.geometry.Area.{Area};
 ghost use Rattle.lunit.specs.declared.geometry.Spot.{Spot};
@@ -9,10 +9,12 @@ ghost use Rattle.part_rules.specs.Alignment.{content_moved};
 ghost use Rattle.part_rules.specs.Fractions.{are_bases, expanded, falls_short, found, left_flexible, leftover, weight_of, NoneBelow};
 ghost use Rattle.part_rules.specs.Lists.{sum_of, total_of};
 ghost use Rattle.part_rules.specs.WordLines.{AreFewest, are_widths, word_lines};
-ghost use Rattle.part_rules.specs.Placement.{Field, Position, IsFreeOf, next_area, row_area};
+ghost use Rattle.part_rules.specs.Placement.{Field, Position, IsFreeOf, IsLeast, NoOverlap, free_column, free_position, free_row, next_area, placed, row_area, rows_to_search, to_end};
+ghost use Rattle.lunit.specs.Areas.{is_free};
+ghost use Rattle.lunit.specs.declared.geometry.Span.{Span};
 ghost use Rattle.part_rules.specs.Sharing.{IsShared, shared_rows, left_over, apportioned_whole};
 
-use crate::{FrRow, Mode, Share};
+use crate::{FrRow, Mode, Shape, Share, Wish};
 use lunit::Lu;
 
 /// Nothing is lost where a space is handed out, and it is handed out as far as there is room.
@@ -61,4 +63,19 @@ pub fn fractions_cover_bases(rows: &[FrRow], gutters: Lu, space: Lu)
 pub fn free_items_overlap_nothing()
     ensures in_rows { (dense : Bool) (placed mine : List Area) (column row : Spot) → IsFreeOf placed (row_area dense placed mine column row) }
     ensures left { (field : Field) (placed : List Area) (cursor : Position) (column row : Spot) → IsFreeOf placed (next_area field placed cursor column row) }
+{}
+
+/// The area of an item that is not definite in both axes overlaps no other area.
+#[tactic(auto, using(crate::proofs::Apart::no_overlap))]
+pub fn areas_are_apart(items: &[Wish], shape: Shape)
+    ensures { NoOverlap items.now (placed items.now shape) }
+{}
+
+/// No place before the one that an item gets, from where its search begins, was free: a column in definite rows, a row in
+/// definite columns, and a position by rows and then by columns.
+#[tactic(auto, using(crate::proofs::Placed::none_before))]
+pub fn free_items_take_the_least_place()
+    ensures column { (held : List Area) (k : ℕ) (rows : Span) (from x : ℤ) → from ≤ℤ x → x <ℤ free_column held k rows from → is_free (record { columns = to_end x k; rows = rows }) held ≡ false }
+    ensures row { (held : List Area) (columns : Span) (l : ℕ) (from x : ℤ) → from ≤ℤ x → x <ℤ free_row held columns l from → is_free (record { columns = columns; rows = to_end x l }) held ≡ false }
+    ensures position { (held : List Area) (columns : Span) (k l : ℕ) (from : Position) → IsLeast held columns k l from (free_position held columns k l (rows_to_search held from.row) from) }
 {}

@@ -1,6 +1,6 @@
 use lunit::Lu;
 
-/// The size against which the repetitions of an automatic repeat are counted (Grid 2, section 7.2.3.2).
+/// The size against which the repetitions of an automatic repeat are counted (CSS Grid 2, section 7.2.3.2).
 #[derive(Clone, Copy, Debug, PartialEq, Eq)]
 pub enum RepeatSpace {
     /// As many as fit this size.

@@ -1,6 +1,6 @@
 use lunit::{Along, Lu};
 
-/// The min track sizing function (Grid 2, section 7.2), resolved to units of 1/64 px.
+/// The min track sizing function (CSS Grid 2, section 7.2), resolved to units of 1/64 px.
 #[derive(Clone, Copy, Debug, PartialEq, Eq)]
 pub enum Least {
     Fixed(Lu),
@@ -9,7 +9,7 @@ pub enum Least {
     MaxContent,
 }
 
-/// The max track sizing function (Grid 2, section 7.2), resolved to units of 1/64 px.
+/// The max track sizing function (CSS Grid 2, section 7.2), resolved to units of 1/64 px.
 #[derive(Clone, Copy, Debug, PartialEq, Eq)]
 pub enum Most {
     Fixed(Lu),
@@ -31,7 +31,7 @@ pub struct Rule {
     pub collapsed: bool,
 }
 
-/// The space that tracks are sized for (Grid 2, section 12.1).
+/// The space that tracks are sized for (CSS Grid 2, section 12.1).
 #[derive(Clone, Copy, Debug, PartialEq, Eq)]
 pub enum Space<const AXIS: u8> {
     Definite(Along<AXIS>),

@@ -1,6 +1,6 @@
 use lunit::{Lu, Sequence, Span};
 
-/// The tracks of an axis as a subgrid sees them (Grid 2, section 9): the start and the end of each, in units of 1/64 px
+/// The tracks of an axis as a subgrid sees them (CSS Grid 2, section 9): the start and the end of each, in units of 1/64 px
 /// from the start of the content box, and the gutter.
 #[derive(Debug, Drop, PartialEq, Eq)]
 pub struct View<const AXIS: u8> {

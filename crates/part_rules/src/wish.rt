@@ -1,13 +1,13 @@
 use lunit::Spot;
 
-/// Where an item of a grid is to stand: in each axis at two lines, or free with a span (Grid 2, section 8.3).
+/// Where an item of a grid is to stand: in each axis at two lines, or free with a span (CSS Grid 2, section 8.3).
 #[derive(Clone, Copy, Debug, PartialEq, Eq)]
 pub struct Wish {
     pub column: Spot,
     pub row: Spot,
 }
 
-/// What placement knows of a grid (Grid 2, section 8.5).
+/// What placement knows of a grid (CSS Grid 2, section 8.5).
 #[derive(Clone, Copy, Debug, PartialEq, Eq)]
 pub struct Shape {
     /// The number of explicit columns.

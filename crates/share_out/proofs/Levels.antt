@@ -1,7 +1,7 @@
 -- Rows that are filled to one level, under rounds.
-use Rattle.std.proofs.Common.{arith, ap, ◌≡◌, ◌∙◌, sym, refl, subst, ℕ, zero, suc, ◌+◌, ◌-◌, ◌*◌, ◌/◌, ◌<◌, ◌≤◌, ℤ, pos, negsuc, ◌+ℤ◌, ◌≤ℤ◌, ◌<ℤ◌, ◌⊎◌, inl, inr, Bool, true, false, nat_lt, List, [], ◌∷◌, ◌++◌, map, take, drop, Option, Some, None, IfSome, if◌then◌else◌}
+use Rattle.std.proofs.Common.{arith, ap, ◌≡◌, ◌∙◌, sym, refl, subst, ℕ, zero, suc, ◌+◌, ◌-◌, ◌*◌, ◌/◌, ◌<◌, ◌≤◌, ℤ, pos, negsuc, ◌+ℤ◌, ◌≤ℤ◌, ◌<ℤ◌, ◌⊎◌, inl, inr, Bool, true, false, nat_lt, List, [], ◌∷◌, ◌++◌, map, take, drop, Option, Some, None, if◌then◌else◌}
 use Rattle.std.proofs.lemmas.Int.{ints}
-use Rattle.std.proofs.lemmas.Bool.{ltb-true, ltb-false, lt-ltb, le-ltb, true≢false, false≢true}
+use Rattle.std.proofs.lemmas.Bool.{ltb-true, ltb-false, le-ltb, true≢false}
 use Rattle.std.proofs.lemmas.List.{take-append-drop}
 use Rattle.part_rules.specs.declared.share.Share.{Share}
 use Rattle.part_rules.specs.Sharing.{below, has_room, one_more, Handed, after_row, round, rounds, with_nothing, handed, shared_rows, left_over, IsShared}
@@ -325,7 +325,7 @@ pub used_of_space : (space : ℤ) (n left : ℕ) (rows done : List Share) → po
 used_of_space space n left rows done some e f =
     let is : (done ≡ shared_rows space rows) × (pos left ≡ left_over space rows) = of_space space n left rows done some e f in
     subst (λ (z : ℤ). (z ≡ pos 0) ⊎ (list_any has_room done ≡ false)) (sym is.1)
-        (subst (λ (xs : List Share). (left_over space rows ≡ pos 0) ⊎ (list_any has_room xs ≡ false)) (sym is.0) (used_up space rows some))
+    (subst (λ (xs : List Share). (left_over space rows ≡ pos 0) ⊎ (list_any has_room xs ≡ false)) (sym is.0) (used_up space rows some))
 
 -- ---- the rooms
 

@@ -1,9 +1,9 @@
 -- Parts of a space by weights.
-use Rattle.std.proofs.Common.{arith, ◌≡◌, ◌∙◌, sym, refl, ap, ℕ, ◌+◌, ◌*◌, ◌<◌, ◌≤◌, ℤ, pos, negsuc, ◌+ℤ◌, ◌-ℤ◌, ◌*ℤ◌, ◌≤ℤ◌, ◌<ℤ◌, ◌⊎◌, inl, inr, List, [], ◌++◌, take, drop, length, subst}
+use Rattle.std.proofs.Common.{arith, ◌≡◌, ◌∙◌, sym, ap, ℕ, ◌+◌, ◌*◌, ◌<◌, ◌≤◌, ℤ, pos, negsuc, ◌-ℤ◌, ◌*ℤ◌, ◌≤ℤ◌, inl, inr, List, ◌++◌, take, drop, length, subst}
 use Rattle.std.proofs.lemmas.Int.{ints}
 use Rattle.std.proofs.lemmas.List.{take_all, append-nil}
 use Rattle.std.proofs.Math.ListN.{drop_of_length-le}
-use Rattle.lunit.specs.Units.{floor_div, IsUnits}
+use Rattle.lunit.specs.Units.{IsUnits}
 use Rattle.part_rules.specs.Sharing.{part, apportioned, apportioned_after}
 use Rattle.part_rules.specs.Lists.{sum_of, total_of}
 use Rattle.part_rules.proofs.Sharing.{parts_sum}

@@ -19,6 +19,12 @@ fn row(room: Option<i64>) -> Share {
     }
 }
 
+/// What the rows have got.
+fn got(rows: &[Share; 3]) -> [i64; 3] {
+    let [first, second, third] = rows;
+    [first.got.units(), second.got.units(), third.got.units()]
+}
+
 #[test]
 fn shares_in_equal_parts(rt: HostRuntime) {
     let rows = [
@@ -26,7 +32,12 @@ fn shares_in_equal_parts(rt: HostRuntime) {
         (6400, [None, None, None], [2134, 2133, 2133], 0),
         (1, [None, None, None], [1, 0, 0], 0),
         (2, [None, None, None], [1, 1, 0], 0),
-        (TOP, [None, None, None], [357_913_942, 357_913_941, 357_913_941], 0),
+        (
+            TOP,
+            [None, None, None],
+            [357_913_942, 357_913_941, 357_913_941],
+            0,
+        ),
         (2, [Some(0), None, None], [0, 1, 1], 0),
         (4, [None, Some(1), None], [2, 1, 1], 0),
         (7, [Some(2), Some(3), Some(4)], [2, 3, 2], 0),
@@ -37,12 +48,22 @@ fn shares_in_equal_parts(rt: HostRuntime) {
         (8, [Some(2), Some(3), Some(4)], [2, 3, 3], 0),
         (10, [Some(2), Some(3), None], [2, 3, 5], 0),
         (101, [Some(50), Some(0), None], [50, 0, 51], 0),
-        (1_000_003, [Some(1), None, Some(1000)], [1, 999_002, 1000], 0),
+        (
+            1_000_003,
+            [Some(1), None, Some(1000)],
+            [1, 999_002, 1000],
+            0,
+        ),
         // all rows are full
         (9, [Some(3), Some(3), Some(3)], [3, 3, 3], 0),
         (10, [Some(3), Some(3), Some(3)], [3, 3, 3], 1),
         (10, [Some(2), Some(3), Some(4)], [2, 3, 4], 1),
-        (19_200, [Some(1280), Some(30), Some(0)], [1280, 30, 0], 17_890),
+        (
+            19_200,
+            [Some(1280), Some(30), Some(0)],
+            [1280, 30, 0],
+            17_890,
+        ),
         (TOP, [Some(0), Some(TOP), Some(0)], [0, TOP, 0], 0),
         // no room, and rooms below zero
         (7, [Some(0), Some(-5), None], [0, 0, 7], 0),
@@ -55,11 +76,12 @@ fn shares_in_equal_parts(rt: HostRuntime) {
     for (space, rooms, wants, left) in rows {
         let [first, second, third] = rooms;
         let mut shared = [row(first), row(second), row(third)];
-        assert_eq!(rt; hand_out(Lu::of(space), &mut shared).units(), left, "left of {space}");
-        for (share, want) in shared.iter().zip(wants) {
-            assert_eq!(rt; share.got.units(), want, "of {space}");
-        }
-        assert!(rt; shared[0].room == row(first).room && shared[2].room == row(third).room);
+        assert_eq!(rt;
+            hand_out(Lu::of(space), &mut shared).units(),
+            left,
+            "left of {space}"
+        );
+        assert_eq!(rt; got(&shared), wants, "of {space}");
     }
 }
 
@@ -67,7 +89,12 @@ fn shares_in_equal_parts(rt: HostRuntime) {
 fn shares_among_other_numbers_of_rows(rt: HostRuntime) {
     assert_eq!(rt; hand_out(Lu::of(3), &mut []).units(), 3);
     assert_eq!(rt; hand_out(Lu::of(-3), &mut []).units(), -3);
-    for (space, room, want, left) in [(10, None, 10, 0), (10, Some(4), 4, 6), (10, Some(0), 0, 10), (10, Some(-3), 0, 10)] {
+    for (space, room, want, left) in [
+        (10, None, 10, 0),
+        (10, Some(4), 4, 6),
+        (10, Some(0), 0, 10),
+        (10, Some(-3), 0, 10),
+    ] {
         let mut alone = [row(room)];
         assert_eq!(rt; hand_out(Lu::of(space), &mut alone).units(), left);
         assert_eq!(rt; alone[0].got.units(), want);
@@ -124,8 +151,18 @@ fn shares_by_weights(rt: HostRuntime) {
         (-1, 3, [1, 1, 1], [-1, 0, 0]),
         (-7, 100, [2, 3, 5], [-1, 0, 0]),
         // the greatest numbers
-        (TOP, 12_884_901_885, [HEAVY, HEAVY, HEAVY], [357_913_941, 357_913_941, 357_913_942]),
-        (-TOP, 12_884_901_885, [HEAVY, HEAVY, HEAVY], [-357_913_942, -357_913_941, -357_913_941]),
+        (
+            TOP,
+            12_884_901_885,
+            [HEAVY, HEAVY, HEAVY],
+            [357_913_941, 357_913_941, 357_913_942],
+        ),
+        (
+            -TOP,
+            12_884_901_885,
+            [HEAVY, HEAVY, HEAVY],
+            [-357_913_942, -357_913_941, -357_913_941],
+        ),
         (TOP, u64::MAX, [HEAVY, 0, 0], [0, 0, 0]),
         (-TOP, u64::MAX, [HEAVY, 0, 0], [-1, 0, 0]),
     ];
@@ -134,9 +171,12 @@ fn shares_by_weights(rt: HostRuntime) {
         assert!(rt; total > 0 && u64::from(first) + u64::from(second) + u64::from(third) <= total);
         let mut parts = [Lu::of(9); 3];
         apportion(Lu::of(space), total, &[first, second, third], &mut parts);
-        for (part, want) in parts.iter().zip(wants) {
-            assert_eq!(rt; part.units(), want, "of {space}");
-        }
+        let [one, two, three] = parts;
+        assert_eq!(rt;
+            [one.units(), two.units(), three.units()],
+            wants,
+            "of {space}"
+        );
     }
 }
 

@@ -1,4 +1,4 @@
-use Rattle.std.proofs.Common.{arith, ◌≡◌, ◌≤◌, ◌<◌, ◌-◌, ◌+◌, ◌/◌}
+use Rattle.std.proofs.Common.{arith, ◌<◌, ◌-◌, ◌+◌, ◌/◌}
 use Rattle.share_out.proofs.Levels.{IsNextLevel, next_level}
 use Rattle.share_out.proofs.equal.find_filling.Goals as goal
 

@@ -1,7 +1,7 @@
-use Rattle.std.proofs.Common.{arith, ap, ◌≡◌, ◌∙◌, sym, ℤ, pos, ◌<ℤ◌, ◌≤ℤ◌, List}
+use Rattle.std.proofs.Common.{arith, ap, ◌≡◌, ◌∙◌, sym, List}
 use Rattle.std.proofs.lemmas.Int.{ints}
 use Rattle.part_rules.specs.declared.share.Share.{Share}
-use Rattle.part_rules.specs.Sharing.{Handed, handed}
+use Rattle.part_rules.specs.Sharing.{handed}
 use Rattle.share_out.proofs.Levels.{sum_of_space, sum_of_debt, used_of_space}
 use Rattle.share_out.proofs.Rounds.{plain}
 use Rattle.share_out.proofs.equal.hand_out.Goals as goal

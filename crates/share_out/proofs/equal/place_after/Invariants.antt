@@ -1,4 +1,4 @@
-use Rattle.std.proofs.Common.{◌≡◌, ◌+◌, ◌≤◌, ◌<◌, drop, take}
+use Rattle.std.proofs.Common.{◌≡◌, ◌+◌, ◌≤◌, ◌<◌, drop}
 use Rattle.share_out.specs.Levels.{above}
 use Rattle.share_out.proofs.equal.place_after.Given as goal
 

@@ -1,0 +1,5 @@
+pub mod Added
+pub mod Leaves
+pub mod Pieces
+pub mod Bounded
+pub mod Finished

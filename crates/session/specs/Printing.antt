@@ -1,0 +1,55 @@
+-- The text that is written: boxes and refusals.
+use Rattle.std.specs.Prelude.{ℕ, ℤ, List, [], ◌∷◌, ◌++◌, ◌^◌, ◌≤◌, unsigned_abs, codes, decimal}
+use Rattle.lunit.specs.declared.geometry.Rect.{Rect}
+use Rattle.lunit.specs.Printed.{printed}
+use Rattle.text_scan.specs.declared.line.Place.{Place}
+
+-- a name and its box
+abbrev pub Box : Type 0
+Box = List ℕ × Rect
+
+-- a number of units, in px
+unfoldable pub px_of : ℤ → List ℕ
+px_of units = printed units
+
+-- a space and a number of px
+unfoldable pub spaced : ℤ → List ℕ
+spaced units = 32 ∷ px_of units
+
+-- two numbers of px
+unfoldable pub spaced_pair : ℤ → ℤ → List ℕ
+spaced_pair first second = spaced first ++ spaced second
+
+-- a box's line: `name x y width height` (own rule)
+unfoldable pub box_line : Box → List ℕ
+box_line box = box.0 ++ spaced_pair box.1.x box.1.y ++ spaced_pair box.1.width box.1.height ++ 10 ∷ []
+
+abbrev pub box_lines : List Box → List ℕ
+box_lines [] = []
+box_lines (box ∷ boxes) = box_line box ++ box_lines boxes
+
+-- the first line of a layout: `layout k`, where k is 0 for the document (own rule)
+abbrev pub layout_line : ℕ → List ℕ
+layout_line k = codes "layout " ++ decimal k ++ 10 ∷ []
+
+-- a layout with its number: its first line, then a line for each box in order
+abbrev pub print : ℕ → List Box → List ℕ
+print k boxes = layout_line k ++ box_lines boxes
+
+-- the line of a refusal: `refused k L:C name`, with the place in the input and the name of the fault (own rule)
+abbrev pub refusal : ℕ → Place → List ℕ → List ℕ
+refusal k place name = codes "refused " ++ decimal k ++ 32 ∷ decimal place.line ++ 58 ∷ decimal place.column ++ 32 ∷ name ++ 10 ∷ []
+
+-- a number of units that can be printed
+abbrev pub IsPrintable : ℤ → Type 0
+IsPrintable units = unsigned_abs units ≤ 2 ^ 56
+
+-- each number of the rectangle can be printed
+pub record IsPrintableRect (rect : Rect) : Type 0 where
+  pub x : IsPrintable rect.x
+  pub y : IsPrintable rect.y
+  pub width : IsPrintable rect.width
+  pub height : IsPrintable rect.height
+
+abbrev pub IsPrintableBox : Box → Type 0
+IsPrintableBox box = IsPrintableRect box.1

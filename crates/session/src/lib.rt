@@ -1,0 +1,14 @@
+//! The top call of the layout tool: it reads a document, lays it out and prints its boxes.
+#![tactic(auto)]
+
+mod answer;
+mod boxes;
+mod input;
+mod offsets;
+mod print;
+mod status;
+mod top_call;
+
+pub use print::print_boxes;
+pub use status::Status;
+pub use top_call::run;

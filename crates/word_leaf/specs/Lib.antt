@@ -1,0 +1,2 @@
+pub mod Leaves
+pub use Rattle.part_rules.specs.WordLines as WordLines
