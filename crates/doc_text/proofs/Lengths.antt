@@ -1,9 +1,9 @@
 -- Lengths that are read one after another, up to a mark.
-use Rattle.std.proofs.Common.{◌≡◌, ℤ, Bool, true, false, List, [], ◌∷◌, ◌++◌, Option, Some, None, ap, refl, ◌∙◌, sym}
+use Rattle.std.proofs.Common.{◌≡◌, ℤ, true, false, List, [], ◌∷◌, ◌++◌, Option, Some, None, ap, refl, sym}
 use Rattle.std.proofs.lemmas.List.{append-nil, append_assoc}
 use Rattle.std.specs.Option.{option_map}
 use Rattle.std.specs.Str.{bytes_eq}
-use Rattle.doc_text.specs.Words.{Word, bind}
+use Rattle.doc_text.specs.Words.{Word}
 use Rattle.doc_text.specs.Numbers.{length_of}
 use Rattle.doc_text.specs.Forms.{lengths_up_to, onto_lengths}
 

@@ -1,5 +1,5 @@
 -- The lines that count, and the lines without a fault, from a line on.
-use Rattle.std.proofs.Common.{◌≡◌, Bool, true, false, ◌&&◌, not, is_none, List, [], ◌∷◌, Option, Some, None, refl, ℕ, zero, suc, drop}
+use Rattle.std.proofs.Common.{◌≡◌, Bool, true, false, ◌&&◌, is_none, List, [], ◌∷◌, Option, Some, None, refl, ℕ, zero, suc, drop}
 use Rattle.std.proofs.lemmas.Bool.{false≢true}
 use Rattle.std.specs.List.{list_all}
 use Rattle.text_scan.specs.declared.line.Line.{Line}

@@ -1,5 +1,5 @@
 -- Documents of the first form: one grid of fixed tracks, and its leaves.
-use Rattle.std.specs.Prelude.{◌≡◌, refl, ℕ, ℤ, pos, ◌+◌, true, false, Bool, not, ◌&&◌, is_none, List, [], ◌∷◌, map, if◌then◌else◌, Option, Some, None, codes}
+use Rattle.std.specs.Prelude.{ℤ, true, Bool, not, ◌&&◌, is_none, List, [], ◌∷◌, map, if◌then◌else◌, Option, Some, None}
 use Rattle.std.specs.Option.{option_map}
 use Rattle.std.specs.List.{list_all, list_any}
 use Rattle.std.specs.Str.{bytes_eq}

@@ -1,5 +1,5 @@
 -- Documents of the first form, and texts that are none. They hold by computation.
-use Rattle.std.specs.Prelude.{◌≡◌, refl, ℕ, ℤ, pos, List, [], ◌∷◌, ◌++◌, Option, Some, None, codes}
+use Rattle.std.specs.Prelude.{◌≡◌, refl, ℕ, pos, List, [], ◌∷◌, ◌++◌, Option, Some, None, codes}
 use Rattle.text_scan.specs.Lines.{lines_of}
 use Rattle.doc_text.specs.declared.document.Doc.{Doc}
 use Rattle.doc_text.specs.declared.style.FirstLines.{FirstLines}

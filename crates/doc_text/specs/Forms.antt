@@ -1,5 +1,5 @@
 -- The lines of a document of the first form: one grid of fixed tracks, and its leaves.
-use Rattle.std.specs.Prelude.{◌≡◌, refl, ℕ, ℤ, pos, ◌+◌, ◌+ℤ◌, true, false, Bool, ◌&&◌, ◌==◌, int_lt, int_le, nat_le, List, [], ◌∷◌, length, if◌then◌else◌, Option, Some, None, codes}
+use Rattle.std.specs.Prelude.{ℕ, ℤ, pos, ◌+◌, ◌+ℤ◌, false, Bool, ◌&&◌, ◌==◌, int_lt, int_le, nat_le, List, [], ◌∷◌, length, if◌then◌else◌, Option, Some, None, codes}
 use Rattle.std.specs.Option.{option_map}
 use Rattle.std.specs.Str.{bytes_eq}
 use Rattle.lunit.specs.Names.{is_name}

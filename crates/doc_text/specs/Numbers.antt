@@ -1,5 +1,5 @@
 -- The numbers of a document.
-use Rattle.std.specs.Prelude.{◌≡◌, refl, ℕ, ℤ, pos, ◌-◌, Bool, true, false, List, length, take, drop, if◌then◌else◌, Option, Some, None, codes}
+use Rattle.std.specs.Prelude.{ℤ, ◌-◌, Bool, true, false, length, take, drop, if◌then◌else◌, Option, None, codes}
 use Rattle.std.specs.Str.{bytes_eq}
 use Rattle.std.specs.List.{list_any}
 use Rattle.lunit.specs.declared.number.NumberForm.{NumberForm}

@@ -1,5 +1,5 @@
 -- The words of a line: the bytes of each of its tokens.
-use Rattle.std.specs.Prelude.{◌≡◌, refl, ℕ, Bool, true, false, not, ◌&&◌, nat_le, length, List, [], ◌∷◌, map, slice_range, if◌then◌else◌, Option, Some, None, codes}
+use Rattle.std.specs.Prelude.{ℕ, Bool, true, false, not, ◌&&◌, nat_le, length, List, [], ◌∷◌, map, slice_range, if◌then◌else◌, Option, Some, None}
 use Rattle.std.specs.Str.{bytes_eq}
 use Rattle.std.specs.List.{position_or_len, filter}
 use Rattle.text_scan.specs.declared.line.Line.{Line}

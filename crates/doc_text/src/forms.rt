@@ -1,4 +1,4 @@
-ghost use Rattle.std.specs.Prelude.{◌≡◌, ◌+◌, ◌<◌, ◌≤◌, ◌∷◌, [], length, pos};
+ghost use Rattle.std.specs.Prelude.{◌≡◌, ◌∷◌, []};
 ghost use Rattle.doc_text.specs.Words.{after_all, ended};
 ghost use Rattle.doc_text.specs.Gives.{Gives};
 ghost use Rattle.doc_text.specs.Forms.{name_first, size_first, lengths_up_to, tracks_up_to, is_track_count, lines_between, lines_first, is_header, viewport_of, grid_of, leaf_lines_of, leaf_of, last_line, is_within};

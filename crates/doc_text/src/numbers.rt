@@ -1,8 +1,7 @@
 ghost use Rattle.std.specs.Prelude.{◌≡◌, ◌*◌, ◌≤◌, unsigned_abs, IfSome, Some, None, if◌then◌else◌};
 ghost use Rattle.std.specs.Option.{option_copied};
-ghost use Rattle.std.specs.List.{list_any};
-ghost use Rattle.lunit.specs.Decimals.{is_point, read_number, IsScale};
-ghost use Rattle.doc_text.specs.Numbers.{ends_in_px, before_px, length_of, size_of_word, integer_of, sizes, zeros, integers};
+ghost use Rattle.lunit.specs.Decimals.{read_number, IsScale};
+ghost use Rattle.doc_text.specs.Numbers.{ends_in_px, before_px, length_of, size_of_word, integer_of};
 
 use lunit::{Lu, NumberForm};
 

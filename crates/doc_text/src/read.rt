@@ -1,5 +1,5 @@
 ghost use Rattle.std.specs.Prelude.{◌≡◌, ◌∷◌, [], true, None, MatchOption, IfOk, not, position};
-ghost use Rattle.std.specs.List.{list_all, position_or_len};
+ghost use Rattle.std.specs.List.{list_all};
 ghost use Rattle.text_scan.specs.Tokens.{is_space, tokens_of};
 ghost use Rattle.doc_text.specs.Words.{words_of, indent_of, row_of, rows_of};
 ghost use Rattle.doc_text.specs.Gives.{Gives};
@@ -170,7 +170,7 @@ fn read_sound(alloc: Global, lines: &[Line]) -> Result<Doc, ReadError>
 /// Names differ.
 ///
 /// Fault 90 at the first byte of the document comes exactly where the lines have not this form; `NoMemory` where
-/// memory is wanting.
+/// memory is wanting. The place of the end of the text plays no part in this form.
 pub fn read_doc(alloc: Global, lines: &[Line], _end: Place) -> Result<Doc, ReadError>
     ensures { Gives result (document_of lines.now) }
 {

@@ -1,12 +1,9 @@
-ghost use Rattle.std.specs.Prelude.{◌≡◌, ◌∷◌, [], true, map, length, MatchOption, IfOk};
+ghost use Rattle.std.specs.Prelude.{◌≡◌, ◌∷◌, [], true, map, MatchOption};
 ghost use Rattle.std.specs.List.{list_all};
-ghost use Rattle.text_scan.specs.Tokens.{tokens_of};
-ghost use Rattle.doc_text.specs.Words.{word_at, words_of, after, after_all, ended, fits};
+ghost use Rattle.doc_text.specs.Words.{word_at, after, ended, fits};
 
-use lunit::Name;
-use std::alloc::Global;
 use std::marker::Model;
-use text_scan::{Line, Token};
+use text_scan::Token;
 
 /// The words of a line from one of them on. Contracts see the list of their bytes.
 #[derive(Drop)]

@@ -71,7 +71,7 @@ fn find_filling(units: u64, rows: &[Share]) -> Filling
     }
 }
 
-/// Fills the rows so far.
+/// Fills the rows as far as it says.
 fn fill_to(filling: Filling, rows: &mut [Share])
     requires within { filling.higher ≤ length rows.old }
     requires level { filling.level ≤ 2 ^ 30 }
@@ -91,8 +91,9 @@ fn fill_to(filling: Filling, rows: &mut [Share])
 /// It sets `got` of each row; what a row had before does not count. A room of at most 0 takes no unit. Of a space below 0
 /// nothing is given, and it is answered as it is. The shares and the answer sum to the space.
 ///
-/// The units are not counted out: whole rounds are given at once, as many as the least room allows, with one division and one
-/// pass over the rows for each time that rows become full, and once more.
+/// The units are not counted out. Each row that has room is filled by an equal part of what is left, and where some of them
+/// become full on the way, what is left then is divided again. So there is at most one division more than rows that become
+/// full, with one pass over the rows for each.
 #[tactic(auto, using(crate::proofs::Levels::rooms_filled, crate::proofs::Levels::rooms_kept))]
 pub fn hand_out(space: Lu, rows: &mut [Share]) -> Lu
     ensures rows { rows.new ≡ shared_rows space rows.old }

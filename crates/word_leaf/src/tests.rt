@@ -1,125 +1,119 @@
-ghost use Rattle.std.specs.Prelude.{◌≤◌, length, IfOk};
+ghost use Rattle.std.specs.Prelude.{◌≤◌, ◌≤ℤ◌, pos, length, IfOk};
 ghost use Rattle.word_leaf.specs.Leaves.{IsMeasurable};
 
 use super::*;
 use lunit::{Copied, NoMemory, Sequence};
 use std::alloc::Global;
+use std::process::Abort;
 use std::test::Fail;
 
-/// A leaf of words, with lengths in units.
+/// A row of the table, in units: the words, their space and line height; the narrowest and the widest width; and a width with
+/// the number and the height of the lines at it.
+type Row<'a> = (&'a [u32], [u32; 2], [i64; 2], [i64; 3]);
+
+#[tactic(auto, using(crate::proofs::Measurable::some_length))]
+fn units(number: u32) -> Lu
+    ensures { pos 0 ≤ℤ result }
+{
+    Lu::of(number as i64)
+}
+
+#[tactic(auto, using(crate::proofs::Measurable::more_widths))]
 fn text(alloc: Global, line: u32, space: u32, widths: &[u32]) -> Result<Content, NoMemory>
     requires { length widths.now ≤ 65536 }
     ensures { IfOk result (λ content. IsMeasurable content) }
 {
     let mut words = Sequence::new(alloc);
     for width in widths {
-        words.push(Lu::of(*width as i64))?;
+        words.push(units(*width))?;
     }
     Ok(Content::Words {
-        line: Lu::of(line as i64),
-        space: Lu::of(space as i64),
+        line: units(line),
+        space: units(space),
         words,
     })
 }
 
-/// The leaf of a box, with lengths in units.
 fn fixed(width: u32, height: u32) -> Content
     ensures { IsMeasurable result }
 {
     Content::Fixed {
-        width: Lu::of(width as i64),
-        height: Lu::of(height as i64),
+        width: units(width),
+        height: units(height),
     }
 }
 
-/// The greatest length.
-const TOP: u32 = 1 << 30;
-
-#[test]
-fn narrowest_is_the_greatest_word(rt: HostRuntime) -> Result<(), Fail> {
-    let alloc = rt.alloc();
-    assert_eq!(rt; narrowest(&text(alloc, 20, 4, &[7, 40, 9])?), Lu::of(40));
-    assert_eq!(rt; narrowest(&text(alloc, 20, 4, &[40, 7])?), Lu::of(40));
-    assert_eq!(rt; narrowest(&text(alloc, 20, 4, &[])?), Lu::of(0));
-    assert_eq!(rt; narrowest(&text(alloc, 20, 4, &[0, 0])?), Lu::of(0));
+/// The answers are those of the row.
+fn agrees(rt: &impl Abort, alloc: Global, row: &Row) -> Result<(), NoMemory> {
+    let (words, [space, line], [least, most], [width, lines, height]) = *row;
+    assert!(rt; words.len() <= 65_536);
+    let content = text(alloc, line, space, words)?;
     assert_eq!(rt;
-        narrowest(&text(alloc, 20, 4, &[TOP, 1])?),
-        Lu::of(TOP as i64)
+        narrowest(&content),
+        Lu::of(least),
+        "narrowest of {words:?}"
     );
-    assert_eq!(rt; narrowest(&fixed(30, 50)), Lu::of(30));
+    assert_eq!(rt; widest(&content), Lu::of(most), "widest of {words:?}");
+    let width = Lu::of(width);
+    assert_eq!(rt;
+        lines_at(&content, width) as i64,
+        lines,
+        "lines of {words:?}"
+    );
+    assert_eq!(rt;
+        height_at(&content, width),
+        Lu::of(height),
+        "height of {words:?}"
+    );
     Ok(())
 }
 
 #[test]
-fn widest_is_all_words_with_spaces_between(rt: HostRuntime) -> Result<(), Fail> {
-    let alloc = rt.alloc();
-    assert_eq!(rt; widest(&text(alloc, 20, 4, &[7, 40, 9])?), Lu::of(64));
-    assert_eq!(rt; widest(&text(alloc, 20, 0, &[7, 40, 9])?), Lu::of(56));
-    assert_eq!(rt; widest(&text(alloc, 20, 4, &[7])?), Lu::of(7));
-    assert_eq!(rt; widest(&text(alloc, 20, 4, &[])?), Lu::of(0));
-    assert_eq!(rt; widest(&text(alloc, 20, 4, &[0, 0])?), Lu::of(4));
-    assert_eq!(rt; widest(&text(alloc, 20, 4, &[TOP, 1])?), Lu::of(TOP as i64));
-    assert_eq!(rt; widest(&text(alloc, 20, 4, &[2; 10_000])?), Lu::of(59_996));
-    assert_eq!(rt; widest(&fixed(30, 50)), Lu::of(30));
+fn words_have_the_sizes_of_the_table(rt: HostRuntime) -> Result<(), Fail> {
+    let top = 1 << 30;
+    let rows: [Row; 15] = [
+        // an exact fit, and one unit less
+        (&[10, 20], [5, 7], [20, 35], [35, 1, 7]),
+        (&[10, 20], [5, 7], [20, 35], [34, 2, 14]),
+        (&[40, 7, 9], [4, 20], [40, 64], [51, 2, 40]),
+        (&[40, 7, 9], [4, 20], [40, 64], [64, 1, 20]),
+        // a word wider than the line: first, and between others
+        (&[50, 5], [1, 20], [50, 56], [10, 2, 40]),
+        (&[4, 50, 4, 5], [1, 20], [50, 66], [10, 3, 60]),
+        (&[4, 50, 4, 5], [1, 20], [50, 66], [9, 4, 80]),
+        // no words, and words, spaces and lines of no size
+        (&[], [5, 20], [0, 0], [100, 0, 0]),
+        (&[0, 0, 0], [0, 20], [0, 0], [0, 1, 20]),
+        (&[0, 0, 0], [1, 20], [0, 2], [0, 3, 60]),
+        (&[10, 20], [0, 0], [20, 30], [30, 1, 0]),
+        // sizes are limited to 2^30, the width of a line that is compared is not
+        (&[1 << 30, 1], [0, 20], [top, top], [top, 2, 40]),
+        (&[4, 4], [0, (1 << 30) - 1], [4, 8], [7, 2, top]),
+        // four words of 2 with three spaces of 4 fill 20 units
+        (&[2; 10_000], [4, 7], [2, 59_996], [20, 2_500, 17_500]),
+        (&[2; 10_000], [4, 7], [2, 59_996], [19, 3_334, 23_338]),
+    ];
+    for row in &rows {
+        agrees(&rt, rt.alloc(), row)?;
+    }
     Ok(())
 }
 
 #[test]
-fn words_are_filled_into_lines(rt: HostRuntime) -> Result<(), Fail> {
-    let alloc = rt.alloc();
-    let two = text(alloc, 20, 5, &[10, 20])?;
-    assert_eq!(rt; lines_at(&two, Lu::of(35)), 1);
-    assert_eq!(rt; lines_at(&two, Lu::of(34)), 2);
-    assert_eq!(rt; lines_at(&two, Lu::of(0)), 2);
-    let wide_between = text(alloc, 20, 1, &[4, 50, 4, 5])?;
-    assert_eq!(rt; lines_at(&wide_between, Lu::of(10)), 3);
-    assert_eq!(rt; lines_at(&wide_between, Lu::of(9)), 4);
-    assert_eq!(rt; lines_at(&text(alloc, 20, 1, &[50, 5])?, Lu::of(10)), 2);
-    assert_eq!(rt; lines_at(&text(alloc, 20, 0, &[0, 0, 0])?, Lu::of(0)), 1);
-    assert_eq!(rt; lines_at(&text(alloc, 20, 1, &[0, 0, 0])?, Lu::of(0)), 3);
-    assert_eq!(rt; lines_at(&text(alloc, 20, 5, &[])?, Lu::of(100)), 0);
-    assert_eq!(rt;
-        lines_at(&text(alloc, 20, 0, &[TOP, 1])?, Lu::of(TOP as i64)),
-        2
-    );
-    assert_eq!(rt;
-        lines_at(&text(alloc, 20, 4, &[2; 10_000])?, Lu::of(20)),
-        2_500
-    );
-    assert_eq!(rt; lines_at(&fixed(30, 50), Lu::of(10)), 0);
-    Ok(())
-}
-
-#[test]
-fn height_is_that_of_all_lines(rt: HostRuntime) -> Result<(), Fail> {
-    let alloc = rt.alloc();
-    let two = text(alloc, 20, 5, &[10, 20])?;
-    assert_eq!(rt; height_at(&two, Lu::of(35)), Lu::of(20));
-    assert_eq!(rt; height_at(&two, Lu::of(34)), Lu::of(40));
-    assert_eq!(rt;
-        height_at(&text(alloc, 20, 5, &[])?, Lu::of(100)),
-        Lu::of(0)
-    );
-    assert_eq!(rt;
-        height_at(&text(alloc, 0, 5, &[10, 20])?, Lu::of(0)),
-        Lu::of(0)
-    );
-    let high = text(alloc, TOP - 1, 0, &[4, 4])?;
-    assert_eq!(rt; height_at(&high, Lu::of(7)), Lu::of(TOP as i64));
-    assert_eq!(rt;
-        height_at(&text(alloc, 7, 4, &[2; 10_000])?, Lu::of(20)),
-        Lu::of(17_500)
-    );
-    assert_eq!(rt; height_at(&fixed(30, 50), Lu::of(10)), Lu::of(50));
+fn a_fixed_box_has_its_sides(rt: HostRuntime) -> Result<(), Fail> {
+    let content = fixed(30, 50);
+    assert_eq!(rt; narrowest(&content), Lu::of(30));
+    assert_eq!(rt; widest(&content), Lu::of(30));
+    assert_eq!(rt; lines_at(&content, Lu::of(10)), 0);
+    assert_eq!(rt; height_at(&content, Lu::of(10)), Lu::of(50));
     Ok(())
 }
 
 #[test]
 fn a_copy_is_the_same_content(rt: HostRuntime) -> Result<(), Fail> {
-    let alloc = rt.alloc();
-    let words = text(alloc, 20, 5, &[10, 20])?;
-    assert_eq!(rt; &words.copy(alloc)?, &words);
-    let box_ = fixed(30, 50);
-    assert_eq!(rt; &box_.copy(alloc)?, &box_);
+    let words = text(rt.alloc(), 20, 5, &[10, 20])?;
+    assert_eq!(rt; &words.copy(rt.alloc())?, &words);
+    let sized = fixed(30, 50);
+    assert_eq!(rt; &sized.copy(rt.alloc())?, &sized);
     Ok(())
 }

@@ -1,4 +1,4 @@
-use Rattle.std.proofs.Common.{ap, ◌∙◌, Some, sym, arith}
+use Rattle.std.proofs.Common.{ap, ◌∙◌, Some, arith}
 use Rattle.std.proofs.lemmas.Int.{ints}
 use Rattle.lunit.specs.Units.{clamp}
 use Rattle.doc_text.proofs.Limits.{within_limits}
