@@ -25,8 +25,8 @@ fn between(free: i64, k: u32, n: u32) -> i64
 
 /// Where subject `k`, from 0, of the `n` subjects of a container is moved to by the free space, in units from its place at the
 /// start: the space times the share of the value, rounded down, also below zero. `free` is the size of the container less the
-/// subjects and the gutters. Where it is below 0, the values that spread and every `safe` value are start (Box Alignment 3,
-/// sections 4.4, 5.1 and 5.3; the roundings are an own rule).
+/// subjects and the gutters. Where it is below 0, the values that spread and every `safe` value are start (CSS Box
+/// Alignment 3, sections 4.1, 4.3 and 4.4; the roundings are an own rule).
 pub fn content_offset(mode: Mode, safe: bool, free: i64, k: u32, n: u32) -> i64
     requires range { unsigned_abs free ≤ 2 ^ 56 }
     requires subject { k < n }

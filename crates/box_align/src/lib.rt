@@ -1,4 +1,4 @@
-//! Where content stands in its container and an item in its area, and what `auto` margins take (Box Alignment 3).
+//! Where content stands in its container and an item in its area, and what `auto` margins take (CSS Box Alignment 3).
 //!
 //! All lengths are in units of one sixty-fourth of a pixel. No call takes memory.
 #![tactic(auto)]

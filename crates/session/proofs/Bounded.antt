@@ -1,5 +1,5 @@
 -- A document that is read has at most 10,000 tracks along each axis.
-use Rattle.std.proofs.Common.{◌≡◌, ◌≢◌, refl, ap, sym, subst, ◌∙◌, ℕ, ◌≤◌, Bool, true, false, ◌&&◌, nat_le, List, [], ◌∷◌, length, Option, Some, None, rules, arith}
+use Rattle.std.proofs.Common.{◌≡◌, refl, ap, sym, subst, ℕ, ◌≤◌, Bool, true, false, ◌&&◌, nat_le, List, [], ◌∷◌, length, Option, Some, None}
 use Rattle.std.specs.Option.{option_map}
 use Rattle.std.specs.List.{list_all}
 use Rattle.std.specs.Prelude.{if◌then◌else◌, unwrap_or, ◌==◌, codes, ℤ}
@@ -61,7 +61,7 @@ grid_few words grid e =
     let rows = bind_some (tracks_up_to (codes "}") middle.0) _ grid middle.2 in
     let last = if_some (ended rows.0.1) (Some (grid_node name.0.0 columns.0.0 rows.0.0)) grid rows.2 in
     subst HasFew (some_same (grid_node name.0.0 columns.0.0 rows.0.0) grid last.1)
-      (record { columns = few_up_to (codes ";") head.0 columns.0 columns.1; rows = few_up_to (codes "}") middle.0 rows.0 rows.1 })
+    (record { columns = few_up_to (codes ";") head.0 columns.0 columns.1; rows = few_up_to (codes "}") middle.0 rows.0 rows.1 })
 
 root_few : (row : Row) (grid : Plain) → root_of row ≡ Some grid → HasFew grid
 root_few row grid e = grid_few row.words grid (if_some (row.indent == 0) (grid_of row.words) grid e).1

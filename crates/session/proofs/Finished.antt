@@ -1,18 +1,18 @@
 -- How a run ends, from how its parts end.
-use Rattle.std.proofs.Common.{◌≡◌, ◌≢◌, refl, ap, sym, subst, ◌∙◌, ℕ, ◌+◌, ◌≤◌, ◌<◌, List, [], ◌∷◌, length, length-append, ◌⊎◌, inl, inr, Option, Some, None, Result, Ok, Err, IfSome, arith}
+use Rattle.std.proofs.Common.{◌≡◌, ◌≢◌, refl, ap, sym, subst, ◌∙◌, ℕ, ◌≤◌, ◌<◌, List, length, length-append, ◌⊎◌, inl, inr, Option, Some, None, Ok, Err, IfSome, arith}
 use Rattle.outside.specs.Told.{Stays, Adds, Loses, AddsPrefix}
 use Rattle.outside.specs.Faults.{Rose}
 use Rattle.outside.specs.declared.ruler.Event.{Event}
 use Rattle.outside.proofs.Laws.{stays_same, all_but_start, all_but_stays, prefix_all_but, prefix_all}
 use Rattle.text_scan.specs.declared.line.Line.{Line}
-use Rattle.text_scan.specs.Lines.{lines_of, split_lines, onto_first, numbered}
+use Rattle.text_scan.specs.Lines.{lines_of}
 use Rattle.doc_text.specs.declared.document.Doc.{Doc}
 use Rattle.session.specs.Input.{limit, IsReadToEnd, TakesInput, Stops}
 use Rattle.session.specs.Boxes.{boxes_of}
 use Rattle.session.specs.Printing.{print}
 use Rattle.session.specs.Outcome.{document_of_lines, document_in, output_of, answer_of, out, verdict, LogsDocument, MayLog}
 use Rattle.session.specs.Words.{code_of}
-use Rattle.session.specs.Runs.{StopsWriting, WritesAll, WritesPrefix, WritesNothing, Finishes, IsSilent, IsWhole, Judged, Runs, Permits, PermitsOver, IsComplete, IsOverComplete, IsHeadline}
+use Rattle.session.specs.Runs.{StopsWriting, Finishes, Judged, Runs, Permits, PermitsOver, IsComplete, IsOverComplete, IsHeadline}
 use Rattle.session.specs.declared.status.Status.{Status}
 use Rattle.session.specs.declared.status.Status.TheVariants.{Done, BadDocument, SomeRefused, ReadFault, WriteFault, NoMemory, InputLimit, BadWords}
 

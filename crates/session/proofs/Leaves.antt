@@ -19,5 +19,5 @@ leaves_next grid leaves i leaf rect boxes all h leaf_is rect_is so_far =
     let box_is : leaf_rect grid (get_or leaves i leaf).style ≡ rect = sym (rect_is ∙ ap (λ (p : Plain). leaf_rect grid p.style) leaf_is) in
     let name_is : (get_or leaves i leaf).name ≡ leaf.name = sym (ap (λ (p : Plain). p.name) leaf_is) in
     let front : boxes_from grid (drop i leaves) ≡ (leaf.name, rect) ∷ rest =
-      ap (boxes_from grid) (drop_more leaves i leaf h) ∙ (λ j. (name_is j, box_is j) ∷ rest) in
+    ap (boxes_from grid) (drop_more leaves i leaf h) ∙ (λ j. (name_is j, box_is j) ∷ rest) in
     append_assoc boxes ((leaf.name, rect) ∷ []) rest ∙ ap (λ (l : List Box). boxes ++ l) (sym front) ∙ so_far

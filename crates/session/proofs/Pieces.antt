@@ -1,5 +1,5 @@
 -- Pieces of the input, one after another.
-use Rattle.std.proofs.Common.{◌≡◌, subst, ℕ, suc, ◌+◌, ◌≤◌, ◌<◌, ◌||◌, not, Bool, true, false, List, [], ◌∷◌, ◌++◌, Option, Some, None, Result, Ok, Err, length, sym, ap, ◌∙◌, refl, arith, append_assoc, append-nil, length-append}
+use Rattle.std.proofs.Common.{◌≡◌, subst, ℕ, suc, ◌+◌, ◌≤◌, ◌||◌, Bool, true, false, List, [], ◌∷◌, ◌++◌, Option, Some, None, Result, Ok, Err, length, sym, ap, ◌∙◌, refl, arith, append_assoc, append-nil, length-append}
 use Rattle.std.proofs.lemmas.Bool.{false≢true}
 use Rattle.std.specs.Prelude.{if◌then◌else◌}
 use Rattle.std.specs.Result.{IsErrAnd}
@@ -7,8 +7,8 @@ use Rattle.outside.specs.Told.{Loses, IsSpent}
 use Rattle.outside.proofs.Laws.{loses_none, loses_more}
 use Rattle.text_scan.specs.declared.line.Line.{Line}
 use Rattle.text_scan.specs.Lines.{lines_of, lines_from, has_line_feed, is_line_feed, split_lines, onto_first, numbered}
-use Rattle.text_scan.specs.Stream.{Stream, empty_stream, is_line_due, is_empty, lines_ahead}
-use Rattle.session.specs.Input.{limit, Stops, IsReadToEnd, AreRead, TakesInput, HasTaken, AddsPiece, StopsAtPiece}
+use Rattle.text_scan.specs.Stream.{Stream, empty_stream, is_line_due, lines_ahead}
+use Rattle.session.specs.Input.{Stops, IsReadToEnd, TakesInput, HasTaken, AddsPiece, StopsAtPiece}
 use Rattle.session.specs.declared.status.Status.{Status}
 
 -- nothing was taken yet
@@ -75,17 +75,16 @@ taken_all before now after count n stream stream' last found found' all p q zero
     record {
       bytes = p.bytes;
       taken = loses_more before now after p.bytes q.piece p.bytes p.taken q.taken (sym (append-nil p.bytes) ∙ ap (λ (l : List ℕ). p.bytes ++ l) (sym piece_none));
-      read =
-        (
-          omega (arith, p.counted, p.within),
-          ended before now after p.bytes q.piece p.taken q.taken piece_none (q.end zero),
-          sym (append-nil all)
-          ∙ ap (λ (l : List Line). all ++ l) (sym (none_ahead last.number last.held none))
-          ∙ ahead [] (λ _. refl)
-          ∙ q.ahead []
-          ∙ p.ahead (q.piece ++ [])
-          ∙ ap lines_of all_is
-        );
+      read = (
+        omega (arith, p.counted, p.within),
+        ended before now after p.bytes q.piece p.taken q.taken piece_none (q.end zero),
+        sym (append-nil all)
+            ∙ ap (λ (l : List Line). all ++ l) (sym (none_ahead last.number last.held none))
+            ∙ ahead [] (λ _. refl)
+            ∙ q.ahead []
+            ∙ p.ahead (q.piece ++ [])
+            ∙ ap lines_of all_is,
+      );
     }
 
 -- there are not more lines than bytes

@@ -7,7 +7,7 @@ use Rattle.doc_text.specs.declared.style.FirstLines.{FirstLines}
 use Rattle.doc_text.specs.declared.style.FirstStyle.{FirstStyle}
 use Rattle.doc_text.specs.Forms.{last_line}
 use Rattle.doc_text.specs.Label.{Label}
-use Rattle.doc_text.specs.Trees.{leafless, tree, top_labels}
+use Rattle.doc_text.specs.Trees.{top_labels}
 use Rattle.session.specs.Offsets.{offset, sum_of, length_between}
 use Rattle.session.specs.Printing.{Box}
 

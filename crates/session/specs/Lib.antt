@@ -1,3 +1,7 @@
+pub use Rattle.outside.specs.Faults as Faults
+pub use Rattle.outside.specs.Told as Told
+pub use Rattle.text_scan.specs.Lines as Lines
+pub use Rattle.doc_text.specs.Documents as Documents
 pub mod Offsets
 pub mod Printing
 pub mod Boxes

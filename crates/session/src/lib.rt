@@ -12,3 +12,6 @@ mod top_call;
 pub use print::print_boxes;
 pub use status::Status;
 pub use top_call::run;
+
+#[cfg(test)]
+mod tests;

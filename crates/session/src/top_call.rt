@@ -28,12 +28,7 @@ fn write<K: Sink>(sink: &mut K, text: &[u8]) -> Result<(), Status>
 
 /// Answers the lines of a whole input: writes its boxes, or the line of its refusal.
 #[tactic(auto, using(crate::proofs::Finished::finishing))]
-fn finish<K: Sink, R: Ruler>(
-    alloc: Global,
-    lines: &[Line],
-    sink: &mut K,
-    ruler: &mut R,
-) -> Status
+fn finish<K: Sink, R: Ruler>(alloc: Global, lines: &[Line], sink: &mut K, ruler: &mut R) -> Status
     requires few { length lines.now ≤ 67108864 }
     ensures finishes { Finishes (K.written sink.old) (K.written sink.new) (R.log ruler.old) (R.log ruler.new) (document_of_lines lines.now) result }
     ensures cause { HasCauseOf (K.faults sink.old) (K.faults sink.new) (result ≡ Status.WriteFault) }

@@ -6,9 +6,9 @@ use Rattle.std.proofs.lemmas.List.{take-append-drop}
 use Rattle.part_rules.specs.declared.share.Share.{Share}
 use Rattle.part_rules.specs.Sharing.{below, has_room, one_more, Handed, after_row, round, rounds, with_nothing, handed, shared_rows, left_over, IsShared}
 use Rattle.part_rules.proofs.Sharing.{is_shared, sums_up}
-use Rattle.part_rules.specs.Lists.{sum_of}
+use Rattle.part_rules.specs.Lists.{sum_of, above_zero}
 use Rattle.std.specs.List.{list_any}
-use Rattle.share_out.specs.Levels.{end_of, is_above, up_to, filled, above, used, filled_rows, finished, natural}
+use Rattle.share_out.specs.Levels.{end_of, is_above, up_to, filled, above, used, filled_rows, finished}
 use Rattle.share_out.proofs.Rounds.{plain, IsStill, takes, passes, still_none, rounds_still, none_left, enough, then_more, then_one}
 
 -- ---- one row
@@ -287,7 +287,7 @@ next_level level n u a rows e f some h =
 
 -- ---- the space
 
-pub of_space : (space : ℤ) (n left : ℕ) (rows done : List Share) → pos 0 ≤ℤ space → n ≡ natural space → handed n rows ≡ plain done left → (done ≡ shared_rows space rows) × (pos left ≡ left_over space rows)
+pub of_space : (space : ℤ) (n left : ℕ) (rows done : List Share) → pos 0 ≤ℤ space → n ≡ above_zero space → handed n rows ≡ plain done left → (done ≡ shared_rows space rows) × (pos left ≡ left_over space rows)
 of_space (pos m) n left rows done some e f =
     let g : handed m rows ≡ plain done left = ap (λ (k : ℕ). handed k rows) (sym e) ∙ f in
     (ap (λ (h : Handed). h.rows) (sym g), ap (λ (h : Handed). pos h.left) (sym g))
@@ -307,7 +307,7 @@ used_up (pos m) rows some = go (is_shared (pos m) rows)
 used_up (negsuc m) rows some = absurd (omega (arith, ints))
 
 -- Nothing is lost.
-pub sum_of_space : (space : ℤ) (n left : ℕ) (rows done : List Share) → pos 0 ≤ℤ space → n ≡ natural space → handed n rows ≡ plain done left → sum_of (map (λ (s : Share). s.got) done) +ℤ pos left ≡ space
+pub sum_of_space : (space : ℤ) (n left : ℕ) (rows done : List Share) → pos 0 ≤ℤ space → n ≡ above_zero space → handed n rows ≡ plain done left → sum_of (map (λ (s : Share). s.got) done) +ℤ pos left ≡ space
 sum_of_space space n left rows done some e f =
     let is : (done ≡ shared_rows space rows) × (pos left ≡ left_over space rows) = of_space space n left rows done some e f in
     ap (λ (xs : List Share). sum_of (map (λ (s : Share). s.got) xs) +ℤ pos left) is.0
@@ -321,7 +321,7 @@ sum_of_debt space rows none =
     ∙ ap (λ (z : ℤ). sum_of (map (λ (s : Share). s.got) (shared_rows space rows)) +ℤ z) is.1
     ∙ sums_up space rows
 
-pub used_of_space : (space : ℤ) (n left : ℕ) (rows done : List Share) → pos 0 ≤ℤ space → n ≡ natural space → handed n rows ≡ plain done left → (pos left ≡ pos 0) ⊎ (list_any has_room done ≡ false)
+pub used_of_space : (space : ℤ) (n left : ℕ) (rows done : List Share) → pos 0 ≤ℤ space → n ≡ above_zero space → handed n rows ≡ plain done left → (pos left ≡ pos 0) ⊎ (list_any has_room done ≡ false)
 used_of_space space n left rows done some e f =
     let is : (done ≡ shared_rows space rows) × (pos left ≡ left_over space rows) = of_space space n left rows done some e f in
     subst (λ (z : ℤ). (z ≡ pos 0) ⊎ (list_any has_room done ≡ false)) (sym is.1)

@@ -39,8 +39,3 @@ finished level n rows = rounds n (record { rows = map (filled level) rows; left 
 -- The rows before the place `higher` filled to one unit more than the level, and the others to the level.
 abbrev pub filled_rows : ℕ → ℕ → List Share → List Share
 filled_rows level higher rows = map (filled (suc level)) (take higher rows) ++ map (filled level) (drop higher rows)
-
--- what a length of at least 0 is in units
-abbrev pub natural : ℤ → ℕ
-natural (pos n) = n
-natural (negsuc n) = 0

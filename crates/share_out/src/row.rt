@@ -1,14 +1,15 @@
 //! One row, in whole units.
 
 ghost use Rattle.std.specs.Prelude.{◌≡◌, ◌≤◌, ◌<◌, ◌^◌, ◌+◌, pos, ◌≤ℤ◌, nat_lt};
-ghost use Rattle.share_out.specs.Levels.{end_of, is_above, up_to, natural, filled};
+ghost use Rattle.part_rules.specs.Lists.{above_zero};
+ghost use Rattle.share_out.specs.Levels.{end_of, is_above, up_to, filled};
 
 use lunit::{Lu, Wide};
 use part_rules::Share;
 
 /// The units of a length, or 0 where it is below 0.
 pub fn units(length: Lu) -> u64
-    ensures value { result ≡ natural length }
+    ensures value { result ≡ above_zero length }
     ensures range { result ≤ 2 ^ 30 }
 {
     u64::try_from(length.units()).unwrap_or(0)

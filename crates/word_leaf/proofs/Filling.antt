@@ -1,5 +1,5 @@
 -- The number of lines, from the width of the line that stands.
-use Rattle.std.proofs.Common.{arith, ap, ◌≡◌, ◌∙◌, refl, sym, true≢false, ℕ, suc, ◌+◌, ◌-◌, ◌<◌, ℤ, pos, ◌+ℤ◌, ◌*ℤ◌, ◌≤ℤ◌, Bool, true, false, List, [], ◌∷◌, ◌++◌, length, drop, get_or, if◌then◌else◌, int_le, int_lt, cond, Less, Equal, Greater}
+use Rattle.std.proofs.Common.{arith, ap, ◌≡◌, ◌∙◌, refl, sym, true≢false, ℕ, suc, ◌+◌, ◌-◌, ◌<◌, ℤ, pos, ◌+ℤ◌, ◌*ℤ◌, Bool, true, false, List, [], ◌∷◌, ◌++◌, length, drop, get_or, if◌then◌else◌, int_le, int_lt, cond, Less, Equal, Greater}
 use Rattle.std.proofs.lemmas.Int.{ints}
 use Rattle.std.proofs.lemmas.List.{drop_more, length-append}
 use Rattle.std.specs.Ordering.{int_cmp, is_le}
@@ -52,13 +52,13 @@ pub lines_begun : (space width y : ℤ) (ws : List ℤ) → length (word_lines s
 lines_begun space width y ws = from_begun space width y [] ws ∙ ap (λ z. suc (begun space width z ws)) (alone space y)
 
 -- a step of the filling: the next word joins the line
-pub word_joins : (space width present : ℤ) (ws : List ℤ) (i : ℕ) (d : ℤ) → i < length ws → int_le (present +ℤ space +ℤ get_or ws i d) width ≡ true
+word_joins : (space width present : ℤ) (ws : List ℤ) (i : ℕ) (d : ℤ) → i < length ws → int_le (present +ℤ space +ℤ get_or ws i d) width ≡ true
     → begun space width present (drop i ws) ≡ begun space width (present +ℤ space +ℤ get_or ws i d) (drop (i + 1) ws)
 word_joins space width present ws i d h e = ap (begun space width present) (drop_more ws i d h)
     ∙ ap (λ (b : Bool). if b then begun space width (present +ℤ space +ℤ get_or ws i d) (drop (i + 1) ws) else suc (begun space width (get_or ws i d) (drop (i + 1) ws))) e
 
 -- a step of the filling: the next word begins a line
-pub word_begins : (space width present : ℤ) (ws : List ℤ) (i : ℕ) (d : ℤ) → i < length ws → int_le (present +ℤ space +ℤ get_or ws i d) width ≡ false
+word_begins : (space width present : ℤ) (ws : List ℤ) (i : ℕ) (d : ℤ) → i < length ws → int_le (present +ℤ space +ℤ get_or ws i d) width ≡ false
     → begun space width present (drop i ws) ≡ suc (begun space width (get_or ws i d) (drop (i + 1) ws))
 word_begins space width present ws i d h e = ap (begun space width present) (drop_more ws i d h)
     ∙ ap (λ (b : Bool). if b then begun space width (present +ℤ space +ℤ get_or ws i d) (drop (i + 1) ws) else suc (begun space width (get_or ws i d) (drop (i + 1) ws))) e
@@ -67,8 +67,21 @@ word_begins space width present ws i d h e = ap (begun space width present) (dro
 pub sum_next : (ws : List ℤ) (i : ℕ) (d : ℤ) → i < length ws → sum_of (drop i ws) ≡ get_or ws i d +ℤ sum_of (drop (i + 1) ws)
 sum_next ws i d h = ap sum_of (drop_more ws i d h)
 
--- A step of the code: the test, whether the width with the word is within the limit, decides which step of the filling it is.
-le_is : (x y : ℤ) → int_le x y ≡ is_le (int_cmp x y)
+-- A step of the code: its test is that of the filling.
+pub joins_where : (space width present joined : ℤ) (ws : List ℤ) (i : ℕ) (d : ℤ) (lines all : ℕ) → i < length ws → joined ≡ present +ℤ space +ℤ get_or ws i d → int_le joined width ≡ true
+    → lines + begun space width present (drop i ws) ≡ all → lines + begun space width joined (drop (i + 1) ws) ≡ all
+joins_where space width present joined ws i d lines all h j t e =
+    let fits : int_le (present +ℤ space +ℤ get_or ws i d) width ≡ true = ap (λ z. int_le z width) (sym j) ∙ t in
+    ap (λ z. lines + begun space width z (drop (i + 1) ws)) j ∙ ap (λ n. lines + n) (sym (word_joins space width present ws i d h fits)) ∙ e
+
+pub begins_where : (space width present joined : ℤ) (ws : List ℤ) (i : ℕ) (d : ℤ) (lines all : ℕ) → i < length ws → joined ≡ present +ℤ space +ℤ get_or ws i d → int_le joined width ≡ false
+    → lines + begun space width present (drop i ws) ≡ all → (lines + 1) + begun space width (get_or ws i d) (drop (i + 1) ws) ≡ all
+begins_where space width present joined ws i d lines all h j t e =
+    let not : int_le (present +ℤ space +ℤ get_or ws i d) width ≡ false = ap (λ z. int_le z width) (sym j) ∙ t in
+    omega (arith, word_begins space width present ws i d h not, e)
+
+-- what `<=` answers at numbers
+pub le_is : (x y : ℤ) → int_le x y ≡ is_le (int_cmp x y)
 le_is x y = by (int_lt x y) (int_lt y x) (int_le x y) refl refl refl
   where
     by : (s t u : Bool) → int_lt x y ≡ s → int_lt y x ≡ t → int_le x y ≡ u → u ≡ is_le (cond s Less (cond t Greater Equal))
@@ -79,18 +92,3 @@ le_is x y = by (int_lt x y) (int_lt y x) (int_le x y) refl refl refl
     by false true false a b c = refl
     by false false true a b c = refl
     by false false false a b c = absurd (omega (arith, ints))
-
-pub within : (x y : ℤ) → is_le (int_cmp x y) ≡ true → x ≤ℤ y
-within x y t = let e : int_le x y ≡ true = le_is x y ∙ t in omega (arith, ints, e)
-
-pub joins_where : (space width present joined limit : ℤ) (ws : List ℤ) (i : ℕ) (d : ℤ) (lines all : ℕ) → i < length ws → joined ≡ present +ℤ space +ℤ get_or ws i d → limit ≡ width → is_le (int_cmp joined limit) ≡ true
-    → lines + begun space width present (drop i ws) ≡ all → lines + begun space width joined (drop (i + 1) ws) ≡ all
-joins_where space width present joined limit ws i d lines all h j k t e =
-    let fits : int_le (present +ℤ space +ℤ get_or ws i d) width ≡ true = ap (λ z. int_le z width) (sym j) ∙ ap (int_le joined) (sym k) ∙ le_is joined limit ∙ t in
-    ap (λ z. lines + begun space width z (drop (i + 1) ws)) j ∙ ap (λ n. lines + n) (sym (word_joins space width present ws i d h fits)) ∙ e
-
-pub begins_where : (space width present joined limit : ℤ) (ws : List ℤ) (i : ℕ) (d : ℤ) (lines all : ℕ) → i < length ws → joined ≡ present +ℤ space +ℤ get_or ws i d → limit ≡ width → is_le (int_cmp joined limit) ≡ false
-    → lines + begun space width present (drop i ws) ≡ all → (lines + 1) + begun space width (get_or ws i d) (drop (i + 1) ws) ≡ all
-begins_where space width present joined limit ws i d lines all h j k t e =
-    let not : int_le (present +ℤ space +ℤ get_or ws i d) width ≡ false = ap (λ z. int_le z width) (sym j) ∙ ap (int_le joined) (sym k) ∙ le_is joined limit ∙ t in
-    omega (arith, word_begins space width present ws i d h not, e)

@@ -1,7 +1,6 @@
 -- Lengths made of numbers that are not below zero are not below zero.
 use Rattle.std.proofs.Common.{arith, ◌≡◌, ap, ◌∙◌, ℤ, pos, ◌≤ℤ◌, Bool, true, false, refl, ◌&&◌, List, [], ◌∷◌, ◌++◌, int_le}
-use Rattle.std.specs.Int.{int_max, int_min}
-use Rattle.std.specs.List.{list_all}
+use Rattle.std.specs.Int.{int_min}
 use Rattle.std.proofs.lemmas.Int.{ints, int_max_is, int_min_is}
 use Rattle.std.proofs.lemmas.List.Folds.{list_all-append}
 use Rattle.lunit.specs.Units.{bottom, clamp, top}

@@ -11,6 +11,7 @@ use std::test::Fail;
 /// the number and the height of the lines at it.
 type Row<'a> = (&'a [u32], [u32; 2], [i64; 2], [i64; 3]);
 
+/// So many units.
 #[tactic(auto, using(crate::proofs::Measurable::some_length))]
 fn units(number: u32) -> Lu
     ensures { pos 0 ≤ℤ result }
@@ -18,6 +19,7 @@ fn units(number: u32) -> Lu
     Lu::of(number as i64)
 }
 
+/// A leaf of words of these widths.
 #[tactic(auto, using(crate::proofs::Measurable::more_widths))]
 fn text(alloc: Global, line: u32, space: u32, widths: &[u32]) -> Result<Content, NoMemory>
     requires { length widths.now ≤ 65536 }
@@ -34,6 +36,7 @@ fn text(alloc: Global, line: u32, space: u32, widths: &[u32]) -> Result<Content,
     })
 }
 
+/// A leaf of fixed size.
 fn fixed(width: u32, height: u32) -> Content
     ensures { IsMeasurable result }
 {

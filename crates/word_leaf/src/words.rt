@@ -1,6 +1,6 @@
 //! Widths and lines of words, each in one pass over them.
 
-ghost use Rattle.std.specs.Prelude.{◌≡◌, ◌≤◌, length};
+ghost use Rattle.std.specs.Prelude.{◌≡◌, ◌≤◌, int_le, length};
 ghost use Rattle.lunit.specs.Units.{clamp};
 ghost use Rattle.part_rules.specs.WordLines.{greatest, line_width, word_lines};
 
@@ -31,6 +31,14 @@ pub fn width_of(space: Lu, words: &[Lu]) -> Lu
     (sum + space.wide().times(spaces as u64)).clamp()
 }
 
+/// Whether a line is at most as wide as there is room.
+#[tactic(auto, using(crate::proofs::Filling::le_is))]
+fn fits(line_width: Wide, width: Lu) -> bool
+    ensures { result ≡ int_le line_width width }
+{
+    line_width <= width.wide()
+}
+
 #[tactic(auto, using(crate::proofs::Filling::lines_begun))]
 /// The number of lines that the words are filled into.
 pub fn lines_of(space: Lu, width: Lu, words: &[Lu]) -> u32
@@ -45,7 +53,7 @@ pub fn lines_of(space: Lu, width: Lu, words: &[Lu]) -> u32
     let mut line_width = first.wide();
     for word in rest {
         let joined = line_width + space.wide() + word.wide();
-        if joined <= width.wide() {
+        if fits(joined, width) {
             line_width = joined;
         } else {
             lines += 1;

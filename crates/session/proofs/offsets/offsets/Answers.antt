@@ -1,4 +1,4 @@
-use Rattle.std.proofs.Common.{rules, arith, ◌≡◌, ◌+◌, ◌*◌, ◌≤◌, length, ◌≤ℤ◌, pos}
+use Rattle.std.proofs.Common.{rules, arith, ◌≡◌, ◌+◌, ◌*◌, ◌≤ℤ◌, pos}
 use Rattle.std.specs.Prelude.{neg_ℤ}
 use Rattle.session.specs.Offsets.{offset}
 use Rattle.session.proofs.Added.{sum_next, low_next, high_next, offsets_next}
