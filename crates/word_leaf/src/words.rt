@@ -6,8 +6,8 @@ ghost use Rattle.part_rules.specs.WordLines.{greatest, line_width, word_lines};
 
 use lunit::{Lu, Wide};
 
-#[tactic(auto, using(crate::proofs::Greatest::max_laws))]
 /// The greatest of the words and 0.
+#[tactic(auto, using(crate::proofs::Greatest::max_laws))]
 pub fn greatest_of(words: &[Lu]) -> Lu
     ensures { result ≡ clamp (greatest words.now) }
 {
@@ -39,8 +39,8 @@ fn fits(line_width: Wide, width: Lu) -> bool
     line_width <= width.wide()
 }
 
-#[tactic(auto, using(crate::proofs::Filling::lines_begun))]
 /// The number of lines that the words are filled into.
+#[tactic(auto, using(crate::proofs::Filling::lines_begun))]
 pub fn lines_of(space: Lu, width: Lu, words: &[Lu]) -> u32
     requires { length words.now ≤ 65536 }
     ensures count { result ≡ length (word_lines space width words.now) }
