@@ -6,6 +6,7 @@ pub mod Lists
 pub mod Placement
 pub mod Repetition
 pub mod Sharing
+pub mod TrackRows
 pub mod Tracks
 pub mod Views
 pub mod WordLines
