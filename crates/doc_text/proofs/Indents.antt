@@ -9,9 +9,9 @@ by_test : (found : ℕ) (test : Bool) → test ≡ true → cond test (Some foun
 by_test found true t h = none-some found (sym h)
 by_test found false t h = false≢true t
 
-pub none_found : (p : ℕ → Bool) (bytes : List ℕ) → position p bytes ≡ None → length bytes ≡ position_or_len p bytes
-none_found p bytes h = by_cases (cases_lt (position_or_len p bytes) (length bytes))
+pub none_found : {A : Type 0} (p : A → Bool) (items : List A) → position p items ≡ None → length items ≡ position_or_len p items
+none_found p items h = by_cases (cases_lt (position_or_len p items) (length items))
   where
-    by_cases : (position_or_len p bytes < length bytes) ⊎ (length bytes ≤ position_or_len p bytes) → length bytes ≡ position_or_len p bytes
-    by_cases (inl lt) = absurd (by_test (position_or_len p bytes) (nat_lt (position_or_len p bytes) (length bytes)) (lt-ltb _ _ lt) h)
-    by_cases (inr ge) = omega (arith, prefix_len-le-length (λ byte. not (p byte)) bytes)
+    by_cases : (position_or_len p items < length items) ⊎ (length items ≤ position_or_len p items) → length items ≡ position_or_len p items
+    by_cases (inl lt) = absurd (by_test (position_or_len p items) (nat_lt (position_or_len p items) (length items)) (lt-ltb _ _ lt) h)
+    by_cases (inr ge) = omega (arith, prefix_len-le-length (λ byte. not (p byte)) items)

@@ -5,3 +5,4 @@ pub mod Within
 pub mod Rows
 pub mod Indents
 pub mod Leaves
+pub mod Naming

@@ -1,11 +1,11 @@
 -- The tokens of a line stand within its bytes.
-use Rattle.std.proofs.Common.{◌≡◌, ℕ, ◌+◌, ◌≤◌, Bool, true, false, List, [], ◌∷◌, length, if◌then◌else◌, arith, refl}
+use Rattle.std.proofs.Common.{◌≡◌, ℕ, ◌+◌, ◌≤◌, Bool, true, false, List, [], ◌∷◌, length, map, if◌then◌else◌, arith, ap, refl}
 use Rattle.std.proofs.lemmas.Bool.{le-leb}
 use Rattle.std.proofs.lemmas.List.{length-take}
 use Rattle.std.specs.List.{list_all, position_or_len}
 use Rattle.text_scan.specs.declared.token.Token.{Token}
 use Rattle.text_scan.specs.Tokens.{is_mark, is_separator, is_comment_mark, before_comment, word_goes_on, word_from, token_at, tokens_from, tokens_of}
-use Rattle.doc_text.specs.Words.{fits}
+use Rattle.doc_text.specs.Words.{Word, word_at, located_at, plain_word, fits}
 
 -- tokens that stand from one index up to another
 abbrev pub Between : ℕ → ℕ → List Token → Type 0
@@ -38,3 +38,8 @@ all_fit bytes high (token ∷ tokens) f h = rw (le-leb token.start token.end h.1
 
 pub tokens_fit : (bytes : List ℕ) → list_all (fits bytes) (tokens_of bytes) ≡ true
 tokens_fit bytes = all_fit bytes (length (before_comment bytes)) (tokens_of bytes) (omega (arith, length-take (position_or_len is_comment_mark bytes) bytes)) (between 0 (length (before_comment bytes)) (before_comment bytes) (omega arith))
+
+-- the words at the tokens, without their columns
+pub words_alone : (bytes : List ℕ) (tokens : List Token) → map plain_word (map (located_at bytes) tokens) ≡ map (word_at bytes) tokens
+words_alone bytes [] = refl
+words_alone bytes (token ∷ tokens) = ap (λ (words : List Word). word_at bytes token ∷ words) (words_alone bytes tokens)

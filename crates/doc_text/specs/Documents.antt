@@ -1,5 +1,5 @@
 -- Documents of the first form: one grid of fixed tracks, and its leaves.
-use Rattle.std.specs.Prelude.{ℤ, true, Bool, not, ◌&&◌, is_none, List, [], ◌∷◌, map, if◌then◌else◌, Option, Some, None}
+use Rattle.std.specs.Prelude.{ℤ, true, Bool, not, ◌&&◌, is_none, List, [], ◌∷◌, map, if◌then◌else◌, Option, Some, None, codes}
 use Rattle.std.specs.Option.{option_map}
 use Rattle.std.specs.List.{list_all, list_any}
 use Rattle.std.specs.Str.{bytes_eq}
@@ -53,3 +53,7 @@ is_sound line = is_none line.fault
 -- the document that lines are, where they are one; no line of it has a fault
 abbrev pub document_of : List Line → Option Doc
 document_of lines = if list_all is_sound lines then document_of_rows (rows_of lines) else None
+
+-- the line that ends the text of a document: `---` and nothing else; edits follow it (own rule)
+abbrev pub is_end_of_document : Line → Bool
+is_end_of_document line = is_sound line && bytes_eq line.bytes (codes "---")

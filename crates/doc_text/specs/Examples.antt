@@ -14,14 +14,22 @@ read text = document_of (lines_of text)
 abbrev head : List ℕ
 head = codes "gridlay 1\nviewport 300 200\nmain grid { grid-template-columns: 100px 50px; grid-template-rows: 20px 30px }\n"
 
-abbrev lines : ℕ → ℕ → FirstLines
+abbrev pub lines : ℕ → ℕ → FirstLines
 lines start end = record { start = pos start; end = Some (pos end) }
 
-abbrev leaf : List ℕ → FirstLines → FirstLines → Label
+-- a line without an end
+abbrev pub alone : ℕ → FirstLines
+alone start = record { start = pos start; end = None }
+
+abbrev pub leaf : List ℕ → FirstLines → FirstLines → Label
 leaf name column row = record { name = name; style = record { columns = []; rows = []; column = column; row = row } }
 
+-- a grid of two columns and two rows with these leaves
+abbrev pub grid_of_four : Trees Label → Doc
+grid_of_four children = record { width = pos 19200; height = pos 12800; root = record { name = codes "main"; style = record { columns = pos 6400 ∷ pos 3200 ∷ []; rows = pos 1280 ∷ pos 1920 ∷ []; column = unset_lines; row = unset_lines }; children = children } }
+
 abbrev two_by_two : Trees Label → Option Doc
-two_by_two children = Some (record { width = pos 19200; height = pos 12800; root = record { name = codes "main"; style = record { columns = pos 6400 ∷ pos 3200 ∷ []; rows = pos 1280 ∷ pos 1920 ∷ []; column = unset_lines; row = unset_lines }; children = children } })
+two_by_two children = Some (grid_of_four children)
 
 two_leaves : read (head ++ codes "  a leaf 10 10 { grid-column: 1 / 3; grid-row: 1 / 2 }\n  b leaf 10 10 { grid-column: 2 / 3; grid-row: 2 / 3 }\n")
     ≡ two_by_two (tree (leaf (codes "a") (lines 1 3) (lines 1 2)) leafless (tree (leaf (codes "b") (lines 2 3) (lines 2 3)) leafless leafless))
@@ -30,6 +38,18 @@ two_leaves = refl
 spaced : read (codes "# a comment\n" ++ head ++ codes "\n  a  leaf 10px .5{grid-column:+1/03;grid-row:1/2}  # the end")
     ≡ two_by_two (tree (leaf (codes "a") (lines 1 3) (lines 1 2)) leafless leafless)
 spaced = refl
+
+no_end : read (head ++ codes "  a leaf 1 1 { grid-column: 2; grid-row: 1 / 3 }\n") ≡ None
+no_end = refl
+
+no_end_of_rows : read (head ++ codes "  b leaf 1 1 { grid-column: 1 / 3; grid-row: 2 }\n") ≡ None
+no_end_of_rows = refl
+
+no_end_past_the_last_line : read (head ++ codes "  a leaf 1 1 { grid-column: 3; grid-row: 1 / 2 }\n") ≡ None
+no_end_past_the_last_line = refl
+
+slash_alone : read (head ++ codes "  a leaf 1 1 { grid-column: 1 /; grid-row: 1 / 2 }\n") ≡ None
+slash_alone = refl
 
 fraction : read (codes "gridlay 1\nviewport 300 200\nmain grid { grid-template-columns: 100px 1fr; grid-template-rows: 20px 30px }\n") ≡ None
 fraction = refl
@@ -60,9 +80,6 @@ three_spaces = refl
 
 two_grids : read (head ++ codes "  b grid { grid-template-columns: 1px; grid-template-rows: 1px }\n") ≡ None
 two_grids = refl
-
-three_dashes : read (head ++ codes "---\n") ≡ None
-three_dashes = refl
 
 bare_length : read (codes "gridlay 1\nviewport 1 1\nm grid { grid-template-columns: 1; grid-template-rows: 0 }\n") ≡ None
 bare_length = refl

@@ -1,12 +1,12 @@
 -- The lines of a document of the first form: one grid of fixed tracks, and its leaves.
-use Rattle.std.specs.Prelude.{ℕ, ℤ, pos, ◌+◌, ◌+ℤ◌, false, Bool, ◌&&◌, ◌==◌, int_lt, int_le, nat_le, List, [], ◌∷◌, length, if◌then◌else◌, Option, Some, None, codes}
+use Rattle.std.specs.Prelude.{ℕ, ℤ, pos, ◌+◌, ◌+ℤ◌, false, Bool, ◌&&◌, ◌==◌, int_lt, int_le, nat_le, List, [], ◌∷◌, length, if◌then◌else◌, Option, Some, None, is_some, codes}
 use Rattle.std.specs.Option.{option_map}
 use Rattle.std.specs.Str.{bytes_eq}
 use Rattle.lunit.specs.Names.{is_name}
 use Rattle.doc_text.specs.declared.style.FirstLines.{FirstLines}
 use Rattle.doc_text.specs.declared.document.Plain.{Plain}
 use Rattle.doc_text.specs.Trees.{leafless}
-use Rattle.doc_text.specs.Words.{Word, Row, bind, after, after_all, ended}
+use Rattle.doc_text.specs.Words.{Word, Row, bind, begins_with, after, after_all, ended}
 use Rattle.doc_text.specs.Numbers.{length_of, size_of_word, integer_of}
 
 -- ---- what the first words stand for, and the words after them
@@ -43,15 +43,35 @@ tracks_up_to mark words = bind (lengths_up_to mark words) (λ read. if is_track_
 abbrev pub lines_between : ℤ → ℤ → Option FirstLines
 lines_between start end = if int_le (pos 1) start && int_lt start end then Some (record { start = start; end = Some end }) else None
 
--- a line value `A / B` (CSS Grid 2, 8.4)
+-- the start is counted from 1, and the end, where there is one, comes after it (own rule)
+abbrev pub is_ordered : FirstLines → Bool
+is_ordered lines = elim lines.end [ None ↦ int_le (pos 1) lines.start | Some end ↦ int_le (pos 1) lines.start && int_lt lines.start end ]
+
+-- the one line that a start line gives, which is counted from 1 (own rule)
+abbrev pub line_alone : ℤ → Option FirstLines
+line_alone start = if int_le (pos 1) start then Some (record { start = start; end = None }) else None
+
+-- the end line of a line value, after its start line
+abbrev pub end_first : ℤ → List Word → Option (FirstLines × List Word)
+end_first start [] = None
+end_first start (word ∷ words) =
+    bind (integer_of word) (λ end.
+    option_map (λ lines. (lines, words)) (lines_between start end))
+
+-- what follows the start line of a line value
+abbrev pub lines_from : ℤ → List Word → Option (FirstLines × List Word)
+lines_from start words =
+    if begins_with (codes "/") words then bind (after (codes "/") words) (end_first start)
+    else option_map (λ lines. (lines, words)) (line_alone start)
+
+-- a line value: `A / B`, or `A` where no `/` follows (CSS Grid 2, 8.4)
 abbrev pub lines_first : List Word → Option (FirstLines × List Word)
-lines_first (start ∷ slash ∷ end ∷ words) =
-    if bytes_eq slash (codes "/") then
-    bind (integer_of start) (λ a.
-    bind (integer_of end) (λ b.
-    option_map (λ lines. (lines, words)) (lines_between a b)))
-    else None
-lines_first words = None
+lines_first [] = None
+lines_first (word ∷ words) = bind (integer_of word) (λ start. lines_from start words)
+
+-- a line value with both lines, `A / B`: a document gives no other (own rule)
+abbrev pub both_lines_first : List Word → Option (FirstLines × List Word)
+both_lines_first words = bind (lines_first words) (λ found. if is_some found.0.end then Some found else None)
 
 -- ---- whole lines
 
@@ -88,13 +108,13 @@ grid_of words =
     bind (tracks_up_to (codes "}") words) (λ rows.
     if ended rows.1 then Some (grid_node name.0 columns.0 rows.0) else None)))))
 
--- `{ grid-column: A / B; grid-row: C / D }`
+-- `{ grid-column: A / B; grid-row: C / D }`, where each V is a line value
 abbrev pub leaf_lines_of : List Word → Option (FirstLines × FirstLines)
 leaf_lines_of words =
     bind (after_all (codes "{" ∷ codes "grid-column" ∷ codes ":" ∷ []) words) (λ words.
-    bind (lines_first words) (λ column.
+    bind (both_lines_first words) (λ column.
     bind (after_all (codes ";" ∷ codes "grid-row" ∷ codes ":" ∷ []) column.1) (λ words.
-    bind (lines_first words) (λ row.
+    bind (both_lines_first words) (λ row.
     bind (after (codes "}") row.1) (λ words.
     if ended words then Some (column.0, row.0) else None)))))
 

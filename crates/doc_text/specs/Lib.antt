@@ -7,4 +7,7 @@ pub mod Words
 pub mod Numbers
 pub mod Forms
 pub mod Documents
+pub mod EditLines
+pub mod Edits
 pub mod Examples
+pub mod EditExamples

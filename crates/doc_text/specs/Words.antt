@@ -1,5 +1,5 @@
 -- The words of a line: the bytes of each of its tokens.
-use Rattle.std.specs.Prelude.{ℕ, Bool, true, false, not, ◌&&◌, nat_le, length, List, [], ◌∷◌, map, slice_range, if◌then◌else◌, Option, Some, None}
+use Rattle.std.specs.Prelude.{ℕ, ◌+◌, Bool, true, false, not, ◌&&◌, nat_le, length, List, [], ◌∷◌, map, slice_range, if◌then◌else◌, Option, Some, None}
 use Rattle.std.specs.Str.{bytes_eq}
 use Rattle.std.specs.List.{position_or_len, filter}
 use Rattle.text_scan.specs.declared.line.Line.{Line}
@@ -15,6 +15,21 @@ word_at bytes token = slice_range bytes token.start token.end
 -- the words of a line's bytes, its comment left out
 abbrev pub words_of : List ℕ → List Word
 words_of bytes = map (word_at bytes) (tokens_of bytes)
+
+-- a word of a line, and the column of its first byte, counted from 1
+pub record Located : Type 0 where
+  pub word : Word
+  pub column : ℕ
+
+abbrev pub located_at : List ℕ → Token → Located
+located_at bytes token = record { word = word_at bytes token; column = token.start + 1 }
+
+-- the words of a line's bytes with their columns, its comment left out
+abbrev pub located_of : List ℕ → List Located
+located_of bytes = map (located_at bytes) (tokens_of bytes)
+
+abbrev pub plain_word : Located → Word
+plain_word located = located.word
 
 -- how many spaces a line begins with
 abbrev pub indent_of : List ℕ → ℕ
@@ -36,6 +51,11 @@ rows_of lines = map row_of (filter (λ line. not (is_skipped line)) lines)
 abbrev pub bind : {A B : Type 0} → Option A → (A → Option B) → Option B
 bind None next = None
 bind (Some x) next = next x
+
+-- the given word comes first
+abbrev pub begins_with : Word → List Word → Bool
+begins_with due [] = false
+begins_with due (word ∷ words) = bytes_eq word due
 
 -- the words after the given one, where that one comes first
 abbrev pub after : Word → List Word → Option (List Word)

@@ -1,11 +1,15 @@
 ghost use Rattle.std.specs.Prelude.{◌≡◌, ◌∷◌, [], OnOk, OnErr};
 ghost use Rattle.doc_text.specs.Trees.{leafless, joined};
 ghost use Rattle.doc_text.specs.View.{trees_of};
+ghost use Rattle.doc_text.specs.Edits.{edited_leaves, Edits};
 
+use crate::edit::Edit;
+use crate::edited::edit_leaves;
 use crate::style::FirstStyle;
 use lunit::{Lu, Name, NoMemory};
 use std::alloc::Global;
 use std::marker::Model;
+use text_scan::Fault;
 
 /// A document: the size of the viewport and the tree of nodes.
 #[derive(Drop)]
@@ -75,5 +79,12 @@ impl Children {
     {
         self.nodes.push(node)?;
         Ok(())
+    }
+
+    /// Edits the lines of the child that the edit names, in a grid of so many tracks.
+    pub(crate) fn edit(&mut self, tracks: usize, edit: &Edit) -> Result<(), Fault>
+        ensures { Edits result (edited_leaves tracks edit.now self.old) self.old self.new }
+    {
+        edit_leaves(&mut self.nodes, tracks, edit)
     }
 }

@@ -1,3 +1,6 @@
+ghost use Rattle.std.specs.Prelude.{◌≡◌};
+ghost use Rattle.doc_text.specs.Gives.{not_built_at};
+
 use lunit::NoMemory;
 use std::alloc::{AllocError, AllocFailed};
 use text_scan::{Fault, Place};
@@ -19,6 +22,16 @@ pub(crate) const NOT_BUILT: ReadError = ReadError::Fault(Fault {
     number: 90,
     place: Place { line: 1, column: 1 },
 });
+
+/// The fault of an edit that is not built: it stands at column 1 of the line of the edit.
+pub(crate) fn not_built_at(line: u32) -> Fault
+    ensures { result ≡ not_built_at line }
+{
+    Fault {
+        number: 90,
+        place: Place { line, column: 1 },
+    }
+}
 
 impl From<NoMemory> for ReadError {
     ghost use Rattle.std.specs.Prelude.{◌≡◌};

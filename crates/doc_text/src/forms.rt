@@ -1,7 +1,7 @@
-ghost use Rattle.std.specs.Prelude.{◌≡◌, ◌∷◌, []};
+ghost use Rattle.std.specs.Prelude.{◌≡◌, ◌∷◌, [], true, IfSome};
 ghost use Rattle.doc_text.specs.Words.{after_all, ended};
 ghost use Rattle.doc_text.specs.Gives.{Gives};
-ghost use Rattle.doc_text.specs.Forms.{name_first, size_first, lengths_up_to, tracks_up_to, is_track_count, lines_between, lines_first, is_header, viewport_of, grid_of, leaf_lines_of, leaf_of, last_line, is_within};
+ghost use Rattle.doc_text.specs.Forms.{name_first, size_first, lengths_up_to, tracks_up_to, is_track_count, is_ordered, lines_between, line_alone, end_first, lines_from, lines_first, both_lines_first, is_header, viewport_of, grid_of, leaf_lines_of, leaf_of, last_line, is_within};
 
 use crate::document::{Children, Plain};
 use crate::errors::{NOT_BUILT, ReadError};
@@ -80,7 +80,8 @@ fn tracks_up_to<'a>(
 
 /// The lines from a start line to an end line, where they are counted from 1 and stand in this order.
 fn lines_between(start: i32, end: i32) -> Option<FirstLines>
-    ensures { result ≡ lines_between start end }
+    ensures value { result ≡ lines_between start end }
+    ensures ordered { IfSome result (λ lines. is_ordered lines ≡ true) }
 {
     if start >= 1 && start < end {
         Some(FirstLines {
@@ -92,18 +93,59 @@ fn lines_between(start: i32, end: i32) -> Option<FirstLines>
     }
 }
 
-/// The lines `A / B` that come first, and the words after them.
-fn lines_first(words: Words) -> Option<(FirstLines, Words)>
-    ensures { result ≡ lines_first words.entry }
+/// The one line that a start line gives, where it is counted from 1.
+fn line_alone(start: i32) -> Option<FirstLines>
+    ensures value { result ≡ line_alone start }
+    ensures ordered { IfSome result (λ lines. is_ordered lines ≡ true) }
+{
+    if start >= 1 {
+        Some(FirstLines { start, end: None })
+    } else {
+        None
+    }
+}
+
+/// The lines from a start line to the end line that comes first, and the words after it.
+fn end_first(start: i32, words: Words) -> Option<(FirstLines, Words)>
+    ensures value { result ≡ end_first start words.entry }
+    ensures ordered { IfSome result (λ found. is_ordered found.0 ≡ true) }
+{
+    let (end, words) = words.first()?;
+    let lines = lines_between(start, integer_of(end)?)?;
+    Some((lines, words))
+}
+
+/// The lines of a line value after its start line, and the words after them.
+fn lines_from(start: i32, words: Words) -> Option<(FirstLines, Words)>
+    ensures value { result ≡ lines_from start words.entry }
+    ensures ordered { IfSome result (λ found. is_ordered found.0 ≡ true) }
+{
+    if words.begins_with(b"/") {
+        end_first(start, words.after(b"/")?)
+    } else {
+        Some((line_alone(start)?, words))
+    }
+}
+
+/// The lines `A / B` or `A` that come first, and the words after them.
+pub(crate) fn lines_first(words: Words) -> Option<(FirstLines, Words)>
+    ensures value { result ≡ lines_first words.entry }
+    ensures ordered { IfSome result (λ found. is_ordered found.0 ≡ true) }
 {
     let (start, words) = words.first()?;
-    let (slash, words) = words.first()?;
-    let (end, words) = words.first()?;
-    if slash != b"/".as_slice() {
-        return None;
+    lines_from(integer_of(start)?, words)
+}
+
+/// The lines `A / B` that come first, and the words after them.
+fn both_lines_first(words: Words) -> Option<(FirstLines, Words)>
+    ensures { result ≡ both_lines_first words.entry }
+{
+    let found = lines_first(words)?;
+    if found.0.end.is_some() {
+        Some(found)
+    } else {
+        None
     }
-    let lines = lines_between(integer_of(start)?, integer_of(end)?)?;
-    Some((lines, words))
 }
 
 /// Whether these are the words of the first line, `gridlay 1`.
@@ -193,9 +235,9 @@ fn leaf_lines_of(words: Words) -> Option<(FirstLines, FirstLines)>
     ensures { result ≡ leaf_lines_of words.entry }
 {
     let words = after_three(words, b"{", b"grid-column", b":")?;
-    let (column, words) = lines_first(words)?;
+    let (column, words) = both_lines_first(words)?;
     let words = after_three(words, b";", b"grid-row", b":")?;
-    let (row, words) = lines_first(words)?;
+    let (row, words) = both_lines_first(words)?;
     if words.after(b"}")?.ended() {
         Some((column, row))
     } else {
@@ -203,8 +245,8 @@ fn leaf_lines_of(words: Words) -> Option<(FirstLines, FirstLines)>
     }
 }
 
-/// The leaf that these words are: `NAME leaf W H { grid-column: A / B; grid-row: C / D }`. Its size is read and not
-/// kept.
+/// The leaf that these words are: `NAME leaf W H { grid-column: A / B; grid-row: C / D }`. Its
+/// size is read and not kept.
 pub(crate) fn leaf_of(alloc: Global, words: Words) -> Option<Plain>
     ensures { result ≡ leaf_of words.entry }
 {

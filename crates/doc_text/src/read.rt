@@ -4,7 +4,7 @@ ghost use Rattle.text_scan.specs.Tokens.{is_space, tokens_of};
 ghost use Rattle.doc_text.specs.Words.{words_of, indent_of, row_of, rows_of};
 ghost use Rattle.doc_text.specs.Gives.{Gives};
 ghost use Rattle.doc_text.specs.Forms.{is_header, viewport_of, root_of, child_of};
-ghost use Rattle.doc_text.specs.Documents.{is_sound, children_of, document_of, document_of_rows};
+ghost use Rattle.doc_text.specs.Documents.{is_sound, is_end_of_document, children_of, document_of, document_of_rows};
 
 use crate::document::{Children, Doc, Plain};
 use crate::errors::{NOT_BUILT, ReadError};
@@ -15,7 +15,8 @@ use std::alloc::Global;
 use std::collections::BTreeSet;
 use text_scan::{Line, Place, Token, tokens};
 
-fn is_sound(line: &Line) -> bool
+/// Whether the line has no fault.
+pub(crate) fn is_sound(line: &Line) -> bool
     ensures { result ≡ is_sound line.now }
 {
     line.fault.is_none()
@@ -51,6 +52,14 @@ fn words_of<'a>(line: &'a Line, tokens: &'a [Token]) -> Words<'a>
     ensures { result ≡ words_of line.now.bytes }
 {
     Words::new(line.bytes.as_slice(), tokens)
+}
+
+/// Whether the line ends the text of a document: it is `---`, these three bytes and nothing else. Edits follow it. Takes
+/// no memory.
+pub fn is_end_of_document(line: &Line) -> bool
+    ensures { result ≡ is_end_of_document line.now }
+{
+    is_sound(line) && line.bytes.as_slice() == b"---".as_slice()
 }
 
 #[tactic(auto, using(crate::proofs::Rows::counting))]
@@ -161,7 +170,7 @@ fn read_sound(alloc: Global, lines: &[Line]) -> Result<Doc, ReadError>
     })
 }
 
-/// Reads a document of the first form: one grid of fixed tracks, with leaves at lines of it (own rule).
+/// Reads the lines of a document of the first form: one grid of fixed tracks, with leaves at lines of it (own rule).
 ///
 /// Lines that are skipped do not count, and no line has a fault. The first line is `gridlay 1` and the second
 /// `viewport W H`. The third is `NAME grid { grid-template-columns: L1 .. Ln; grid-template-rows: M1 .. Mm }` without

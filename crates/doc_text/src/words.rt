@@ -1,6 +1,6 @@
 ghost use Rattle.std.specs.Prelude.{◌≡◌, ◌∷◌, [], true, map, MatchOption};
 ghost use Rattle.std.specs.List.{list_all};
-ghost use Rattle.doc_text.specs.Words.{word_at, after, ended, fits};
+ghost use Rattle.doc_text.specs.Words.{word_at, begins_with, after, ended, fits};
 
 use std::marker::Model;
 use text_scan::Token;
@@ -43,6 +43,16 @@ impl<'a> Words<'a> {
             Some((token, tokens)) => {
                 Some((&bytes[token.start..token.end], Words { bytes, tokens }))
             }
+        }
+    }
+
+    /// Whether this word comes first.
+    pub(crate) fn begins_with(&self, due: &[u8]) -> bool
+        ensures { result ≡ begins_with due.now self.now }
+    {
+        match self.tokens.first() {
+            None => false,
+            Some(token) => &self.bytes[token.start..token.end] == due,
         }
     }
 

@@ -2,4 +2,5 @@ pub mod Added
 pub mod Leaves
 pub mod Pieces
 pub mod Bounded
+pub mod Edited
 pub mod Finished

@@ -2,6 +2,7 @@ pub use Rattle.outside.specs.Faults as Faults
 pub use Rattle.outside.specs.Told as Told
 pub use Rattle.text_scan.specs.Lines as Lines
 pub use Rattle.doc_text.specs.Documents as Documents
+pub use Rattle.doc_text.specs.Edits as Edits
 pub mod Offsets
 pub mod Printing
 pub mod Boxes
@@ -9,3 +10,4 @@ pub mod Words
 pub mod Outcome
 pub mod Input
 pub mod Runs
+pub mod Engine

@@ -7,7 +7,7 @@ ghost use Rattle.session.specs.Outcome.{document_of_lines, output_of, answer_of,
 ghost use Rattle.session.specs.Printing.{print, refusal};
 
 use crate::Status;
-use crate::boxes::layout;
+use crate::boxes::boxes_of;
 use crate::print::{print_boxes, print_refusal};
 use doc_text::{Doc, ReadError, read_doc};
 use lunit::NoMemory;
@@ -44,7 +44,7 @@ fn first_layout<R: Ruler>(alloc: Global, doc: &Doc, ruler: &mut R) -> Result<Vec
     ensures err { OnErr result (MayLog (R.log ruler.old) (R.log ruler.new)) }
 {
     ruler.begin(0)?;
-    let boxes = layout(alloc, doc)?;
+    let boxes = boxes_of(alloc, doc)?;
     print_boxes(alloc, 0, &boxes)
 }
 

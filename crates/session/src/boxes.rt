@@ -85,7 +85,7 @@ fn root_rect(doc: &Doc, row_offsets: &[Wide]) -> Rect
 }
 
 /// The boxes of a document in document order, the grid's first. Or `NoMemory`.
-pub(crate) fn layout(alloc: Global, doc: &Doc) -> Result<Vec<(Name, Rect)>, NoMemory>
+pub(crate) fn boxes_of(alloc: Global, doc: &Doc) -> Result<Vec<(Name, Rect)>, NoMemory>
     requires { IsBounded doc.now }
     ensures boxes { IfOk result (λ boxes. boxes.items ≡ boxes_of doc.now) }
     ensures printable { IfOk result (λ boxes. All IsPrintableBox boxes.items) }

@@ -3,12 +3,14 @@
 
 mod answer;
 mod boxes;
+mod engine;
 mod input;
 mod offsets;
 mod print;
 mod status;
 mod top_call;
 
+pub use engine::{ApplyError, Engine, Layout};
 pub use print::print_boxes;
 pub use status::Status;
 pub use top_call::run;

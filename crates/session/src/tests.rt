@@ -1,12 +1,15 @@
-ghost use Rattle.std.specs.Prelude.{◌≡◌, ◌<◌};
+ghost use Rattle.std.specs.Prelude.{◌≡◌, ◌≤◌, ◌<◌, None, length, IfOk};
+ghost use Rattle.session.specs.Boxes.{IsBounded};
 
 use super::*;
-use lunit::{NoMemory, Sequence, Steps};
-use outside::{LogRuler, MemorySink, MemorySource};
+use doc_text::{Children, Doc, Edit, FirstAxis, FirstLines, FirstStyle, Named, Plain};
+use lunit::{Lu, Name, NoMemory, Sequence, Steps};
+use outside::{LogRuler, MemorySink, MemorySource, WordRuler};
 use std::alloc::Global;
 use std::marker::Brand;
 use std::sync::ledger::{Blank, Ledger};
 use std::test::Fail;
+use text_scan::{Fault, Place};
 
 /// One grid, and a leaf over both of its columns and one in its last cell.
 const FIRST: &[u8] =
@@ -132,5 +135,110 @@ fn takes_so_many_bytes_and_no_more(rt: HostRuntime) -> Result<(), Fail> {
         let ran = run_text(alloc, &["layout"], &text, false, 0, 0)?;
         assert_eq!(rt; ran, ended(alloc, status, written)?);
     }
+    Ok(())
+}
+
+fn name_of(text: &[u8]) -> Result<Name, Fail> {
+    Ok(Name::read(text).ok().ok_or("no name")?)
+}
+
+fn lines_at(start: i32) -> FirstLines
+    ensures { result ≡ record { start = start; end = None } }
+{
+    FirstLines { start, end: None }
+}
+
+/// A grid of two columns and one row, without leaves.
+fn grid(alloc: Global) -> Result<Plain, Fail>
+    ensures columns { IfOk result (λ grid. length grid.style.columns ≤ 10000) }
+    ensures rows { IfOk result (λ grid. length grid.style.rows ≤ 10000) }
+{
+    Ok(Plain {
+        name: name_of(b"main")?,
+        style: FirstStyle {
+            columns: Sequence::from_slice(alloc, &[Lu::of(6400), Lu::of(3200)])?,
+            rows: Sequence::from_slice(alloc, &[Lu::of(1280)])?,
+            column: lines_at(1),
+            row: lines_at(1),
+        },
+        children: Children::new(alloc),
+    })
+}
+
+/// A leaf in the first cell.
+fn leaf(alloc: Global) -> Result<Plain, Fail> {
+    Ok(Plain {
+        name: name_of(b"a")?,
+        style: FirstStyle {
+            columns: Sequence::new(alloc),
+            rows: Sequence::new(alloc),
+            column: lines_at(1),
+            row: lines_at(1),
+        },
+        children: Children::new(alloc),
+    })
+}
+
+fn document(alloc: Global) -> Result<Doc, Fail>
+    ensures { IfOk result (λ doc. IsBounded doc) }
+{
+    let mut root = grid(alloc)?;
+    root.children.push(leaf(alloc)?)?;
+    Ok(Doc {
+        width: Lu::of(19200),
+        height: Lu::of(12800),
+        root,
+    })
+}
+
+/// What is printed of a document after the edit that moves its leaf to the second column.
+fn moved<L: Ledger>(alloc: Global, doc: Doc, blank: Blank) -> Result<Vec<u8>, Fail>
+    requires name { blank.name ≡ L.name }
+    requires parts { blank.parts ≡ L.parts }
+    requires some { 0 < blank.parts }
+    requires doc { IsBounded doc }
+{
+    let mut engine = Engine::new(doc)?;
+    let named = Named {
+        name: name_of(b"a")?,
+        at: Place { line: 7, column: 5 },
+    };
+    engine.apply(Edit::Set(named, FirstAxis::Columns, lines_at(2)))?;
+    let mut ruler = WordRuler::new();
+    let mut passes: Steps<L> = Steps::new(blank);
+    let layout = engine.layout(alloc, 1, &mut ruler, &mut passes)?;
+    Ok(print_boxes(alloc, 1, &layout.boxes)?)
+}
+
+#[test]
+fn an_engine_edits_and_lays_out(rt: HostRuntime) -> Result<(), Fail> {
+    let alloc = rt.alloc();
+    let text = moved::<Brand>(alloc, document(alloc)?, Blank::new(1))?;
+    assert_eq!(rt;
+        text.as_slice(),
+        b"layout 1\nmain 0 0 300 20\na 100 0 50 20\n".as_slice()
+    );
+    Ok(())
+}
+
+#[test]
+fn an_engine_refuses_an_unknown_name(rt: HostRuntime) -> Result<(), Fail> {
+    let alloc = rt.alloc();
+    let mut engine = Engine::new(document(alloc)?)?;
+    let at = Place { line: 7, column: 5 };
+    let named = Named {
+        name: name_of(b"z")?,
+        at,
+    };
+    let refused = match engine.apply(Edit::Unset(named, FirstAxis::Rows)) {
+        Ok(()) => false,
+        Err(error) => error
+            == ApplyError::Refused(Fault {
+                number: 21,
+                place: at,
+            }),
+    };
+    assert!(rt; refused);
+    assert_eq!(rt; engine.calls(), 1);
     Ok(())
 }

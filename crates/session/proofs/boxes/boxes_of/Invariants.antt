@@ -4,7 +4,7 @@ use Rattle.doc_text.specs.Trees.{top_labels}
 use Rattle.doc_text.specs.View.{trees_of}
 use Rattle.session.specs.Boxes.{boxes_of, leaf_box}
 use Rattle.session.specs.Printing.{IsPrintableBox}
-use Rattle.session.proofs.boxes.layout.Given as goal
+use Rattle.session.proofs.boxes.boxes_of.Given as goal
 
 abbrev pub invariant-loop-leaf : goal.invariant-loop-leaf
 invariant-loop-leaf l =

@@ -2,7 +2,7 @@ use Rattle.std.proofs.Common.{rules, arith}
 use Rattle.std.proofs.lemmas.List.Elements.{All-push}
 use Rattle.session.specs.Printing.{IsPrintableBox}
 use Rattle.session.proofs.Leaves.{leaves_next}
-use Rattle.session.proofs.boxes.layout.Goals as goal
+use Rattle.session.proofs.boxes.boxes_of.Goals as goal
 
 pub loop-leaf-preserved : goal.loop-leaf-preserved
 loop-leaf-preserved c =
