@@ -39,14 +39,21 @@ spaced : read (codes "# a comment\n" ++ head ++ codes "\n  a  leaf 10px .5{grid-
     ≡ two_by_two (tree (leaf (codes "a") (lines 1 3) (lines 1 2)) leafless leafless)
 spaced = refl
 
-no_end : read (head ++ codes "  a leaf 1 1 { grid-column: 2; grid-row: 1 / 3 }\n") ≡ None
-no_end = refl
+start_alone : read (head ++ codes "  a leaf 1 1 { grid-column: 2; grid-row: 1 / 3 }\n  b leaf 1 1 { grid-column: 1 / 3; grid-row: 2 }\n")
+    ≡ two_by_two (tree (leaf (codes "a") (alone 2) (lines 1 3)) leafless (tree (leaf (codes "b") (lines 1 3) (alone 2)) leafless leafless))
+start_alone = refl
 
-no_end_of_rows : read (head ++ codes "  b leaf 1 1 { grid-column: 1 / 3; grid-row: 2 }\n") ≡ None
-no_end_of_rows = refl
+starts_alone : read (head ++ codes "  a leaf 1 1{grid-column:+1;grid-row:2}\n") ≡ two_by_two (tree (leaf (codes "a") (alone 1) (alone 2)) leafless leafless)
+starts_alone = refl
 
-no_end_past_the_last_line : read (head ++ codes "  a leaf 1 1 { grid-column: 3; grid-row: 1 / 2 }\n") ≡ None
-no_end_past_the_last_line = refl
+start_alone_at_the_last_line : read (head ++ codes "  a leaf 1 1 { grid-column: 3; grid-row: 1 / 2 }\n") ≡ None
+start_alone_at_the_last_line = refl
+
+start_alone_at_the_last_row_line : read (head ++ codes "  a leaf 1 1 { grid-column: 1 / 2; grid-row: 3 }\n") ≡ None
+start_alone_at_the_last_row_line = refl
+
+start_alone_at_zero : read (head ++ codes "  a leaf 1 1 { grid-column: 0; grid-row: 1 / 2 }\n") ≡ None
+start_alone_at_zero = refl
 
 slash_alone : read (head ++ codes "  a leaf 1 1 { grid-column: 1 /; grid-row: 1 / 2 }\n") ≡ None
 slash_alone = refl

@@ -1,5 +1,5 @@
 -- The lines of a document of the first form: one grid of fixed tracks, and its leaves.
-use Rattle.std.specs.Prelude.{ℕ, ℤ, pos, ◌+◌, ◌+ℤ◌, false, Bool, ◌&&◌, ◌==◌, int_lt, int_le, nat_le, List, [], ◌∷◌, length, if◌then◌else◌, Option, Some, None, is_some, codes}
+use Rattle.std.specs.Prelude.{ℕ, ℤ, pos, ◌+◌, ◌+ℤ◌, false, Bool, ◌&&◌, ◌==◌, int_lt, int_le, nat_le, List, [], ◌∷◌, length, if◌then◌else◌, Option, Some, None, codes}
 use Rattle.std.specs.Option.{option_map}
 use Rattle.std.specs.Str.{bytes_eq}
 use Rattle.lunit.specs.Names.{is_name}
@@ -69,10 +69,6 @@ abbrev pub lines_first : List Word → Option (FirstLines × List Word)
 lines_first [] = None
 lines_first (word ∷ words) = bind (integer_of word) (λ start. lines_from start words)
 
--- a line value with both lines, `A / B`: a document gives no other (own rule)
-abbrev pub both_lines_first : List Word → Option (FirstLines × List Word)
-both_lines_first words = bind (lines_first words) (λ found. if is_some found.0.end then Some found else None)
-
 -- ---- whole lines
 
 -- the first line: `gridlay 1`
@@ -108,17 +104,17 @@ grid_of words =
     bind (tracks_up_to (codes "}") words) (λ rows.
     if ended rows.1 then Some (grid_node name.0 columns.0 rows.0) else None)))))
 
--- `{ grid-column: A / B; grid-row: C / D }`, where each V is a line value
+-- `{ grid-column: V; grid-row: V }`, where each `V` is a line value
 abbrev pub leaf_lines_of : List Word → Option (FirstLines × FirstLines)
 leaf_lines_of words =
     bind (after_all (codes "{" ∷ codes "grid-column" ∷ codes ":" ∷ []) words) (λ words.
-    bind (both_lines_first words) (λ column.
+    bind (lines_first words) (λ column.
     bind (after_all (codes ";" ∷ codes "grid-row" ∷ codes ":" ∷ []) column.1) (λ words.
-    bind (both_lines_first words) (λ row.
+    bind (lines_first words) (λ row.
     bind (after (codes "}") row.1) (λ words.
     if ended words then Some (column.0, row.0) else None)))))
 
--- `NAME leaf W H { grid-column: A / B; grid-row: C / D }`; the size is looked at and not kept
+-- `NAME leaf W H { grid-column: V; grid-row: V }`, where each `V` is a line value; the size is looked at and not kept
 abbrev pub leaf_of : List Word → Option Plain
 leaf_of words =
     bind (name_first words) (λ name.

@@ -1,7 +1,7 @@
 ghost use Rattle.std.specs.Prelude.{◌≡◌, ◌∷◌, [], true, IfSome};
 ghost use Rattle.doc_text.specs.Words.{after_all, ended};
 ghost use Rattle.doc_text.specs.Gives.{Gives};
-ghost use Rattle.doc_text.specs.Forms.{name_first, size_first, lengths_up_to, tracks_up_to, is_track_count, is_ordered, lines_between, line_alone, end_first, lines_from, lines_first, both_lines_first, is_header, viewport_of, grid_of, leaf_lines_of, leaf_of, last_line, is_within};
+ghost use Rattle.doc_text.specs.Forms.{name_first, size_first, lengths_up_to, tracks_up_to, is_track_count, is_ordered, lines_between, line_alone, end_first, lines_from, lines_first, is_header, viewport_of, grid_of, leaf_lines_of, leaf_of, last_line, is_within};
 
 use crate::document::{Children, Plain};
 use crate::errors::{NOT_BUILT, ReadError};
@@ -136,18 +136,6 @@ pub(crate) fn lines_first(words: Words) -> Option<(FirstLines, Words)>
     lines_from(integer_of(start)?, words)
 }
 
-/// The lines `A / B` that come first, and the words after them.
-fn both_lines_first(words: Words) -> Option<(FirstLines, Words)>
-    ensures { result ≡ both_lines_first words.entry }
-{
-    let found = lines_first(words)?;
-    if found.0.end.is_some() {
-        Some(found)
-    } else {
-        None
-    }
-}
-
 /// Whether these are the words of the first line, `gridlay 1`.
 pub(crate) fn is_header(words: Words) -> bool
     ensures { result ≡ is_header words.entry }
@@ -230,14 +218,14 @@ pub(crate) fn grid_of(alloc: Global, words: Words) -> Result<Plain, ReadError>
     })
 }
 
-/// The lines that these words are: `{ grid-column: A / B; grid-row: C / D }`.
+/// The lines that these words are: `{ grid-column: V; grid-row: V }`, where each `V` is a line value, `A / B` or `A`.
 fn leaf_lines_of(words: Words) -> Option<(FirstLines, FirstLines)>
     ensures { result ≡ leaf_lines_of words.entry }
 {
     let words = after_three(words, b"{", b"grid-column", b":")?;
-    let (column, words) = both_lines_first(words)?;
+    let (column, words) = lines_first(words)?;
     let words = after_three(words, b";", b"grid-row", b":")?;
-    let (row, words) = both_lines_first(words)?;
+    let (row, words) = lines_first(words)?;
     if words.after(b"}")?.ended() {
         Some((column, row))
     } else {
@@ -245,8 +233,8 @@ fn leaf_lines_of(words: Words) -> Option<(FirstLines, FirstLines)>
     }
 }
 
-/// The leaf that these words are: `NAME leaf W H { grid-column: A / B; grid-row: C / D }`. Its
-/// size is read and not kept.
+/// The leaf that these words are: `NAME leaf W H { grid-column: V; grid-row: V }`, where each `V` is a
+/// line value. Its size is read and not kept.
 pub(crate) fn leaf_of(alloc: Global, words: Words) -> Option<Plain>
     ensures { result ≡ leaf_of words.entry }
 {

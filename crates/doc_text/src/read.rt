@@ -175,7 +175,8 @@ fn read_sound(alloc: Global, lines: &[Line]) -> Result<Doc, ReadError>
 /// Lines that are skipped do not count, and no line has a fault. The first line is `gridlay 1` and the second
 /// `viewport W H`. The third is `NAME grid { grid-template-columns: L1 .. Ln; grid-template-rows: M1 .. Mm }` without
 /// indentation, with from 1 to 10,000 tracks each. Each further line is indented by two spaces and is
-/// `NAME leaf W H { grid-column: A / B; grid-row: C / D }`, with lines from 1 on, in this order and within the tracks.
+/// `NAME leaf W H { grid-column: V; grid-row: V }`, where each `V` is `A / B` or `A` alone, with lines from 1 on, in this order
+/// and within the tracks; `A` alone spans one track.
 /// Names differ.
 ///
 /// Fault 90 at the first byte of the document comes exactly where the lines have not this form; `NoMemory` where
