@@ -16,11 +16,11 @@ IsThere : {A : Type 0} → Option A → Type 0
 IsThere None = ⊥
 IsThere (Some x) = Unit {0}
 
-none_is_no : {A B : Type 0} (x : A) → None ≡ Some x → B
+pub none_is_no : {A B : Type 0} (x : A) → None ≡ Some x → B
 unfolding IsThere
 none_is_no x e = absurd (subst IsThere (sym e) tt)
 
-some_same : {A : Type 0} (x y : A) → Some x ≡ Some y → x ≡ y
+pub some_same : {A : Type 0} (x y : A) → Some x ≡ Some y → x ≡ y
 some_same x y e = ap (λ o. unwrap_or o y) e
 
 if_some : {A : Type 0} (b : Bool) (o : Option A) (x : A) → (if b then o else None) ≡ Some x → (b ≡ true) × (o ≡ Some x)

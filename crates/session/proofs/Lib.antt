@@ -1,6 +1,12 @@
 pub mod Added
-pub mod Leaves
-pub mod Pieces
 pub mod Bounded
+pub mod Pieces
+pub mod Leaves
 pub mod Edited
+pub mod EditLines
+pub mod Scripts
+pub mod Texts
+pub mod Serving
+pub mod Progress
+pub mod Running
 pub mod Finished

@@ -1,112 +1,184 @@
--- Pieces of the input, one after another.
-use Rattle.std.proofs.Common.{◌≡◌, subst, ℕ, suc, ◌+◌, ◌≤◌, ◌||◌, Bool, true, false, List, [], ◌∷◌, ◌++◌, Option, Some, None, Result, Ok, Err, length, sym, ap, ◌∙◌, refl, arith, append_assoc, append-nil, length-append}
+-- Pieces of the input and the lines that are given of them, one after another.
+use Rattle.std.proofs.Common.{◌≡◌, subst, ℕ, ◌+◌, ◌≤◌, ◌||◌, Bool, true, false, List, [], ◌∷◌, ◌++◌, take, Option, Some, None, Ok, Err, length, sym, ap, ◌∙◌, refl, arith, append_assoc, append-nil, length-append, option_to_list}
 use Rattle.std.proofs.lemmas.Bool.{false≢true}
-use Rattle.std.specs.Prelude.{if◌then◌else◌}
-use Rattle.std.specs.Result.{IsErrAnd}
+use Rattle.std.specs.Prelude.{if◌then◌else◌, IfSome}
 use Rattle.outside.specs.Told.{Loses, IsSpent}
 use Rattle.outside.proofs.Laws.{loses_none, loses_more}
 use Rattle.text_scan.specs.declared.line.Line.{Line}
-use Rattle.text_scan.specs.Lines.{lines_of, lines_from, has_line_feed, is_line_feed, split_lines, onto_first, numbered}
-use Rattle.text_scan.specs.Stream.{Stream, empty_stream, is_line_due, lines_ahead}
-use Rattle.session.specs.Input.{Stops, IsReadToEnd, TakesInput, HasTaken, AddsPiece, StopsAtPiece}
+use Rattle.text_scan.specs.Lines.{lines_of, lines_from, has_line_feed, whole_lines, line_of}
+use Rattle.text_scan.specs.Stream.{Stream, empty_stream, is_line_due, next_line, after_next, lines_ahead, HasRead}
+use Rattle.text_scan.proofs.Reading.{read_start, read_whole, next_ahead, takes_next, drained}
+use Rattle.session.specs.Input.{limit, IsReadToEnd, IsFront, AreFirst, HasGiven, HasGivenLine, HasGivenAll, Stops, MeetsPiece, TakesPiece, StopsAtPiece}
+use Rattle.session.proofs.Bounded.{none_is_no, some_same}
+use Rattle.std.proofs.lemmas.List.{length-take}
 use Rattle.session.specs.declared.status.Status.{Status}
+use Rattle.session.specs.declared.status.Status.TheVariants.{Done, BadDocument, SomeRefused, ReadFault, WriteFault, NoMemory, InputLimit, BadWords}
 
--- nothing was taken yet
-pub taken_none : (before : Option (List ℕ)) → HasTaken before before 0 empty_stream []
-taken_none before = record { bytes = []; taken = loses_none before; counted = refl; fed = refl; within = omega arith; ahead = λ more. refl }
+-- nothing was given yet
+pub given_none : (before : Option (List ℕ)) → HasGiven before before [] empty_stream false
+given_none before =
+    record { bytes = []; taken = loses_none before; fed = refl; number = refl; within = omega arith; ahead = λ more h. refl; reads = λ _. read_start; spent = λ e. absurd (false≢true e); last = record { front = []; piece = []; split = refl; short = omega arith; before = record { rest = []; parts = refl } } }
 
--- one piece more
-pub taken_more : (before left left' : Option (List ℕ)) (count n : ℕ) (stream stream' : Stream) (found found' : List Line)
-    → HasTaken before left count stream found → AddsPiece left left' stream stream' found found' n → HasTaken before left' (count + n) stream' found'
-taken_more before left left' count n stream stream' found found' p q =
-    record {
-      bytes = p.bytes ++ q.piece;
-      taken = loses_more before left left' p.bytes q.piece _ p.taken q.taken refl;
-      counted = omega (arith, length-append p.bytes q.piece, p.counted, q.counted);
-      fed = omega (arith, q.fed, p.fed);
-      within = omega (arith, q.within, q.fed, p.fed);
-      ahead = λ more. q.ahead more ∙ p.ahead (q.piece ++ more) ∙ ap lines_of (sym (append_assoc p.bytes q.piece more));
-    }
+-- the lines given are the first of all
+pub first_given : (before now : Option (List ℕ)) (given : List Line) (stream : Stream) (ended : Bool) → HasGiven before now given stream ended → AreFirst before given
+first_given None now given stream ended p = tt
+first_given (Some told) None given stream ended p = absurd p.taken
+first_given (Some told) (Some left) given stream ended p =
+    record { rest = lines_ahead stream left; parts = p.ahead left p.spent ∙ ap lines_of (sym p.taken) }
 
-pub same_error : {A : Type 0} (r : Result A Status) (status : Status) → IsErrAnd r (λ e. e ≡ status) → Err status ≡ r
-same_error (Ok x) status q = absurd q
-same_error (Err e) status q = ap (λ (s : Status). Err s) (sym q)
+-- ---- one piece
 
--- it stopped at the next piece
-pub taken_stops : (before left left' : Option (List ℕ)) (count : ℕ) (stream : Stream) (found : List Line) (status : Status)
-    → HasTaken before left count stream found → StopsAtPiece left left' stream.fed status → TakesInput before left' (Err status)
-taken_stops before left left' count stream found status p q =
-    let many : stream.fed + length q.piece ≡ length (p.bytes ++ q.piece) = omega (arith, length-append p.bytes q.piece, p.counted, p.fed) in
-    record {
-      bytes = p.bytes ++ q.piece;
-      taken = loses_more before left left' p.bytes q.piece _ p.taken q.taken refl;
-      read = subst (Stops status) many q.stops;
-    }
+or_false : (b : Bool) → (b || false) ≡ false → b ≡ false
+or_false true e = e
+or_false false e = refl
 
--- where no line is due any more at the end, none is ahead
-none_ahead : (number : ℕ) (held : List ℕ) → is_line_due true held ≡ false → lines_from number (held ++ []) ≡ []
-none_ahead number [] none = refl
-none_ahead number (byte ∷ bytes) none = absurd (some_due (has_line_feed (byte ∷ bytes)) _ none (grind arith))
-  where
-    some_due : (b d : Bool) → (b || d) ≡ false → d ≡ true → ⊥
-    some_due true d e t = false≢true (sym e)
-    some_due false d e t = false≢true (sym e ∙ t)
+take_front : (xs ys : List ℕ) → take (length xs) (xs ++ ys) ≡ xs
+take_front [] ys = refl
+take_front (x ∷ xs) ys = ap (λ (l : List ℕ). x ∷ l) (take_front xs ys)
 
-ended : (before now after : Option (List ℕ)) (bytes piece : List ℕ) → Loses before now bytes → Loses now after piece → piece ≡ [] → IsSpent now → IsReadToEnd before after bytes
-ended None now after bytes piece p q e s = tt
-ended (Some told) None after bytes piece p q e s = absurd p
-ended (Some told) (Some now) None bytes piece p q e s = absurd q
-ended (Some told) (Some now) (Some after) bytes piece p q e s =
-    let none_left : after ≡ [] = ap (λ (l : List ℕ). l ++ after) (sym e) ∙ sym q ∙ s in
-    (p ∙ ap (λ (l : List ℕ). bytes ++ l) s ∙ append-nil bytes, none_left)
+module _ (before left left' : Option (List ℕ)) (given : List Line) (stream stream' : Stream) (p : HasGiven before left given stream false) where
+  on_piece : (piece : List ℕ) (count : ℕ) → is_line_due false stream.held ≡ false → TakesPiece left left' stream stream' piece count → HasGiven before left' given stream' false
+  on_piece piece count none q =
+      let long : length (p.bytes ++ piece) ≡ length p.bytes + length piece = length-append p.bytes piece in
+      record {
+        bytes = p.bytes ++ piece;
+        taken = loses_more before left left' p.bytes piece _ p.taken q.taken refl;
+        fed = omega (arith, long, q.fed, q.counted, p.fed);
+        number = q.number ∙ p.number;
+        within = omega (arith, long, q.fed, q.counted, q.within, p.fed);
+        ahead = λ more h. ap (λ (l : List Line). given ++ l) (q.ahead more) ∙ p.ahead (piece ++ more) (λ e. absurd (false≢true e)) ∙ ap lines_of (sym (append_assoc p.bytes piece more));
+        reads = λ e. q.reads p.bytes given (p.reads e);
+        spent = λ e. absurd (false≢true e);
+        last = record {
+          front = p.bytes;
+          piece = piece;
+          split = refl;
+          short = q.short;
+          before = record { rest = []; parts = append-nil (lines_of (whole_lines p.bytes)) ∙ sym (read_whole p.bytes given stream (or_false (has_line_feed stream.held) none) (p.reads refl)) };
+        };
+      }
 
-empty_of_length : (xs : List ℕ) → length xs ≡ 0 → xs ≡ []
-empty_of_length [] h = refl
-empty_of_length (x ∷ xs) h = absurd (omega (arith, h))
+  stops_at : (status : Status) (piece : List ℕ) → is_line_due false stream.held ≡ false → Loses left left' piece → StopsAtPiece left left' stream piece status → Stops before left' given status
+  stops_at Done piece none t s = absurd s
+  stops_at BadDocument piece none t s = absurd s
+  stops_at SomeRefused piece none t s = absurd s
+  stops_at WriteFault piece none t s = absurd s
+  stops_at BadWords piece none t s = absurd s
+  stops_at NoMemory piece none t s = record { bytes = p.bytes ++ piece; taken = loses_more before left left' p.bytes piece _ p.taken t refl; first = first_given before left given stream false p }
+  stops_at ReadFault piece none t s =
+      let same : p.bytes ++ piece ≡ p.bytes = ap (λ (l : List ℕ). p.bytes ++ l) s ∙ append-nil p.bytes in
+      record {
+        bytes = p.bytes;
+        taken = loses_more before left left' p.bytes piece p.bytes p.taken t (sym same);
+        few = p.within;
+        lines = read_whole p.bytes given stream (or_false (has_line_feed stream.held) none) (p.reads refl);
+        first = first_given before left given stream false p;
+      }
+  stops_at InputLimit piece none t s =
+      let long : length p.bytes ≡ limit = sym p.fed ∙ s.0 in
+      let front : take limit (p.bytes ++ piece) ≡ p.bytes = subst (λ (n : ℕ). take n (p.bytes ++ piece) ≡ p.bytes) long (take_front p.bytes piece) in
+      record {
+        bytes = p.bytes ++ piece;
+        taken = loses_more before left left' p.bytes piece _ p.taken t refl;
+        many = omega (arith, length-append p.bytes piece, long, s.1);
+        lines = read_whole p.bytes given stream (or_false (has_line_feed stream.held) none) (p.reads refl) ∙ ap (λ (b : List ℕ). lines_of (whole_lines b)) (sym front);
+        first = first_given before left given stream false p;
+      }
 
--- the last lines are found, and all was read
-pub taken_all : (before now after : Option (List ℕ)) (count n : ℕ) (stream stream' last : Stream) (found found' all : List Line)
-    → HasTaken before now count stream found → AddsPiece now after stream stream' found found' n → n ≡ 0
-    → ((more : List ℕ) → (true ≡ true → more ≡ []) → all ++ lines_ahead last more ≡ found' ++ lines_ahead stream' more)
-    → is_line_due true last.held ≡ false → TakesInput before after (Ok all)
-taken_all before now after count n stream stream' last found found' all p q zero ahead none =
-    let piece_none : q.piece ≡ [] = empty_of_length q.piece (q.counted ∙ zero) in
-    let all_is : p.bytes ++ (q.piece ++ []) ≡ p.bytes = ap (λ (l : List ℕ). p.bytes ++ (l ++ [])) piece_none ∙ append-nil p.bytes in
+pub piece_more : (before left left' : Option (List ℕ)) (given : List Line) (stream stream' : Stream) (count : ℕ)
+    → HasGiven before left given stream false → is_line_due false stream.held ≡ false → MeetsPiece left left' stream stream' (Ok count) → HasGiven before left' given stream' false
+piece_more before left left' given stream stream' count p none q = on_piece before left left' given stream stream' p q.piece count none q.met
+
+pub piece_stops : (before left left' : Option (List ℕ)) (given : List Line) (stream stream' : Stream) (status : Status)
+    → HasGiven before left given stream false → is_line_due false stream.held ≡ false → MeetsPiece left left' stream stream' (Err status) → Stops before left' given status
+piece_stops before left left' given stream stream' status p none q = stops_at before left left' given stream stream' p status q.piece none q.taken q.met
+
+pub ruleset going_on = (piece_more, piece_stops)
+
+-- ---- one line
+
+number_next : (b : Bool) (line found : Line) (s : Stream) (rest : List ℕ) → Some line ≡ (if b then Some found else None) → (if b then record { number = s.number + 1; fed = s.fed; held = rest } else s).number ≡ s.number + 1
+number_next true line found s rest e = refl
+number_next false line found s rest e = none_is_no line (sym e)
+
+fed_next : (b : Bool) (s : Stream) (rest : List ℕ) → (if b then record { number = s.number + 1; fed = s.fed; held = rest } else s).fed ≡ s.fed
+fed_next true s rest = refl
+fed_next false s rest = refl
+
+same_next : (b : Bool) (s : Stream) (rest : List ℕ) → b ≡ false → (if b then record { number = s.number + 1; fed = s.fed; held = rest } else s) ≡ s
+same_next true s rest e = absurd (false≢true (sym e))
+same_next false s rest e = refl
+
+module _ (before now : Option (List ℕ)) (given : List Line) (stream stream' : Stream) (ended : Bool) (p : HasGiven before now given stream ended) (s : stream' ≡ after_next ended stream) where
+  line_more : (line : Line) → Some line ≡ next_line ended stream → HasGiven before now (given ++ line ∷ []) stream' ended
+  line_more line l =
+      let number : stream'.number ≡ stream.number + 1 = ap (λ (x : Stream). x.number) s ∙ number_next (is_line_due ended stream.held) line _ stream _ l in
+      let fed : stream'.fed ≡ stream.fed = ap (λ (x : Stream). x.fed) s ∙ fed_next (is_line_due ended stream.held) stream _ in
+      record {
+        bytes = p.bytes;
+        taken = p.taken;
+        fed = fed ∙ p.fed;
+        number = omega (arith, number, p.number, length-append given (line ∷ []));
+        within = p.within;
+        ahead = λ more h. append_assoc given (line ∷ []) (lines_ahead stream' more) ∙ ap (λ (x : List Line). given ++ x) (line_ahead more h) ∙ p.ahead more h;
+        reads = λ e. subst (λ (x : Stream). HasRead p.bytes (given ++ line ∷ []) x) (sym s) (subst (λ (o : Option Line). HasRead p.bytes (given ++ option_to_list o) (after_next ended stream)) (sym l) ((takes_next ended p.bytes given stream (p.reads e)).more e));
+        spent = p.spent;
+        last = record { front = p.last.front; piece = p.last.piece; split = p.last.split; short = p.last.short; before = one_longer p.last.before };
+      }
+    where
+      one_longer : {first : List Line} → IsFront first given → IsFront first (given ++ line ∷ [])
+      one_longer {first = first} f = record { rest = f.rest ++ line ∷ []; parts = sym (append_assoc first f.rest (line ∷ [])) ∙ ap (λ (x : List Line). x ++ line ∷ []) f.parts }
+
+      line_ahead : (more : List ℕ) → (ended ≡ true → more ≡ []) → line ∷ lines_ahead stream' more ≡ lines_ahead stream more
+      line_ahead more h = subst (λ (x : Stream). line ∷ lines_ahead x more ≡ lines_ahead stream more) (sym s) (subst (λ (o : Option Line). option_to_list o ++ lines_ahead (after_next ended stream) more ≡ lines_ahead stream more) (sym l) (next_ahead ended stream more h))
+
+  -- the next line is given
+  pub with_line : (line : Line) → Some line ≡ next_line ended stream → HasGivenLine before now given line stream' ended
+  unfolding line_more
+  with_line line l = record { all = line_more line l; last = p.last }
+
+  pub none_due : is_line_due ended stream.held ≡ false → HasGiven before now given stream' ended
+  none_due none = subst (λ (x : Stream). HasGiven before now given x ended) (sym (s ∙ same_next (is_line_due ended stream.held) stream _ none)) p
+
+short_line : (number : ℕ) (bytes : List ℕ) (line : Line) → line ≡ line_of number bytes → length line.bytes ≤ 65536
+short_line number bytes line e = omega (arith, ap (λ (l : Line). length l.bytes) e, length-take 65536 bytes)
+
+-- no line has more than 65,536 bytes
+pub short_next : (b : Bool) (line : Line) (number : ℕ) (bytes : List ℕ) → Some line ≡ (if b then Some (line_of number bytes) else None) → length line.bytes ≤ 65536
+short_next true line number bytes e = short_line number bytes line (some_same line (line_of number bytes) e)
+short_next false line number bytes e = none_is_no line (sym e)
+
+-- where no line is due, reading goes on
+pub stays_open : (before now : Option (List ℕ)) (given : List Line) (stream stream' : Stream) (ended : Bool) → HasGiven before now given stream ended → stream' ≡ after_next ended stream
+    → is_line_due ended stream.held ≡ false → ended ≡ false → HasGiven before now given stream' false
+stays_open before now given stream stream' ended p s none e =
+    subst (λ (b : Bool). HasGiven before now given stream' b) e (none_due before now given stream stream' ended p s none)
+
+read_to_end : (before now : Option (List ℕ)) (bytes : List ℕ) → Loses before now bytes → IfSome before (λ b. IsSpent now) → IsReadToEnd before now bytes
+read_to_end None now bytes p s = tt
+read_to_end (Some told) None bytes p s = absurd p
+read_to_end (Some told) (Some left) bytes p s = (p ∙ ap (λ (l : List ℕ). bytes ++ l) s ∙ append-nil bytes, s)
+
+-- at the end of the input all lines were given where none is due
+all_given : (before now : Option (List ℕ)) (given : List Line) (stream : Stream) → HasGiven before now given stream true → is_line_due true stream.held ≡ false → HasGivenAll before now given
+all_given before now given stream p none =
     record {
       bytes = p.bytes;
-      taken = loses_more before now after p.bytes q.piece p.bytes p.taken q.taken (sym (append-nil p.bytes) ∙ ap (λ (l : List ℕ). p.bytes ++ l) (sym piece_none));
-      read = (
-        omega (arith, p.counted, p.within),
-        ended before now after p.bytes q.piece p.taken q.taken piece_none (q.end zero),
-        sym (append-nil all)
-            ∙ ap (λ (l : List Line). all ++ l) (sym (none_ahead last.number last.held none))
-            ∙ ahead [] (λ _. refl)
-            ∙ q.ahead []
-            ∙ p.ahead (q.piece ++ [])
-            ∙ ap lines_of all_is,
-      );
+      taken = p.taken;
+      few = p.within;
+      whole = read_to_end before now p.bytes p.taken (p.spent refl);
+      lines =
+          sym (append-nil given)
+          ∙ ap (λ (held : List ℕ). given ++ lines_from stream.number (held ++ [])) (sym (drained stream.held none))
+          ∙ p.ahead [] (λ _. refl)
+          ∙ ap lines_of (append-nil p.bytes);
     }
 
--- there are not more lines than bytes
-onto_first-length : (byte : ℕ) (lines : List (List ℕ)) → length (onto_first byte lines) ≤ 1 + length lines
-onto_first-length byte [] = omega arith
-onto_first-length byte (line ∷ lines) = omega arith
+pub given_end : (before now : Option (List ℕ)) (given : List Line) (stream : Stream) (ended : Bool) → HasGiven before now given stream ended → ended ≡ true → is_line_due ended stream.held ≡ false → HasGivenAll before now given
+given_end before now given stream true p e none = all_given before now given stream p none
+given_end before now given stream false p e none = absurd (false≢true e)
 
-split_step : (b : Bool) (byte n : ℕ) (lines : List (List ℕ)) → length lines ≤ n → length (if b then [] ∷ lines else onto_first byte lines) ≤ suc n
-split_step true byte n lines h = omega arith
-split_step false byte n lines h = omega (arith, onto_first-length byte lines)
+pub no_memory : (before now : Option (List ℕ)) (given : List Line) (stream : Stream) (ended : Bool) → HasGiven before now given stream ended → Stops before now given NoMemory
+no_memory before now given stream ended p = record { bytes = p.bytes; taken = p.taken; first = first_given before now given stream ended p }
 
-split_lines-length : (bytes : List ℕ) → length (split_lines bytes) ≤ length bytes
-split_lines-length [] = omega arith
-split_lines-length (byte ∷ bytes) = split_step (is_line_feed byte) byte (length bytes) (split_lines bytes) (split_lines-length bytes)
-
-numbered-length : (number : ℕ) (lines : List (List ℕ)) → length (numbered number lines) ≡ length lines
-numbered-length number [] = refl
-numbered-length number (line ∷ lines) = ap (λ n. suc n) (numbered-length (number + 1) lines)
-
-pub few_lines : (before after : Option (List ℕ)) (lines : List Line) → TakesInput before after (Ok lines) → length lines ≤ 67108864
-few_lines before after lines p =
-    let many : length lines ≡ length (split_lines p.bytes) = ap length p.read.2 ∙ numbered-length 1 (split_lines p.bytes) in
-    omega (arith, many, split_lines-length p.bytes, p.read.0)
-
-pub ruleset taking = (taken_none, taken_more, taken_stops, taken_all)
+pub ruleset giving = (with_line, none_due, given_end, no_memory)

@@ -1,9 +1,9 @@
 -- What is read of the input.
-use Rattle.std.specs.Prelude.{◌≡◌, ℕ, ◌+◌, ◌≤◌, ◌<◌, List, [], ◌++◌, length, Option, Some, None, Result, Ok, Err, ⊤}
+use Rattle.std.specs.Prelude.{◌≡◌, ℕ, ◌+◌, ◌-◌, ◌≤◌, ◌<◌, Bool, true, false, List, [], ◌∷◌, ◌++◌, length, take, Option, Some, None, Result, Ok, Err, IfSome, ⊤}
 use Rattle.outside.specs.Told.{Loses, IsSpent}
 use Rattle.text_scan.specs.declared.line.Line.{Line}
-use Rattle.text_scan.specs.Lines.{lines_of}
-use Rattle.text_scan.specs.Stream.{Stream, lines_ahead}
+use Rattle.text_scan.specs.Lines.{lines_of, whole_lines}
+use Rattle.text_scan.specs.Stream.{Stream, lines_ahead, HasRead}
 use Rattle.session.specs.declared.status.Status.{Status}
 use Rattle.session.specs.declared.status.Status.TheVariants.{ReadFault, NoMemory, InputLimit}
 
@@ -11,57 +11,124 @@ use Rattle.session.specs.declared.status.Status.TheVariants.{ReadFault, NoMemory
 abbrev pub limit : ℕ
 limit = 67108864
 
--- why reading stopped before the end, after so many bytes: a fault, want of memory, or too many bytes
-abbrev pub Stops : Status → ℕ → Type 0
-Stops ReadFault count = ⊤
-Stops NoMemory count = ⊤
-Stops InputLimit count = limit < count
-Stops status count = ⊥
-
 -- a source that told what it had told just these bytes, and has none left
 abbrev pub IsReadToEnd : Option (List ℕ) → Option (List ℕ) → List ℕ → Type 0
 IsReadToEnd None after bytes = ⊤
 IsReadToEnd (Some told) None bytes = ⊥
 IsReadToEnd (Some told) (Some left) bytes = (told ≡ bytes) × (left ≡ [])
 
--- by the answer: the lines of all bytes, of which there are not too many and none is left; or why it stopped
-abbrev pub AreRead : Option (List ℕ) → Option (List ℕ) → Result (List Line) Status → List ℕ → Type 0
-AreRead before after (Ok lines) bytes = (length bytes ≤ limit) × IsReadToEnd before after bytes × (lines ≡ lines_of bytes)
-AreRead before after (Err status) bytes = Stops status (length bytes)
+-- the lines are the first of all
+pub record IsFront (lines all : List Line) : Type 0 where
+  pub rest : List Line
+  pub parts : lines ++ rest ≡ all
 
--- some bytes were taken from a source, and this was made of them
-pub record TakesInput (before after : Option (List ℕ)) (result : Result (List Line) Status) : Type 0 where
-  pub bytes : List ℕ
-  pub taken : Loses before after bytes
-  pub read : AreRead before after result bytes
+-- they are the first of all lines of a text, where it is told
+abbrev pub AreFirst : Option (List ℕ) → List Line → Type 0
+AreFirst before given = IfSome before (λ b. IsFront given (lines_of b))
 
--- after so many bytes, what was found and the lines that are ahead are the lines of the bytes that were taken and of all that
--- follow
-pub record HasTaken (before now : Option (List ℕ)) (count : ℕ) (stream : Stream) (found : List Line) : Type 0 where
+-- the last piece of the bytes that were taken, and what was taken before it: the lines that are whole in that are among these lines
+pub record HasLastPiece (bytes : List ℕ) (given : List Line) : Type 0 where
+  pub front : List ℕ
+  pub piece : List ℕ
+  pub split : bytes ≡ front ++ piece
+  pub short : length piece ≤ 65536
+  pub before : IsFront (lines_of (whole_lines front)) given
+
+-- these bytes were taken, and these lines of them were given; what is ahead are the other lines; `ended` says that the end of
+-- the input was seen
+pub record HasGiven (before now : Option (List ℕ)) (given : List Line) (stream : Stream) (ended : Bool) : Type 0 where
   pub bytes : List ℕ
   pub taken : Loses before now bytes
-  pub counted : length bytes ≡ count
-  pub fed : stream.fed ≡ count
-  pub within : count ≤ limit
-  pub ahead : (more : List ℕ) → found ++ lines_ahead stream more ≡ lines_of (bytes ++ more)
+  pub fed : stream.fed ≡ length bytes
+  pub number : stream.number ≡ length given + 1
+  pub within : length bytes ≤ limit
+  pub ahead : (more : List ℕ) → (ended ≡ true → more ≡ []) → given ++ lines_ahead stream more ≡ lines_of (bytes ++ more)
+  pub reads : ended ≡ false → HasRead bytes given stream
+  pub spent : ended ≡ true → IfSome before (λ b. IsSpent now)
+  pub last : HasLastPiece bytes given
 
--- a source gave a piece of so many bytes, none only at its end, and its lines went to what was found and what is ahead
-pub record AddsPiece (left left' : Option (List ℕ)) (stream stream' : Stream) (found found' : List Line) (count : ℕ) : Type 0 where
-  pub piece : List ℕ
+-- one line more was given, which was not whole before the last piece or was the next one then
+pub record HasGivenLine (before now : Option (List ℕ)) (given : List Line) (line : Line) (stream : Stream) (ended : Bool) : Type 0 where
+  pub all : HasGiven before now (given ++ line ∷ []) stream ended
+  pub last : HasLastPiece all.bytes given
+
+-- all lines of an input that is not too long were given
+pub record HasGivenAll (before now : Option (List ℕ)) (given : List Line) : Type 0 where
+  pub bytes : List ℕ
+  pub taken : Loses before now bytes
+  pub few : length bytes ≤ limit
+  pub whole : IsReadToEnd before now bytes
+  pub lines : given ≡ lines_of bytes
+
+-- reading failed: the lines given are those that are whole in the bytes that were taken
+pub record HasGivenWhole (before now : Option (List ℕ)) (given : List Line) : Type 0 where
+  pub bytes : List ℕ
+  pub taken : Loses before now bytes
+  pub few : length bytes ≤ limit
+  pub lines : given ≡ lines_of (whole_lines bytes)
+  pub first : AreFirst before given
+
+-- too many bytes came: the lines given are those that are whole in the first of them
+pub record HasPassedLimit (before now : Option (List ℕ)) (given : List Line) : Type 0 where
+  pub bytes : List ℕ
+  pub taken : Loses before now bytes
+  pub many : limit < length bytes
+  pub lines : given ≡ lines_of (whole_lines (take limit bytes))
+  pub first : AreFirst before given
+
+-- memory was wanting: some lines were given
+pub record HasGivenSome (before now : Option (List ℕ)) (given : List Line) : Type 0 where
+  pub bytes : List ℕ
+  pub taken : Loses before now bytes
+  pub first : AreFirst before given
+
+-- reading stopped: at a fault, for want of memory, or at a byte past the limit
+abbrev pub Stops : Option (List ℕ) → Option (List ℕ) → List Line → Status → Type 0
+Stops before now given ReadFault = HasGivenWhole before now given
+Stops before now given InputLimit = HasPassedLimit before now given
+Stops before now given NoMemory = HasGivenSome before now given
+Stops before now given status = ⊥
+
+-- what comes next: a line more, the end, or a stop
+abbrev pub GivesNext : Option (List ℕ) → Option (List ℕ) → List Line → Stream → Bool → Result (Option Line) Status → Type 0
+GivesNext before now given stream ended (Ok (Some line)) = HasGivenLine before now given line stream ended
+GivesNext before now given stream ended (Ok None) = HasGivenAll before now given
+GivesNext before now given stream ended (Err status) = Stops before now given status
+
+-- reading went on, or it stopped
+abbrev pub ReadsOn : Option (List ℕ) → Option (List ℕ) → List Line → Stream → Bool → Result (Unit {0}) Status → Type 0
+ReadsOn before now given stream ended (Ok done) = HasGiven before now given stream ended
+ReadsOn before now given stream ended (Err status) = Stops before now given status
+
+-- how often reading can go on at most, after so many bytes
+abbrev pub to_go : ℕ → Bool → ℕ
+to_go count true = 0
+to_go count false = limit - count + 1
+
+-- a source gave a piece of so many bytes, none only at its end
+pub record TakesPiece (left left' : Option (List ℕ)) (stream stream' : Stream) (piece : List ℕ) (count : ℕ) : Type 0 where
   pub taken : Loses left left' piece
   pub counted : length piece ≡ count
+  pub short : length piece ≤ 65536
+  pub number : stream'.number ≡ stream.number
   pub fed : stream'.fed ≡ stream.fed + count
   pub within : stream'.fed ≤ limit
-  pub ahead : (more : List ℕ) → found' ++ lines_ahead stream' more ≡ found ++ lines_ahead stream (piece ++ more)
+  pub ahead : (more : List ℕ) → lines_ahead stream' more ≡ lines_ahead stream (piece ++ more)
+  pub reads : (bytes : List ℕ) (given : List Line) → HasRead bytes given stream → HasRead (bytes ++ piece) given stream'
   pub end : count ≡ 0 → IsSpent left
 
--- reading stopped at a piece, after so many bytes before it
-pub record StopsAtPiece (left left' : Option (List ℕ)) (before : ℕ) (status : Status) : Type 0 where
+-- reading stopped at a piece
+abbrev pub StopsAtPiece : Option (List ℕ) → Option (List ℕ) → Stream → List ℕ → Status → Type 0
+StopsAtPiece left left' stream piece ReadFault = piece ≡ []
+StopsAtPiece left left' stream piece InputLimit = (stream.fed ≡ limit) × (0 < length piece)
+StopsAtPiece left left' stream piece NoMemory = ⊤
+StopsAtPiece left left' stream piece status = ⊥
+
+abbrev pub IsPieceMet : Option (List ℕ) → Option (List ℕ) → Stream → Stream → List ℕ → Result ℕ Status → Type 0
+IsPieceMet left left' stream stream' piece (Ok count) = TakesPiece left left' stream stream' piece count
+IsPieceMet left left' stream stream' piece (Err status) = StopsAtPiece left left' stream piece status
+
+pub record MeetsPiece (left left' : Option (List ℕ)) (stream stream' : Stream) (result : Result ℕ Status) : Type 0 where
   pub piece : List ℕ
   pub taken : Loses left left' piece
-  pub stops : Stops status (before + length piece)
-
--- the one or the other
-abbrev pub TakesPiece : Option (List ℕ) → Option (List ℕ) → Stream → Stream → List Line → List Line → Result ℕ Status → Type 0
-TakesPiece left left' stream stream' found found' (Ok count) = AddsPiece left left' stream stream' found found' count
-TakesPiece left left' stream stream' found found' (Err status) = StopsAtPiece left left' stream.fed status
+  pub met : IsPieceMet left left' stream stream' piece result

@@ -1,60 +1,47 @@
 -- What a run writes and answers for the bytes of its input.
-use Rattle.std.specs.Prelude.{ℕ, List, [], ◌∷◌, ◌⊎◌, Option, Some, None, codes}
-use Rattle.text_scan.specs.Lines.{lines_of}
+use Rattle.std.specs.Prelude.{◌≡◌, ℕ, List, true, take, if◌then◌else◌, Option, Some, None}
+use Rattle.text_scan.specs.Lines.{lines_of, whole_lines}
 use Rattle.text_scan.specs.declared.line.Line.{Line}
-use Rattle.text_scan.specs.declared.line.Place.{Place}
-use Rattle.outside.specs.Told.{Stays, Adds}
 use Rattle.outside.specs.declared.ruler.Event.{Event}
-use Rattle.outside.specs.declared.ruler.Event.TheVariants.{Begin}
 use Rattle.doc_text.specs.declared.document.Doc.{Doc}
-use Rattle.doc_text.specs.Documents.{document_of}
-use Rattle.session.specs.Boxes.{boxes_of}
-use Rattle.session.specs.Printing.{print, refusal}
+use Rattle.session.specs.Input.{limit}
+use Rattle.session.specs.Script.{has_end, before_end, after_end, document_of_lines, made_in, all_made, texts, events, some_refused}
 use Rattle.session.specs.declared.status.Status.{Status}
-use Rattle.session.specs.declared.status.Status.TheVariants.{Done, BadDocument}
+use Rattle.session.specs.declared.status.Status.TheVariants.{Done, BadDocument, SomeRefused}
 
--- the document that lines are, where they are one of the form that is built
-unfoldable pub document_of_lines : List Line → Option Doc
-document_of_lines lines = document_of lines
+-- what is written of lines: the boxes of the document and then, for each edit line, the boxes after it or the line of its
+-- refusal; of lines that are no document the line of its refusal and nothing else
+abbrev pub output_of : List Line → List ℕ
+output_of lines = texts 0 (all_made lines)
 
--- the document that the bytes are
+-- what a ruler is told of them
+abbrev pub log_of : List Line → List Event
+log_of lines = events 0 (all_made lines)
+
+-- the answer for a document and its script
+abbrev pub answer_of : Option Doc → List Line → Status
+answer_of None script = BadDocument
+answer_of (Some doc) script = if some_refused (made_in doc script) then SomeRefused else Done
+
+abbrev pub verdict_of : List Line → Status
+verdict_of lines = answer_of (document_of_lines (before_end lines)) (after_end lines)
+
+-- the document in the bytes
 abbrev pub document_in : List ℕ → Option Doc
-document_in bytes = document_of_lines (lines_of bytes)
+document_in bytes = document_of_lines (before_end (lines_of bytes))
 
--- the first byte of the input
-abbrev pub first_place : Place
-first_place = record { line = 1; column = 1 }
-
--- the name of the one fault of a document so far: its form is not built (own rule)
-abbrev pub not_built_name : List ℕ
-not_built_name = codes "not-built"
-
--- what is written of a document, or of bytes that are none
-abbrev pub output_of : Option Doc → List ℕ
-output_of None = refusal 0 first_place not_built_name
-output_of (Some doc) = print 0 (boxes_of doc)
-
-abbrev pub answer_of : Option Doc → Status
-answer_of None = BadDocument
-answer_of (Some doc) = Done
-
--- all that is written for the input: its boxes, or the line of its refusal and nothing else
+-- all that is written for the input
 abbrev pub out : List ℕ → List ℕ
-out bytes = output_of (document_in bytes)
+out bytes = output_of (lines_of bytes)
 
 -- the answer for the input, where it was read to its end and written
 abbrev pub verdict : List ℕ → Status
-verdict bytes = answer_of (document_in bytes)
+verdict bytes = verdict_of (lines_of bytes)
 
--- the log of a ruler gained the begin of layout 0
-abbrev pub Begins : Option (List Event) → Option (List Event) → Type 0
-Begins before after = Adds before after (Begin 0 ∷ [])
+-- the lines that are whole in the first 2^26 bytes
+abbrev pub early_lines : List ℕ → List Line
+early_lines bytes = lines_of (whole_lines (take limit bytes))
 
--- it gained that exactly where there is a document, and nothing else
-abbrev pub LogsDocument : Option (List Event) → Option (List Event) → Option Doc → Type 0
-LogsDocument before after None = Stays before after
-LogsDocument before after (Some doc) = Begins before after
-
--- it gained that or nothing
-abbrev pub MayLog : Option (List Event) → Option (List Event) → Type 0
-MayLog before after = Stays before after ⊎ Begins before after
+-- one of these ends the document, and the document before it has a fault
+abbrev pub IsEarlyFault : List Line → Type 0
+IsEarlyFault lines = (has_end lines ≡ true) × (document_of_lines (before_end lines) ≡ None)

@@ -1,15 +1,18 @@
 -- How a run ends, and what it took, wrote and logged until then.
-use Rattle.std.specs.Prelude.{◌≡◌, ◌≢◌, ℕ, ◌≤◌, ◌<◌, List, length, ◌⊎◌, Option, Some, IfSome, ⊤}
+use Rattle.std.specs.Prelude.{◌≡◌, ◌≢◌, ℕ, ◌≤◌, ◌<◌, true, false, List, length, ◌++◌, ◌⊎◌, Option, Some, None, IfSome, ⊤}
 use Rattle.outside.specs.Faults.{Rose}
 use Rattle.outside.specs.Told.{Stays, Adds, Loses, AddsPrefix}
 use Rattle.outside.specs.declared.ruler.Event.{Event}
+use Rattle.text_scan.specs.declared.line.Line.{Line}
+use Rattle.text_scan.specs.Lines.{lines_of, whole_lines}
 use Rattle.doc_text.specs.declared.document.Doc.{Doc}
-use Rattle.session.specs.Input.{limit, IsReadToEnd}
+use Rattle.session.specs.Input.{limit, IsReadToEnd, IsFront, AreFirst}
 use Rattle.session.specs.Boxes.{boxes_of}
 use Rattle.session.specs.Printing.{print}
-use Rattle.session.specs.Outcome.{document_in, output_of, answer_of, out, verdict, LogsDocument, MayLog}
+use Rattle.session.specs.Script.{has_end, before_end, after_end, document_of_lines, texts, made_in}
+use Rattle.session.specs.Outcome.{document_in, output_of, log_of, verdict_of, out, verdict, early_lines, IsEarlyFault}
 use Rattle.session.specs.declared.status.Status.{Status}
-use Rattle.session.specs.declared.status.Status.TheVariants.{Done, BadDocument, ReadFault, WriteFault, NoMemory, InputLimit}
+use Rattle.session.specs.declared.status.Status.TheVariants.{Done, BadDocument, SomeRefused, ReadFault, WriteFault, NoMemory, InputLimit}
 
 -- why writing stopped before the end
 abbrev pub StopsWriting : Status → Type 0
@@ -18,57 +21,79 @@ StopsWriting NoMemory = ⊤
 StopsWriting status = ⊥
 
 module _ (held held' : Option (List ℕ)) (events events' : Option (List Event)) where
-  -- all of the output of a document, or of bytes that are none, was written
-  pub record WritesAll (doc : Option Doc) (status : Status) : Type 0 where
-    pub answer : answer_of doc ≡ status
-    pub written : Adds held held' (output_of doc)
-    pub log : LogsDocument events events' doc
+  -- all that is due for the lines was written and logged
+  pub record WritesAll (given : List Line) : Type 0 where
+    pub written : Adds held held' (output_of given)
+    pub log : Adds events events' (log_of given)
 
-  -- a prefix of it was written
-  pub record WritesPrefix (doc : Option Doc) : Type 0 where
-    pub written : AddsPrefix held held' (output_of doc)
-    pub log : LogsDocument events events' doc
+  -- a prefix of it was
+  pub record WritesPrefix (given : List Line) : Type 0 where
+    pub written : AddsPrefix held held' (output_of given)
+    pub log : AddsPrefix events events' (log_of given)
 
-  -- nothing was written
-  pub record WritesNothing : Type 0 where
-    pub written : Stays held held'
-    pub log : MayLog events events'
-
-  -- nothing was written or logged
+  -- nothing was
   pub record IsSilent : Type 0 where
     pub written : Stays held held'
     pub log : Stays events events'
 
-  -- how a document is answered, by the status
-  abbrev pub Finishes : Option Doc → Status → Type 0
-  Finishes doc Done = WritesAll doc Done
-  Finishes doc BadDocument = WritesAll doc BadDocument
-  Finishes doc WriteFault = WritesPrefix doc
-  Finishes doc NoMemory = WritesNothing ⊎ WritesPrefix doc
-  Finishes doc status = ⊥
+  -- what is due for the lines so far: all of it where one of them ends the document, which then has no fault, else nothing
+  abbrev pub Stands : List Line → Type 0
+  Stands given = ((has_end given ≡ false) × IsSilent) ⊎ ((has_end given ≡ true) × (document_of_lines (before_end given) ≢ None) × WritesAll given)
 
-module _ (left left' held held' : Option (List ℕ)) (events events' : Option (List Event)) where
-  -- all of an input that is not too long was taken, and this is so
-  pub record IsWhole (taken : List ℕ) (Answered : Type 0) : Type 0 where
+-- no line that is whole in the bytes before the last piece ends the document: a piece has at most 65,536 bytes
+pub record HasEndInLast (taken : List ℕ) : Type 0 where
+  pub front : List ℕ
+  pub piece : List ℕ
+  pub split : taken ≡ front ++ piece
+  pub short : length piece ≤ 65536
+  pub unended : has_end (lines_of (whole_lines front)) ≡ false
+
+module _ (left left' : Option (List ℕ)) where
+  -- all of an input that is not too long was taken, and the lines are all of its lines
+  pub record IsWhole (taken : List ℕ) (given : List Line) : Type 0 where
     pub few : length taken ≤ limit
     pub whole : IsReadToEnd left left' taken
-    pub answered : Answered
+    pub lines : given ≡ lines_of taken
 
-  -- what is known of the bytes that were taken, by the status
-  abbrev pub Judged : List ℕ → Status → Type 0
-  Judged taken Done = IsWhole taken (WritesAll held held' events events' (document_in taken) Done)
-  Judged taken BadDocument = IsWhole taken (WritesAll held held' events events' (document_in taken) BadDocument)
-  Judged taken WriteFault = IsWhole taken (WritesPrefix held held' events events' (document_in taken))
-  Judged taken NoMemory = WritesNothing held held' events events' ⊎ IsWhole taken (WritesPrefix held held' events events' (document_in taken))
-  Judged taken ReadFault = IsSilent held held' events events'
-  Judged taken InputLimit = (limit < length taken) × IsSilent held held' events events'
-  Judged taken status = ⊥
+  -- the text of the document has ended: at a line of its own, which is whole in the first bytes of a longer input and after
+  -- which no further piece was taken, or at the end of the input
+  abbrev pub IsEnded : List ℕ → List Line → Type 0
+  IsEnded taken given = ((has_end given ≡ true) × IfSome left (λ b. limit < length b → IsFront given (early_lines b)) × HasEndInLast taken) ⊎ IsWhole taken given
 
-  -- a run under the words `layout` took some bytes, and this is known of them
+module _ (left left' held held' : Option (List ℕ)) (events events' : Option (List Event)) where
+  pub record EndsAll (taken : List ℕ) (given : List Line) (status : Status) : Type 0 where
+    pub input : IsWhole left left' taken given
+    pub answer : verdict_of given ≡ status
+    pub output : WritesAll held held' events events' given
+
+  pub record EndsBad (taken : List ℕ) (given : List Line) : Type 0 where
+    pub input : IsEnded left left' taken given
+    pub answer : document_of_lines (before_end given) ≡ None
+    pub output : WritesAll held held' events events' given
+
+  pub record EndsEarly (taken : List ℕ) (given : List Line) : Type 0 where
+    pub input : (has_end given ≡ true) ⊎ IsWhole left left' taken given
+    pub output : WritesPrefix held held' events events' given
+
+  -- what is known of the bytes that were taken and of the lines of them that were given, by the status
+  abbrev pub Judged : List ℕ → List Line → Status → Type 0
+  Judged taken given Done = EndsAll taken given Done
+  Judged taken given SomeRefused = EndsAll taken given SomeRefused
+  Judged taken given BadDocument = EndsBad taken given
+  Judged taken given WriteFault = EndsEarly taken given
+  Judged taken given NoMemory = IsSilent held held' events events' ⊎ EndsEarly taken given
+  Judged taken given ReadFault = (length taken ≤ limit) × (given ≡ lines_of (whole_lines taken)) × Stands held held' events events' given
+  Judged taken given InputLimit = (limit < length taken) × (given ≡ early_lines taken) × Stands held held' events events' given
+  Judged taken given status = ⊥
+
+  -- a run under the words `layout` took some bytes, was given some of their lines, which are the first of the input's, and this
+  -- is known of them
   pub record Runs (status : Status) : Type 0 where
     pub taken : List ℕ
+    pub given : List Line
     pub took : Loses left left' taken
-    pub judged : Judged taken status
+    pub first : AreFirst left given
+    pub judged : Judged taken given status
 
 -- the answers to all bytes of an input that is not too long: its verdict with all of its output written, want of memory, or a fault
 abbrev pub Permits : Option (List ℕ) → Option (List ℕ) → List ℕ → Status → Type 0
@@ -77,25 +102,29 @@ Permits held held' bytes WriteFault = ⊤
 Permits held held' bytes NoMemory = ⊤
 Permits held held' bytes status = (status ≡ verdict bytes) × Adds held held' (out bytes)
 
--- the answers to an input that is too long
-abbrev pub PermitsOver : Status → Type 0
-PermitsOver InputLimit = ⊤
-PermitsOver ReadFault = ⊤
-PermitsOver NoMemory = ⊤
-PermitsOver status = ⊥
+-- the answers to an input that is too long: that it is, unless the document ended early and has a fault; then that
+abbrev pub PermitsOver : Option (List ℕ) → Option (List ℕ) → List ℕ → Status → Type 0
+PermitsOver held held' bytes InputLimit = ¬ IsEarlyFault (early_lines bytes)
+PermitsOver held held' bytes BadDocument = IsEarlyFault (early_lines bytes) × Adds held held' (out bytes)
+PermitsOver held held' bytes ReadFault = ⊤
+PermitsOver held held' bytes WriteFault = ⊤
+PermitsOver held held' bytes NoMemory = ⊤
+PermitsOver held held' bytes status = ⊥
 
 -- where no count rose and the input is not too long: its verdict with all of its output written, or want of memory
 abbrev pub IsComplete : (left held held' : Option (List ℕ)) (reads reads' writes writes' : ℕ) → Status → Type 0
 IsComplete left held held' reads reads' writes writes' status =
     IfSome left (λ b. length b ≤ limit → ¬ Rose reads reads' → ¬ Rose writes writes' → (status ≡ NoMemory) ⊎ ((status ≡ verdict b) × Adds held held' (out b)))
 
--- where no count rose and the input is too long: the answer for that, or want of memory
-abbrev pub IsOverComplete : (left : Option (List ℕ)) (reads reads' : ℕ) → Status → Type 0
-IsOverComplete left reads reads' status = IfSome left (λ b. limit < length b → ¬ Rose reads reads' → (status ≡ NoMemory) ⊎ (status ≡ InputLimit))
+-- where no count rose and the input is too long: the answer for that or for an early fault, or want of memory
+abbrev pub IsOverComplete : (left : Option (List ℕ)) (reads reads' writes writes' : ℕ) → Status → Type 0
+IsOverComplete left reads reads' writes writes' status =
+    IfSome left (λ b. limit < length b → ¬ Rose reads reads' → ¬ Rose writes writes' → (status ≡ NoMemory)
+    ⊎ (((status ≡ InputLimit) × ¬ IsEarlyFault (early_lines b)) ⊎ ((status ≡ BadDocument) × IsEarlyFault (early_lines b))))
 
--- where the bytes are a document, no count rose and no memory was wanting: the boxes of that document were written, and nothing
--- else
+-- where the bytes hold a document, no count rose and no memory was wanting: the boxes of that document were written, then what
+-- each edit line gives, and nothing else
 abbrev pub IsHeadline : (left held held' : Option (List ℕ)) (reads reads' writes writes' : ℕ) → Status → Type 0
 IsHeadline left held held' reads reads' writes writes' status =
     IfSome left (λ b. length b ≤ limit → (doc : Doc) → document_in b ≡ Some doc → ¬ Rose reads reads' → ¬ Rose writes writes' → status ≢ NoMemory
-    → Adds held held' (print 0 (boxes_of doc)))
+    → Adds held held' (print 0 (boxes_of doc) ++ texts 1 (made_in doc (after_end (lines_of b)))))

@@ -1,10 +1,11 @@
-ghost use Rattle.std.specs.Prelude.{◌≡◌, ◌+◌, ◌≤◌, ◌++◌, ℕ, List, [], Err, true, false, length, IfOk, OnOk};
+ghost use Rattle.std.specs.Prelude.{◌≡◌, ◌≤◌, ◌<◌, ℕ, List, Option, Ok, Err, false, true, length, OnOk, IfOk, IfSome};
 ghost use Rattle.outside.specs.Faults.{HasCauseOf};
-ghost use Rattle.session.specs.Input.{TakesInput, TakesPiece, limit};
-ghost use Rattle.text_scan.specs.Stream.{is_line_due, lines_ahead};
+ghost use Rattle.text_scan.specs.declared.line.Line.{Line};
+ghost use Rattle.text_scan.specs.Stream.{empty_stream, is_line_due};
+ghost use Rattle.session.specs.Input.{MeetsPiece, HasGiven, ReadsOn, GivesNext, to_go, limit};
 
 use crate::Status;
-use lunit::{NoMemory, Sequence};
+use lunit::NoMemory;
 use outside::Source;
 use std::alloc::Global;
 use text_scan::{Line, Lines};
@@ -13,18 +14,26 @@ use text_scan::{Line, Lines};
 const LIMIT: usize = 1 << 26;
 
 /// The most bytes that are asked for at once.
-const PIECE: usize = 65_536;
+pub(crate) const PIECE: usize = 65_536;
 
-/// Takes all lines that are due to the end of those that were found.
-fn take_due(lines: &mut Lines, ended: bool, found: &mut Sequence<Line>) -> Result<(), NoMemory>
-    ensures fed { lines.new.fed ≡ lines.old.fed }
-    ensures ahead { OnOk result ((more : List ℕ) → (ended ≡ true → more ≡ []) → found.new ++ lines_ahead lines.new more ≡ found.old ++ lines_ahead lines.old more) }
-    ensures none_due { OnOk result (is_line_due ended lines.new.held ≡ false) }
-{
-    while let Some(line) = lines.take(ended)? {
-        found.push(line)?;
+/// The lines of an input, as far as it was read.
+#[derive(Drop)]
+pub(crate) struct Reader {
+    lines: Lines,
+    count: usize,
+    ended: bool,
+}
+
+impl Reader {
+    pub(crate) fn new(alloc: Global) -> Reader
+        ensures { (result.lines ≡ empty_stream) × (result.count ≡ 0) × (result.ended ≡ false) }
+    {
+        Reader {
+            lines: Lines::new(alloc),
+            count: 0,
+            ended: false,
+        }
     }
-    Ok(())
 }
 
 /// Takes the next piece of the input, and answers its length: 0 at the end. No piece crosses the limit, past which one byte is
@@ -34,12 +43,11 @@ fn take_piece<S: Source>(
     room: &mut [u8],
     count: usize,
     lines: &mut Lines,
-    found: &mut Sequence<Line>,
 ) -> Result<usize, Status>
     requires room { length room.old ≡ 65536 }
     requires count { lines.old.fed ≡ count }
     requires within { count ≤ limit }
-    ensures piece { TakesPiece (S.left source.old) (S.left source.new) lines.old lines.new found.old found.new result }
+    ensures piece { MeetsPiece (S.left source.old) (S.left source.new) lines.old lines.new result }
     ensures room { length room.new ≡ 65536 }
     ensures cause { HasCauseOf (S.faults source.old) (S.faults source.new) (result ≡ Err Status.ReadFault) }
 {
@@ -50,29 +58,67 @@ fn take_piece<S: Source>(
         return Err(Status::InputLimit);
     }
     lines.feed(&piece[..taken])?;
-    take_due(lines, false, found)?;
     Ok(taken)
 }
 
-/// Reads a source to its end, and gives the lines of its bytes. Or it stops: at a fault of reading, for want of memory, or at a
-/// byte past the limit.
-#[tactic(auto, using(crate::proofs::Pieces::taking))]
-pub(crate) fn read_all<S: Source>(alloc: Global, source: &mut S) -> Result<Sequence<Line>, Status>
-    ensures input { TakesInput (S.left source.old) (S.left source.new) result }
-    ensures few { IfOk result (λ lines. length lines ≤ 67108864) }
+/// Takes one piece of the input, where no line of it is whole and its end was not seen.
+#[tactic(auto, using(crate::proofs::Pieces::going_on))]
+fn read_on<S: Source>(source: &mut S, room: &mut [u8], reader: &mut Reader) -> Result<(), Status>
+    requires room { length room.old ≡ 65536 }
+    requires count { reader.old.lines.fed ≡ reader.old.count }
+    requires within { reader.old.count ≤ limit }
+    requires open { reader.old.ended ≡ false }
+    requires none { is_line_due false reader.old.lines.held ≡ false }
+    ensures on { (before : Option (List ℕ)) (given : List Line) → HasGiven before (S.left source.old) given reader.old.lines false → ReadsOn before (S.left source.new) given reader.new.lines reader.new.ended result }
+    ensures nearer { OnOk result (to_go reader.new.count reader.new.ended < to_go reader.old.count reader.old.ended) }
+    ensures room { length room.new ≡ 65536 }
+    ensures count { OnOk result (reader.new.lines.fed ≡ reader.new.count) }
+    ensures within { OnOk result (reader.new.count ≤ limit) }
     ensures cause { HasCauseOf (S.faults source.old) (S.faults source.new) (result ≡ Err Status.ReadFault) }
 {
-    let mut room = [0; PIECE];
-    let mut lines = Lines::new(alloc);
-    let mut found = Sequence::new(alloc);
-    let mut count = 0;
-    loop {
-        let taken = take_piece(source, &mut room, count, &mut lines, &mut found)?;
-        if taken == 0 {
-            break;
+    match take_piece(source, room, reader.count, &mut reader.lines) {
+        Ok(taken) => {
+            if taken == 0 {
+                reader.ended = true;
+                return Ok(());
+            }
+            reader.count += taken;
+            Ok(())
         }
-        count += taken;
+        Err(status) => Err(status),
     }
-    take_due(&mut lines, true, &mut found)?;
-    Ok(found)
+}
+
+/// Takes the next line out, and reads on only where none is whole. `None` is the end of the input.
+#[tactic(auto, using(crate::proofs::Pieces::giving))]
+pub(crate) fn next_line<S: Source>(
+    source: &mut S,
+    room: &mut [u8],
+    reader: &mut Reader,
+) -> Result<Option<Line>, Status>
+    requires room { length room.old ≡ 65536 }
+    requires count { reader.old.lines.fed ≡ reader.old.count }
+    requires within { reader.old.count ≤ limit }
+    ensures next { (before : Option (List ℕ)) (given : List Line) → HasGiven before (S.left source.old) given reader.old.lines reader.old.ended → GivesNext before (S.left source.new) given reader.new.lines reader.new.ended result }
+    ensures room { length room.new ≡ 65536 }
+    ensures count { OnOk result (reader.new.lines.fed ≡ reader.new.count) }
+    ensures within { OnOk result (reader.new.count ≤ limit) }
+    ensures short { IfOk result (λ found. IfSome found (λ line. length line.bytes ≤ 65536)) }
+    ensures cause { HasCauseOf (S.faults source.old) (S.faults source.new) (result ≡ Err Status.ReadFault) }
+{
+    loop {
+        match reader.lines.take(reader.ended) {
+            Ok(Some(line)) => return Ok(Some(line)),
+            Ok(None) => {
+                if reader.ended {
+                    return Ok(None);
+                }
+            }
+            Err(NoMemory) => return Err(Status::NoMemory),
+        }
+        match read_on(source, room, reader) {
+            Ok(()) => (),
+            Err(status) => return Err(status),
+        }
+    }
 }

@@ -17,6 +17,22 @@ const FIRST: &[u8] =
 
 const FIRST_BOXES: &[u8] = b"layout 0\nmain 0 0 300 50\na 0 0 150 20\nb 100 20 50 30\n";
 
+/// The lines of a script after the first document: `---`, two edits, and one of a name that no node has.
+const SCRIPT: &[u8] =
+    b"---\nset b grid-column: 1 / 3\nunset a grid-column-end\nset z grid-row: 1\n";
+
+/// What each of these four lines makes, in order.
+const ANSWERS: [&[u8]; 4] = [
+    FIRST_BOXES,
+    b"layout 1\nmain 0 0 300 50\na 0 0 150 20\nb 0 20 150 30\n",
+    b"layout 2\nmain 0 0 300 50\na 0 0 100 20\nb 0 20 150 30\n",
+    b"refused 3 9:5 unknown-name\n",
+];
+
+/// A document with a fraction, which is not built, and a script after it.
+const BAD_WITH_SCRIPT: &[u8] =
+    b"gridlay 1\nviewport 300 200\nmain grid { grid-template-columns: 1fr; grid-template-rows: 20px }\n---\nset b grid-column: 1\n";
+
 /// The same with `1fr` for the second column, which is not built.
 const SECOND: &[u8] =
     b"gridlay 1\nviewport 300 200\nmain grid { grid-template-columns: 100px 1fr; grid-template-rows: 20px 30px }\n  a leaf 10 10 { grid-column: 1 / 3; grid-row: 1 / 2 }\n  b leaf 10 10 { grid-column: 2 / 3; grid-row: 2 / 3 }\n";
@@ -77,15 +93,37 @@ fn ended(alloc: Global, status: Status, written: &[u8]) -> Result<Ran, NoMemory>
     Ok(Ran { status, written })
 }
 
+/// The first document with the script.
+fn edited(alloc: Global) -> Result<Vec<u8>, NoMemory> {
+    let mut text = Vec::from_slice(alloc, FIRST)?;
+    text.extend_from_slice(SCRIPT)?;
+    Ok(text)
+}
+
+/// What the first so many lines of the script make.
+fn answers(alloc: Global, count: usize) -> Result<Vec<u8>, NoMemory> {
+    let mut text = Vec::new(alloc);
+    for answer in ANSWERS.iter().take(count) {
+        text.extend_from_slice(answer)?;
+    }
+    Ok(text)
+}
+
 #[test]
 fn answers_each_input(rt: HostRuntime) -> Result<(), Fail> {
     let alloc = rt.alloc();
     let refusal = b"refused 0 1:1 not-built\n".as_slice();
-    let rows: [(&[&str], &[u8], Status, &[u8]); 4] = [
+    let text = edited(alloc)?;
+    let unended = &text[..text.len().saturating_sub(1)];
+    let all = answers(alloc, 4)?;
+    let rows: [(&[&str], &[u8], Status, &[u8]); 7] = [
         (&["layout"], FIRST, Status::Done, FIRST_BOXES),
         (&["layout"], SECOND, Status::BadDocument, refusal),
         (&["lay"], FIRST, Status::BadWords, b""),
         (&[], FIRST, Status::BadWords, b""),
+        (&["layout"], &text, Status::SomeRefused, &all),
+        (&["layout"], unended, Status::SomeRefused, &all),
+        (&["layout"], BAD_WITH_SCRIPT, Status::BadDocument, refusal),
     ];
     for (words, text, status, written) in rows {
         let expected = ended(alloc, status, written)?;
@@ -96,42 +134,88 @@ fn answers_each_input(rt: HostRuntime) -> Result<(), Fail> {
 }
 
 #[test]
-fn stops_at_each_fault(rt: HostRuntime) -> Result<(), Fail> {
+fn answers_edits_that_are_not_refused(rt: HostRuntime) -> Result<(), Fail> {
     let alloc = rt.alloc();
-    for call in 0..=FIRST.len() {
-        let ran = run_text(alloc, &["layout"], FIRST, true, call as u64 + 1, 0)?;
-        assert_eq!(rt; ran, ended(alloc, Status::ReadFault, b"")?);
-    }
-    for call in 0..FIRST_BOXES.len() {
-        let ran = run_text(alloc, &["layout"], FIRST, true, 0, call as u64 + 1)?;
-        let written = &FIRST_BOXES[..call];
-        assert_eq!(rt; ran, ended(alloc, Status::WriteFault, written)?);
+    let mut text = Vec::from_slice(alloc, FIRST)?;
+    text.extend_from_slice(
+        b"---\n# moved\n\n  set b grid-column : 1/3 ;\nunset a grid-column-end",
+    )?;
+    let ran = run_text(alloc, &["layout"], &text, false, 0, 0)?;
+    assert_eq!(rt; ran, ended(alloc, Status::Done, &answers(alloc, 3)?)?);
+    Ok(())
+}
+
+#[test]
+fn a_start_alone_spans_one_track(rt: HostRuntime) -> Result<(), Fail> {
+    let alloc = rt.alloc();
+    let text =
+        b"gridlay 1\nviewport 300 200\nmain grid { grid-template-columns: 100px 50px; grid-template-rows: 20px 30px }\n  a leaf 10 10 { grid-column: 2; grid-row: 1 / 3 }\n";
+    let ran = run_text(alloc, &["layout"], text, false, 0, 0)?;
+    let boxes = b"layout 0\nmain 0 0 300 50\na 100 0 50 50\n";
+    assert_eq!(rt; ran, ended(alloc, Status::Done, boxes)?);
+    Ok(())
+}
+
+/// How many lines of the script are whole in the first bytes of a text, of which the document has five.
+fn whole_lines(text: &[u8]) -> usize {
+    let feeds = text.iter().filter(|byte| **byte == b'\n').count();
+    feeds.saturating_sub(5)
+}
+
+#[test]
+fn answers_whole_lines_before_a_fault_of_reading(rt: HostRuntime) -> Result<(), Fail> {
+    let alloc = rt.alloc();
+    let text = edited(alloc)?;
+    for call in 0..=text.len() {
+        let ran = run_text(alloc, &["layout"], &text, true, call as u64 + 1, 0)?;
+        let written = answers(alloc, whole_lines(&text[..call]))?;
+        assert_eq!(rt; ran, ended(alloc, Status::ReadFault, &written)?);
     }
     Ok(())
 }
 
-/// The first text and so many bytes of comments after it.
-fn with_comments(alloc: Global, count: usize) -> Result<Vec<u8>, NoMemory> {
+#[test]
+fn stops_at_each_fault_of_writing(rt: HostRuntime) -> Result<(), Fail> {
+    let alloc = rt.alloc();
+    let text = edited(alloc)?;
+    let all = answers(alloc, 4)?;
+    for call in 0..all.len() {
+        let ran = run_text(alloc, &["layout"], &text, true, 0, call as u64 + 1)?;
+        assert_eq!(rt; ran, ended(alloc, Status::WriteFault, &all[..call])?);
+    }
+    Ok(())
+}
+
+/// A text with comments after it, up to so many bytes.
+fn filled(alloc: Global, text: &[u8], length: usize) -> Result<Vec<u8>, NoMemory> {
     let mut comment = Vec::from_slice(alloc, &[b'#'; 1023])?;
     comment.push(b'\n')?;
-    let mut text = Vec::from_slice(alloc, FIRST)?;
+    let mut filled = Vec::from_slice(alloc, text)?;
+    let count = length.saturating_sub(text.len());
     for _ in 0..count / 1024 {
-        text.extend_from_slice(&comment)?;
+        filled.extend_from_slice(&comment)?;
     }
-    text.extend_from_slice(&comment[..count % 1024])?;
-    Ok(text)
+    filled.extend_from_slice(&comment[..count % 1024])?;
+    Ok(filled)
 }
 
 #[test]
 fn takes_so_many_bytes_and_no_more(rt: HostRuntime) -> Result<(), Fail> {
     let alloc = rt.alloc();
-    let most = (1 << 26) - FIRST.len();
-    let rows = [
-        (most, Status::Done, FIRST_BOXES),
-        (most + 1, Status::InputLimit, b"".as_slice()),
+    let refusal = b"refused 0 1:1 not-built\n".as_slice();
+    let text = edited(alloc)?;
+    let all = answers(alloc, 4)?;
+    let limit = 1 << 26;
+    let rows: [(&[u8], usize, Status, &[u8]); 6] = [
+        (FIRST, limit, Status::Done, FIRST_BOXES),
+        (FIRST, limit + 1, Status::InputLimit, b""),
+        (&text, limit, Status::SomeRefused, &all),
+        (&text, limit + 1, Status::InputLimit, &all),
+        (SECOND, limit + 1, Status::InputLimit, b""),
+        (BAD_WITH_SCRIPT, limit + 1, Status::BadDocument, refusal),
     ];
-    for (comments, status, written) in rows {
-        let text = with_comments(alloc, comments)?;
+    for (text, length, status, written) in rows {
+        let text = filled(alloc, text, length)?;
         let ran = run_text(alloc, &["layout"], &text, false, 0, 0)?;
         assert_eq!(rt; ran, ended(alloc, status, written)?);
     }

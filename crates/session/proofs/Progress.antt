@@ -1,0 +1,138 @@
+-- The lines of the script, one after another.
+use Rattle.std.proofs.Common.{◌≡◌, ap, sym, subst, ◌∙◌, ℕ, ◌+◌, ◌||◌, Bool, true, false, List, [], ◌∷◌, ◌++◌, length, Option, Some, Ok, append-nil, arith, length-append}
+use Rattle.std.specs.Prelude.{if◌then◌else◌}
+use Rattle.text_scan.specs.declared.line.Line.{Line}
+use Rattle.text_scan.specs.Tokens.{is_skipped}
+use Rattle.outside.specs.Told.{Adds}
+use Rattle.outside.specs.declared.ruler.Event.{Event}
+use Rattle.outside.proofs.Laws.{adds_more, prefix_after}
+use Rattle.doc_text.specs.declared.document.Doc.{Doc}
+use Rattle.session.specs.Runs.{WritesAll, WritesPrefix}
+use Rattle.session.specs.Script.{before_end, after_end, document_of_lines, made_of, made_in, made_from, next_doc, all_made, texts, text_of, events, events_of, is_refused, some_refused}
+use Rattle.session.specs.Outcome.{output_of, log_of}
+use Rattle.session.specs.Serving.{Answers, AnswersPrefix, last_doc, IsLaid, HasAnswered}
+use Rattle.session.proofs.Scripts.{Made, one_made, has_more, before_more, after_more, made_push, texts_more, events_more, refused_push, last_push}
+
+-- ---- what is made of one line more
+
+skipped_one : (doc : Doc) (line : Line) → is_skipped line ≡ true → one_made doc line ≡ []
+skipped_one doc line e = ap (λ (b : Bool). if b then [] else made_of doc line ∷ []) e
+
+edit_one : (doc : Doc) (line : Line) → is_skipped line ≡ false → one_made doc line ≡ made_of doc line ∷ []
+edit_one doc line e = ap (λ (b : Bool). if b then [] else made_of doc line ∷ []) e
+
+module _ (given : List Line) (doc : Doc) (k : ℕ) (bad : Bool) (p : IsLaid given doc k bad) (line : Line) where
+  document_push : document_of_lines (before_end (given ++ line ∷ [])) ≡ Some p.first
+  document_push = ap document_of_lines (before_more given (line ∷ []) p.ended) ∙ p.read
+
+  script_push : made_in p.first (after_end (given ++ line ∷ [])) ≡ made_in p.first (after_end given) ++ one_made doc line
+  script_push =
+      ap (made_in p.first) (after_more given (line ∷ []) p.ended)
+      ∙ made_push p.first (after_end given) line
+      ∙ ap (λ (d : Doc). made_in p.first (after_end given) ++ one_made d line) (sym p.now)
+
+  all_given : all_made given ≡ Ok p.first ∷ made_in p.first (after_end given)
+  all_given = ap (λ (o : Option Doc). made_from o (after_end given)) p.read
+
+  all_push : all_made (given ++ line ∷ []) ≡ all_made given ++ one_made doc line
+  all_push =
+      ap (λ (o : Option Doc). made_from o (after_end (given ++ line ∷ []))) document_push
+      ∙ ap (λ (m : List Made). Ok p.first ∷ m) script_push
+      ∙ ap (λ (m : List Made). m ++ one_made doc line) (sym all_given)
+
+  output_push : output_of (given ++ line ∷ []) ≡ output_of given ++ texts k (one_made doc line)
+  output_push =
+      ap (texts 0) all_push
+      ∙ texts_more 0 (all_made given) (one_made doc line)
+      ∙ ap (λ (n : ℕ). output_of given ++ texts n (one_made doc line)) (omega (arith, p.count))
+
+  log_push : log_of (given ++ line ∷ []) ≡ log_of given ++ events k (one_made doc line)
+  log_push =
+      ap (events 0) all_push
+      ∙ events_more 0 (all_made given) (one_made doc line)
+      ∙ ap (λ (n : ℕ). log_of given ++ events n (one_made doc line)) (omega (arith, p.count))
+
+  long : length (given ++ line ∷ []) ≡ length given + 1
+  long = length-append given (line ∷ [])
+
+  -- a line that is skipped
+  laid_skipped : is_skipped line ≡ true → IsLaid (given ++ line ∷ []) doc k bad
+  laid_skipped e =
+      let same : made_in p.first (after_end (given ++ line ∷ [])) ≡ made_in p.first (after_end given) =
+      script_push ∙ ap (λ (m : List Made). made_in p.first (after_end given) ++ m) (skipped_one doc line e) ∙ append-nil (made_in p.first (after_end given)) in
+      let all_same : all_made (given ++ line ∷ []) ≡ all_made given = all_push ∙ ap (λ (m : List Made). all_made given ++ m) (skipped_one doc line e) ∙ append-nil (all_made given) in
+      record {
+        first = p.first;
+        ended = has_more given (line ∷ []) p.ended;
+        read = document_push;
+        now = p.now ∙ ap (last_doc p.first) (sym same);
+        count = p.count ∙ ap (λ (m : List Made). length m) (sym all_same);
+        refused = p.refused ∙ ap some_refused (sym same);
+        few = omega (arith, long, p.few);
+      }
+
+  -- an edit
+  laid_edit : is_skipped line ≡ false → IsLaid (given ++ line ∷ []) (next_doc doc (made_of doc line)) (k + 1) (bad || is_refused (made_of doc line))
+  laid_edit e =
+      let made = made_of doc line in
+      let more : made_in p.first (after_end (given ++ line ∷ [])) ≡ made_in p.first (after_end given) ++ made ∷ [] =
+      script_push ∙ ap (λ (m : List Made). made_in p.first (after_end given) ++ m) (edit_one doc line e) in
+      let all_more : all_made (given ++ line ∷ []) ≡ all_made given ++ made ∷ [] = all_push ∙ ap (λ (m : List Made). all_made given ++ m) (edit_one doc line e) in
+      record {
+        first = p.first;
+        ended = has_more given (line ∷ []) p.ended;
+        read = document_push;
+        now = ap (λ (d : Doc). next_doc d made) p.now ∙ sym (last_push p.first (made_in p.first (after_end given)) made) ∙ ap (last_doc p.first) (sym more);
+        count = omega (arith, p.count, ap (λ (m : List Made). length m) all_more, length-append (all_made given) (made ∷ []));
+        refused = ap (λ (b : Bool). b || is_refused made) p.refused ∙ sym (refused_push (made_in p.first (after_end given)) made) ∙ ap some_refused (sym more);
+        few = omega (arith, long, p.few);
+      }
+
+  module _ (w w' : Option (List ℕ)) (l l' : Option (List Event)) where
+    wrote_skipped : is_skipped line ≡ true → WritesAll w w' l l' given → WritesAll w w' l l' (given ++ line ∷ [])
+    wrote_skipped e q =
+        record {
+          written = subst (λ (x : List ℕ). Adds w w' x) (sym (output_push ∙ ap (λ (m : List Made). output_of given ++ texts k m) (skipped_one doc line e) ∙ append-nil (output_of given))) q.written;
+          log = subst (λ (x : List Event). Adds l l' x) (sym (log_push ∙ ap (λ (m : List Made). log_of given ++ events k m) (skipped_one doc line e) ∙ append-nil (log_of given))) q.log;
+        }
+
+    output_edit : is_skipped line ≡ false → output_of (given ++ line ∷ []) ≡ output_of given ++ text_of k (made_of doc line)
+    output_edit e = output_push ∙ ap (λ (m : List Made). output_of given ++ texts k m) (edit_one doc line e) ∙ ap (λ (x : List ℕ). output_of given ++ x) (append-nil (text_of k (made_of doc line)))
+
+    log_edit : is_skipped line ≡ false → log_of (given ++ line ∷ []) ≡ log_of given ++ events_of k (made_of doc line)
+    log_edit e = log_push ∙ ap (λ (m : List Made). log_of given ++ events k m) (edit_one doc line e) ∙ ap (λ (x : List Event). log_of given ++ x) (append-nil (events_of k (made_of doc line)))
+
+    wrote_edit : (w'' : Option (List ℕ)) (l'' : Option (List Event)) → is_skipped line ≡ false → WritesAll w w' l l' given → Answers w' w'' l' l'' k (made_of doc line) → WritesAll w w'' l l'' (given ++ line ∷ [])
+    wrote_edit w'' l'' e q a =
+        record {
+          written = adds_more w w' w'' (output_of given) (text_of k (made_of doc line)) _ q.written a.written (output_edit e);
+          log = adds_more l l' l'' (log_of given) (events_of k (made_of doc line)) _ q.log a.log (log_edit e);
+        }
+
+    wrote_part : (w'' : Option (List ℕ)) (l'' : Option (List Event)) → is_skipped line ≡ false → WritesAll w w' l l' given → AnswersPrefix w' w'' l' l'' k (made_of doc line) → WritesPrefix w w'' l l'' (given ++ line ∷ [])
+    wrote_part w'' l'' e q a =
+        record {
+          written = prefix_after w w' w'' (output_of given) (text_of k (made_of doc line)) _ q.written a.written (output_edit e);
+          log = prefix_after l l' l'' (log_of given) (events_of k (made_of doc line)) _ q.log a.log (log_edit e);
+        }
+
+-- ---- how far a run is
+
+module _ (w w' : Option (List ℕ)) (l l' : Option (List Event)) (given : List Line) (doc : Doc) (k : ℕ) (bad : Bool) (line : Line) (p : HasAnswered w w' l l' given doc k bad) where
+  pub skips : is_skipped line ≡ true → HasAnswered w w' l l' (given ++ line ∷ []) doc k bad
+  skips e = record { laid = laid_skipped given doc k bad p.laid line e; output = wrote_skipped given doc k bad p.laid line w w' l l' e p.output }
+
+  pub answers : (w'' : Option (List ℕ)) (l'' : Option (List Event)) (next : Doc) (refused : Bool) → is_skipped line ≡ false → (next ≡ next_doc doc (made_of doc line)) × (refused ≡ is_refused (made_of doc line))
+      → Answers w' w'' l' l'' k (made_of doc line) → HasAnswered w w'' l l'' (given ++ line ∷ []) next (k + 1) (bad || refused)
+  answers w'' l'' next refused e n a =
+      record {
+        laid =
+            subst (λ (d : Doc). IsLaid (given ++ line ∷ []) d (k + 1) (bad || refused)) (sym n.0)
+            (subst (λ (b : Bool). IsLaid (given ++ line ∷ []) (next_doc doc (made_of doc line)) (k + 1) (bad || b)) (sym n.1) (laid_edit given doc k bad p.laid line e));
+        output = wrote_edit given doc k bad p.laid line w w' l l' w'' l'' e p.output a;
+      }
+
+  pub answers_part : (w'' : Option (List ℕ)) (l'' : Option (List Event)) → is_skipped line ≡ false → AnswersPrefix w' w'' l' l'' k (made_of doc line) → WritesPrefix w w'' l l'' (given ++ line ∷ [])
+  answers_part w'' l'' e a = wrote_part given doc k bad p.laid line w w' l l' w'' l'' e p.output a
+
+pub ruleset line_answering = (skips, answers, answers_part)

@@ -1,0 +1,312 @@
+-- How a run goes from its document to its script, and how it ends.
+use Rattle.std.proofs.Common.{◌≡◌, ◌≢◌, refl, ap, sym, subst, ◌∙◌, ℕ, zero, suc, ◌+◌, ◌-◌, ◌≤◌, ◌<◌, ◌||◌, Bool, true, false, List, [], ◌∷◌, ◌++◌, length, take, ◌⊎◌, inl, inr, Option, Some, None, Ok, IfSome, append_assoc, append-nil, arith, length-append}
+use Rattle.std.proofs.lemmas.Bool.{false≢true}
+use Rattle.std.specs.Prelude.{if◌then◌else◌}
+use Rattle.text_scan.specs.declared.line.Line.{Line}
+use Rattle.text_scan.specs.Lines.{is_line_feed, has_line_feed, ends_line, whole_lines, split_lines, numbered, lines_of}
+use Rattle.text_scan.specs.Stream.{Stream, HasRead}
+use Rattle.text_scan.proofs.Splits.{split_append, numbered_append}
+use Rattle.outside.specs.Faults.{HasCauseOf}
+use Rattle.outside.specs.Told.{Adds, AddsPrefix, Loses}
+use Rattle.outside.specs.declared.ruler.Event.{Event}
+use Rattle.outside.proofs.Laws.{stays_same, prefix_all}
+use Rattle.doc_text.specs.declared.document.Doc.{Doc}
+use Rattle.doc_text.specs.Documents.{is_end_of_document}
+use Rattle.session.specs.Input.{limit, IsFront, AreFirst, HasLastPiece, HasGiven, HasGivenAll, Stops}
+use Rattle.session.specs.Script.{has_end, before_end, after_end, document_of_lines, made_in, made_from, all_made, texts, text_of, events, events_of, some_refused}
+use Rattle.session.specs.Outcome.{output_of, log_of, answer_of, verdict_of, early_lines}
+use Rattle.session.specs.Runs.{StopsWriting, WritesAll, WritesPrefix, Stands, HasEndInLast, IsWhole, IsEnded, EndsEarly, Judged, Runs}
+use Rattle.session.specs.Serving.{HasText, StopsInText, Answers, AnswersPrefix, EndsFirst, first_made, last_doc, HasAnswered, IsAt, ended}
+use Rattle.session.specs.declared.status.Status.{Status}
+use Rattle.session.specs.declared.status.Status.TheVariants.{Done, BadDocument, SomeRefused, ReadFault, WriteFault, NoMemory, InputLimit, BadWords}
+use Rattle.session.proofs.Scripts.{Made, has_more, before_none, after_none}
+use Rattle.session.proofs.Pieces.{first_given}
+use Rattle.session.proofs.Texts.{given_few}
+use Rattle.session.proofs.Bounded.{none_is_no}
+
+-- ---- the lines of the document and the line after them
+
+has_push : (lines : List Line) (last : Line) → is_end_of_document last ≡ true → has_end (lines ++ last ∷ []) ≡ true
+has_push [] last e = ap (λ (b : Bool). b || false) e
+has_push (line ∷ lines) last e = by_line (is_end_of_document line) (has_push lines last e)
+  where
+    by_line : (b : Bool) → has_end (lines ++ last ∷ []) ≡ true → (b || has_end (lines ++ last ∷ [])) ≡ true
+    by_line true h = refl
+    by_line false h = h
+
+before_push : (lines : List Line) (last : Line) → has_end lines ≡ false → is_end_of_document last ≡ true → before_end (lines ++ last ∷ []) ≡ lines
+before_push [] last o e = ap (λ (b : Bool). if b then [] else last ∷ []) e
+before_push (line ∷ lines) last o e = by_line (is_end_of_document line) o (λ h. before_push lines last h e)
+  where
+    by_line : (b : Bool) → (b || has_end lines) ≡ false → (has_end lines ≡ false → before_end (lines ++ last ∷ []) ≡ lines) → (if b then [] else line ∷ before_end (lines ++ last ∷ [])) ≡ line ∷ lines
+    by_line true o h = absurd (false≢true (sym o))
+    by_line false o h = ap (λ (l : List Line). line ∷ l) (h o)
+
+after_push : (lines : List Line) (last : Line) → has_end lines ≡ false → is_end_of_document last ≡ true → after_end (lines ++ last ∷ []) ≡ []
+after_push [] last o e = ap (λ (b : Bool). if b then [] else []) e
+after_push (line ∷ lines) last o e = by_line (is_end_of_document line) o (λ h. after_push lines last h e)
+  where
+    by_line : (b : Bool) → (b || has_end lines) ≡ false → (has_end lines ≡ false → after_end (lines ++ last ∷ []) ≡ []) → (if b then lines ++ last ∷ [] else after_end (lines ++ last ∷ [])) ≡ []
+    by_line true o h = absurd (false≢true (sym o))
+    by_line false o h = h o
+
+-- ---- an input whose document ended just now
+
+record IsJust (given lines : List Line) : Type 0 where
+  before : before_end given ≡ lines
+  after : after_end given ≡ []
+
+just_ended : (lines : List Line) (last : Line) → has_end lines ≡ false → is_end_of_document last ≡ true → IsJust (lines ++ last ∷ []) lines
+just_ended lines last o e = record { before = before_push lines last o e; after = after_push lines last o e }
+
+just_whole : (lines : List Line) → has_end lines ≡ false → IsJust lines lines
+just_whole lines o = record { before = before_none lines o; after = after_none lines o }
+
+module _ (given lines : List Line) (p : IsJust given lines) where
+  just_made : all_made given ≡ first_made (document_of_lines lines) ∷ []
+  just_made = ap (λ (l : List Line). made_from (document_of_lines l) (after_end given)) p.before ∙ ap (made_from (document_of_lines lines)) p.after ∙ one_made (document_of_lines lines)
+    where
+      one_made : (form : Option Doc) → made_from form [] ≡ first_made form ∷ []
+      one_made None = refl
+      one_made (Some doc) = refl
+
+  just_output : output_of given ≡ text_of 0 (first_made (document_of_lines lines))
+  just_output = ap (texts 0) just_made ∙ append-nil (text_of 0 (first_made (document_of_lines lines)))
+
+  just_log : log_of given ≡ events_of 0 (first_made (document_of_lines lines))
+  just_log = ap (events 0) just_made ∙ append-nil (events_of 0 (first_made (document_of_lines lines)))
+
+  module _ (w w' : Option (List ℕ)) (l l' : Option (List Event)) where
+    wrote_first : Answers w w' l l' 0 (first_made (document_of_lines lines)) → WritesAll w w' l l' given
+    wrote_first a = record { written = subst (λ (x : List ℕ). Adds w w' x) (sym just_output) a.written; log = subst (λ (x : List Event). Adds l l' x) (sym just_log) a.log }
+
+    wrote_first_part : AnswersPrefix w w' l l' 0 (first_made (document_of_lines lines)) → WritesPrefix w w' l l' given
+    wrote_first_part a = record { written = subst (λ (x : List ℕ). AddsPrefix w w' x) (sym just_output) a.written; log = subst (λ (x : List Event). AddsPrefix l l' x) (sym just_log) a.log }
+
+-- ---- the lines that are whole in the first bytes of a longer input
+
+or_true : (b c : Bool) → c ≡ true → (b || c) ≡ true
+or_true true c e = refl
+or_true false c e = e
+
+ends_has : (byte : ℕ) (bytes more : List ℕ) → ends_line (byte ∷ bytes) ≡ true → has_line_feed (byte ∷ bytes ++ more) ≡ true
+ends_has byte [] more e = ap (λ (b : Bool). b || has_line_feed more) e
+ends_has byte (next ∷ bytes) more e = or_true (is_line_feed byte) (has_line_feed (next ∷ bytes ++ more)) (ends_has next bytes more e)
+
+ends_tail : (byte : ℕ) (bytes : List ℕ) → ends_line (byte ∷ bytes) ≡ true → ends_line bytes ≡ true
+ends_tail byte [] e = refl
+ends_tail byte (next ∷ bytes) e = e
+
+whole_more : (whole more : List ℕ) → ends_line whole ≡ true → whole_lines (whole ++ more) ≡ whole ++ whole_lines more
+whole_more [] more e = refl
+whole_more (byte ∷ bytes) more e =
+    ap (λ (b : Bool). if b then byte ∷ whole_lines (bytes ++ more) else []) (ends_has byte bytes more e)
+    ∙ ap (λ (l : List ℕ). byte ∷ l) (whole_more bytes more (ends_tail byte bytes e))
+
+lines_more : (whole more : List ℕ) → ends_line whole ≡ true → lines_of (whole ++ more) ≡ lines_of whole ++ numbered (1 + length (split_lines whole)) (split_lines more)
+lines_more whole more e = ap (numbered 1) (split_append whole more e) ∙ numbered_append 1 (split_lines whole) (split_lines more)
+
+take_long : (n : ℕ) (xs ys : List ℕ) → length xs ≤ n → take n (xs ++ ys) ≡ xs ++ take (n - length xs) ys
+take_long n [] ys h =
+    let same : n ≡ n - 0 = omega arith in
+    ap (λ (m : ℕ). take m ys) same
+take_long zero (x ∷ xs) ys h = absurd (omega (arith, h))
+take_long (suc n) (x ∷ xs) ys h =
+    let shorter : length xs ≤ n = omega (arith, h) in
+    let same : n - length xs ≡ suc n - suc (length xs) = omega arith in
+    ap (λ (l : List ℕ). x ∷ l) (take_long n xs ys shorter ∙ ap (λ (m : ℕ). xs ++ take m ys) same)
+
+-- the lines given before the limit are the first of those that are whole in the first bytes
+early_read : (told now bytes : List ℕ) (given : List Line) (stream : Stream) → told ≡ bytes ++ now → length bytes ≤ limit → HasRead bytes given stream → IsFront given (early_lines told)
+early_read told now bytes given stream t few r =
+    let more = stream.held ++ take (limit - length bytes) now in
+    let first : take limit told ≡ r.whole ++ more =
+    ap (take limit) t ∙ take_long limit bytes now few ∙ ap (λ (l : List ℕ). l ++ take (limit - length bytes) now) r.split ∙ append_assoc r.whole stream.held (take (limit - length bytes) now) in
+    record {
+      rest = numbered (1 + length (split_lines r.whole)) (split_lines (whole_lines more));
+      parts =
+          ap (λ (l : List Line). l ++ numbered (1 + length (split_lines r.whole)) (split_lines (whole_lines more))) r.lines
+          ∙ sym (lines_more r.whole (whole_lines more) r.ended)
+          ∙ ap lines_of (sym (whole_more r.whole more r.ended))
+          ∙ ap (λ (l : List ℕ). lines_of (whole_lines l)) (sym first);
+    }
+
+early_front : (left left' : Option (List ℕ)) (given : List Line) (stream : Stream) (ended : Bool) → HasGiven left left' given stream ended → IfSome left (λ b. limit < length b → IsFront given (early_lines b))
+early_front None left' given stream ended p = tt
+early_front (Some told) None given stream ended p = absurd p.taken
+early_front (Some told) (Some now) given stream true p =
+    λ many. absurd (omega (arith, ap (λ (l : List ℕ). length l) p.taken, length-append p.bytes now, ap (λ (l : List ℕ). length l) (p.spent refl), p.within, many))
+early_front (Some told) (Some now) given stream false p = λ many. early_read told now p.bytes given stream p.taken p.within (p.reads refl)
+
+-- ---- how a run ends
+
+-- all lines are the first of all
+whole_first : (left left' : Option (List ℕ)) (given : List Line) → HasGivenAll left left' given → AreFirst left given
+whole_first None left' given p = tt
+whole_first (Some told) None given p = absurd p.whole
+whole_first (Some told) (Some rest) given p = record { rest = []; parts = append-nil given ∙ p.lines ∙ ap lines_of (sym p.whole.0) }
+
+module _ (left left' : Option (List ℕ)) where
+  is_whole : (given : List Line) (p : HasGivenAll left left' given) → IsWhole left left' p.bytes given
+  is_whole given p = record { few = p.few; whole = p.whole; lines = p.lines }
+
+  ended_or_whole : (taken : List ℕ) (given : List Line) → IsEnded left left' taken given → (has_end given ≡ true) ⊎ IsWhole left left' taken given
+  ended_or_whole taken given (inl e) = inl e.0
+  ended_or_whole taken given (inr w) = inr w
+
+module _ (left left' w w' : Option (List ℕ)) (l l' : Option (List Event)) where
+  part_of_all : (given : List Line) → WritesAll w w' l l' given → WritesPrefix w w' l l' given
+  part_of_all given a = record { written = prefix_all w w' (output_of given) a.written; log = prefix_all l l' (log_of given) a.log }
+
+  -- reading stopped
+  wanted : (taken : List ℕ) (given : List Line) → Stands w w' l l' given → Judged left left' w w' l l' taken given NoMemory
+  wanted taken given (inl s) = inl s.1
+  wanted taken given (inr s) = inr (record { input = inl s.0; output = part_of_all given s.2 })
+
+  stopped : (given : List Line) (status : Status) → Stops left left' given status → Stands w w' l l' given → Runs left left' w w' l l' status
+  stopped given Done s q = absurd s
+  stopped given BadDocument s q = absurd s
+  stopped given SomeRefused s q = absurd s
+  stopped given ReadFault s q = record { taken = s.bytes; given = given; took = s.taken; first = s.first; judged = (s.few, s.lines, q) }
+  stopped given WriteFault s q = absurd s
+  stopped given NoMemory s q = record { taken = s.bytes; given = given; took = s.taken; first = s.first; judged = wanted s.bytes given q }
+  stopped given InputLimit s q = record { taken = s.bytes; given = given; took = s.taken; first = s.first; judged = (s.many, s.lines, q) }
+  stopped given BadWords s q = absurd s
+
+  -- the document was refused, or its first layout was not written
+  ends_first : (taken : List ℕ) (given lines : List Line) (status : Status) → IsJust given lines → Loses left left' taken → AreFirst left given → IsEnded left left' taken given
+      → EndsFirst w w' l l' (document_of_lines lines) status → Runs left left' w w' l l' status
+  ends_first taken given lines status j t f e p = record { taken = taken; given = given; took = t; first = f; judged = judged_first status p }
+    where
+      judged_first : (status : Status) → EndsFirst w w' l l' (document_of_lines lines) status → Judged left left' w w' l l' taken given status
+      judged_first Done p = absurd p
+      judged_first BadDocument p = record { input = e; answer = ap document_of_lines j.before ∙ p.0; output = wrote_first given lines j w w' l l' p.1 }
+      judged_first SomeRefused p = absurd p
+      judged_first ReadFault p = absurd p
+      judged_first WriteFault p = record { input = ended_or_whole left left' taken given e; output = wrote_first_part given lines j w w' l l' p }
+      judged_first NoMemory p = inr (record { input = ended_or_whole left left' taken given e; output = wrote_first_part given lines j w w' l l' p })
+      judged_first InputLimit p = absurd p
+      judged_first BadWords p = absurd p
+
+  -- writing stopped at a line of the script
+  pub part_written : (given : List Line) (stream : Stream) (ended : Bool) (status : Status) → HasGiven left left' given stream ended → has_end given ≡ true → StopsWriting status → WritesPrefix w w' l l' given
+      → Runs left left' w w' l l' status
+  part_written given stream ended status p e s q =
+      record { taken = p.bytes; given = given; took = p.taken; first = first_given left left' given stream ended p; judged = judged_part status s }
+    where
+      early : EndsEarly left left' w w' l l' p.bytes given
+      early = record { input = inl e; output = q }
+
+      judged_part : (status : Status) → StopsWriting status → Judged left left' w w' l l' p.bytes given status
+      judged_part Done s = absurd s
+      judged_part BadDocument s = absurd s
+      judged_part SomeRefused s = absurd s
+      judged_part ReadFault s = absurd s
+      judged_part WriteFault s = early
+      judged_part NoMemory s = inr early
+      judged_part InputLimit s = absurd s
+      judged_part BadWords s = absurd s
+
+  -- all lines were answered
+  judged_all : (bad : Bool) (taken : List ℕ) (given : List Line) → IsWhole left left' taken given → verdict_of given ≡ ended bad → WritesAll w w' l l' given → Judged left left' w w' l l' taken given (ended bad)
+  judged_all true taken given i v q = record { input = i; answer = v; output = q }
+  judged_all false taken given i v q = record { input = i; answer = v; output = q }
+
+  all_answered : (bad : Bool) (given : List Line) → HasGivenAll left left' given → verdict_of given ≡ ended bad → WritesAll w w' l l' given → Runs left left' w w' l l' (ended bad)
+  all_answered bad given p v q =
+      record { taken = p.bytes; given = given; took = p.taken; first = whole_first left left' given p; judged = judged_all bad p.bytes given (is_whole left left' given p) v q }
+
+-- ---- from the document to the script
+
+unended_front : (first lines : List Line) → IsFront first lines → has_end lines ≡ false → has_end first ≡ false
+unended_front first lines f o = by_end (has_end first) refl
+  where
+    by_end : (b : Bool) → has_end first ≡ b → b ≡ false
+    by_end true e = absurd (false≢true (sym o ∙ ap has_end (sym f.parts) ∙ has_more first f.rest e))
+    by_end false e = refl
+
+end_in_last : (bytes : List ℕ) (lines : List Line) → has_end lines ≡ false → HasLastPiece bytes lines → HasEndInLast bytes
+end_in_last bytes lines o p = record { front = p.front; piece = p.piece; split = p.split; short = p.short; unended = unended_front (lines_of (whole_lines p.front)) lines p.before o }
+
+pub stopped_in_text : (left left' w : Option (List ℕ)) (l : Option (List Event)) (status : Status) → StopsInText left left' status → Runs left left' w w l l status
+stopped_in_text left left' w l status p = stopped left left' w w l l p.given status p.stops (inl (p.unended, record { written = stays_same w; log = stays_same l }))
+
+module _ (left left' w w' : Option (List ℕ)) (l l' : Option (List Event)) (stream : Stream) (ended : Bool) (lines : List Line) (o : has_end lines ≡ false) where
+  pub ended_first : (b : Bool) (status : Status) → HasText left left' stream ended lines b → EndsFirst w w' l l' (document_of_lines lines) status → Runs left left' w w' l l' status
+  ended_first true status t p =
+      let all = t.given.all in
+      ends_first left left' w w' l l' all.bytes (lines ++ t.last ∷ []) lines status (just_ended lines t.last o t.end) all.taken
+      (first_given left left' (lines ++ t.last ∷ []) stream ended all)
+      (inl (has_push lines t.last t.end, early_front left left' (lines ++ t.last ∷ []) stream ended all, end_in_last all.bytes lines o t.given.last)) p
+  ended_first false status t p =
+      ends_first left left' w w' l l' t.bytes lines lines status (just_whole lines o) t.taken (whole_first left left' lines t) (inr (is_whole left left' lines t)) p
+
+  first_answers : (doc : Doc) → document_of_lines lines ≡ Some doc → Answers w w' l l' 0 (Ok doc) → Answers w w' l l' 0 (first_made (document_of_lines lines))
+  first_answers doc f a = subst (λ (form : Option Doc). Answers w w' l l' 0 (first_made form)) (sym f) a
+
+  pub ended_alone : (b : Bool) (doc : Doc) → b ≡ false → HasText left left' stream ended lines b → (document_of_lines lines ≡ Some doc) × Answers w w' l l' 0 (Ok doc) → Runs left left' w w' l l' Done
+  ended_alone true doc e t p = absurd (false≢true (sym e))
+  ended_alone false doc e t p =
+      let just : IsJust lines lines = just_whole lines o in
+      all_answered left left' w w' l l' false lines t
+      (ap (λ (l : List Line). answer_of (document_of_lines l) (after_end lines)) just.before ∙ ap (λ (form : Option Doc). answer_of form (after_end lines)) p.0 ∙ ap (answer_of (Some doc)) just.after)
+      (wrote_first lines lines just w w' l l' (first_answers doc p.0 p.1))
+
+  pub ended_at : (b : Bool) (doc : Doc) → b ≡ true → HasText left left' stream ended lines b → (document_of_lines lines ≡ Some doc) × Answers w w' l l' 0 (Ok doc)
+      → IsAt left left' w w' l l' stream ended doc 1 false
+  ended_at false doc e t p = absurd (false≢true e)
+  ended_at true doc e t p =
+      let given = lines ++ t.last ∷ [] in
+      let just : IsJust given lines = just_ended lines t.last o t.end in
+      let nothing : made_in doc (after_end given) ≡ [] = ap (made_in doc) just.after in
+      let once : all_made given ≡ Ok doc ∷ [] = just_made given lines just ∙ ap (λ (form : Option Doc). first_made form ∷ []) p.0 in
+      record {
+        given = given;
+        input = t.given.all;
+        answered = record {
+          laid = record {
+            first = doc;
+            ended = has_push lines t.last t.end;
+            read = ap document_of_lines just.before ∙ p.0;
+            now = ap (last_doc doc) (sym nothing);
+            count = ap (λ (m : List Made). length m) (sym once);
+            refused = ap some_refused (sym nothing);
+            few = omega (arith, length-append lines (t.last ∷ []));
+          };
+          output = wrote_first given lines just w w' l l' (first_answers doc p.0 p.1);
+        };
+      }
+
+pub ruleset starting = (stopped_in_text, ended_first, ended_alone, ended_at)
+
+-- ---- between two lines of the script
+
+none_or_some : {A : Type 0} (o : Option A) (x : A) → o ≡ Some x → o ≢ None
+none_or_some o x e n = none_is_no x (sym n ∙ e)
+
+module _ (left left' w w' : Option (List ℕ)) (l l' : Option (List Event)) (given : List Line) (doc : Doc) (k : ℕ) (bad : Bool) (p : HasAnswered w w' l l' given doc k bad) where
+  pub script_stopped : (status : Status) → Stops left left' given status → Runs left left' w w' l l' status
+  script_stopped status s = stopped left left' w w' l l' given status s (inr (p.laid.ended, none_or_some _ p.laid.first p.laid.read, p.output))
+
+  pub script_ended : HasGivenAll left left' given → Runs left left' w w' l l' (ended bad)
+  script_ended q =
+      all_answered left left' w w' l l' bad given q
+      (ap (λ (form : Option Doc). answer_of form (after_end given)) p.laid.read ∙ ap ended (sym p.laid.refused))
+      p.output
+
+-- no stop of reading is a fault of writing
+not_write_fault : {A : Type 0} (left now : Option (List ℕ)) (given : List Line) (status : Status) → Stops left now given status → status ≡ WriteFault → A
+not_write_fault left now given status s e = absurd (subst (Stops left now given) e s)
+
+pub unwritten_stop : (left now : Option (List ℕ)) (given : List Line) (status : Status) (before after : ℕ) → Stops left now given status → before ≤ after → HasCauseOf before after (status ≡ WriteFault)
+unwritten_stop left now given status before after s h = record { later = h; cause = λ e. not_write_fault left now given status s e }
+
+pub few_answers : (left now : Option (List ℕ)) (given : List Line) (stream : Stream) (ended : Bool) (k : ℕ) → HasGiven left now given stream ended → k ≤ length given → k ≤ 67108864
+few_answers left now given stream ended k p h = omega (arith, given_few left now given stream ended p, h)
+
+pub closer : (left now now' : Option (List ℕ)) (given : List Line) (line : Line) (stream stream' : Stream) (ended ended' : Bool) → HasGiven left now given stream ended → HasGiven left now' (given ++ line ∷ []) stream' ended'
+    → limit + 1 - stream'.number < limit + 1 - stream.number
+closer left now now' given line stream stream' ended ended' p q =
+    omega (arith, p.number, q.number, given_few left now' (given ++ line ∷ []) stream' ended' q, length-append given (line ∷ []))
+
+pub ruleset serving = (script_stopped, script_ended, few_answers, closer)

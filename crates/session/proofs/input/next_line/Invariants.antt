@@ -1,0 +1,17 @@
+use Rattle.std.proofs.Common.{◌≡◌, ◌≤◌, ℕ, List, Option, length}
+use Rattle.text_scan.specs.declared.line.Line.{Line}
+use Rattle.session.specs.Input.{HasGiven, to_go, limit}
+use Rattle.session.proofs.input.next_line.Given as goal
+
+abbrev pub invariant-loop-line : goal.invariant-loop-line
+invariant-loop-line g l =
+    record {
+      given : (before : Option (List ℕ)) (given : List Line) → HasGiven before (g.S.Source.left l.fn.source) given l.fn.reader.lines l.fn.reader.ended → HasGiven before (g.S.Source.left l.source) given l.reader.lines l.reader.ended;
+      count : l.reader.lines.fed ≡ l.reader.count;
+      within : l.reader.count ≤ limit;
+      room : length l.room ≡ 65536;
+      later : g.S.Source.faults l.fn.source ≤ g.S.Source.faults l.source;
+    }
+
+abbrev pub decreases-loop-line : goal.decreases-loop-line
+decreases-loop-line g l = to_go l.reader.count l.reader.ended

@@ -1,0 +1,97 @@
+-- The document text and the edit script of an input, and what each edit line makes.
+use Rattle.std.specs.Prelude.{ℕ, ◌+◌, ◌==◌, Bool, true, false, List, [], ◌∷◌, ◌++◌, if◌then◌else◌, Option, Some, None, Result, Ok, Err, codes}
+use Rattle.std.specs.List.{list_any}
+use Rattle.text_scan.specs.declared.line.Line.{Line}
+use Rattle.text_scan.specs.declared.line.Fault.{Fault}
+use Rattle.text_scan.specs.Tokens.{is_skipped}
+use Rattle.outside.specs.declared.ruler.Event.{Event}
+use Rattle.outside.specs.declared.ruler.Event.TheVariants.{Begin}
+use Rattle.doc_text.specs.declared.document.Doc.{Doc}
+use Rattle.doc_text.specs.declared.edit.Edit.{Edit}
+use Rattle.doc_text.specs.Documents.{document_of, is_end_of_document}
+use Rattle.doc_text.specs.EditLines.{edit_of}
+use Rattle.doc_text.specs.Edits.{edited}
+use Rattle.doc_text.specs.Gives.{not_built, not_built_at}
+use Rattle.session.specs.Boxes.{boxes_of}
+use Rattle.session.specs.Printing.{print, refusal}
+
+-- ---- the parts of an input
+
+-- some line is `---` and nothing else: it ends the document, and the script follows (own rule)
+abbrev pub has_end : List Line → Bool
+has_end lines = list_any is_end_of_document lines
+
+-- the lines of the document: those before the first such line, or all
+abbrev pub before_end : List Line → List Line
+before_end [] = []
+before_end (line ∷ lines) = if is_end_of_document line then [] else line ∷ before_end lines
+
+-- the lines of the script: those after it
+abbrev pub after_end : List Line → List Line
+after_end [] = []
+after_end (line ∷ lines) = if is_end_of_document line then lines else after_end lines
+
+-- the document that lines are, where they are one of the form that is built
+unfoldable pub document_of_lines : List Line → Option Doc
+document_of_lines lines = document_of lines
+
+-- ---- what each edit line makes
+
+-- what an edit makes of a document, where the line is one; a line that is none is refused at its first byte (own rule)
+abbrev pub applied : Doc → ℕ → Option Edit → Result Doc Fault
+applied doc number None = Err (not_built_at number)
+applied doc number (Some edit) = edited doc edit
+
+-- what the line of an edit makes of a document: the edited one, or the fault why it is refused
+unfoldable pub made_of : Doc → Line → Result Doc Fault
+made_of doc line = applied doc line.number (edit_of line)
+
+-- a refused edit leaves the document as it was
+abbrev pub next_doc : Doc → Result Doc Fault → Doc
+next_doc doc (Ok next) = next
+next_doc doc (Err fault) = doc
+
+-- what each edit line makes, in order, each of the document that those before it left; lines that are skipped are no edits
+abbrev pub made_in : Doc → List Line → List (Result Doc Fault)
+made_in doc [] = []
+made_in doc (line ∷ lines) = if is_skipped line then made_in doc lines else made_of doc line ∷ made_in (next_doc doc (made_of doc line)) lines
+
+-- the same with the document in front, which is made first; one that is not built is all that is made
+abbrev pub made_from : Option Doc → List Line → List (Result Doc Fault)
+made_from None script = Err not_built ∷ []
+made_from (Some doc) script = Ok doc ∷ made_in doc script
+
+abbrev pub all_made : List Line → List (Result Doc Fault)
+all_made lines = made_from (document_of_lines (before_end lines)) (after_end lines)
+
+-- ---- what is written and logged of it
+
+-- the name of a fault (own rule)
+abbrev pub fault_name : ℕ → List ℕ
+fault_name number = if number == 21 then codes "unknown-name" else codes "not-built"
+
+-- the boxes of the document that was made, or the line of the refusal, with the number k
+unfoldable pub text_of : ℕ → Result Doc Fault → List ℕ
+text_of k (Ok doc) = print k (boxes_of doc)
+text_of k (Err fault) = refusal k fault.place (fault_name fault.number)
+
+-- all of them, numbered from k on: the document has the number 0 and edit lines are counted from 1, refused ones too
+abbrev pub texts : ℕ → List (Result Doc Fault) → List ℕ
+texts k [] = []
+texts k (made ∷ rest) = text_of k made ++ texts (k + 1) rest
+
+-- a layout begins for each document that was made
+abbrev pub events_of : ℕ → Result Doc Fault → List Event
+events_of k (Ok doc) = Begin k ∷ []
+events_of k (Err fault) = []
+
+abbrev pub events : ℕ → List (Result Doc Fault) → List Event
+events k [] = []
+events k (made ∷ rest) = events_of k made ++ events (k + 1) rest
+
+abbrev pub is_refused : Result Doc Fault → Bool
+is_refused (Ok doc) = false
+is_refused (Err fault) = true
+
+abbrev pub some_refused : List (Result Doc Fault) → Bool
+some_refused made = list_any is_refused made

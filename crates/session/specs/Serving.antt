@@ -1,0 +1,108 @@
+-- A run while it goes on: the text of the document, its first layout, and the lines of the script one after another.
+use Rattle.std.specs.Prelude.{◌≡◌, ℕ, ◌≤◌, Bool, true, false, List, [], ◌∷◌, length, Option, Some, None, Result, Ok, Err, if◌then◌else◌}
+use Rattle.text_scan.specs.declared.line.Line.{Line}
+use Rattle.text_scan.specs.declared.line.Fault.{Fault}
+use Rattle.text_scan.specs.Stream.{Stream}
+use Rattle.outside.specs.Told.{Adds, AddsPrefix}
+use Rattle.outside.specs.declared.ruler.Event.{Event}
+use Rattle.doc_text.specs.declared.document.Doc.{Doc}
+use Rattle.doc_text.specs.Documents.{is_end_of_document}
+use Rattle.doc_text.specs.Gives.{not_built}
+use Rattle.session.specs.declared.engine.Engine.{Engine}
+use Rattle.session.specs.declared.text.Text.{Text}
+use Rattle.session.specs.Input.{HasGiven, HasGivenLine, HasGivenAll, Stops}
+use Rattle.session.specs.Script.{has_end, before_end, after_end, document_of_lines, made_in, next_doc, all_made, some_refused, text_of, events_of}
+use Rattle.session.specs.Runs.{WritesAll, Runs}
+use Rattle.session.specs.declared.serve.Progress.{Progress}
+use Rattle.session.specs.declared.status.Status.{Status}
+use Rattle.session.specs.declared.status.Status.TheVariants.{Done, BadDocument, SomeRefused, WriteFault, NoMemory}
+
+-- ---- the text of the document
+
+-- a line ended the document, and the script follows
+pub record HasEnded (before now : Option (List ℕ)) (stream : Stream) (ended : Bool) (lines : List Line) : Type 0 where
+  pub last : Line
+  pub end : is_end_of_document last ≡ true
+  pub given : HasGivenLine before now lines last stream ended
+
+-- the document ended at a line, or with the input
+abbrev pub HasText : Option (List ℕ) → Option (List ℕ) → Stream → Bool → List Line → Bool → Type 0
+HasText before now stream ended lines true = HasEnded before now stream ended lines
+HasText before now stream ended lines false = HasGivenAll before now lines
+
+-- reading stopped before the document ended
+pub record StopsInText (before now : Option (List ℕ)) (status : Status) : Type 0 where
+  pub given : List Line
+  pub unended : has_end given ≡ false
+  pub stops : Stops before now given status
+
+abbrev pub ReadsText : Option (List ℕ) → Option (List ℕ) → Stream → Bool → Result Text Status → Type 0
+ReadsText before now stream ended (Ok text) = (has_end text.lines ≡ false) × HasText before now stream ended text.lines text.has_script
+ReadsText before now stream ended (Err status) = StopsInText before now status
+
+-- ---- one answer
+
+-- what is made first: the document, or its refusal
+abbrev pub first_made : Option Doc → Result Doc Fault
+first_made None = Err not_built
+first_made (Some doc) = Ok doc
+
+module _ (held held' : Option (List ℕ)) (events events' : Option (List Event)) where
+  -- the answer with the number k to what was made
+  pub record Answers (k : ℕ) (made : Result Doc Fault) : Type 0 where
+    pub written : Adds held held' (text_of k made)
+    pub log : Adds events events' (events_of k made)
+
+  -- a prefix of it
+  pub record AnswersPrefix (k : ℕ) (made : Result Doc Fault) : Type 0 where
+    pub written : AddsPrefix held held' (text_of k made)
+    pub log : AddsPrefix events events' (events_of k made)
+
+  -- the lines are no document, or writing stopped
+  abbrev pub EndsFirst : Option Doc → Status → Type 0
+  EndsFirst doc BadDocument = (doc ≡ None) × Answers 0 (first_made doc)
+  EndsFirst doc WriteFault = AnswersPrefix 0 (first_made doc)
+  EndsFirst doc NoMemory = AnswersPrefix 0 (first_made doc)
+  EndsFirst doc status = ⊥
+
+  -- the document was laid out, or the run ended there
+  abbrev pub Begins : Option Doc → Result Engine Status → Type 0
+  Begins doc (Ok engine) = (doc ≡ Some engine.doc) × Answers 0 (Ok engine.doc)
+  Begins doc (Err status) = EndsFirst doc status
+
+-- ---- between two lines of the script
+
+-- the document after edits made all this
+abbrev pub last_doc : Doc → List (Result Doc Fault) → Doc
+last_doc doc [] = doc
+last_doc doc (made ∷ rest) = last_doc (next_doc doc made) rest
+
+-- the lines so far hold the whole document, and their edits made this document, so many answers, and a refusal or none
+pub record IsLaid (given : List Line) (doc : Doc) (k : ℕ) (bad : Bool) : Type 0 where
+  pub first : Doc
+  pub ended : has_end given ≡ true
+  pub read : document_of_lines (before_end given) ≡ Some first
+  pub now : doc ≡ last_doc first (made_in first (after_end given))
+  pub count : k ≡ length (all_made given)
+  pub refused : bad ≡ some_refused (made_in first (after_end given))
+  pub few : k ≤ length given
+
+-- and all of these answers were written and logged
+pub record HasAnswered (held held' : Option (List ℕ)) (events events' : Option (List Event)) (given : List Line) (doc : Doc) (k : ℕ) (bad : Bool) : Type 0 where
+  pub laid : IsLaid given doc k bad
+  pub output : WritesAll held held' events events' given
+
+-- these lines were given and answered, and nothing else was written or logged
+pub record IsAt (before now held held' : Option (List ℕ)) (events events' : Option (List Event)) (stream : Stream) (ended : Bool) (doc : Doc) (k : ℕ) (bad : Bool) : Type 0 where
+  pub given : List Line
+  pub input : HasGiven before now given stream ended
+  pub answered : HasAnswered held held' events events' given doc k bad
+
+-- a script follows the document, or the run ended before
+abbrev pub Starts : (before now held held' : Option (List ℕ)) (events events' : Option (List Event)) → Stream → Bool → Result Progress Status → Type 0
+Starts before now held held' events events' stream ended (Ok progress) = IsAt before now held held' events events' stream ended progress.engine.doc progress.number progress.refused
+Starts before now held held' events events' stream ended (Err status) = Runs before now held held' events events' status
+
+-- the answer once all lines were answered
+abbrev pub ended : Bool → Status
+ended refused = if refused then SomeRefused else Done

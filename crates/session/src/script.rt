@@ -1,0 +1,101 @@
+ghost use Rattle.std.specs.Prelude.{◌≡◌, ◌≤◌, ◌<◌, Err, false, length, IfOk, OnOk};
+ghost use Rattle.outside.specs.Faults.{HasCauseOf};
+ghost use Rattle.text_scan.specs.Stream.{empty_stream};
+ghost use Rattle.session.specs.Boxes.{IsBounded};
+ghost use Rattle.session.specs.Input.{limit};
+ghost use Rattle.session.specs.Runs.{Runs};
+ghost use Rattle.session.specs.Serving.{Starts, ended};
+
+use crate::Status;
+use crate::input::{PIECE, Reader, next_line};
+use crate::serve::{Progress, answer_line, begin};
+use crate::text::read_text;
+use lunit::Steps;
+use outside::{Ruler, Sink, Source};
+use std::alloc::Global;
+use std::sync::ledger::Ledger;
+
+/// Reads the document and lays it out. Gives how far the run is where a script follows, or else how it ended.
+#[tactic(auto, using(crate::proofs::Running::starting))]
+fn start<S: Source, K: Sink, R: Ruler, L: Ledger>(
+    alloc: Global,
+    source: &mut S,
+    room: &mut [u8],
+    reader: &mut Reader,
+    sink: &mut K,
+    ruler: &mut R,
+    passes: &mut Steps<L>,
+) -> Result<Progress, Status>
+    requires room { length room.old ≡ 65536 }
+    requires new { (reader.old.lines ≡ empty_stream) × (reader.old.count ≡ 0) × (reader.old.ended ≡ false) }
+    ensures starts { Starts (S.left source.old) (S.left source.new) (K.written sink.old) (K.written sink.new) (R.log ruler.old) (R.log ruler.new) reader.new.lines reader.new.ended result }
+    ensures engine { IfOk result (λ progress. IsBounded progress.engine.doc × (progress.engine.calls < progress.number)) }
+    ensures room { length room.new ≡ 65536 }
+    ensures count { OnOk result (reader.new.lines.fed ≡ reader.new.count) }
+    ensures within { OnOk result (reader.new.count ≤ limit) }
+    ensures read { HasCauseOf (S.faults source.old) (S.faults source.new) (result ≡ Err Status.ReadFault) }
+    ensures write { HasCauseOf (K.faults sink.old) (K.faults sink.new) (result ≡ Err Status.WriteFault) }
+    ensures passes { passes.new ≡ passes.old }
+{
+    let text = match read_text(alloc, source, room, reader) {
+        Ok(text) => text,
+        Err(status) => return Err(status),
+    };
+    let engine = match begin(alloc, text.lines.as_slice(), sink, ruler, passes) {
+        Ok(engine) => engine,
+        Err(status) => return Err(status),
+    };
+    if !text.has_script {
+        return Err(Status::Done);
+    }
+    Ok(Progress {
+        engine,
+        number: 1,
+        refused: false,
+    })
+}
+
+/// Answers an input: its document, and then each line of its script as soon as the line is whole.
+#[tactic(auto, using(crate::proofs::Running::serving))]
+pub(crate) fn serve<S: Source, K: Sink, R: Ruler, L: Ledger>(
+    alloc: Global,
+    source: &mut S,
+    sink: &mut K,
+    ruler: &mut R,
+    passes: &mut Steps<L>,
+) -> Status
+    ensures runs { Runs (S.left source.old) (S.left source.new) (K.written sink.old) (K.written sink.new) (R.log ruler.old) (R.log ruler.new) result }
+    ensures read { HasCauseOf (S.faults source.old) (S.faults source.new) (result ≡ Status.ReadFault) }
+    ensures write { HasCauseOf (K.faults sink.old) (K.faults sink.new) (result ≡ Status.WriteFault) }
+    ensures passes { passes.new ≡ passes.old }
+{
+    let mut room = [0; PIECE];
+    let mut reader = Reader::new(alloc);
+    let mut progress = match start(alloc, source, &mut room, &mut reader, sink, ruler, passes) {
+        Ok(progress) => progress,
+        Err(status) => return status,
+    };
+    loop {
+        match next_line(source, &mut room, &mut reader) {
+            Ok(Some(line)) => {
+                match answer_line(alloc, &mut progress, &line, sink, ruler, passes) {
+                    Ok(()) => (),
+                    Err(status) => return status,
+                }
+            }
+            Ok(None) => return ended(progress.refused),
+            Err(status) => return status,
+        }
+    }
+}
+
+/// How a run ends whose input was answered to its end.
+fn ended(refused: bool) -> Status
+    ensures { result ≡ ended refused }
+{
+    if refused {
+        Status::SomeRefused
+    } else {
+        Status::Done
+    }
+}
