@@ -5,3 +5,4 @@ pub mod Fractions
 pub mod Placed
 pub mod Sharing
 pub mod WordLines
+pub mod Frozen

@@ -1,5 +1,5 @@
 -- What is placed in a free place overlaps nothing that is placed before, and no earlier place was free.
-use Rattle.std.proofs.Common.{arith, ap, subst, ◌≡◌, sym, ◌∙◌, refl, ℕ, zero, suc, ℤ, pos, negsuc, ◌+ℤ◌, ◌-ℤ◌, ◌≤ℤ◌, ◌<ℤ◌, ◌⊎◌, inl, inr, Bool, true, false, not, ◌&&◌, List, [], ◌∷◌, if◌then◌else◌, int_lt, int_le}
+use Rattle.std.proofs.Common.{◌<◌, arith, ap, subst, ◌≡◌, sym, ◌∙◌, refl, ℕ, zero, suc, ℤ, pos, negsuc, ◌+ℤ◌, ◌-ℤ◌, ◌≤ℤ◌, ◌<ℤ◌, ◌⊎◌, inl, inr, Bool, true, false, not, ◌&&◌, List, [], ◌∷◌, if◌then◌else◌, int_lt, int_le}
 use Rattle.std.specs.Int.{int_max, int_min}
 use Rattle.std.proofs.lemmas.Int.{ints, clamps}
 use Rattle.lunit.specs.Areas.{is_free, areas_overlap, spans_overlap}
@@ -8,7 +8,7 @@ use Rattle.lunit.specs.declared.geometry.Area.{Area}
 use Rattle.lunit.specs.declared.geometry.Spot.{Spot}
 use Rattle.lunit.specs.declared.geometry.Spot.TheVariants.{At, Free}
 use Rattle.part_rules.specs.Lists.{above_zero, greatest_with}
-use Rattle.part_rules.specs.Placement.{to_end, first_free, far_column, far_row, free_column, free_row, Position, free_position, rows_to_search, row_area, row_search_start, Field, column_search_start, free_search_start, area_at, next_area, IsFreeOf, IsEarlier, IsLeast}
+use Rattle.part_rules.specs.Placement.{to_end, first_free, far_column, far_row, free_column, free_row, Position, free_position, rows_to_search, row_area, row_search_start, Field, column_search_start, free_search_start, area_at, next_area, IsFreeOf, IsEarlier, IsLeast, IsInside}
 
 -- ---- the least place is free, and no place before it
 
@@ -138,6 +138,37 @@ next_area_free f placed cursor (At columns) (At rows) = tt
 next_area_free f placed cursor (At columns) (Free l) = free_row_free placed columns l (column_search_start f cursor columns)
 next_area_free f placed cursor (Free k) (At rows) = tt
 next_area_free f placed cursor (Free k) (Free l) = free_position_free placed f.columns k l (free_search_start f cursor)
+
+-- ---- the position found is within the columns
+
+first_least : (area : ℤ → Area) (placed : List Area) (n : ℕ) (from : ℤ) → from ≤ℤ first_free area placed n from
+first_least area placed zero from = omega (arith, ints)
+first_least area placed (suc n) from = go (is_free (area from) placed) (first_least area placed n (from +ℤ pos 1))
+  where
+    go : (b : Bool) → (from +ℤ pos 1) ≤ℤ first_free area placed n (from +ℤ pos 1) → from ≤ℤ (if b then from else first_free area placed n (from +ℤ pos 1))
+    go true h = omega (arith, ints)
+    go false h = omega (arith, ints)
+
+inside_of : (placed : List Area) (columns : Span) (k l n : ℕ) (from : Position) → columns.start ≤ℤ from.column → (columns.start +ℤ pos k) ≤ℤ columns.end → ((from.column +ℤ pos k) ≤ℤ columns.end) ⊎ (0 < n)
+    → IsInside columns k (free_position placed columns k l n from)
+inside_of placed columns k l zero from s e (inl h) = record { starts = s; ends = h }
+inside_of placed columns k l zero from s e (inr h) = absurd (omega (arith, h))
+inside_of placed columns k l (suc n) from s e h =
+    go (first_free (λ c. record { columns = to_end c k; rows = to_end from.row l }) placed (above_zero (columns.end -ℤ pos k +ℤ pos 1 -ℤ from.column)) from.column)
+    (first_least (λ c. record { columns = to_end c k; rows = to_end from.row l }) placed (above_zero (columns.end -ℤ pos k +ℤ pos 1 -ℤ from.column)) from.column)
+    (inside_of placed columns k l n (record { column = columns.start; row = from.row +ℤ pos 1 }) (omega (arith, ints)) e (inl e))
+  where
+    go : (c : ℤ) → from.column ≤ℤ c → IsInside columns k (free_position placed columns k l n (record { column = columns.start; row = from.row +ℤ pos 1 }))
+        → IsInside columns k (if int_le (c +ℤ pos k) columns.end then record { column = c; row = from.row } else free_position placed columns k l n (record { column = columns.start; row = from.row +ℤ pos 1 }))
+    go c low later = by (int_le (c +ℤ pos k) columns.end) refl
+      where
+        by : (t : Bool) → int_le (c +ℤ pos k) columns.end ≡ t → IsInside columns k (if t then record { column = c; row = from.row } else free_position placed columns k l n (record { column = columns.start; row = from.row +ℤ pos 1 }))
+        by true t = record { starts = omega (arith, ints); ends = omega (arith, ints) }
+        by false t = later
+
+pub free_position_inside : (placed : List Area) (columns : Span) (k l : ℕ) (from : Position) → columns.start ≤ℤ from.column → (columns.start +ℤ pos k) ≤ℤ columns.end
+    → IsInside columns k (free_position placed columns k l (rows_to_search placed from.row) from)
+free_position_inside placed columns k l from s e = inside_of placed columns k l (rows_to_search placed from.row) from s e (inr (omega arith))
 
 -- ---- no earlier position was free
 

@@ -17,7 +17,7 @@ spreads Center = false
 spreads Stretch = false
 
 -- How far subject k, from 0, of n is moved by the free space. `normal` and `stretch` place as start. The roundings are own
--- rules, and so is that one subject under `space-between` stands at the start (as in CSS Box Alignment 3, 4.3).
+-- rules; one subject under `space-between` stands at the start (CSS Box Alignment 3, 4.3).
 abbrev pub moved : Mode → ℤ → ℕ → ℕ → ℤ
 moved Start free k n = pos 0
 moved End free k n = free

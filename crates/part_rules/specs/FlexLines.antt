@@ -105,9 +105,9 @@ given_parts grow space line =
     let weights = map (weight_of grow) line in
     if total_of weights == 0 then map (λ (p : Piece). pos 0) line else apportioned_whole space weights
 
--- the size that an item would have, as a box size is limited (own rule)
+-- the size that an item would have; a sum, which is not limited by the range (own rule)
 abbrev pub tried : Bool → Piece → ℤ → ℤ
-tried grow p part = clamp (if grow then p.item.base +ℤ part else p.item.base -ℤ part)
+tried grow p part = if grow then p.item.base +ℤ part else p.item.base -ℤ part
 
 -- what its own limits change of it
 abbrev pub violation : Piece → ℤ → ℤ
@@ -118,9 +118,10 @@ violation p size = if is_free p then limited_main p.item size -ℤ size else pos
 abbrev pub freezes : ℤ → ℤ → Bool
 freezes sum change = (int_le (pos 0) sum && int_le sum (pos 0)) || ((int_lt (pos 0) sum && int_lt (pos 0) change) || (int_lt sum (pos 0) && int_lt change (pos 0)))
 
--- the item after its size was tried (CSS Flexbox 1, 9.7, step 4)
+-- the item after its size was tried; a size that it is frozen at is limited as each box size is (CSS Flexbox 1, 9.7, step 4;
+-- the range is an own rule)
 abbrev pub frozen_by : ℤ → Piece → ℤ → Piece
-frozen_by sum p size = if is_free p && freezes sum (violation p size) then record p { frozen = Some (limited_main p.item size) } else p
+frozen_by sum p size = if is_free p && freezes sum (violation p size) then record p { frozen = Some (clamp (limited_main p.item size)) } else p
 
 -- one time through the steps
 abbrev pub turn : Bool → ℤ → ℤ → ℤ → List Piece → List Piece
@@ -181,8 +182,9 @@ line_crosses outer lines cross gap wrap stretch = stretched_lines cross gap (wra
 
 -- What the margins of a line take of its rest, in the order of the items and the start before the end: those that are `auto`
 -- share it in equal parts (the odd units to the first ones: own rule; the start margins could also have gone before all ends).
+-- The rest is limited as each space that is shared (own rule).
 abbrev pub line_margins : ℤ → List Bool → List ℤ
-line_margins rest autos = shares rest (map (λ (auto : Bool). if auto then None else Some (pos 0)) autos)
+line_margins rest autos = shares (clamp rest) (map (λ (auto : Bool). if auto then None else Some (pos 0)) autos)
 
 -- ---- worked rows, in units
 
@@ -193,6 +195,12 @@ item base min max grow shrink = record { base = base; min = min; max = max; marg
 one_limit : line_sizes (pos 6400) (pos 0) (item (pos 0) (pos 0) (Some (pos 1920)) 1000 1000 ∷ item (pos 0) (pos 0) None 1000 1000 ∷ []) ≡ pos 1920 ∷ pos 4480 ∷ []
 unfolding resolved clamp floor_div rounds_with_room
 one_limit = refl
+
+-- The first has the greatest size already, and margins that take it back. Of 200 each gets 100: the first is lowered by 100 and
+-- the second raised by 50, so the first is frozen, and the second takes all. The range alone lowers no size.
+past_the_range : line_sizes (pos 200) (pos 0) (record { base = pos 1073741824; min = pos 0; max = Some (pos 1073741824); margins = negsuc 1073741823; inner = pos 0; grow = 1000; shrink = 1000 } ∷ item (pos 0) (pos 150) None 1000 1000 ∷ []) ≡ pos 1073741824 ∷ pos 200 ∷ []
+unfolding resolved clamp floor_div rounds_with_room
+past_the_range = refl
 
 -- A factor of 0.25 alone takes a quarter of 6400.
 quarter : line_sizes (pos 6400) (pos 0) (item (pos 0) (pos 0) None 250 1000 ∷ []) ≡ pos 1600 ∷ []
@@ -266,8 +274,9 @@ cross_unknown = refl
 
 -- Three of four margins are `auto` and share 10 as 4, 3 and 3.
 margins_share : line_margins (pos 10) (true ∷ false ∷ true ∷ true ∷ []) ≡ pos 4 ∷ pos 0 ∷ pos 3 ∷ pos 3 ∷ []
-unfolding rounds_with_room
+unfolding clamp rounds_with_room
 margins_share = refl
 
 margins_none : line_margins (negsuc 2) (true ∷ []) ≡ pos 0 ∷ []
+unfolding clamp
 margins_none = refl

@@ -231,6 +231,11 @@ pub record IsEarlier (columns : Span) (k : ℕ) (from found q : Position) : Type
   pub reached : (from.row <ℤ q.row) ⊎ ((from.row ≡ q.row) × (from.column ≤ℤ q.column))
   pub passed : (q.row <ℤ found.row) ⊎ ((q.row ≡ found.row) × (q.column <ℤ found.column))
 
+-- a position whose area of so many columns is within the columns
+pub record IsInside (columns : Span) (k : ℕ) (found : Position) : Type 0 where
+  pub starts : columns.start ≤ℤ found.column
+  pub ends : (found.column +ℤ pos k) ≤ℤ columns.end
+
 -- no position before the one found was free
 abbrev pub IsLeast : List Area → Span → ℕ → ℕ → Position → Position → Type 0
 IsLeast held columns k l from found = (q : Position) → IsEarlier columns k from found q → is_free (area_at q k l) held ≡ false

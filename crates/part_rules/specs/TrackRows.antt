@@ -147,8 +147,9 @@ fit_content_passed : track_sizes (rule least.Auto (most.Fit (pos 20)) ∷ rule l
 unfolding sized group_fitted spans_fitted rounds_with_room left_flexible clamp floor_div
 fit_content_passed = refl
 
--- 20 as 10 and 10. The first limit had no end and becomes 10; for the max-content contribution of 60 it still grows, to 50.
-infinitely_growable : track_sizes (autos ∷ rule least.Auto (most.Fixed (pos 10)) ∷ []) (pos 0) (item (pos 0) (pos 2) (pos 20) (pos 60) (pos 20) ∷ []) (within MaxContent false) ≡ pos 50 ∷ pos 10 ∷ []
+-- The first track takes 10 of the 20, as the second has 10 by its own item. The first limit had no end and becomes 10; for the
+-- max-content contribution of 60 it alone still grows, to 50, and takes all of the free space.
+infinitely_growable : track_sizes (autos ∷ autos ∷ []) (pos 0) (item (pos 1) (pos 2) (pos 10) (pos 10) (pos 10) ∷ item (pos 0) (pos 2) (pos 20) (pos 60) (pos 20) ∷ []) (within (Definite (pos 200)) false) ≡ pos 50 ∷ pos 10 ∷ []
 unfolding sized group_fitted spans_fitted rounds_with_room left_flexible clamp floor_div
 infinitely_growable = refl
 

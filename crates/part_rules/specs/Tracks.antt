@@ -31,7 +31,7 @@ pub record Track : Type 0 where
   pub base : ℤ
   -- the growth limit; None is without end
   pub limit : Option ℤ
-  -- infinitely growable (CSS Grid 2, 12.5.1)
+  -- infinitely growable (CSS Grid 2, 12.5, step 3)
   pub endless : Bool
   -- what the item at hand has given it, and the greatest that one of the items gave it (CSS Grid 2, 12.5.1)
   pub incurred : ℤ
@@ -227,7 +227,7 @@ low i = i.low
 abbrev pub high : Item → ℤ
 high i = i.high
 
--- ---- the kind of the space (CSS Grid 2, 12.1)
+-- ---- the kind of the space (CSS Grid 2, 12.2)
 
 -- a definite space
 abbrev pub is_definite : {axis : ℕ} → Space axis → Bool

@@ -68,13 +68,13 @@ content_size tracks before after = clamp (int_max (pos 0) (area_size tracks -ℤ
 abbrev pub seen : ℤ → ℤ → ℤ → List (ℤ × ℤ) → List (ℤ × ℤ)
 seen d before after tracks = all_tracks d (first_start tracks +ℤ before) (content_size tracks before after) tracks
 
--- The view of a subgrid over a span of its parent's view.
+-- The view of a subgrid over a span of its parent's view. Both gutters are those that are used at layout.
 abbrev pub view_of : {axis : ℕ} → View axis → Span → ℤ → ℤ → ℤ → View axis
 view_of outer span gap before after = record { edges = seen (gap -ℤ outer.gap) before after (tracks_over outer.edges span); gap = gap }
 
 -- ---- extra margins (CSS Grid 2, section 9; the rule for inner lines is an own rule)
 
--- a subgrid's gutter less its parent's
+-- a subgrid's gutter less its parent's, both as for lent items, where a percentage counts 0 (own rule)
 abbrev pub gap_difference : Level → ℤ
 gap_difference l = l.gap -ℤ l.outer_gap
 

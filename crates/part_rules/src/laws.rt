@@ -1,20 +1,21 @@
 //! What holds of the definitions. Each law is the contract of a function that does nothing.
 
-ghost use Rattle.std.specs.Prelude.{◌≡◌, Bool, List, false, ℕ, ◌<ℤ◌, ℤ, pos, length, ◌+ℤ◌, ◌-◌, ◌-ℤ◌, ◌≤ℤ◌, ◌<◌, map, IsTrue};
-ghost use Rattle.std.specs.List.{list_any};
+ghost use Rattle.std.specs.Prelude.{◌≡◌, Bool, List, false, true, is_some, ℕ, ◌<ℤ◌, ℤ, pos, length, ◌+ℤ◌, ◌-◌, ◌-ℤ◌, ◌≤ℤ◌, ◌<◌, map, IsTrue};
+ghost use Rattle.std.specs.List.{list_all, list_any};
 ghost use Rattle.lunit.specs.declared.geometry.Area.{Area};
 ghost use Rattle.lunit.specs.declared.geometry.Spot.{Spot};
 ghost use Rattle.part_rules.specs.declared.share.Share.{Share};
 ghost use Rattle.part_rules.specs.Alignment.{content_moved};
 ghost use Rattle.part_rules.specs.Fractions.{are_bases, expanded, falls_short, found, left_flexible, leftover, weight_of, NoneBelow};
+ghost use Rattle.part_rules.specs.FlexLines.{Piece, begin, resolved};
 ghost use Rattle.part_rules.specs.Lists.{sum_of, total_of};
 ghost use Rattle.part_rules.specs.WordLines.{AreFewest, are_widths, word_lines};
-ghost use Rattle.part_rules.specs.Placement.{Field, Position, IsFreeOf, IsLeast, NoOverlap, free_column, free_position, free_row, next_area, placed, row_area, rows_to_search, to_end};
+ghost use Rattle.part_rules.specs.Placement.{Field, Position, IsFreeOf, IsInside, IsLeast, NoOverlap, free_column, free_position, free_row, next_area, placed, row_area, rows_to_search, to_end};
 ghost use Rattle.lunit.specs.Areas.{is_free};
 ghost use Rattle.lunit.specs.declared.geometry.Span.{Span};
 ghost use Rattle.part_rules.specs.Sharing.{IsShared, shared_rows, left_over, apportioned_whole};
 
-use crate::{FrRow, Mode, Shape, Share, Wish};
+use crate::{FlexItem, FrRow, Mode, Shape, Share, Wish};
 use lunit::Lu;
 
 /// Nothing is lost where a space is handed out, and it is handed out as far as there is room.
@@ -57,6 +58,12 @@ pub fn fractions_cover_bases(rows: &[FrRow], gutters: Lu, space: Lu)
     ensures none_below { NoneBelow rows.now (expanded (found rows.now gutters space) rows.now) }
 {}
 
+/// All items of a flex line are frozen after as many turns as it has items, however the space was shared before.
+#[tactic(auto, using(crate::proofs::Frozen::all_frozen))]
+pub fn all_items_are_frozen(grow: bool, main: i64, gap: i64, initial: i64, items: &[FlexItem])
+    ensures { list_all (λ (p : Piece). is_some p.frozen) (resolved (length items.now) grow main gap initial (map (begin grow) items.now)) ≡ true }
+{}
+
 /// The area that an item without a definite place gets overlaps none that is placed before: in a definite row, and for
 /// the items that are left.
 #[tactic(auto, using(crate::proofs::Placed::row_area_free, crate::proofs::Placed::next_area_free))]
@@ -72,10 +79,12 @@ pub fn areas_are_apart(items: &[Wish], shape: Shape)
 {}
 
 /// No place before the one that an item gets, from where its search begins, was free: a column in definite rows, a row in
-/// definite columns, and a position by rows and then by columns.
+/// definite columns, and a position by rows and then by columns. Such a position is within the columns where an item of its
+/// width can be.
 #[tactic(auto, using(crate::proofs::Placed::none_before))]
 pub fn free_items_take_the_least_place()
     ensures column { (held : List Area) (k : ℕ) (rows : Span) (from x : ℤ) → from ≤ℤ x → x <ℤ free_column held k rows from → is_free (record { columns = to_end x k; rows = rows }) held ≡ false }
     ensures row { (held : List Area) (columns : Span) (l : ℕ) (from x : ℤ) → from ≤ℤ x → x <ℤ free_row held columns l from → is_free (record { columns = columns; rows = to_end x l }) held ≡ false }
     ensures position { (held : List Area) (columns : Span) (k l : ℕ) (from : Position) → IsLeast held columns k l from (free_position held columns k l (rows_to_search held from.row) from) }
+    ensures inside { (held : List Area) (columns : Span) (k l : ℕ) (from : Position) → columns.start ≤ℤ from.column → (columns.start +ℤ pos k) ≤ℤ columns.end → IsInside columns k (free_position held columns k l (rows_to_search held from.row) from) }
 {}

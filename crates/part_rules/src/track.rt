@@ -31,7 +31,7 @@ pub struct Rule {
     pub collapsed: bool,
 }
 
-/// The space that tracks are sized for (CSS Grid 2, section 12.1).
+/// The space that tracks are sized for (CSS Grid 2, section 12.2).
 #[derive(Clone, Copy, Debug, PartialEq, Eq)]
 pub enum Space<const AXIS: u8> {
     Definite(Along<AXIS>),
