@@ -1,0 +1,14 @@
+pub mod Limits
+pub mod Fronts
+pub mod Rests
+pub mod Joins
+pub mod Keeping
+pub mod Holding
+pub mod TrackLists
+pub mod SubgridSets
+pub mod Scans
+pub mod Within
+pub mod Cuts
+pub mod Suffixes
+pub mod PlainLists
+pub mod NumberParts

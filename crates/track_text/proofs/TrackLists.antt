@@ -1,0 +1,133 @@
+-- Track lists by their parts.
+use Rattle.std.proofs.Common.{◌≡◌, ℕ, zero, suc, ◌+◌, ◌≤◌, ◌<◌, Bool, true, false, ◌||◌, ◌&&◌, List, [], ◌∷◌, ◌++◌, take, drop, get_or, length, ap, refl, sym, ◌∙◌, arith, if◌then◌else◌, Option, Some, None}
+use Rattle.std.proofs.lemmas.List.{append-nil, append_assoc, take-append-drop}
+use Rattle.std.proofs.lemmas.List.Folds.{list_all-append}
+use Rattle.std.proofs.lemmas.Bool.{true≢false, true_from_ne_false}
+use Rattle.std.specs.List.{list_all}
+use Rattle.std.specs.Option.{option_map}
+use Rattle.style_types.specs.declared.track.TrackFn.{TrackFn}
+use Rattle.style_types.specs.declared.track.TrackList.{TrackList}
+use Rattle.track_text.specs.declared.entry.Entry.{Entry}
+use Rattle.track_text.specs.declared.entry.Entry.TheVariants as entry
+use Rattle.track_text.specs.declared.entry.Part.{Part}
+use Rattle.track_text.specs.declared.entry.Part.TheVariants as part
+use Rattle.track_text.specs.Words.{Word, bind, all_from}
+use Rattle.track_text.specs.Repeats.{has_track, times, part_first}
+use Rattle.track_text.specs.Templates.{tracks_of, kept_tracks, kept_names, entry_is_fixed, all_fixed, plain_list, automatic_list, written_out, list_of, track_list}
+use Rattle.track_text.specs.Kept.{entries_of, is_written, is_never, part_is_fixed}
+use Rattle.track_text.proofs.Holding.{from_there}
+
+false_or_true : {A : Type 0} → false ≡ true → A
+false_or_true e = elim (true≢false (sym e)) [ ]
+
+-- ---- tracks beside an automatic repeat
+
+fixed-append : (xs ys : List Entry) → all_fixed (xs ++ ys) ≡ (all_fixed xs && all_fixed ys)
+fixed-append xs ys = list_all-append entry_is_fixed xs ys
+
+fixed-times : (count : ℕ) (body : List Entry) → (is_never count || all_fixed body) ≡ all_fixed (times count body)
+fixed-times zero body = refl
+fixed-times (suc count) body = by_tests (all_fixed body) (is_never count) ∙ ap (λ (b : Bool). all_fixed body && b) (fixed-times count body) ∙ sym (fixed-append body (times count body)) where
+  by_tests : (b k : Bool) → b ≡ (b && (k || b))
+  by_tests true true = refl
+  by_tests true false = refl
+  by_tests false k = refl
+
+pub fixed-parts : (parts : List Part) → list_all part_is_fixed parts ≡ all_fixed (entries_of parts)
+fixed-parts [] = refl
+fixed-parts (part.Written count body ∷ parts) = ap (λ (b : Bool). (is_never count || all_fixed body) && b) (fixed-parts parts) ∙ ap (λ (b : Bool). b && all_fixed (entries_of parts)) (fixed-times count body) ∙ sym (fixed-append (times count body) (entries_of parts))
+fixed-parts (part.Automatic auto_fit body ∷ parts) = fixed-parts parts
+
+-- ---- lists by the first automatic repeat
+
+pub written-is : (parts : List Part) → written_out parts ≡ (if list_all is_written parts then Some (entries_of parts) else None)
+written-is [] = refl
+written-is (part.Written count body ∷ parts) = ap (option_map (λ rest. times count body ++ rest)) (written-is parts) ∙ by_test (list_all is_written parts) where
+  by_test : (b : Bool) → option_map (λ rest. times count body ++ rest) (if b then Some (entries_of parts) else None) ≡ (if b then Some (times count body ++ entries_of parts) else None)
+  by_test true = refl
+  by_test false = refl
+written-is (part.Automatic auto_fit body ∷ parts) = refl
+
+pub list-plain : (front : List Entry) (parts : List Part) → list_all is_written parts ≡ true → list_of front parts ≡ plain_list (front ++ entries_of parts)
+list-plain front [] h = ap plain_list (sym (append-nil front))
+list-plain front (part.Written count body ∷ parts) h = list-plain (front ++ times count body) parts h ∙ ap plain_list (append_assoc front (times count body) (entries_of parts))
+list-plain front (part.Automatic auto_fit body ∷ parts) h = false_or_true h
+
+pub list-around : (front : List Entry) (before : List Part) (auto_fit : Bool) (body : List Entry) (after : List Part) → list_all is_written before ≡ true
+    → list_of front (before ++ part.Automatic auto_fit body ∷ after) ≡ bind (written_out after) (automatic_list (front ++ entries_of before) auto_fit body)
+list-around front [] auto_fit body after h = ap (λ (es : List Entry). bind (written_out after) (automatic_list es auto_fit body)) (sym (append-nil front))
+list-around front (part.Written count more ∷ before) auto_fit body after h = list-around (front ++ times count more) before auto_fit body after h ∙ ap (λ (es : List Entry). bind (written_out after) (automatic_list es auto_fit body)) (append_assoc front (times count more) (entries_of before))
+list-around front (part.Automatic fit more ∷ before) auto_fit body after h = false_or_true h
+
+pub list-after : (front : List Entry) (auto_fit : Bool) (body : List Entry) (after : List Part) → list_all is_written after ≡ true
+    → bind (written_out after) (automatic_list front auto_fit body) ≡ automatic_list front auto_fit body (entries_of after)
+list-after front auto_fit body after h = ap (λ (es : Option (List Entry)). bind es (automatic_list front auto_fit body)) (written-is after ∙ ap (λ (b : Bool). if b then Some (entries_of after) else None) h)
+
+pub list-twice : (front : List Entry) (auto_fit : Bool) (body : List Entry) (after : List Part) → list_all is_written after ≡ false
+    → bind (written_out after) (automatic_list front auto_fit body) ≡ None
+list-twice front auto_fit body after h = ap (λ (es : Option (List Entry)). bind es (automatic_list front auto_fit body)) (written-is after ∙ ap (λ (b : Bool). if b then Some (entries_of after) else None) h)
+
+-- ---- the list has a track
+
+no-tracks : (es : List Entry) → take 10000 (tracks_of es) ≡ [] → has_track es ≡ false
+no-tracks [] e = refl
+no-tracks (entry.Track size ∷ es) e = let wrong : ⊥ = false_length (take 9999 (tracks_of es)) (ap length e) in elim wrong [ ] where
+  false_length : (xs : List TrackFn) → suc (length xs) ≡ 0 → ⊥
+  false_length xs n = omega arith
+no-tracks (entry.Named name ∷ es) e = no-tracks es e
+
+none-kept : (es : List Entry) → has_track es ≡ false → tracks_of es ≡ []
+none-kept [] h = refl
+none-kept (entry.Track size ∷ es) h = elim (true≢false h) [ ]
+none-kept (entry.Named name ∷ es) h = none-kept es h
+
+pub plain-none : (es : List Entry) → kept_tracks es ≡ [] → plain_list es ≡ None
+plain-none es e = rw (no-tracks es e) refl
+
+pub never-zero : (count : ℕ) → count ≡ 0 → is_never count ≡ true
+never-zero zero e = refl
+never-zero (suc count) e = let wrong : ⊥ = omega arith in elim wrong [ ]
+
+pub never-more : (count : ℕ) → (count ≡ 0 → ⊥) → is_never count ≡ false
+never-more zero e = elim (e refl) [ ]
+never-more (suc count) e = refl
+
+pub plain-some : (es : List Entry) → (kept_tracks es ≡ [] → ⊥) → plain_list es ≡ Some (record { sizes = kept_tracks es; names = kept_names es; repeat = None })
+plain-some es some = rw (true_from_ne_false (has_track es) (λ h. some (ap (take 10000) (none-kept es h)))) refl
+
+few : (n : ℕ) (xs : List TrackFn) → length (take n xs) ≤ n
+few zero xs = omega arith
+few (suc n) [] = omega arith
+few (suc n) (x ∷ xs) = omega (arith, few n xs)
+
+pub kept-few : (es : List Entry) → length (kept_tracks es) ≤ 10000
+kept-few es = few 10000 (tracks_of es)
+
+-- ---- the first automatic repeat
+
+pub all-more : (parts : List Part) (i : ℕ) (x : Part) → i < length parts → get_or parts i x ≡ x → list_all is_written (take i parts) ≡ true → is_written x ≡ true → list_all is_written (take (i + 1) parts) ≡ true
+all-more [] i x h e a w = let wrong : ⊥ = omega arith in elim wrong [ ]
+all-more (y ∷ parts) zero x h e a w = ap (λ (b : Bool). b && true) (ap is_written e ∙ w)
+all-more (y ∷ parts) (suc i) x h e a w =
+    let n : suc i + 1 ≡ suc (i + 1) = omega arith in
+    ap (λ (n : ℕ). list_all is_written (take n (y ∷ parts))) n ∙ by_test (is_written y) a (λ b. all-more parts i x (omega arith) e b w) where
+      by_test : (b : Bool) → (b && list_all is_written (take i parts)) ≡ true → (list_all is_written (take i parts) ≡ true → list_all is_written (take (i + 1) parts) ≡ true) → (b && list_all is_written (take (i + 1) parts)) ≡ true
+      by_test true a h = h a
+      by_test false a h = a
+
+pub at-repeat : (parts : List Part) (i : ℕ) (x : Part) → i < length parts → get_or parts i x ≡ x → parts ≡ take i parts ++ x ∷ drop (i + 1) parts
+at-repeat parts i x h e = sym (take-append-drop i parts) ∙ ap (λ (xs : List Part). take i parts ++ xs) (from_there parts i x h e)
+
+abbrev without_repeat : List TrackFn → List (List Word) → Option TrackList
+without_repeat sizes names = Some (record { sizes = sizes; names = names; repeat = None })
+
+pub same-list : (sizes tracks : List TrackFn) (names lines : List (List Word)) → sizes ≡ tracks → names ≡ lines → without_repeat tracks lines ≡ without_repeat sizes names
+same-list sizes tracks names lines e f = rw (e, f) refl
+
+pub ruleset around = (fixed-parts, kept-few)
+
+pub ruleset never = (never-zero, never-more)
+
+pub list-parts : (words : List Word) → track_list words ≡ bind (all_from part_first words) (list_of [])
+unfolding all_from
+list-parts words = refl

@@ -1,0 +1,57 @@
+-- Entries as they are held while a list is read: so many tracks of them, and each name of a line once.
+use Rattle.std.specs.Prelude.{ℕ, zero, suc, Bool, false, true, nat_lt, ◌||◌, List, [], ◌∷◌, ◌++◌, length, if◌then◌else◌}
+use Rattle.track_text.specs.declared.entry.Entry.{Entry}
+use Rattle.track_text.specs.declared.entry.Entry.TheVariants as entry
+use Rattle.track_text.specs.declared.entry.Part.{Part}
+use Rattle.track_text.specs.declared.entry.Part.TheVariants as part
+use Rattle.track_text.specs.Words.{Word}
+use Rattle.track_text.specs.NameSets.{is_among}
+use Rattle.track_text.specs.Repeats.{times}
+use Rattle.track_text.specs.Templates.{tracks_of, all_fixed}
+
+-- the entries up to and with so many tracks
+abbrev pub cut : ℕ → List Entry → List Entry
+cut zero entries = []
+cut (suc count) [] = []
+cut (suc count) (entry.Track size ∷ entries) = entry.Track size ∷ cut count entries
+cut (suc count) (entry.Named name ∷ entries) = entry.Named name ∷ cut (suc count) entries
+
+-- the entries before the first track past so many
+abbrev pub trim : ℕ → List Entry → List Entry
+trim count [] = []
+trim count (entry.Named name ∷ entries) = entry.Named name ∷ trim count entries
+trim zero (entry.Track size ∷ entries) = []
+trim (suc count) (entry.Track size ∷ entries) = entry.Track size ∷ trim count entries
+
+-- the entries without the names that stand before on the same line, where these stand on the first line already
+abbrev pub thin : List Word → List Entry → List Entry
+thin seen [] = []
+thin seen (entry.Track size ∷ entries) = entry.Track size ∷ thin [] entries
+thin seen (entry.Named name ∷ entries) = if is_among seen name then thin seen entries else entry.Named name ∷ thin (seen ++ name ∷ []) entries
+
+-- what decides of entries, whatever follows them: lists of entries that are alike in it have the same kept tracks and names
+unfoldable pub kept : List Entry → List Entry
+kept entries = thin [] (cut 10001 entries)
+
+-- there is a track past those that are kept
+abbrev pub is_full : List Entry → Bool
+is_full entries = nat_lt 10000 (length (tracks_of entries))
+
+abbrev pub is_written : Part → Bool
+is_written (part.Written count body) = true
+is_written (part.Automatic auto_fit body) = false
+
+-- the entries of the parts that are no automatic repeats
+abbrev pub entries_of : List Part → List Entry
+entries_of [] = []
+entries_of (part.Written count body ∷ parts) = times count body ++ entries_of parts
+entries_of (part.Automatic auto_fit body ∷ parts) = entries_of parts
+
+abbrev pub is_never : ℕ → Bool
+is_never zero = true
+is_never (suc count) = false
+
+-- each track of the part may stand beside an automatic repeat, or the part is one
+abbrev pub part_is_fixed : Part → Bool
+part_is_fixed (part.Written count body) = is_never count || all_fixed body
+part_is_fixed (part.Automatic auto_fit body) = true

@@ -1,0 +1,13 @@
+pub mod Words
+pub mod Values
+pub mod TrackSizes
+pub mod NameSets
+pub mod Repeats
+pub mod Templates
+pub mod Unsupported
+pub mod Examples
+pub mod UnsupportedExamples
+pub mod LimitExamples
+pub mod Gives
+pub mod Kept
+pub mod PlainText

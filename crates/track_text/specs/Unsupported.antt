@@ -1,0 +1,64 @@
+-- Words that a value may not hold because what they ask for is not supported (own rule).
+use Rattle.std.specs.Prelude.{Bool, true, false, not, ◌&&◌, ◌||◌, List, [], ◌∷◌, is_none, if◌then◌else◌, codes}
+use Rattle.std.specs.Str.{bytes_eq}
+use Rattle.std.specs.List.{list_any}
+use Rattle.lunit.specs.Decimals.{number_of}
+use Rattle.track_text.specs.Words.{Word, begins_with}
+use Rattle.track_text.specs.Values.{ends_in, before}
+
+-- the words outside square brackets, and the brackets that open; these do not nest: each `[` goes up to the next `]`
+abbrev pub outside : Bool → List Word → List Word
+outside within [] = []
+outside true (word ∷ words) = outside (not (bytes_eq word (codes "]"))) words
+outside false (word ∷ words) = word ∷ outside (bytes_eq word (codes "[")) words
+
+abbrev pub is_one_of : List Word → Word → Bool
+is_one_of due word = list_any (bytes_eq word) due
+
+-- the keywords that every property has
+abbrev pub wide_keywords : List Word
+wide_keywords = codes "inherit" ∷ codes "initial" ∷ codes "unset" ∷ codes "revert" ∷ []
+
+abbrev pub functions : List Word
+functions = codes "calc" ∷ codes "min" ∷ codes "max" ∷ codes "clamp" ∷ []
+
+abbrev pub units : List Word
+units = codes "em" ∷ codes "rem" ∷ codes "ex" ∷ codes "ch" ∷ codes "vw" ∷ codes "vh" ∷ codes "vmin" ∷ codes "vmax" ∷ codes "cm" ∷ codes "mm" ∷ codes "in" ∷ codes "pt" ∷ codes "pc" ∷ []
+
+abbrev pub is_number : Word → Bool
+is_number word = not (is_none (number_of word))
+
+abbrev pub has_unit : Word → Word → Bool
+has_unit word unit = ends_in unit word && is_number (before unit word)
+
+-- a number with one of the units
+abbrev pub is_measured : Word → Bool
+is_measured word = list_any (has_unit word) units
+
+-- a word that no property has, before these words
+abbrev pub is_unsupported_before : Word → List Word → Bool
+is_unsupported_before word words = is_one_of wide_keywords word || (is_measured word || (is_one_of functions word && begins_with (codes "(") words))
+
+-- among the words is one that no property has
+abbrev pub some_unsupported : List Word → Bool
+some_unsupported [] = false
+some_unsupported (word ∷ words) = is_unsupported_before word words || some_unsupported words
+
+abbrev pub automatic_counts : List Word
+automatic_counts = codes "auto-fill" ∷ codes "auto-fit" ∷ []
+
+-- among the words after the first `subgrid` is `auto-fill` or `auto-fit`
+abbrev pub repeats_subgrid : List Word → Bool
+repeats_subgrid [] = false
+repeats_subgrid (word ∷ words) = if bytes_eq word (codes "subgrid") then list_any (is_one_of automatic_counts) words else repeats_subgrid words
+
+abbrev pub is_masonry : Word → Bool
+is_masonry word = bytes_eq word (codes "masonry")
+
+-- among the words outside brackets is one that no template has
+abbrev pub unsupported_in_template : List Word → Bool
+unsupported_in_template words = some_unsupported words || (list_any is_masonry words || repeats_subgrid words)
+
+-- the value of a template holds an unsupported word
+abbrev pub is_unsupported : List Word → Bool
+is_unsupported words = unsupported_in_template (outside false words)
