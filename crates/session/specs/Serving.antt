@@ -13,7 +13,7 @@ use Rattle.session.specs.declared.text.Text.{Text}
 use Rattle.session.specs.Input.{HasGiven, HasGivenLine, HasGivenAll, Stops}
 use Rattle.session.specs.Script.{has_end, before_end, after_end, document_of_lines, made_in, next_doc, all_made, some_refused, text_of, events_of}
 use Rattle.session.specs.Runs.{WritesAll, Runs}
-use Rattle.session.specs.declared.serve.Progress.{Progress}
+use Rattle.session.specs.declared.answer.Progress.{Progress}
 use Rattle.session.specs.declared.status.Status.{Status}
 use Rattle.session.specs.declared.status.Status.TheVariants.{Done, BadDocument, SomeRefused, WriteFault, NoMemory}
 

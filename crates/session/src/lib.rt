@@ -1,13 +1,13 @@
 //! The top call of the layout tool: it reads a document, lays it out and prints its boxes.
 #![tactic(auto)]
 
+mod answer;
 mod boxes;
 mod edits;
 mod engine;
 mod input;
 mod offsets;
 mod print;
-mod script;
 mod serve;
 mod status;
 mod text;

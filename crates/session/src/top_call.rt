@@ -7,7 +7,7 @@ ghost use Rattle.session.specs.Runs.{Runs, Permits, PermitsOver, IsComplete, IsO
 ghost use Rattle.session.specs.Words.{is_layout};
 
 use crate::Status;
-use crate::script::serve;
+use crate::serve::serve;
 use lunit::Steps;
 use outside::{Ruler, Sink, Source};
 use std::alloc::Global;

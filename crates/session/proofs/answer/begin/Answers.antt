@@ -3,7 +3,7 @@ use Rattle.doc_text.specs.Gives.{Gives}
 use Rattle.doc_text.specs.declared.errors.ReadError.{ReadError}
 use Rattle.session.proofs.Serving.{begins_refused, begins_not}
 use Rattle.session.specs.Script.{document_of_lines}
-use Rattle.session.proofs.serve.begin.Goals as goal
+use Rattle.session.proofs.answer.begin.Goals as goal
 
 pub returns-in-Err-Fault-clause-begins : goal.returns-in-Err-Fault-clause-begins
 returns-in-Err-Fault-clause-begins g c =

@@ -1,6 +1,6 @@
 use Rattle.std.proofs.Common.{sym, ◌∙◌}
 use Rattle.session.proofs.Progress.{skips, answers, answers_part}
-use Rattle.session.proofs.serve.answer_line.Goals as goal
+use Rattle.session.proofs.answer.answer_line.Goals as goal
 
 pub returns-then-is_skipped-clause-ok : goal.returns-then-is_skipped-clause-ok
 returns-then-is_skipped-clause-ok g c =

@@ -2,7 +2,7 @@ use Rattle.std.proofs.Common.{◌≡◌, ◌≤◌, ◌<◌, ◌+◌, ◌-◌, l
 use Rattle.session.specs.Boxes.{IsBounded}
 use Rattle.session.specs.Input.{limit}
 use Rattle.session.specs.Serving.{IsAt}
-use Rattle.session.proofs.script.serve.Given as goal
+use Rattle.session.proofs.serve.serve.Given as goal
 
 abbrev pub invariant-loop-line : goal.invariant-loop-line
 invariant-loop-line g l =

@@ -1,7 +1,7 @@
 use Rattle.std.proofs.Common.{subst, ℕ, List}
 use Rattle.outside.specs.Told.{Adds}
 use Rattle.session.proofs.Serving.{document_refused, not_refused}
-use Rattle.session.proofs.serve.refuse_document.Goals as goal
+use Rattle.session.proofs.answer.refuse_document.Goals as goal
 
 pub returns-in-Ok-write-clause-refused : goal.returns-in-Ok-write-clause-refused
 returns-in-Ok-write-clause-refused g c =

@@ -4,7 +4,7 @@ use Rattle.session.specs.declared.status.Status.{Status}
 use Rattle.session.proofs.Scripts.{has_more}
 use Rattle.session.proofs.Texts.{line_given, end_given}
 use Rattle.session.proofs.Running.{part_written, script_stopped, script_ended, few_answers, closer, unwritten_stop}
-use Rattle.session.proofs.script.serve.Goals as goal
+use Rattle.session.proofs.serve.serve.Goals as goal
 
 pub answer_line-requires-clause-few : goal.answer_line-requires-clause-few
 answer_line-requires-clause-few g c =
