@@ -11,10 +11,7 @@ abbrev pub spreads : Mode → Bool
 spreads Between = true
 spreads Around = true
 spreads Evenly = true
-spreads Start = false
-spreads End = false
-spreads Center = false
-spreads Stretch = false
+spreads other = false
 
 -- How far subject k, from 0, of n is moved by the free space. `normal` and `stretch` place as start. The roundings are own
 -- rules; one subject under `space-between` stands at the start (CSS Box Alignment 3, 4.3).

@@ -160,8 +160,7 @@ greatest_outer outer range = greatest_with (pos 0) (slice_range outer range.0 ra
 -- (as CSS Flexbox 1, 9.4, step 8 has it: it speaks of single-line containers).
 abbrev pub own_cross : List ℤ → Option ℤ → Bool → ℕ × ℕ → ℤ
 own_cross outer (Some cross) false range = clamp cross
-own_cross outer (Some cross) true range = greatest_outer outer range
-own_cross outer None wrap range = greatest_outer outer range
+own_cross outer cross wrap range = greatest_outer outer range
 
 -- the rest of a known cross size that lines and gaps leave, where it is positive
 abbrev pub cross_rest : ℤ → ℤ → List ℤ → ℤ
@@ -170,8 +169,7 @@ cross_rest cross gap sizes = clamp (int_max (pos 0) (cross -ℤ gaps gap (length
 -- lines that share what a known cross size leaves (CSS Flexbox 1, 9.4, step 9)
 abbrev pub stretched_lines : Option ℤ → ℤ → Bool → List ℤ → List ℤ
 stretched_lines (Some cross) gap true sizes = zipped (λ size share. clamp (size +ℤ share)) sizes (shares (cross_rest cross gap sizes) (map (λ (size : ℤ). let none : Option ℤ = None in none) sizes))
-stretched_lines (Some cross) gap false sizes = sizes
-stretched_lines None gap stretch sizes = sizes
+stretched_lines cross gap stretch sizes = sizes
 
 -- The cross sizes of the lines. With wrapping and `align-content` `normal` or `stretch` the positive rest of a known cross size
 -- goes to the lines in equal parts.

@@ -48,8 +48,9 @@ settled left weight r = if falls_short left weight r then inflexible r else r
 unfoldable pub left_flexible : ℕ → ℤ → List FrRow → List FrRow
 left_flexible zero space rows = rows
 left_flexible (suc starts) space rows =
-    let again = left_flexible starts space (map (settled (leftover space rows) (weight_of rows)) rows) in
-    if list_any (falls_short (leftover space rows) (weight_of rows)) rows then again else rows
+    if list_any (falls_short (leftover space rows) (weight_of rows)) rows
+    then left_flexible starts space (map (settled (leftover space rows) (weight_of rows)) rows)
+    else rows
 
 -- no size of an `fr`
 abbrev pub no_fraction : Fraction

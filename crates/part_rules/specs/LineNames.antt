@@ -111,9 +111,7 @@ numbered_named t (negsuc k) name = going_back (named_lines t name) (k + 1) (pos 
 
 -- a bare name: the first line that an area of this name begins or ends at, else the first line of the name itself
 abbrev pub named : Table → Bool → List ℕ → ℤ
-named t end name =
-    let other = going_on (named_lines t name) 1 (pos t.tracks) in
-    unwrap_or (slice_get (named_lines t (edge_of end name)) 0) other
+named t end name = unwrap_or (slice_get (named_lines t (edge_of end name)) 0) (going_on (named_lines t name) 1 (pos t.tracks))
 
 -- what a line value stands for: a line, a span with or without a name, or nothing
 pub data Side : Type 0 where

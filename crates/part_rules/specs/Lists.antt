@@ -21,9 +21,9 @@ joined (x ∷ xs) = x ++ joined xs
 abbrev pub filled_from : {A : Type 0} → (List A → Bool) → List A → List A → List (List A)
 filled_from fits line [] = line ∷ []
 filled_from fits line (x ∷ rest) =
-    let joins = filled_from fits (line ++ x ∷ []) rest in
-    let begins = line ∷ filled_from fits (x ∷ []) rest in
-    if fits (line ++ x ∷ []) then joins else begins
+    if fits (line ++ x ∷ [])
+    then filled_from fits (line ++ x ∷ []) rest
+    else line ∷ filled_from fits (x ∷ []) rest
 
 -- Items filled greedily into lines: the first item of a line always stands on it, and no items make no line.
 abbrev pub filled : {A : Type 0} → (List A → Bool) → List A → List (List A)

@@ -29,9 +29,7 @@ range_of explicit (s ∷ rest) = with_span s (range_of explicit rest)
 -- The least position, from this one on, whose area is free of the areas that are placed, if it is among so many; else the one after them.
 abbrev pub first_free : (ℤ → Area) → List Area → ℕ → ℤ → ℤ
 first_free area placed zero from = from
-first_free area placed (suc more) from =
-    let later = first_free area placed more (from +ℤ pos 1) in
-    if is_free (area from) placed then from else later
+first_free area placed (suc more) from = if is_free (area from) placed then from else first_free area placed more (from +ℤ pos 1)
 
 -- where all areas have ended, at or after this position
 abbrev pub far_column : List Area → ℤ → ℤ
@@ -60,8 +58,9 @@ abbrev pub free_position : List Area → Span → ℕ → ℕ → ℕ → Positi
 free_position placed columns k l zero from = from
 free_position placed columns k l (suc more) from =
     let c = first_free (λ c. record { columns = to_end c k; rows = to_end from.row l }) placed (above_zero (columns.end -ℤ pos k +ℤ pos 1 -ℤ from.column)) from.column in
-    let later = free_position placed columns k l more (record { column = columns.start; row = from.row +ℤ pos 1 }) in
-    if int_le (c +ℤ pos k) columns.end then record { column = c; row = from.row } else later
+    if int_le (c +ℤ pos k) columns.end
+    then record { column = c; row = from.row }
+    else free_position placed columns k l more (record { column = columns.start; row = from.row +ℤ pos 1 })
 
 -- the rows to look at: this one, and those up to where all areas end
 abbrev pub rows_to_search : List Area → ℤ → ℕ
@@ -77,9 +76,7 @@ pub record Entry : Type 0 where
 -- an item with both axes definite has its area (CSS Grid 2, 8.5, step 1)
 abbrev pub fixed_area : Spot → Spot → Option Area
 fixed_area (At c) (At r) = Some (record { columns = c; rows = r })
-fixed_area (At c) (Free l) = None
-fixed_area (Free k) (At r) = None
-fixed_area (Free k) (Free l) = None
+fixed_area column row = None
 
 -- an item as placement begins (CSS Grid 2, 8.5, step 1)
 abbrev pub begun : Wish → Entry
@@ -102,8 +99,7 @@ row_search_start dense mine rows = if dense then pos 0 else greatest_with (pos 0
 -- the area of an item with a definite row (CSS Grid 2, 8.5, step 2)
 abbrev pub row_area : Bool → List Area → List Area → Spot → Spot → Option Area
 row_area dense placed mine (Free k) (At rows) = Some (record { columns = to_end (free_column placed k rows (row_search_start dense mine rows)) k; rows = rows })
-row_area dense placed mine (Free k) (Free l) = None
-row_area dense placed mine (At c) r = None
+row_area dense placed mine column row = None
 
 -- Items with a definite row, in their order: `placed` are all areas so far, and `mine` those of this step.
 abbrev pub rows_placed : Bool → List Area → List Area → List Entry → List Entry
@@ -170,8 +166,7 @@ next_area f placed cursor (At columns) (Free l) = Some (record { columns = colum
 next_area f placed cursor (Free k) (Free l) =
     let from = free_search_start f cursor in
     Some (area_at (free_position placed f.columns k l (rows_to_search placed from.row) from) k l)
-next_area f placed cursor (At columns) (At rows) = None
-next_area f placed cursor (Free k) (At rows) = None
+next_area f placed cursor column row = None
 
 -- the cursor stays at the place found
 abbrev pub cursor_after : Position → Option Area → Position
@@ -214,9 +209,9 @@ turned_area a = record { columns = a.rows; rows = a.columns }
 -- also in a subgridded axis (it could also end at the limit). Flow `column` is flow `row` with the axes exchanged.
 abbrev pub placed : List Wish → Shape → List Area
 placed items shape =
-    let turned = map turned_area (placed_by_rows shape.rows shape.columns shape.dense (map turned_wish items)) in
-    let straight = placed_by_rows shape.columns shape.rows shape.dense items in
-    if shape.column_flow then turned else straight
+    if shape.column_flow
+    then map turned_area (placed_by_rows shape.rows shape.columns shape.dense (map turned_wish items))
+    else placed_by_rows shape.columns shape.rows shape.dense items
 
 -- where there is an area, it overlaps none of these
 abbrev pub IsFreeOf : List Area → Option Area → Type 0

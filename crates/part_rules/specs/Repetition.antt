@@ -22,16 +22,12 @@ total_with fixed repeated gap count = sum_of fixed +ℤ sum_of repeated *ℤ pos
 -- the greatest number from 1 to this one that passes the test, or 1
 unfoldable pub greatest_passing : (ℕ → Bool) → ℕ → ℕ
 greatest_passing test zero = 1
-greatest_passing test (suc n) =
-    let less = greatest_passing test n in
-    if test (suc n) then suc n else less
+greatest_passing test (suc n) = if test (suc n) then suc n else greatest_passing test n
 
 -- the least number, from this one up to so many more, that passes the test, or else the last of them
 unfoldable pub least_passing : (ℕ → Bool) → ℕ → ℕ → ℕ
 least_passing test zero n = n
-least_passing test (suc more) n =
-    let greater = least_passing test more (n + 1) in
-    if test n then n else greater
+least_passing test (suc more) n = if test n then n else least_passing test more (n + 1)
 
 -- The number of repetitions: the most whose total does not pass the size, at least 1; or the fewest whose total reaches the least
 -- size, at least 1 (a least size of 0 could also ask for none); else 1. It is at most 10,000 (own rule).

@@ -34,10 +34,7 @@ after_row s h = record { rows = s ∷ h.rows; left = h.left }
 abbrev pub round : ℕ → List Share → Handed
 round zero rows = record { rows = rows; left = 0 }
 round (suc n) [] = record { rows = []; left = suc n }
-round (suc n) (s ∷ rest) =
-    let takes = after_row (one_more s) (round n rest) in
-    let passes = after_row s (round (suc n) rest) in
-    if has_room s then takes else passes
+round (suc n) (s ∷ rest) = if has_room s then after_row (one_more s) (round n rest) else after_row s (round (suc n) rest)
 
 -- So many rounds, each with the units that the last one left.
 unfoldable pub rounds : ℕ → Handed → Handed
@@ -75,9 +72,7 @@ IsShared (negsuc n) rows = Unit {0}
 -- The same rounds, which end where no row has room. They are `rounds` of as many (see the laws), and compute sooner.
 unfoldable pub rounds_with_room : ℕ → Handed → Handed
 rounds_with_room zero h = h
-rounds_with_room (suc k) h =
-    let next = rounds_with_room k (round h.left h.rows) in
-    if list_any has_room h.rows then next else h
+rounds_with_room (suc k) h = if list_any has_room h.rows then rounds_with_room k (round h.left h.rows) else h
 
 -- a row with this room, in cases so that the room is computed once
 abbrev pub roomy : Option ℤ → Share

@@ -39,12 +39,8 @@ pub record Track : Type 0 where
 
 -- a flexible max function (CSS Grid 2, 7.2.4)
 abbrev pub is_flexible : Most → Bool
-is_flexible (most.Fixed x) = false
-is_flexible most.Auto = false
-is_flexible most.MinContent = false
-is_flexible most.MaxContent = false
-is_flexible (most.Fit x) = false
 is_flexible (most.Flex w) = true
+is_flexible other = false
 
 -- a flexible track
 abbrev pub flexible : Track → Bool
@@ -52,64 +48,40 @@ flexible t = is_flexible t.rule.most
 
 -- the factor of a flexible track
 abbrev pub factor_of : Most → Option ℕ
-factor_of (most.Fixed x) = None
-factor_of most.Auto = None
-factor_of most.MinContent = None
-factor_of most.MaxContent = None
-factor_of (most.Fit x) = None
 factor_of (most.Flex w) = Some w
+factor_of other = None
 
 -- a min function that is fixed
 abbrev pub fixed_least : Least → Option ℤ
 fixed_least (least.Fixed x) = Some x
-fixed_least least.Auto = None
-fixed_least least.MinContent = None
-fixed_least least.MaxContent = None
+fixed_least other = None
 
 -- a max function that is fixed
 abbrev pub fixed_most : Most → Option ℤ
 fixed_most (most.Fixed x) = Some x
-fixed_most most.Auto = None
-fixed_most most.MinContent = None
-fixed_most most.MaxContent = None
-fixed_most (most.Fit x) = None
-fixed_most (most.Flex w) = None
+fixed_most other = None
 
 -- the argument of `fit-content`
 abbrev pub fit_argument : Most → Option ℤ
-fit_argument (most.Fixed x) = None
-fit_argument most.Auto = None
-fit_argument most.MinContent = None
-fit_argument most.MaxContent = None
 fit_argument (most.Fit x) = Some x
-fit_argument (most.Flex w) = None
+fit_argument other = None
 
 -- the max function `auto`
 abbrev pub is_auto_most : Most → Bool
-is_auto_most (most.Fixed x) = false
 is_auto_most most.Auto = true
-is_auto_most most.MinContent = false
-is_auto_most most.MaxContent = false
-is_auto_most (most.Fit x) = false
-is_auto_most (most.Flex w) = false
+is_auto_most other = false
 
 -- the max function `min-content`
 abbrev pub is_min_content_most : Most → Bool
-is_min_content_most (most.Fixed x) = false
-is_min_content_most most.Auto = false
 is_min_content_most most.MinContent = true
-is_min_content_most most.MaxContent = false
-is_min_content_most (most.Fit x) = false
-is_min_content_most (most.Flex w) = false
+is_min_content_most other = false
 
 -- a max function that counts as `max-content`: `auto` and `fit-content` do
 abbrev pub counts_as_max_content : Most → Bool
-counts_as_max_content (most.Fixed x) = false
 counts_as_max_content most.Auto = true
-counts_as_max_content most.MinContent = false
 counts_as_max_content most.MaxContent = true
 counts_as_max_content (most.Fit x) = true
-counts_as_max_content (most.Flex w) = false
+counts_as_max_content other = false
 
 -- a track with an intrinsic max function
 abbrev pub has_intrinsic_most : Track → Bool
@@ -121,17 +93,13 @@ has_max_content_most t = counts_as_max_content t.rule.most
 
 -- the min function `auto`
 abbrev pub is_auto_least : Least → Bool
-is_auto_least (least.Fixed x) = false
 is_auto_least least.Auto = true
-is_auto_least least.MinContent = false
-is_auto_least least.MaxContent = false
+is_auto_least other = false
 
 -- the min function `max-content`
 abbrev pub is_max_content_least : Least → Bool
-is_max_content_least (least.Fixed x) = false
-is_max_content_least least.Auto = false
-is_max_content_least least.MinContent = false
 is_max_content_least least.MaxContent = true
+is_max_content_least other = false
 
 -- a track with an intrinsic min function: one that is not fixed
 abbrev pub has_intrinsic_least : Track → Bool
@@ -232,14 +200,12 @@ high i = i.high
 -- a definite space
 abbrev pub is_definite : {axis : ℕ} → Space axis → Bool
 is_definite (Definite a) = true
-is_definite MinContent = false
-is_definite MaxContent = false
+is_definite other = false
 
 -- a max-content space
 abbrev pub is_max_content : {axis : ℕ} → Space axis → Bool
-is_max_content (Definite a) = false
-is_max_content MinContent = false
 is_max_content MaxContent = true
+is_max_content other = false
 
 -- what an item asks of an `auto` minimum: its minimum contribution, or its limited min-content contribution where the grid is
 -- sized for its content (CSS Grid 2, 12.5)
@@ -261,12 +227,11 @@ base_for space gap ts mine least.Auto base = greatest_with base (map (auto_asks 
 
 -- the growth limit by at least one item
 abbrev pub limit_by : List Item → Most → Option ℤ → Option ℤ
-limit_by mine (most.Fixed x) limit = limit
 limit_by mine most.MinContent limit = Some (greatest_with (pos 0) (map low mine))
 limit_by mine most.Auto limit = Some (greatest_with (pos 0) (map high mine))
 limit_by mine most.MaxContent limit = Some (greatest_with (pos 0) (map high mine))
 limit_by mine (most.Fit x) limit = Some (int_min x (greatest_with (pos 0) (map high mine)))
-limit_by mine (most.Flex w) limit = limit
+limit_by mine other limit = limit
 
 -- the growth limit by these items; without items it stays
 abbrev pub limit_for : List Item → Most → Option ℤ → Option ℤ
@@ -290,31 +255,50 @@ fit_alone space gap items ts = map (λ (t : Track). if flexible t then t else fi
 
 -- ---- one step of distribution (modelled after CSS Grid 2, 12.5.1; own rule as a whole)
 
--- what one step does
-pub record Growth : Type 0 where
-  -- growth limits grow, else base sizes
-  pub limits : Bool
+-- A step that raises base sizes.
+pub record BaseStep : Type 0 where
   -- the items are those that cross a flexible track
   pub crossing : Bool
-  -- the tracks that are affected, and those of them that receive beyond their limits
+  -- the tracks that are affected
   pub affected : Track → Bool
+  -- those of them that receive beyond their limits
   pub receives : Track → Bool
-  -- growth limits end at the argument of `fit-content`, and those that are infinitely growable have no end
-  pub to_argument : Bool
-  -- the contribution
+  -- what an item asks for: one of its contributions
   pub asks : List Track → Item → ℤ
 
+-- A step that raises growth limits.
+pub record LimitStep : Type 0 where
+  -- the items are those that cross a flexible track
+  pub crossing : Bool
+  -- the tracks that are affected
+  pub affected : Track → Bool
+  -- the growth limits that rise before the others do: those that had no end and, in the second of the two steps, those that are
+  -- infinitely growable
+  pub rises : Track → Bool
+  -- the end of a growth limit that rises: none in the first step, the argument of `fit-content` in the second
+  pub end : Track → Option ℤ
+  -- what an item asks for: one of its contributions
+  pub asks : Item → ℤ
+
+-- the base size
+abbrev pub base_of : Track → ℤ
+base_of t = t.base
+
 -- a growth limit without end counts as the base size
-abbrev pub size_in : Bool → Track → ℤ
-size_in limits t = if limits then unwrap_or t.limit t.base else t.base
+abbrev pub limit_of : Track → ℤ
+limit_of t = unwrap_or t.limit t.base
 
--- the affected size with what the item at hand has given
-abbrev pub size_so_far : Bool → Track → ℤ
-size_so_far limits t = size_in limits t +ℤ t.incurred
+-- the base size with what the item at hand has given
+abbrev pub base_so_far : Track → ℤ
+base_so_far t = t.base +ℤ t.incurred
 
--- The space that an item needs beyond the sizes of its tracks and the gutters between them.
-abbrev pub needed : Growth → ℤ → List Track → Item → ℤ
-needed g gap ts i = clamp (int_max (pos 0) (g.asks ts i -ℤ sum_of (map (size_in g.limits) (spanned i ts)) -ℤ inner_gutters gap i))
+-- the growth limit with what the item at hand has given
+abbrev pub limit_so_far : Track → ℤ
+limit_so_far t = limit_of t +ℤ t.incurred
+
+-- The space that an item needs for what it asks, beyond the affected sizes of its tracks and the gutters between them.
+abbrev pub needed : (Track → ℤ) → ℤ → ℤ → List Track → Item → ℤ
+needed size gap asked ts i = clamp (int_max (pos 0) (asked -ℤ sum_of (map size (spanned i ts)) -ℤ inner_gutters gap i))
 
 -- the room from a size to an end
 abbrev pub up_to : ℤ → Option ℤ → Option ℤ
@@ -330,58 +314,60 @@ lesser (Some a) b = Some (at_most b a)
 abbrev pub only : (Track → Bool) → (Track → Option ℤ) → Track → Option ℤ
 only p room t = if p t then room t else Some (pos 0)
 
--- a track that the step affects and the item spans
-abbrev pub affected_by : Growth → Item → Track → Bool
-affected_by g i t = g.affected t && spans i t
+-- a track that is affected and that the item spans
+abbrev pub affected_by : (Track → Bool) → Item → Track → Bool
+affected_by affected i t = affected t && spans i t
 
 -- up to limits: of base sizes, up to the growth limit, and for `fit-content` at most up to its argument
 abbrev pub base_to_limit : Track → Option ℤ
-base_to_limit t = lesser (up_to (size_so_far false t) t.limit) (up_to (size_so_far false t) (fit_argument t.rule.most))
+base_to_limit t = lesser (up_to (base_so_far t) t.limit) (up_to (base_so_far t) (fit_argument t.rule.most))
 
 -- not affected tracks: up to the growth limit; one without end has room without end, also under `fit-content` (its argument
 -- could also be a cap here)
 abbrev pub other_to_limit : Track → Option ℤ
-other_to_limit t = up_to (size_so_far false t) t.limit
+other_to_limit t = up_to (base_so_far t) t.limit
 
 -- beyond limits: without end, but for `fit-content` up to its argument
 abbrev pub base_to_argument : Track → Option ℤ
-base_to_argument t = up_to (size_so_far false t) (fit_argument t.rule.most)
+base_to_argument t = up_to (base_so_far t) (fit_argument t.rule.most)
 
 -- room without end
 abbrev pub without_end : Track → Option ℤ
 without_end t = None
 
 -- a track that receives beyond limits from this item
-abbrev pub receiving : Growth → Item → Track → Bool
-receiving g i t = affected_by g i t && g.receives t
+abbrev pub receiving : BaseStep → Item → Track → Bool
+receiving s i t = affected_by s.affected i t && s.receives t
+
+-- a receiver that is no `fit-content` track
+abbrev pub receiving_open : BaseStep → Item → Track → Bool
+receiving_open s i t = receiving s i t && is_none (fit_argument t.rule.most)
 
 -- the receivers that are no `fit-content` tracks or, if there are none, all affected tracks of the item
-abbrev pub receiving_last : Growth → Item → List Track → Track → Bool
-receiving_last g i ts =
-    let open_ended = λ (t : Track). receiving g i t && is_none (fit_argument t.rule.most) in
-    if list_any open_ended ts then open_ended else affected_by g i
+abbrev pub receiving_last : BaseStep → Item → List Track → Track → Bool
+receiving_last s i ts = if list_any (receiving_open s i) ts then receiving_open s i else affected_by s.affected i
 
 -- Base sizes: to the affected tracks up to limits, to the other tracks, to the receivers, and last without limit.
-abbrev pub base_rooms : Growth → Item → List Track → List (Track → Option ℤ)
-base_rooms g i ts =
-    only (affected_by g i) base_to_limit
-    ∷ only (λ t. spans i t && not (g.affected t)) other_to_limit
-    ∷ only (receiving g i) base_to_argument
-    ∷ only (receiving_last g i ts) without_end
+abbrev pub base_rooms : BaseStep → Item → List Track → List (Track → Option ℤ)
+base_rooms s i ts =
+    only (affected_by s.affected i) base_to_limit
+    ∷ only (λ t. spans i t && not (s.affected t)) other_to_limit
+    ∷ only (receiving s i) base_to_argument
+    ∷ only (receiving_last s i ts) without_end
     ∷ []
 
--- the end of a growth limit that grows: the argument of `fit-content` where the step says so, else none
-abbrev pub limit_end : Growth → Track → Option ℤ
-limit_end g t = if g.to_argument then up_to (size_so_far true t) (fit_argument t.rule.most) else None
+-- the room of a growth limit that rises
+abbrev pub limit_room : LimitStep → Track → Option ℤ
+limit_room s t = up_to (limit_so_far t) (s.end t)
 
--- up to limits: a growth limit has room where it had no end or is infinitely growable
-abbrev pub limit_to_limit : Growth → Track → Option ℤ
-limit_to_limit g t = if is_none t.limit || (g.to_argument && t.endless) then limit_end g t else Some (pos 0)
+-- up to limits: only those that rise first have room
+abbrev pub limit_to_limit : LimitStep → Track → Option ℤ
+limit_to_limit s t = if s.rises t then limit_room s t else Some (pos 0)
 
 -- Growth limits: to the affected tracks up to limits, and then to all of them. What then remains is dropped, so `fit-content`
 -- tracks alone are not lifted past their arguments (it could also be given without limit, as to base sizes).
-abbrev pub limit_rooms : Growth → Item → List (Track → Option ℤ)
-limit_rooms g i = only (affected_by g i) (limit_to_limit g) ∷ only (affected_by g i) (limit_end g) ∷ []
+abbrev pub limit_rooms : LimitStep → Item → List (Track → Option ℤ)
+limit_rooms s i = only (affected_by s.affected i) (limit_to_limit s) ∷ only (affected_by s.affected i) (limit_room s) ∷ []
 
 -- a track with this share more from the item at hand
 abbrev pub incur : Track → ℤ → Track
@@ -397,54 +383,72 @@ in_turns (room ∷ rooms) space ts =
     in_turns rooms left next
 
 -- the factor of a track that is affected by the item, and 0 for another
-abbrev pub crossing_weight : Growth → Item → Track → ℕ
-crossing_weight g i t = if affected_by g i t then unwrap_or (factor_of t.rule.most) 0 else 0
+abbrev pub crossing_weight : (Track → Bool) → Item → Track → ℕ
+crossing_weight affected i t = if affected_by affected i t then unwrap_or (factor_of t.rule.most) 0 else 0
 
 -- Items that cross a flexible track: the whole space by the factors where they sum to more than 0, else in equal parts.
-abbrev pub by_factors : Growth → Item → ℤ → List Track → List Track
-by_factors g i space ts =
-    let weights = map (crossing_weight g i) ts in
-    if total_of weights == 0 then in_turns (only (affected_by g i) without_end ∷ []) space ts else zipped incur ts (apportioned_whole space weights)
+abbrev pub by_factors : (Track → Bool) → Item → ℤ → List Track → List Track
+by_factors affected i space ts =
+    let weights = map (crossing_weight affected i) ts in
+    if total_of weights == 0
+    then in_turns (only (affected_by affected i) without_end ∷ []) space ts
+    else zipped incur ts (apportioned_whole space weights)
 
--- the tracks with what the item at hand gives them (CSS Grid 2, 12.5.1)
-abbrev pub incurred_by : Growth → Item → ℤ → List Track → List Track
-incurred_by g i space ts =
-    let rooms = if g.limits then limit_rooms g i else base_rooms g i ts in
-    if g.crossing then by_factors g i space ts else in_turns rooms space ts
+-- the tracks with what the item at hand gives their base sizes (CSS Grid 2, 12.5.1)
+abbrev pub base_incurred_by : BaseStep → Item → ℤ → List Track → List Track
+base_incurred_by s i space ts = if s.crossing then by_factors s.affected i space ts else in_turns (base_rooms s i ts) space ts
+
+-- the tracks with what the item at hand gives their growth limits (CSS Grid 2, 12.5.1)
+abbrev pub limit_incurred_by : LimitStep → Item → ℤ → List Track → List Track
+limit_incurred_by s i space ts = if s.crossing then by_factors s.affected i space ts else in_turns (limit_rooms s i) space ts
 
 -- The planned increase is the greatest that one of the items gave (CSS Grid 2, 12.5.1).
 abbrev pub plan : Track → Track
 plan t = let greatest = int_max t.planned t.incurred in record t { planned = greatest; incurred = pos 0 }
 
--- an item of the group that spans an affected track
-abbrev pub planned_by : Growth → ℤ → List Track → Item → List Track
-planned_by g gap ts i =
-    let space = needed g gap ts i in
-    let given = incurred_by g i space ts in
-    let more = map plan given in
-    if list_any (affected_by g i) ts then more else ts
+-- base sizes: an item of the group gives something where it spans an affected track
+abbrev pub base_planned_by : BaseStep → ℤ → List Track → Item → List Track
+base_planned_by s gap ts i =
+    if list_any (affected_by s.affected i) ts
+    then map plan (base_incurred_by s i (needed base_of gap (s.asks ts i) ts i) ts)
+    else ts
 
 -- and all items of the group, one after another
-abbrev pub planned_by_all : Growth → ℤ → List Item → List Track → List Track
-planned_by_all g gap [] ts = ts
-planned_by_all g gap (i ∷ rest) ts = let next = planned_by g gap ts i in planned_by_all g gap rest next
+abbrev pub base_planned_by_all : BaseStep → ℤ → List Item → List Track → List Track
+base_planned_by_all s gap [] ts = ts
+base_planned_by_all s gap (i ∷ rest) ts = base_planned_by_all s gap rest (base_planned_by s gap ts i)
+
+-- growth limits: an item of the group gives something where it spans an affected track
+abbrev pub limit_planned_by : LimitStep → ℤ → List Track → Item → List Track
+limit_planned_by s gap ts i =
+    if list_any (affected_by s.affected i) ts
+    then map plan (limit_incurred_by s i (needed limit_of gap (s.asks i) ts i) ts)
+    else ts
+
+-- and all items of the group, one after another
+abbrev pub limit_planned_by_all : LimitStep → ℤ → List Item → List Track → List Track
+limit_planned_by_all s gap [] ts = ts
+limit_planned_by_all s gap (i ∷ rest) ts = limit_planned_by_all s gap rest (limit_planned_by s gap ts i)
 
 -- a base size is raised by its planned increase
 abbrev pub raised_base : Track → Track
 raised_base t = let base = clamp (t.base +ℤ t.planned) in record t { base = base; planned = pos 0 }
 
--- The growth limit of an affected track of some item of the group is raised; one without end becomes the base size and the increase.
-abbrev pub raised_limit : Growth → List Item → Track → Track
-raised_limit g items t =
-    let limit = clamp (size_in true t +ℤ t.planned) in
-    let raised = record t { limit = Some limit; planned = pos 0 } in
-    if list_any (λ i. affected_by g i t) items then raised else t
+-- a growth limit is raised by its planned increase; one without end becomes the base size and the increase
+abbrev pub raised_limit : Track → Track
+raised_limit t = let limit = clamp (limit_of t +ℤ t.planned) in record t { limit = Some limit; planned = pos 0 }
 
--- One step for a group of items.
-abbrev pub distributed : Growth → ℤ → List Item → List Track → List Track
-distributed g gap items ts =
-    let planned = planned_by_all g gap items ts in
-    map (λ t. if g.limits then raised_limit g items t else raised_base t) planned
+-- The growth limit of a track that some item of the group affects is raised.
+abbrev pub raised_limit_by : (Track → Bool) → List Item → Track → Track
+raised_limit_by affected items t = if list_any (λ i. affected_by affected i t) items then raised_limit t else t
+
+-- One step on base sizes for a group of items.
+abbrev pub base_distributed : BaseStep → ℤ → List Item → List Track → List Track
+base_distributed s gap items ts = map raised_base (base_planned_by_all s gap items ts)
+
+-- One step on growth limits for a group of items.
+abbrev pub limit_distributed : LimitStep → ℤ → List Item → List Track → List Track
+limit_distributed s gap items ts = map (raised_limit_by s.affected items) (limit_planned_by_all s gap items ts)
 
 -- ---- the steps for a group of items (CSS Grid 2, 12.5, step 3)
 
@@ -453,12 +457,28 @@ abbrev pub in_group : Bool → (Track → Bool) → Track → Bool
 in_group crossing p t = p t && (flexible t || not crossing)
 
 -- a step for base sizes
-abbrev pub base_growth : Bool → (Track → Bool) → (Track → Bool) → (List Track → Item → ℤ) → Growth
-base_growth crossing affected receives asks = record { limits = false; crossing = crossing; affected = in_group crossing affected; receives = receives; to_argument = false; asks = asks }
+abbrev pub base_step : Bool → (Track → Bool) → (Track → Bool) → (List Track → Item → ℤ) → BaseStep
+base_step crossing affected receives asks = record { crossing = crossing; affected = in_group crossing affected; receives = receives; asks = asks }
 
--- a step for growth limits
-abbrev pub limit_growth : Bool → (Track → Bool) → Bool → (Item → ℤ) → Growth
-limit_growth crossing affected to_argument contribution = record { limits = true; crossing = crossing; affected = in_group crossing affected; receives = affected; to_argument = to_argument; asks = λ ts. contribution }
+-- a growth limit that had no end
+abbrev pub is_without_limit : Track → Bool
+is_without_limit t = is_none t.limit
+
+-- one that had no end, or is infinitely growable
+abbrev pub is_endless : Track → Bool
+is_endless t = is_none t.limit || t.endless
+
+-- the argument of a `fit-content` track
+abbrev pub argument_of : Track → Option ℤ
+argument_of t = fit_argument t.rule.most
+
+-- the step for growth limits by min-content contributions
+abbrev pub low_limit_step : Bool → LimitStep
+low_limit_step crossing = record { crossing = crossing; affected = in_group crossing has_intrinsic_most; rises = is_without_limit; end = without_end; asks = low }
+
+-- the step for growth limits by max-content contributions
+abbrev pub high_limit_step : Bool → LimitStep
+high_limit_step crossing = record { crossing = crossing; affected = in_group crossing has_max_content_most; rises = is_endless; end = argument_of; asks = high }
 
 -- infinitely growable in the next step: its growth limit had no end before this one, and has one after it
 abbrev pub mark_endless : Track → Track → Track
@@ -466,32 +486,30 @@ mark_endless before after = record after { endless = is_none before.limit && is_
 
 -- growth limits for min-content contributions, with the marks for the next step
 abbrev pub low_limits : Bool → ℤ → List Item → List Track → List Track
-low_limits crossing gap items ts =
-    let after = distributed (limit_growth crossing has_intrinsic_most false low) gap items ts in
-    zipped mark_endless ts after
+low_limits crossing gap items ts = zipped mark_endless ts (limit_distributed (low_limit_step crossing) gap items ts)
 
 -- growth limits for max-content contributions
 abbrev pub high_limits : Bool → ℤ → List Item → List Track → List Track
-high_limits crossing gap items ts = distributed (limit_growth crossing has_max_content_most true high) gap items ts
+high_limits crossing gap items ts = limit_distributed (high_limit_step crossing) gap items ts
 
 -- the steps for base sizes, in their order
-abbrev pub base_growths : {axis : ℕ} → Space axis → ℤ → Bool → List Growth
-base_growths space gap crossing =
-    base_growth crossing has_intrinsic_least has_intrinsic_most (auto_asks space gap)
-    ∷ base_growth crossing has_content_least has_intrinsic_most (λ ts. low)
-    ∷ (if is_max_content space then base_growth crossing has_auto_or_max_content_least has_max_content_most (limited gap high) ∷ [] else [])
-    ++ base_growth crossing has_max_content_least has_max_content_most (λ ts. high)
+abbrev pub base_steps : {axis : ℕ} → Space axis → ℤ → Bool → List BaseStep
+base_steps space gap crossing =
+    base_step crossing has_intrinsic_least has_intrinsic_most (auto_asks space gap)
+    ∷ base_step crossing has_content_least has_intrinsic_most (λ ts. low)
+    ∷ (if is_max_content space then base_step crossing has_auto_or_max_content_least has_max_content_most (limited gap high) ∷ [] else [])
+    ++ base_step crossing has_max_content_least has_max_content_most (λ ts. high)
     ∷ []
 
 -- these steps, one after another
-abbrev pub each_distributed : List Growth → ℤ → List Item → List Track → List Track
+abbrev pub each_distributed : List BaseStep → ℤ → List Item → List Track → List Track
 each_distributed [] gap items ts = ts
-each_distributed (g ∷ rest) gap items ts = let next = distributed g gap items ts in each_distributed rest gap items next
+each_distributed (s ∷ rest) gap items ts = each_distributed rest gap items (base_distributed s gap items ts)
 
 -- The six steps for a group of items.
 unfoldable pub group_fitted : {axis : ℕ} → Space axis → ℤ → Bool → List Item → List Track → List Track
 group_fitted space gap crossing items ts =
-    let bases = each_distributed (base_growths space gap crossing) gap items ts in
+    let bases = each_distributed (base_steps space gap crossing) gap items ts in
     let raised = map raise_limit bases in
     let lows = low_limits crossing gap items raised in
     high_limits crossing gap items lows
@@ -556,10 +574,7 @@ full t = let base = unwrap_or t.limit t.base in record t { base = base }
 -- that leaves is handed out up to the limits (it could also be without limit)
 abbrev pub maximised_within : Option ℤ → ℤ → List Track → List Track
 maximised_within None gap ts = map full ts
-maximised_within (Some most) gap ts =
-    let less = grown to_limit (free_of gap most ts) ts in
-    let all = map full ts in
-    if int_lt most (total gap all) then less else all
+maximised_within (Some most) gap ts = if int_lt most (total gap (map full ts)) then grown to_limit (free_of gap most ts) ts else map full ts
 
 -- Maximised (CSS Grid 2, 12.6).
 abbrev pub maximised : {axis : ℕ} → Space axis → Option ℤ → ℤ → List Track → List Track
@@ -573,9 +588,7 @@ fr_row t = record { base = t.base; factor = factor_of t.rule.most }
 
 -- the fraction of a definite space: 0 where none of it is free
 abbrev pub definite_fraction : ℤ → ℤ → List Track → Fraction
-definite_fraction gap a ts =
-    let f = found (map fr_row ts) (all_gutters gap ts) a in
-    if int_lt (pos 0) (free_of gap a ts) then f else no_fraction
+definite_fraction gap a ts = if int_lt (pos 0) (free_of gap a ts) then found (map fr_row ts) (all_gutters gap ts) a else no_fraction
 
 -- the greater of two fractions
 abbrev pub greater : Fraction → Fraction → Fraction
@@ -614,8 +627,7 @@ expanded_by f ts = zipped with_base ts (expanded f (map fr_row ts))
 abbrev pub expanded_within : Option ℤ → Option ℤ → ℤ → List Track → List Track → List Track
 expanded_within min most gap ts done =
     let bounded = at_least min (at_most most (total gap done)) in
-    let again = expanded_by (definite_fraction gap bounded ts) ts in
-    if int_eq bounded (total gap done) then done else again
+    if int_eq bounded (total gap done) then done else expanded_by (definite_fraction gap bounded ts) ts
 
 -- Flexible tracks expanded (CSS Grid 2, 12.7).
 abbrev pub flexed : {axis : ℕ} → Fit axis → List Item → List Track → List Track
@@ -640,9 +652,7 @@ stretched_over (Some a) gap ts = grown auto_room (free_of gap a ts) ts
 
 -- `auto` tracks stretched (CSS Grid 2, 12.8).
 abbrev pub stretched : {axis : ℕ} → Fit axis → List Track → List Track
-stretched fit ts =
-    let more = stretched_over (stretch_space fit.space fit.min) fit.gap ts in
-    if fit.stretch then more else ts
+stretched fit ts = if fit.stretch then stretched_over (stretch_space fit.space fit.min) fit.gap ts else ts
 
 -- ---- the whole (CSS Grid 2, 12.3)
 
