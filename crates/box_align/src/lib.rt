@@ -11,5 +11,3 @@ pub use content::content_offset;
 pub use item::{auto_margins, self_offset};
 pub use part_rules::Mode;
 
-#[cfg(test)]
-mod tests;

@@ -8,7 +8,8 @@ use Rattle.std.proofs.lemmas.Fmt.{digits_decimal, digits_value-decimal, decimal_
 use Rattle.std.proofs.lemmas.List.{length-take}
 use Rattle.std.proofs.Math.Seq.{take-append_seam, drop-append-add}
 use Rattle.std.proofs.Math.Nat.{mul-le-mul_right, mul-div_cancel, add-mul, mul_right_comm}
-use Rattle.lunit.specs.Decimals.{Decimal, is_digit, all_digits, digits_number, is_point, has_minus, without_sign, whole_part, decimal_part, decimal_of, decimal_or_none, number_of, signed, truncated, read_allowed, length_or_bad, read_units, lengths}
+use Rattle.lunit.specs.Decimals.{Decimal, is_digit, all_digits, digits_number, is_point, has_minus, without_sign, whole_part, decimal_part, decimal_of, decimal_or_none, number_of, signed, truncated, read_allowed, length_or_bad, read_units}
+use Rattle.lunit.specs.Forms.{lengths}
 use Rattle.lunit.specs.Printed.{six_digits, without_last_zeros, after_point, is_negative, minus_of, printed, IsExactly}
 use Rattle.lunit.proofs.Numerals.{own, digits_number-append, power_above_zero}
 

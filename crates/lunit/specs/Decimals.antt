@@ -1,6 +1,8 @@
 -- Numbers in text: exact decimals, and what is read of them.
 use Rattle.std.specs.Prelude.{ℕ, ℤ, pos, neg_ℤ, ◌+◌, ◌-◌, ◌*◌, ◌/◌, ◌^◌, ◌≡◌, Bool, true, false, not, ◌&&◌, ◌||◌, ◌==◌, nat_lt, List, [], ◌∷◌, ◌++◌, length, take, drop, if◌then◌else◌, Option, Some, None, Result, Ok, Err}
 use Rattle.std.specs.List.{list_all, position_or_len}
+use Rattle.std.specs.Option.{is_none}
+use Rattle.lunit.specs.Forms.{lengths}
 use Rattle.lunit.specs.Names.{between}
 use Rattle.lunit.specs.declared.errors.BadNumber.{BadNumber}
 use Rattle.lunit.specs.declared.number.NumberForm.{NumberForm}
@@ -65,6 +67,10 @@ unsigned_number_of negative text = decimal_or_none negative (whole_part text) (d
 abbrev pub number_of : List ℕ → Option Decimal
 number_of text = unsigned_number_of (has_minus text) (without_sign text)
 
+-- the text is a number without a unit, of any size
+abbrev pub is_number : List ℕ → Bool
+is_number text = not (is_none (number_of text))
+
 -- the number is below zero: `-0` is not
 abbrev pub is_below_zero : Decimal → Bool
 is_below_zero d = d.negative && nat_lt 0 d.numerator
@@ -91,10 +97,6 @@ read_allowed form (Some d) = if is_allowed form d then Some (truncated form.scal
 
 abbrev pub read_number : NumberForm → List ℕ → Option ℤ
 read_number form text = read_allowed form (number_of text)
-
--- a number without a unit that is a length: px of a magnitude of at most 1,048,576, in units (own rule)
-abbrev pub lengths : NumberForm
-lengths = record { scale = 64; most = 1048576; below_zero = true }
 
 abbrev pub length_or_bad : Option ℤ → Result ℤ BadNumber
 length_or_bad None = Err (record {})

@@ -4,5 +4,6 @@ pub mod Names
 pub mod Padded
 pub mod Lends
 pub mod Decimals
+pub mod Forms
 pub mod Printed
 pub mod Rounded

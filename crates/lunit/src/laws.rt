@@ -11,16 +11,16 @@ pub fn overlap_is_a_cell(a: Area, b: Area)
     ensures { IsTrue (areas_overlap a b) ↔ HaveCell a b }
 {}
 
-/// Rounding down gives the greatest whole number that, times the divisor, is at most the number.
 #[tactic(auto, using(crate::proofs::RoundedDown::floor_low, crate::proofs::RoundedDown::floor_high))]
+/// Rounding down gives the greatest whole number that, times the divisor, is at most the number.
 pub fn rounds_down(number: i64, by: u64)
     requires { 0 < by }
     ensures low { (floor_div number by *ℤ pos by) ≤ℤ number }
     ensures high { number <ℤ (floor_div number by *ℤ pos by +ℤ pos by) }
 {}
 
-/// Digits past the sixth decimal are without effect on a number that is counted in parts of a millionth.
 #[tactic(auto, using(crate::proofs::SixDecimals::six_count))]
+/// Digits past the sixth decimal are without effect on a number that is counted in parts of a millionth.
 pub fn six_decimals_count(scale: u32, negative: bool, whole: &[u8], decimals: &[u8], more: &[u8])
     requires scale { IsScale scale }
     requires decimals { IsTrue (all_digits decimals.now) }

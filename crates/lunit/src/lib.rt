@@ -17,8 +17,6 @@ mod occupancy;
 mod print;
 mod sequence;
 mod steps;
-#[cfg(test)]
-mod tests;
 mod wide;
 
 pub use along::{Along, BLOCK, INLINE};
@@ -31,7 +29,7 @@ pub use line_value::LineValue;
 pub use lu::Lu;
 pub use name::Name;
 pub use name_set::NameSet;
-pub use number::NumberForm;
+pub use number::{NumberForm, is_number};
 pub use occupancy::Occupancy;
 pub use print::px_text;
 pub use sequence::Sequence;

@@ -24,29 +24,22 @@ impl Model for Lu {
     ghost inverse = { λ z. record { units = z } };
 }
 
-/// Lengths in text: px of a magnitude of at most 1,048,576, in sixty-fourths.
-const LENGTHS: NumberForm = NumberForm {
-    scale: 64,
-    most: 1_048_576,
-    below_zero: true,
-};
-
 impl Lu {
+    #[tactic(auto, using(crate::proofs::Lengths::length_read))]
     /// The length of a number of px without a unit: an optional sign, digits, and optionally a point with digits; the
     /// digits before or after the point may be missing, not both. Times 64 and truncated toward zero (own rule).
     /// `BadNumber` exactly where the text is no such number, or its magnitude passes 1,048,576, also by a little.
-    #[tactic(auto, using(crate::proofs::Lengths::length_read))]
     pub fn read(text: &[u8]) -> Result<Lu, BadNumber>
         ensures { result ≡ read_units text.now }
     {
-        match LENGTHS.read(text) {
+        match NumberForm::LENGTHS.read(text) {
             Some(units) => Ok(Lu::of(units)),
             None => Err(BadNumber),
         }
     }
 
-    /// The length of so many units, limited to the range of lengths.
     #[tactic(auto, unfolding(crate::specs::Units::clamp))]
+    /// The length of so many units, limited to the range of lengths.
     pub fn of(units: i64) -> Lu
         ensures { result ≡ clamp units }
     {

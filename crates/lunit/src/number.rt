@@ -1,6 +1,6 @@
 ghost use Rattle.std.specs.Prelude.{◌≡◌, ◌*◌, ◌≤◌, ◌<◌, ◌+◌, ◌-◌, ◌/◌, ◌^◌, ◌||◌, ◌==◌, not, min, nat_lt, length, take, unsigned_abs, IfSome, IsTrue};
 ghost use Rattle.std.specs.List.{list_all, list_any, position, position_or_len};
-ghost use Rattle.lunit.specs.Decimals.{is_digit, all_digits, digits_number, is_point, has_minus, without_sign, whole_part, decimal_part, are_parts, decimal_or_none, number_of, signed, read_number, IsScale};
+ghost use Rattle.lunit.specs.Decimals.{is_digit, all_digits, digits_number, is_point, has_minus, without_sign, whole_part, decimal_part, are_parts, decimal_or_none, number_of, is_number, signed, read_number, IsScale};
 ghost use Rattle.lunit.specs.Rounded.{rounded_or_none, allows, size_of};
 
 /// What numbers without a unit a text may have, and how they are read: the exact decimal times `scale`, truncated
@@ -13,6 +13,57 @@ pub struct NumberForm {
     pub most: u32,
     /// Whether the number may be below zero. `-0` is not below zero.
     pub below_zero: bool,
+}
+
+impl NumberForm {
+    /// Lengths: px of a magnitude of at most 1,048,576, in units of 1/64 px (own rule).
+    pub const LENGTHS: NumberForm = NumberForm {
+        scale: 64,
+        most: 1_048_576,
+        below_zero: true,
+    };
+
+    /// Lengths of at least 0, in units of 1/64 px (own rule).
+    pub const SIZES: NumberForm = NumberForm {
+        scale: 64,
+        most: 1_048_576,
+        below_zero: false,
+    };
+
+    /// Numbers of value zero, which are lengths without a unit.
+    pub const ZEROS: NumberForm = NumberForm {
+        scale: 64,
+        most: 0,
+        below_zero: true,
+    };
+
+    /// Percentages from 0 to 1000, in thousandths of a percent (own rule).
+    pub const PERCENTAGES: NumberForm = NumberForm {
+        scale: 1000,
+        most: 1000,
+        below_zero: false,
+    };
+
+    /// Factors from 0 to 10,000, in thousandths (own rule).
+    pub const FACTORS: NumberForm = NumberForm {
+        scale: 1000,
+        most: 10_000,
+        below_zero: false,
+    };
+
+    /// Whole numbers of a magnitude of at most 1,000,000 (own rule).
+    pub const INTEGERS: NumberForm = NumberForm {
+        scale: 1,
+        most: 1_000_000,
+        below_zero: true,
+    };
+
+    /// Lengths relative to a font size: numbers of a magnitude of at most 10,000, in millionths (own rule).
+    pub const RELATIVE_LENGTHS: NumberForm = NumberForm {
+        scale: 1_000_000,
+        most: 10_000,
+        below_zero: true,
+    };
 }
 
 /// As much of an exact decimal as it takes to read it in any form.
@@ -69,8 +120,8 @@ fn first_point(text: &[u8]) -> Option<usize>
     text.iter().position(|byte| is_point(*byte))
 }
 
-/// Where the first point is; the length where there is none.
 #[tactic(auto, using(crate::proofs::Numerals::found_or_length))]
+/// Where the first point is; the length where there is none.
 fn point_of(text: &[u8]) -> usize
     ensures value { result ≡ position_or_len is_point text.now }
     ensures within { result ≤ length text.now }
@@ -95,8 +146,8 @@ fn decimal_part(text: &[u8]) -> &[u8]
     }
 }
 
-/// The number that digits write, limited to 2^32.
 #[tactic(auto, using(crate::proofs::Numerals::limited_more))]
+/// The number that digits write, limited to 2^32.
 fn limited(digits: &[u8]) -> u64
     ensures { result ≡ min 4294967296 (digits_number digits.now) }
 {
@@ -107,8 +158,8 @@ fn limited(digits: &[u8]) -> u64
     number
 }
 
-/// The first six of the decimals, as a number of millionths.
 #[tactic(auto, using(crate::proofs::Numerals::millionths_are))]
+/// The first six of the decimals, as a number of millionths.
 fn millionths(decimals: &[u8]) -> u64
     requires { IsTrue (all_digits decimals.now) }
     ensures { result ≡ digits_number decimals.now * 1000000 / 10 ^ length decimals.now }
@@ -129,8 +180,8 @@ fn has_digit_above_zero(digits: &[u8]) -> bool
     digits.iter().any(|digit| is_above_zero_digit(*digit))
 }
 
-/// Whether the digits write a number above 0.
 #[tactic(auto, using(crate::proofs::Numerals::some_digit))]
+/// Whether the digits write a number above 0.
 fn is_above_zero(digits: &[u8]) -> bool
     requires { IsTrue (all_digits digits.now) }
     ensures { result ≡ nat_lt 0 (digits_number digits.now) }
@@ -145,8 +196,8 @@ fn are_parts(whole: &[u8], decimals: &[u8]) -> bool
     are_digits && whole.len() + decimals.len() > 0
 }
 
-/// The number of these parts, where they are the parts of one.
 #[tactic(auto, using(crate::proofs::Numerals::rounded_parts))]
+/// The number of these parts, where they are the parts of one.
 fn read_parts(negative: bool, whole: &[u8], decimals: &[u8]) -> Option<Rounded>
     ensures { result ≡ rounded_or_none (decimal_or_none negative whole.now decimals.now) }
 {
@@ -180,6 +231,15 @@ fn signed(negative: bool, size: u64) -> i64
     }
 }
 
+/// Whether the text is a number without a unit, of any size: an optional sign, digits, and optionally a point with
+/// digits; the digits before or after the point may be missing, not both. Linear in the text.
+pub fn is_number(text: &[u8]) -> bool
+    ensures { result ≡ is_number text.now }
+{
+    let digits = without_sign(text);
+    are_parts(whole_part(digits), decimal_part(digits))
+}
+
 impl NumberForm {
     fn allows(self, number: Rounded) -> bool
         ensures { result ≡ allows self number }
@@ -200,10 +260,10 @@ impl NumberForm {
         number.whole * scale + number.millionths / (1_000_000 / scale)
     }
 
+    #[tactic(auto, using(crate::proofs::Allowed::reading))]
     /// The number in the text, times `scale` and truncated toward zero: an optional sign, digits, and optionally a point
     /// with digits; the digits before or after the point may be missing, not both. `None` exactly where the text is
     /// none, or one that the form does not allow, which is asked of the exact number. Linear in the text.
-    #[tactic(auto, using(crate::proofs::Allowed::reading))]
     pub fn read(self, text: &[u8]) -> Option<i64>
         requires { IsScale self.scale }
         ensures value { result ≡ read_number self text.now }

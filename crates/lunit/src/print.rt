@@ -90,10 +90,10 @@ fn put_px(out: &mut [u8; 32], units: i64) -> usize
     put_fraction(out, point, (size % 64) as u32)
 }
 
+#[tactic(auto, using(crate::proofs::Exactly::printed_length))]
 /// Writes the units as a decimal of px at the front of `out`, and answers its length: `-` where below zero, the whole
 /// px, and where some is left a point and the exact decimals without zeros at their end (own rule). The decimal is
 /// exactly units / 64, and `Lu::read` reads it back where its magnitude is at most 1,048,576 px.
-#[tactic(auto, using(crate::proofs::Exactly::printed_length))]
 pub fn px_text(units: i64, out: &mut [u8; 32]) -> usize
     requires { unsigned_abs units ≤ 2 ^ 56 }
     ensures short { result ≤ 28 }

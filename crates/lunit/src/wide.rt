@@ -69,16 +69,16 @@ impl Wide {
         self.units as i64
     }
 
-    /// Limited to the range of lengths.
     #[tactic(auto, unfolding(crate::specs::Units::clamp))]
+    /// Limited to the range of lengths.
     pub fn clamp(self) -> Lu
         ensures { result ≡ clamp self }
     {
         Lu::of(self.units.clamp(-(1 << 30), 1 << 30) as i64)
     }
 
-    /// Divided and rounded down, also below zero.
     #[tactic(auto, unfolding(crate::specs::Units::floor_div))]
+    /// Divided and rounded down, also below zero.
     pub fn floor_div(self, by: u64) -> Wide
         requires { 0 < by }
         ensures value { result ≡ floor_div self by }

@@ -117,8 +117,8 @@ fn most_at(pieces: &[usize], calls: u64, room: usize) -> usize
     }
 }
 
-/// Copies to the front of the room what comes next, at most `most` of it.
 #[tactic(auto, using(crate::proofs::Fronts::zero_at_end))]
+/// Copies to the front of the room what comes next, at most `most` of it.
 pub(crate) fn give(bytes: &[u8], at: usize, most: usize, room: &mut [u8]) -> usize
     requires { at ≤ length bytes.now }
     ensures count { result ≡ min most (min (length room.new) (length bytes.now - at)) }

@@ -57,10 +57,10 @@ pub trait Sink {
         ensures memory { result ≡ Err SinkError.NoMemory → faults self.new ≡ faults self.old };
 }
 
+#[tactic(auto, using(crate::proofs::Laws::adding, crate::proofs::Fronts::front_on))]
 /// Writes all of the bytes, in as many pieces as the sink wants, and takes no memory itself. After an error a prefix of them was
 /// written. `Failed` comes only where the sink's count of faults rose in this call. `NoMemory` is want of memory, and the count may
 /// then have risen at an earlier piece.
-#[tactic(auto, using(crate::proofs::Laws::adding, crate::proofs::Fronts::front_on))]
 pub fn write_all<K: Sink>(sink: &mut K, bytes: &[u8]) -> Result<(), SinkError>
     ensures ok { OnOk result (Adds (K.written sink.old) (K.written sink.new) bytes.now) }
     ensures err { OnErr result (AddsPrefix (K.written sink.old) (K.written sink.new) bytes.now) }

@@ -42,8 +42,8 @@ fn write<K: Sink>(sink: &mut K, text: &[u8]) -> Result<(), Status>
     Ok(())
 }
 
-/// Reads the document that the lines are. The place after the last line is its end.
 #[tactic(auto, unfolding(crate::specs::Script::document_of_lines), using(crate::proofs::Bounded::document_bounded))]
+/// Reads the document that the lines are. The place after the last line is its end.
 fn read(alloc: Global, lines: &[Line]) -> Result<Doc, ReadError>
     requires { length lines.now ≤ 67108864 }
     ensures document { Gives result (document_of_lines lines.now) }
@@ -56,8 +56,8 @@ fn read(alloc: Global, lines: &[Line]) -> Result<Doc, ReadError>
     read_doc(alloc, lines, end)
 }
 
-/// Lays the document out, with the number 0, and writes its boxes.
 #[tactic(auto, using(crate::proofs::Serving::first_laying))]
+/// Lays the document out, with the number 0, and writes its boxes.
 fn first_layout<K: Sink, R: Ruler, L: Ledger>(
     alloc: Global,
     doc: Doc,
@@ -79,8 +79,8 @@ fn first_layout<K: Sink, R: Ruler, L: Ledger>(
     Ok(engine)
 }
 
-/// Writes the line of the refusal of a document.
 #[tactic(auto, using(crate::proofs::Serving::document_refusing))]
+/// Writes the line of the refusal of a document.
 fn refuse_document<K: Sink>(alloc: Global, fault: Fault, sink: &mut K) -> Status
     requires { fault ≡ not_built }
     ensures refused { (events : Option (List Event)) → EndsFirst (K.written sink.old) (K.written sink.new) events events None result }
@@ -95,8 +95,8 @@ fn refuse_document<K: Sink>(alloc: Global, fault: Fault, sink: &mut K) -> Status
     }
 }
 
-/// Answers the lines of the document: lays it out, or writes the line of its refusal.
 #[tactic(auto, using(crate::proofs::Serving::beginning))]
+/// Answers the lines of the document: lays it out, or writes the line of its refusal.
 pub(crate) fn begin<K: Sink, R: Ruler, L: Ledger>(
     alloc: Global,
     lines: &[Line],
@@ -117,8 +117,8 @@ pub(crate) fn begin<K: Sink, R: Ruler, L: Ledger>(
     }
 }
 
-/// Answers an edit line with the number k, and says whether the edit was refused.
 #[tactic(auto, using(crate::proofs::Serving::edit_answering))]
+/// Answers an edit line with the number k, and says whether the edit was refused.
 fn answer_one<K: Sink, R: Ruler, L: Ledger>(
     alloc: Global,
     engine: &mut Engine,
@@ -146,8 +146,8 @@ fn answer_one<K: Sink, R: Ruler, L: Ledger>(
     Ok(answer.refused)
 }
 
-/// Answers the next line of the script: an edit, or a line that is skipped.
 #[tactic(auto, using(crate::proofs::Progress::line_answering))]
+/// Answers the next line of the script: an edit, or a line that is skipped.
 pub(crate) fn answer_line<K: Sink, R: Ruler, L: Ledger>(
     alloc: Global,
     progress: &mut Progress,

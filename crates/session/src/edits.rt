@@ -60,8 +60,8 @@ pub(crate) fn lay_out<R: Ruler, L: Ledger>(
     print_boxes(alloc, k, &layout.boxes)
 }
 
-/// Reads the edit that a line is, and applies it.
 #[tactic(auto, using(crate::proofs::EditLines::line_applying))]
+/// Reads the edit that a line is, and applies it.
 fn apply_line(alloc: Global, engine: &mut Engine, line: &Line) -> Result<(), ApplyError>
     requires few { engine.old.calls < 67108864 }
     requires counts { is_skipped line.now ≡ false }
@@ -77,8 +77,8 @@ fn apply_line(alloc: Global, engine: &mut Engine, line: &Line) -> Result<(), App
     }
 }
 
-/// Answers the edit line with the number k: applies it and lays the document out, or refuses it.
 #[tactic(auto, using(crate::proofs::EditLines::answering))]
+/// Answers the edit line with the number k: applies it and lays the document out, or refuses it.
 pub(crate) fn answer_edit<R: Ruler, L: Ledger>(
     alloc: Global,
     engine: &mut Engine,

@@ -61,11 +61,11 @@ impl Engine {
         self.calls
     }
 
+    #[tactic(auto, using(crate::proofs::Edited::applying))]
     /// Applies an edit, which has its lines in order, or refuses it; then the document is as it was.
     ///
     /// `Refused` comes exactly where the edit has a fault: 21 where no node has its name, at the name; else 90 at the first byte
     /// of its line where the name is the root's or a line passes the tracks (own rule). Fewer than 2^26 calls came before.
-    #[tactic(auto, using(crate::proofs::Edited::applying))]
     pub fn apply(&mut self, edit: Edit) -> Result<(), ApplyError>
         requires few { self.old.calls < 67108864 }
         requires ordered { is_ordered_edit edit ≡ true }
@@ -81,8 +81,8 @@ impl Engine {
         }
     }
 
-    /// Lays the document out: the layout with the number `k` begins, then come the boxes. Or `NoMemory`. The engine is as before.
     #[tactic(auto, using(crate::proofs::Edited::beginning))]
+    /// Lays the document out: the layout with the number `k` begins, then come the boxes. Or `NoMemory`. The engine is as before.
     pub fn layout<R: Ruler, L: Ledger>(
         &mut self,
         alloc: Global,

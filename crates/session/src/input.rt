@@ -61,8 +61,8 @@ fn take_piece<S: Source>(
     Ok(taken)
 }
 
-/// Takes one piece of the input, where no line of it is whole and its end was not seen.
 #[tactic(auto, using(crate::proofs::Pieces::going_on))]
+/// Takes one piece of the input, where no line of it is whole and its end was not seen.
 fn read_on<S: Source>(source: &mut S, room: &mut [u8], reader: &mut Reader) -> Result<(), Status>
     requires room { length room.old ≡ 65536 }
     requires count { reader.old.lines.fed ≡ reader.old.count }
@@ -89,8 +89,8 @@ fn read_on<S: Source>(source: &mut S, room: &mut [u8], reader: &mut Reader) -> R
     }
 }
 
-/// Takes the next line out, and reads on only where none is whole. `None` is the end of the input.
 #[tactic(auto, using(crate::proofs::Pieces::giving))]
+/// Takes the next line out, and reads on only where none is whole. `None` is the end of the input.
 pub(crate) fn next_line<S: Source>(
     source: &mut S,
     room: &mut [u8],

@@ -19,8 +19,8 @@ pub(crate) fn offsets(alloc: Global, tracks: &[Lu]) -> Result<Vec<Wide>, NoMemor
     Ok(found)
 }
 
-/// The offset of a line. Past the last line it is that of the last.
 #[tactic(auto, using(crate::proofs::Added::offset_kept))]
+/// The offset of a line. Past the last line it is that of the last.
 fn offset_of(tracks: &[Lu], offsets: &[Wide], line: usize) -> Wide
     requires { HasOffsets tracks.now offsets.now }
     ensures value { result ≡ offset tracks.now line }

@@ -21,8 +21,8 @@ fn append_number(out: &mut Vec<u8>, number: u32) -> Result<(), NoMemory>
     append(out, buffer.format(number).as_bytes())
 }
 
-/// Writes a number of px at the front of the room, and answers its length.
 #[tactic(auto, unfolding(crate::specs::Printing::px_of))]
+/// Writes a number of px at the front of the room, and answers its length.
 fn write_px(room: &mut [u8; 32], units: i64) -> usize
     requires { IsPrintable units }
     ensures short { result ≤ 28 }
@@ -31,8 +31,8 @@ fn write_px(room: &mut [u8; 32], units: i64) -> usize
     px_text(units, room)
 }
 
-/// Adds a space and a number of px.
 #[tactic(auto, unfolding(crate::specs::Printing::spaced))]
+/// Adds a space and a number of px.
 fn append_px(out: &mut Vec<u8>, units: i64) -> Result<(), NoMemory>
     requires { IsPrintable units }
     ensures ok { OnOk result (out.new.items ≡ out.old.items ++ spaced units) }
@@ -50,8 +50,8 @@ fn append_along<const AXIS: u8>(out: &mut Vec<u8>, length: Along<AXIS>) -> Resul
     append_px(out, length.units())
 }
 
-/// Adds two numbers of px, each after a space.
 #[tactic(auto, unfolding(crate::specs::Printing::spaced_pair))]
+/// Adds two numbers of px, each after a space.
 fn append_pair(
     out: &mut Vec<u8>,
     inline: Along<INLINE>,

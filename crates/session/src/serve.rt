@@ -15,8 +15,8 @@ use outside::{Ruler, Sink, Source};
 use std::alloc::Global;
 use std::sync::ledger::Ledger;
 
-/// Reads the document and lays it out. Gives how far the run is where a script follows, or else how it ended.
 #[tactic(auto, using(crate::proofs::Running::starting))]
+/// Reads the document and lays it out. Gives how far the run is where a script follows, or else how it ended.
 fn start<S: Source, K: Sink, R: Ruler, L: Ledger>(
     alloc: Global,
     source: &mut S,
@@ -55,8 +55,8 @@ fn start<S: Source, K: Sink, R: Ruler, L: Ledger>(
     })
 }
 
-/// Answers an input: its document, and then each line of its script as soon as the line is whole.
 #[tactic(auto, using(crate::proofs::Running::serving))]
+/// Answers an input: its document, and then each line of its script as soon as the line is whole.
 pub(crate) fn serve<S: Source, K: Sink, R: Ruler, L: Ledger>(
     alloc: Global,
     source: &mut S,

@@ -27,8 +27,8 @@ fn keep(lines: &mut Sequence<Line>, line: Line) -> Result<(), NoMemory>
     Ok(())
 }
 
-/// Reads the lines of the document, up to the line that ends it or to the end of the input.
 #[tactic(auto, using(crate::proofs::Texts::text_reading))]
+/// Reads the lines of the document, up to the line that ends it or to the end of the input.
 pub(crate) fn read_text<S: Source>(
     alloc: Global,
     source: &mut S,

@@ -13,8 +13,8 @@ use outside::{Ruler, Sink, Source};
 use std::alloc::Global;
 use std::sync::ledger::Ledger;
 
-/// Answers an input, with what follows of all its bytes.
 #[tactic(auto, using(crate::proofs::Finished::following))]
+/// Answers an input, with what follows of all its bytes.
 fn lay_out<S: Source, K: Sink, R: Ruler, L: Ledger>(
     alloc: Global,
     source: &mut S,

@@ -12,5 +12,3 @@ pub use equal::hand_out;
 pub use part_rules::Share;
 pub use weights::apportion;
 
-#[cfg(test)]
-mod tests;

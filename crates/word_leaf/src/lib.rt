@@ -9,8 +9,6 @@ ghost use Rattle.std.specs.Prelude.{◌≡◌};
 ghost use Rattle.part_rules.specs.WordLines.{height_at, line_count, narrowest, widest};
 ghost use Rattle.word_leaf.specs.Leaves.{HasFewestLines, IsMeasurable};
 
-#[cfg(test)]
-mod tests;
 mod words;
 
 use crate::words::{greatest_of, lines_of, width_of};

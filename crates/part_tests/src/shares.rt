@@ -1,5 +1,5 @@
-use super::*;
 use lunit::Lu;
+use share_out::{Share, apportion, hand_out};
 
 /// The greatest length.
 const TOP: i64 = 1 << 30;

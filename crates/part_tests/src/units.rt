@@ -1,6 +1,6 @@
 ghost use Rattle.std.specs.Prelude.{◌≡◌, ◌<◌};
 
-use super::*;
+use lunit::{BadName, BadNumber, Copied, Lu, Name, NameSet, Sequence, Steps, px_text};
 use std::alloc::Global;
 use std::marker::Brand;
 use std::sync::ledger::{Blank, Ledger};

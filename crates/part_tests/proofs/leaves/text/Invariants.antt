@@ -1,6 +1,6 @@
 use Rattle.std.proofs.Common.{◌≡◌, true, length}
 use Rattle.part_rules.specs.WordLines.{are_widths}
-use Rattle.word_leaf.proofs.tests.text.Given as goal
+use Rattle.part_tests.proofs.leaves.text.Given as goal
 
 abbrev pub invariant-loop-width : goal.invariant-loop-width
 invariant-loop-width l = record {

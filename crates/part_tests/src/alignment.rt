@@ -1,4 +1,4 @@
-use super::*;
+use box_align::{Mode, auto_margins, content_offset, self_offset};
 
 /// The greatest free space.
 const MOST: i64 = 1 << 56;

@@ -1,11 +1,12 @@
 ghost use Rattle.std.specs.Prelude.{◌≤◌, ◌≤ℤ◌, pos, length, IfOk};
 ghost use Rattle.word_leaf.specs.Leaves.{IsMeasurable};
 
-use super::*;
-use lunit::{Copied, NoMemory, Sequence};
+use lunit::{Copied, Lu, NoMemory, Sequence};
+use part_rules::Content;
 use std::alloc::Global;
 use std::process::Abort;
 use std::test::Fail;
+use word_leaf::{height_at, lines_at, narrowest, widest};
 
 /// A row of the table, in units: the words, their space and line height; the narrowest and the widest width; and a width with
 /// the number and the height of the lines at it.

@@ -1,9 +1,11 @@
 ghost use Rattle.std.specs.Prelude.{◌≡◌, flat_map, IfOk};
 
-use super::*;
 use lunit::{NoMemory, Sequence};
 use std::alloc::Global;
 use std::test::Fail;
+use text_scan::{
+    BAD_BYTE, Fault, LINE_TOO_LONG, Line, Lines, MAX_LINE, Place, Token, read_lines, tokens,
+};
 
 fn single_bytes(alloc: Global, text: &[u8]) -> Result<Vec<Sequence<u8>>, NoMemory>
     ensures { IfOk result (λ pieces. flat_map (λ piece. piece) pieces.items ≡ text.now) }

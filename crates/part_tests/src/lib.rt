@@ -1,0 +1,14 @@
+//! Tests of the parts of the layout and of the readers, as tables of cases worked by hand. They stand above the crates that
+//! they test, so that none of these is proved twice.
+#![tactic(auto)]
+
+#[cfg(test)]
+mod alignment;
+#[cfg(test)]
+mod leaves;
+#[cfg(test)]
+mod pieces;
+#[cfg(test)]
+mod shares;
+#[cfg(test)]
+mod units;
