@@ -3,6 +3,7 @@ pub mod Apart
 pub mod Floor
 pub mod Fractions
 pub mod Placed
+pub mod Repeats
 pub mod Sharing
 pub mod WordLines
 pub mod Frozen

@@ -1,11 +1,12 @@
 -- How often an automatic repeat stands, which of its tracks collapse, and the functions of the tracks of an axis (CSS Grid 2, 7.2.3.2 and 7.6).
-use Rattle.std.specs.Prelude.{◌≡◌, refl, ℕ, zero, suc, ◌+◌, ◌-◌, ◌*◌, ◌%◌, nat_lt, ℤ, pos, negsuc, ◌+ℤ◌, ◌*ℤ◌, int_lt, int_le, Bool, true, false, not, ◌&&◌, List, [], ◌∷◌, length, Option, Some, None, unwrap_or, slice_get, if◌then◌else◌}
+use Rattle.std.specs.Prelude.{◌≡◌, refl, ℕ, zero, suc, ◌+◌, ◌-◌, ◌*◌, ◌%◌, min, nat_lt, ℤ, pos, negsuc, ◌+ℤ◌, ◌-ℤ◌, ◌*ℤ◌, int_lt, int_le, Bool, true, false, not, ◌&&◌, List, [], ◌∷◌, length, Option, Some, None, unwrap_or, slice_get, if◌then◌else◌}
 use Rattle.std.specs.Int.{int_max}
 use Rattle.std.specs.List.{list_any}
+use Rattle.lunit.specs.Units.{floor_div}
 use Rattle.lunit.specs.declared.geometry.Span.{Span}
 use Rattle.part_rules.specs.declared.names.RepeatSpace.{RepeatSpace}
 use Rattle.part_rules.specs.declared.names.RepeatSpace.TheVariants.{Fits, Fills, Endless}
-use Rattle.part_rules.specs.Lists.{sum_of}
+use Rattle.part_rules.specs.Lists.{sum_of, above_zero}
 
 -- ---- counting (CSS Grid 2, 7.2.3.2)
 
@@ -35,6 +36,28 @@ unfoldable pub repetitions : List ℤ → List ℤ → ℤ → RepeatSpace → �
 repetitions fixed repeated gap (Fits size) = greatest_passing (λ count. int_le (total_with fixed repeated gap count) size) 10000
 repetitions fixed repeated gap (Fills size) = least_passing (λ count. int_le size (total_with fixed repeated gap count)) 9999 1
 repetitions fixed repeated gap Endless = 1
+
+-- ---- the same by division
+
+-- what one repetition more takes
+abbrev pub step_of : List ℤ → ℤ → ℤ
+step_of repeated gap = sum_of repeated +ℤ gap *ℤ pos (length repeated)
+
+-- how many repetitions of this step beside the first one fit the room that the first one leaves, up to 9,999
+abbrev pub further_fitting : ℤ → ℤ → ℕ
+further_fitting (pos (suc s)) room = min (above_zero (floor_div room (suc s))) 9999
+further_fitting step room = if int_le (step *ℤ pos 9999) room then 9999 else 0
+
+-- how many it takes to fill that room, up to 9,999
+abbrev pub further_filling : ℤ → ℤ → ℕ
+further_filling (pos (suc s)) room = min (above_zero (floor_div (room +ℤ pos s) (suc s))) 9999
+further_filling step room = if int_le room (pos 0) then 0 else 9999
+
+-- The number of repetitions by one division. It is the number that is counted (see the laws), and computes sooner.
+abbrev pub repetitions_by_division : List ℤ → List ℤ → ℤ → RepeatSpace → ℕ
+repetitions_by_division fixed repeated gap (Fits size) = further_fitting (step_of repeated gap) (size -ℤ total_with fixed repeated gap 1) + 1
+repetitions_by_division fixed repeated gap (Fills size) = further_filling (step_of repeated gap) (size -ℤ total_with fixed repeated gap 1) + 1
+repetitions_by_division fixed repeated gap Endless = 1
 
 -- ---- `auto-fit` (CSS Grid 2, 7.2.3.2)
 
@@ -108,6 +131,27 @@ endless = refl
 at_most_10000 : repetitions [] (pos 64 ∷ []) (pos 0) (Fits (pos 1073741824)) ≡ 10000
 unfolding repetitions greatest_passing
 at_most_10000 = refl
+
+-- The same rows by division. 22400 - 6400 = 16000 has room for two steps of 7040; 13600 is reached by two of them.
+three_fit_by_division : repetitions_by_division [] (pos 6400 ∷ []) (pos 640) (Fits (pos 22400)) ≡ 3
+unfolding floor_div
+three_fit_by_division = refl
+
+not_three_by_division : repetitions_by_division [] (pos 6400 ∷ []) (pos 640) (Fits (pos 20479)) ≡ 2
+unfolding floor_div
+not_three_by_division = refl
+
+none_fits_by_division : repetitions_by_division [] (pos 6400 ∷ []) (pos 0) (Fits (pos 100)) ≡ 1
+unfolding floor_div
+none_fits_by_division = refl
+
+three_fill_by_division : repetitions_by_division [] (pos 6400 ∷ []) (pos 640) (Fills (pos 20000)) ≡ 3
+unfolding floor_div
+three_fill_by_division = refl
+
+most_by_division : repetitions_by_division [] (pos 64 ∷ []) (pos 0) (Fits (pos 1073741824)) ≡ 10000
+unfolding floor_div
+most_by_division = refl
 
 -- A max function of 50 under a min function of 80 counts as 80; a min function of 10 alone as 64.
 counted_both : counted (Some (pos 80)) (Some (pos 50)) ≡ pos 80

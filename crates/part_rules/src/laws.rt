@@ -9,13 +9,14 @@ ghost use Rattle.part_rules.specs.Alignment.{content_moved};
 ghost use Rattle.part_rules.specs.Fractions.{are_bases, expanded, falls_short, found, left_flexible, leftover, weight_of, NoneBelow};
 ghost use Rattle.part_rules.specs.FlexLines.{Piece, begin, resolved};
 ghost use Rattle.part_rules.specs.Lists.{sum_of, total_of};
+ghost use Rattle.part_rules.specs.Repetition.{repetitions, repetitions_by_division};
 ghost use Rattle.part_rules.specs.WordLines.{AreFewest, are_widths, word_lines};
 ghost use Rattle.part_rules.specs.Placement.{Field, Position, IsFreeOf, IsInside, IsLeast, NoOverlap, free_column, free_position, free_row, next_area, placed, row_area, rows_to_search, to_end};
 ghost use Rattle.lunit.specs.Areas.{is_free};
 ghost use Rattle.lunit.specs.declared.geometry.Span.{Span};
 ghost use Rattle.part_rules.specs.Sharing.{IsShared, shared_rows, left_over, apportioned_whole};
 
-use crate::{FlexItem, FrRow, Mode, Shape, Share, Wish};
+use crate::{FlexItem, FrRow, Mode, RepeatSpace, Shape, Share, Wish};
 use lunit::Lu;
 
 /// Nothing is lost where a space is handed out, and it is handed out as far as there is room.
@@ -87,4 +88,10 @@ pub fn free_items_take_the_least_place()
     ensures row { (held : List Area) (columns : Span) (l : ℕ) (from x : ℤ) → from ≤ℤ x → x <ℤ free_row held columns l from → is_free (record { columns = columns; rows = to_end x l }) held ≡ false }
     ensures position { (held : List Area) (columns : Span) (k l : ℕ) (from : Position) → IsLeast held columns k l from (free_position held columns k l (rows_to_search held from.row) from) }
     ensures inside { (held : List Area) (columns : Span) (k l : ℕ) (from : Position) → columns.start ≤ℤ from.column → (columns.start +ℤ pos k) ≤ℤ columns.end → IsInside columns k (free_position held columns k l (rows_to_search held from.row) from) }
+{}
+
+/// One division gives as many repetitions as are counted.
+#[tactic(auto, using(crate::proofs::Repeats::by_division))]
+pub fn division_counts_repetitions(fixed: &[Lu], repeated: &[Lu], gap: Lu, space: RepeatSpace)
+    ensures { repetitions_by_division fixed.now repeated.now gap space ≡ repetitions fixed.now repeated.now gap space }
 {}
