@@ -1,0 +1,3 @@
+pub mod Settled
+pub mod Expanded
+pub mod Filling
