@@ -10,13 +10,15 @@ use Rattle.style_types.specs.Order.{place_of, prop_cmp, prop_cmp_total, prop_cmp
 use Rattle.style_types.specs.Styles.{StyleMap, value_of}
 use Rattle.style_types.specs.Table.{initial}
 use Rattle.style_types.specs.declared.prop.Prop.{Prop}
-use Rattle.style_types.specs.declared.value.Value.{Value}
 
-abbrev Entries : Type 0
-Entries = List (Prop × Value)
+abbrev Entries : Type 0 → Type 0
+Entries V = List (Prop × V)
+
+abbrev PropMapOf : Type 0 → Type 0
+PropMapOf V = map.FinMap prop_cmp V
 
 -- the value of the first entry of the property
-abbrev value_in : Prop → Entries → Option Value
+abbrev value_in : {V : Type 0} → Prop → Entries V → Option V
 value_in q [] = None
 value_in q (e ∷ es) = cond (is_entry_of q e) (Some e.1) (value_in q es)
 
@@ -44,13 +46,13 @@ kept m k n x y z = grind (arith, nat_tests)
 -- ---- a place that was found
 
 -- the place of the property's first entry: its value, and what a write there changes
-pub record IsPlace (p : Prop) (es : Entries) (i : ℕ) : Type 0 where
+pub record IsPlace {V : Type 0} (p : Prop) (es : Entries V) (i : ℕ) : Type 0 where
   pub within : i < length es
-  pub value : (d : Prop × Value) → value_in p es ≡ Some (get_or es i d).1
-  pub write : (v : Value) (q : Prop) → value_in q (slice_set es i (p, v)) ≡ cond (place_of p == place_of q) (Some v) (value_in q es)
+  pub value : (d : Prop × V) → value_in p es ≡ Some (get_or es i d).1
+  pub write : (v : V) (q : Prop) → value_in q (slice_set es i (p, v)) ≡ cond (place_of p == place_of q) (Some v) (value_in q es)
 
 -- an entry of the property in front
-first : (p : Prop) (e : Prop × Value) (es : Entries) → is_entry_of p e ≡ true → IsPlace p (e ∷ es) 0
+first : {V : Type 0} → (p : Prop) (e : Prop × V) (es : Entries V) → is_entry_of p e ≡ true → IsPlace p (e ∷ es) 0
 first p e es h = record {
   within = omega arith;
   value = λ d. ap (λ b. cond b (Some e.1) (value_in p es)) h;
@@ -58,7 +60,7 @@ first p e es h = record {
 }
 
 -- an entry of another property in front
-later : (p : Prop) (e : Prop × Value) (es : Entries) (k : ℕ) → is_entry_of p e ≡ false → IsPlace p es k → IsPlace p (e ∷ es) (suc k)
+later : {V : Type 0} → (p : Prop) (e : Prop × V) (es : Entries V) (k : ℕ) → is_entry_of p e ≡ false → IsPlace p es k → IsPlace p (e ∷ es) (suc k)
 later p e es k h at = record {
   within = omega (arith, at.within);
   value = λ d. ap (λ b. cond b (Some e.1) (value_in p es)) h ∙ at.value d;
@@ -70,13 +72,13 @@ either_way : {C : Type 0} (b : Bool) (n i : ℕ) (r : Option ℕ) → cond b (So
 either_way true n i r h here there = here refl (cc)
 either_way false n i r h here there = there refl h
 
-found_from : (n : ℕ) (p : Prop) (es : Entries) (i : ℕ) → position_from (is_entry_of p) n es ≡ Some i → (k : ℕ) × (i ≡ n + k) × IsPlace p es k
+found_from : {V : Type 0} → (n : ℕ) (p : Prop) (es : Entries V) (i : ℕ) → position_from (is_entry_of p) n es ≡ Some i → (k : ℕ) × (i ≡ n + k) × IsPlace p es k
 found_from n p [] i h = absurd (cc)
 found_from n p (e ∷ es) i h = either_way (is_entry_of p e) n i (position_from (is_entry_of p) (n + 1) es) h
     (λ b at. (0, omega (arith, at), first p e es b))
     (λ b r. let rest = found_from (n + 1) p es i r in (suc rest.0, omega (arith, rest.1), later p e es rest.0 b rest.2))
 
-pub found : (p : Prop) (es : Entries) (i : ℕ) → position_from (is_entry_of p) 0 es ≡ Some i → IsPlace p es i
+pub found : {V : Type 0} → (p : Prop) (es : Entries V) (i : ℕ) → position_from (is_entry_of p) 0 es ≡ Some i → IsPlace p es i
 found p es i h = let at = found_from 0 p es i h in let e : at.0 ≡ i = omega (arith, at.1) in subst (IsPlace p es) e at.2
 
 -- ---- no place
@@ -85,60 +87,60 @@ neither_way : {A : Type 0} (b : Bool) (n : ℕ) (r : Option ℕ) (x z : Option A
 neither_way true n r x z h rest = absurd (cc)
 neither_way false n r x z h rest = rest h
 
-absent_from : (n : ℕ) (p : Prop) (es : Entries) → position_from (is_entry_of p) n es ≡ None → value_in p es ≡ None
+absent_from : {V : Type 0} → (n : ℕ) (p : Prop) (es : Entries V) → position_from (is_entry_of p) n es ≡ None → value_in p es ≡ None
 absent_from n p [] h = refl
 absent_from n p (e ∷ es) h = neither_way (is_entry_of p e) n (position_from (is_entry_of p) (n + 1) es) (Some e.1) (value_in p es) h (absent_from (n + 1) p es)
 
 -- ---- entries taken out
 
-value_of_either : (b : Bool) (q : Prop) (es fs : Entries) → value_in q (cond b es fs) ≡ cond b (value_in q es) (value_in q fs)
+value_of_either : {V : Type 0} → (b : Bool) (q : Prop) (es fs : Entries V) → value_in q (cond b es fs) ≡ cond b (value_in q es) (value_in q fs)
 value_of_either true q es fs = refl
 value_of_either false q es fs = refl
 
-taken_out : (p q : Prop) (es : Entries) → value_in q (filter (λ e. not (is_entry_of p e)) es) ≡ cond (place_of p == place_of q) None (value_in q es)
+taken_out : {V : Type 0} → (p q : Prop) (es : Entries V) → value_in q (filter (λ e. not (is_entry_of p e)) es) ≡ cond (place_of p == place_of q) None (value_in q es)
 taken_out p q [] = grind (arith, nat_tests)
-taken_out p q (e ∷ es) =
-    let rest : Entries = filter (λ x. not (is_entry_of p x)) es in
+taken_out {V = V} p q (e ∷ es) =
+    let rest : Entries V = filter (λ x. not (is_entry_of p x)) es in
     value_of_either (not (is_entry_of p e)) q (e ∷ rest) rest
     ∙ ap (λ w. cond (not (is_entry_of p e)) (cond (is_entry_of q e) (Some e.1) w) w) (taken_out p q es)
     ∙ kept (place_of e.0) (place_of p) (place_of q) None (Some e.1) (value_in q es)
 
 -- ---- as maps
 
-abbrev pub map_of : Entries → StyleMap
+abbrev pub map_of : {V : Type 0} → Entries V → PropMapOf V
 map_of es = map.from_entries es
 
-find_is : (q : Prop) (es : Entries) → map.find prop_cmp q es ≡ value_in q es
+find_is : {V : Type 0} → (q : Prop) (es : Entries V) → map.find prop_cmp q es ≡ value_in q es
 find_is q [] = refl
 find_is q (e ∷ es) = ap (λ b. cond b (Some e.1) (map.find prop_cmp q es)) (ties (place_of q) (place_of e.0)) ∙ ap (cond (is_entry_of q e) (Some e.1)) (find_is q es)
 
-get_is : (es : Entries) (q : Prop) → map.get (map_of es) q ≡ value_in q es
+get_is : {V : Type 0} → (es : Entries V) (q : Prop) → map.get (map_of es) q ≡ value_in q es
 get_is es q = map.get-from_entries prop_cmp_total es q ∙ find_is q es
 
 at_place : {A : Type 0} (p q : Prop) (x y : A) → cond (eq_by_cmp prop_cmp q p) x y ≡ cond (place_of p == place_of q) x y
 at_place p q x y = ap (λ b. cond b x y) (ties (place_of q) (place_of p))
 
 -- entries whose values are those of a map with one written make that map
-same_as_insert : (es fs : Entries) (p : Prop) (v : Value) → ((q : Prop) → value_in q fs ≡ cond (place_of p == place_of q) (Some v) (value_in q es)) → map_of fs ≡ map.insert (map_of es) p v
+same_as_insert : {V : Type 0} → (es fs : Entries V) (p : Prop) (v : V) → ((q : Prop) → value_in q fs ≡ cond (place_of p == place_of q) (Some v) (value_in q es)) → map_of fs ≡ map.insert (map_of es) p v
 same_as_insert es fs p v h = map.same_map prop_cmp_total prop_cmp-IsAntisymmetric (map_of fs) (map.insert (map_of es) p v) (λ q.
     get_is fs q ∙ h q ∙ sym (map.get-insert prop_cmp_total (map_of es) p v q ∙ at_place p q (Some v) (map.get (map_of es) q) ∙ ap (cond (place_of p == place_of q) (Some v)) (get_is es q)))
 
-pub get_found : (es : Entries) (p : Prop) (i : ℕ) (d : Prop × Value) → position_from (is_entry_of p) 0 es ≡ Some i → map.get (map_of es) p ≡ Some (get_or es i d).1
+pub get_found : {V : Type 0} → (es : Entries V) (p : Prop) (i : ℕ) (d : Prop × V) → position_from (is_entry_of p) 0 es ≡ Some i → map.get (map_of es) p ≡ Some (get_or es i d).1
 get_found es p i d h = get_is es p ∙ (found p es i h).value d
 
-pub get_absent : (es : Entries) (p : Prop) → position_from (is_entry_of p) 0 es ≡ None → map.get (map_of es) p ≡ None
+pub get_absent : {V : Type 0} → (es : Entries V) (p : Prop) → position_from (is_entry_of p) 0 es ≡ None → map.get (map_of es) p ≡ None
 get_absent es p h = get_is es p ∙ absent_from 0 p es h
 
-pub place_within : (es : Entries) (p : Prop) (i : ℕ) → position_from (is_entry_of p) 0 es ≡ Some i → i < length es
+pub place_within : {V : Type 0} → (es : Entries V) (p : Prop) (i : ℕ) → position_from (is_entry_of p) 0 es ≡ Some i → i < length es
 place_within es p i h = (found p es i h).within
 
-pub insert_found : (es : Entries) (p : Prop) (i : ℕ) (v : Value) → position_from (is_entry_of p) 0 es ≡ Some i → map_of (slice_set es i (p, v)) ≡ map.insert (map_of es) p v
+pub insert_found : {V : Type 0} → (es : Entries V) (p : Prop) (i : ℕ) (v : V) → position_from (is_entry_of p) 0 es ≡ Some i → map_of (slice_set es i (p, v)) ≡ map.insert (map_of es) p v
 insert_found es p i v h = same_as_insert es (slice_set es i (p, v)) p v ((found p es i h).write v)
 
-pub insert_absent : (es : Entries) (p : Prop) (v : Value) → position_from (is_entry_of p) 0 es ≡ None → map_of (es ++ (p, v) ∷ []) ≡ map.insert (map_of es) p v
+pub insert_absent : {V : Type 0} → (es : Entries V) (p : Prop) (v : V) → position_from (is_entry_of p) 0 es ≡ None → map_of (es ++ (p, v) ∷ []) ≡ map.insert (map_of es) p v
 insert_absent es p v h = map.from_entries_push prop_cmp_total prop_cmp-IsAntisymmetric es p v (find_is p es ∙ absent_from 0 p es h)
 
-pub remove_taken : (es : Entries) (p : Prop) → map_of (filter (λ e. not (is_entry_of p e)) es) ≡ map.remove (map_of es) p
+pub remove_taken : {V : Type 0} → (es : Entries V) (p : Prop) → map_of (filter (λ e. not (is_entry_of p e)) es) ≡ map.remove (map_of es) p
 remove_taken es p = map.same_map prop_cmp_total prop_cmp-IsAntisymmetric (map_of (filter (λ e. not (is_entry_of p e)) es)) (map.remove (map_of es) p) (λ q.
     get_is (filter (λ e. not (is_entry_of p e)) es) q ∙ taken_out p q es ∙ sym (map.get-remove prop_cmp_total (map_of es) p q ∙ at_place p q None (map.get (map_of es) q) ∙ ap (cond (place_of p == place_of q) None) (get_is es q)))
 

@@ -2,3 +2,5 @@ pub mod Entries
 pub mod Order
 pub mod Styles
 pub mod Table
+pub mod Units
+pub mod Computed

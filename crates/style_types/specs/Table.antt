@@ -1,5 +1,5 @@
 -- The table of properties: of each its class (own rule) and its initial value (of the W3C section that the property
--- names; those of the border widths and of `justify-items` are own).
+-- names; those of the border widths, of `justify-items` and of `font-size` are own).
 use Rattle.std.specs.Prelude.{pos, false, [], ◌∷◌, None}
 use Rattle.lunit.specs.declared.line_value.LineValue.TheVariants as line
 use Rattle.style_types.specs.declared.prop.Class.{Class}
@@ -65,6 +65,7 @@ row_of prop.FlexWrap = (class.Content, value.Wrap false)
 row_of prop.FlexGrow = (class.Content, value.Factor 0)
 row_of prop.FlexShrink = (class.Content, value.Factor 1000)
 row_of prop.FlexBasis = (class.Content, value.Size size.Auto)
+row_of prop.FontSize = (class.Font, value.Size (size.Length (pos 1024)))
 
 abbrev pub class_in_table : Prop → Class
 class_in_table p = (row_of p).0

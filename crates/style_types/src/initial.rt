@@ -37,6 +37,14 @@ fn zero_length() -> Value
     Value::Size(Size::Length(Lu::of(0)))
 }
 
+#[tactic(auto, unfolding(lunit::specs::Units::clamp))]
+/// The font size of the root where none is set: 16 px, in units of 1/64 px (own rule).
+fn font_length() -> Value
+    ensures { result ≡ value.Size (size.Length (pos 1024)) }
+{
+    Value::Size(Size::Length(Lu::of(1024)))
+}
+
 /// The value that the property has where it is not set. Takes memory for `grid-auto-columns` and `grid-auto-rows`
 /// alone.
 pub fn initial_of(alloc: Global, p: Prop) -> Result<Value, NoMemory>
@@ -70,6 +78,7 @@ pub fn initial_of(alloc: Global, p: Prop) -> Result<Value, NoMemory>
         Prop::FlexWrap => Ok(Value::Wrap(false)),
         Prop::FlexGrow => Ok(Value::Factor(0)),
         Prop::FlexShrink => Ok(Value::Factor(1000)),
+        Prop::FontSize => Ok(font_length()),
         // The margins, paddings and border widths.
         _ => Ok(zero_length()),
     }

@@ -93,6 +93,8 @@ pub enum Prop {
     FlexShrink,
     /// CSS Flexbox 1, section 7.2.3. `auto`, `content`, a length of at least 0, or a percentage.
     FlexBasis,
+    /// CSS Fonts 4, section 2.5. A length of at least 0. Inherited; that the root has 16 px is this project's own.
+    FontSize,
 }
 
 /// What an edit of a property reaches beside the node and those above it (own rule).
@@ -102,6 +104,9 @@ pub enum Class {
     Grid,
     /// No more: it changes sizes and positions alone.
     Content,
+    /// Each node below the node too, and the subgrids below its parent: it changes what the lengths with `em` are, and
+    /// with `rem` where it is set on the root.
+    Font,
 }
 
 /// The class of the property. Takes no memory.
@@ -128,6 +133,7 @@ pub fn class_of(p: Prop) -> Class
         | Prop::FlexGrow
         | Prop::FlexShrink
         | Prop::FlexBasis => Class::Content,
+        Prop::FontSize => Class::Font,
         _ => Class::Grid,
     }
 }
