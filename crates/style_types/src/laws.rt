@@ -9,14 +9,14 @@ use crate::declared::Declared;
 use crate::prop::Prop;
 use lunit::Lu;
 
-/// A property has a computed value exactly where it is declared, and this is the computed value of the declared one.
 #[tactic(auto, using(crate::proofs::Computing::computing))]
+/// A property has a computed value exactly where it is declared, and this is the computed value of the declared one.
 pub fn computed_values(declared: &Declared, em: Lu, rem: Lu, p: Prop)
     ensures { map.get (computed_style em rem declared.now) p ≡ option_map (computed_value em rem) (map.get declared.now p) }
 {}
 
-/// A style whose lengths are all in px is computed to itself, whatever the font sizes are.
 #[tactic(auto, using(crate::proofs::Computing::computing))]
+/// A style whose lengths are all in px is computed to itself, whatever the font sizes are.
 pub fn px_alone_stay(declared: &Declared, em: Lu, rem: Lu, p: Prop)
     requires { is_px_alone declared.now ≡ true }
     ensures style { computed_style em rem declared.now ≡ plain_style declared.now }

@@ -80,8 +80,8 @@ impl<T> PropMap<T> {
         }
     }
 
-    /// What belongs to the property; `None` exactly where it is not there. Takes no memory.
     #[tactic(auto, using(crate::proofs::Places::found_laws))]
+    /// What belongs to the property; `None` exactly where it is not there. Takes no memory.
     pub(crate) fn get(&self, p: Prop) -> Option<&T>
         ensures { option_copied result ≡ map.get self.now p }
     {
@@ -91,9 +91,9 @@ impl<T> PropMap<T> {
 }
 
 impl<T: Drop> PropMap<T> {
+    #[tactic(auto, using(crate::proofs::Places::found_laws))]
     /// Gives this to the property, in place of what it had. `NoMemory` comes only for want of memory, which a property
     /// that is there already never meets, and changes nothing.
-    #[tactic(auto, using(crate::proofs::Places::found_laws))]
     pub(crate) fn set(&mut self, p: Prop, held: T) -> Result<(), NoMemory>
         ensures ok { OnOk result (self.new ≡ map.insert self.old p held) }
         ensures err { OnErr result (self.new ≡ self.old) }
@@ -115,9 +115,9 @@ impl<T: Drop> PropMap<T> {
 }
 
 impl PropMap<DeclaredValue> {
+    #[tactic(auto, using(crate::proofs::Computing::style_of_entries))]
     /// The same properties with the computed value of each, where the font size of the node is `em` and that of the
     /// root `rem`.
-    #[tactic(auto, using(crate::proofs::Computing::style_of_entries))]
     pub(crate) fn computed(
         &self,
         alloc: Global,

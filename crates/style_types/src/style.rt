@@ -68,8 +68,8 @@ impl Style {
         self.values.set(p, v)
     }
 
-    /// The property is no longer set. Takes no memory.
     #[tactic(auto, using(crate::proofs::Places::value_of_removed))]
+    /// The property is no longer set. Takes no memory.
     pub fn unset(&mut self, p: Prop)
         ensures map { self.new ≡ map.remove self.old p }
         ensures value { value_of self.new p ≡ initial p }

@@ -36,8 +36,8 @@ fn differ(a: bool, b: bool) -> bool
     a != b
 }
 
-/// The length of this magnitude.
 #[tactic(auto, unfolding(lunit::specs::Units::clamp))]
+/// The length of this magnitude.
 fn signed(negative: bool, size: u64) -> Lu
     requires { size ≤ 67108864 }
     ensures { result ≡ signed negative size }
@@ -50,8 +50,8 @@ fn signed(negative: bool, size: u64) -> Lu
     }
 }
 
-/// So many millionths of a font size: truncated toward zero, then limited to a magnitude of 2^26 units (own rule).
 #[tactic(auto, unfolding(crate::specs::Units::relative))]
+/// So many millionths of a font size: truncated toward zero, then limited to a magnitude of 2^26 units (own rule).
 fn relative(millionths: i64, font: Lu) -> Lu
     ensures { result ≡ relative millionths font }
 {
