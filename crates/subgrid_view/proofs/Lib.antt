@@ -1,0 +1,4 @@
+mod Halves
+mod Levels
+mod Sums
+mod Tracks

@@ -1,0 +1,3 @@
+pub mod Moves
+pub mod Ranges
+pub mod Sums
