@@ -4,6 +4,8 @@ pub mod Floor
 pub mod Fractions
 pub mod Placed
 pub mod Repeats
+pub mod Rounds
+pub mod Levels
 pub mod Sharing
 pub mod WordLines
 pub mod Frozen

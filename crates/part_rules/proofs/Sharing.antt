@@ -1,10 +1,11 @@
 -- What is shared and what is left are the space, and parts by weights are the whole.
-use Rattle.std.proofs.Common.{arith, ap, ◌≡◌, ◌∙◌, sym, refl, ℕ, zero, suc, ℤ, pos, negsuc, ◌+◌, ◌<◌, ◌≤◌, ◌+ℤ◌, ◌-ℤ◌, Bool, true, false, ◌⊎◌, inl, inr, ◌||◌, subst, true≢false, Option, Some, None, List, [], ◌∷◌, map, if◌then◌else◌}
+use Rattle.std.proofs.Common.{arith, ap, ◌≡◌, ◌∙◌, sym, refl, ℕ, zero, suc, ℤ, pos, negsuc, ◌+◌, ◌<◌, ◌≤◌, ◌+ℤ◌, ◌-ℤ◌, Bool, true, false, ◌⊎◌, inl, inr, ◌||◌, subst, Option, List, [], ◌∷◌, map, if◌then◌else◌}
 use Rattle.std.proofs.lemmas.Int.{ints}
 use Rattle.std.specs.List.{list_any}
 use Rattle.part_rules.specs.declared.share.Share.{Share}
 use Rattle.part_rules.specs.Lists.{sum_of, total_of}
-use Rattle.part_rules.specs.Sharing.{has_room, one_more, Handed, IsDone, IsShared, after_row, round, rounds, rounds_with_room, with_nothing, roomy, handed_to, shares, unshared, handed, shared_rows, left_over, part, apportioned_after, apportioned_whole}
+use Rattle.part_rules.specs.Sharing.{has_room, one_more, Handed, IsDone, IsShared, after_row, round, rounds, with_nothing, roomy, handed_to, shares, unshared, handed, shared_rows, left_over, part, apportioned_after, apportioned_whole}
+use Rattle.part_rules.proofs.Levels.{by_level}
 use Rattle.part_rules.proofs.Floor.{floor_div-times, floor_div-none}
 
 abbrev got : List Share → ℤ
@@ -80,45 +81,10 @@ rounds_done (suc k) (suc n) rows h = go (round_falls n rows) (λ m other p. roun
 pub all_handed : (n : ℕ) (rows : List Share) → IsDone (handed n rows)
 all_handed n rows = rounds_done n n (map with_nothing rows) (omega arith)
 
--- ---- the rounds that end where no row has room are the same
-
-same_round : (n : ℕ) (rows : List Share) → list_any has_room rows ≡ false → (let h : Handed = record { rows = rows; left = n } in round n rows ≡ h)
-same_round zero rows e = refl
-same_round (suc n) [] e = refl
-same_round (suc n) (s ∷ rest) e = go (has_room s) (list_any has_room rest) e (same_round (suc n) rest)
-  where
-    go : (b c : Bool) → (b || c) ≡ false → (c ≡ false → (let h : Handed = record { rows = rest; left = suc n } in round (suc n) rest ≡ h)) → (let h : Handed = record { rows = s ∷ rest; left = suc n } in after b n s rest ≡ h)
-    go true c e f = absurd (true≢false e)
-    go false c e f = ap (after_row s) (f e)
-
-pub same_rounds : (k n : ℕ) (rows : List Share) → list_any has_room rows ≡ false → (let h : Handed = record { rows = rows; left = n } in rounds k h ≡ h)
-unfolding rounds
-same_rounds zero n rows e = refl
-same_rounds (suc k) n rows e = ap (rounds k) (same_round n rows e) ∙ same_rounds k n rows e
-
--- Rounds that end where no row has room are as many rounds.
-pub with_room : (k : ℕ) (h : Handed) → rounds_with_room k h ≡ rounds k h
-unfolding rounds rounds_with_room
-with_room zero h = refl
-with_room (suc k) h = go (list_any has_room h.rows) (with_room k (round h.left h.rows)) (same_rounds (suc k) h.left h.rows)
-  where
-    go : (b : Bool) → rounds_with_room k (round h.left h.rows) ≡ rounds k (round h.left h.rows) → (b ≡ false → rounds k (round h.left h.rows) ≡ h) → (if b then rounds_with_room k (round h.left h.rows) else h) ≡ rounds k (round h.left h.rows)
-    go true e f = e
-    go false e f = sym (f refl)
-
-pub roomy_is : (room : Option ℤ) → (let s : Share = record { room = room; got = pos 0 } in roomy room ≡ s)
-roomy_is None = refl
-roomy_is (Some (pos n)) = refl
-roomy_is (Some (negsuc n)) = refl
-
-roomy_rows : (rooms : List (Option ℤ)) → map with_nothing (map roomy rooms) ≡ map roomy rooms
-roomy_rows [] = refl
-roomy_rows (None ∷ rooms) = ap (λ (t : List Share). roomy None ∷ t) (roomy_rows rooms)
-roomy_rows (Some (pos n) ∷ rooms) = ap (λ (t : List Share). roomy (Some (pos n)) ∷ t) (roomy_rows rooms)
-roomy_rows (Some (negsuc n) ∷ rooms) = ap (λ (t : List Share). roomy (Some (negsuc n)) ∷ t) (roomy_rows rooms)
+-- ---- by the rooms alone
 
 handed_roomy : (n : ℕ) (rooms : List (Option ℤ)) → handed_to n rooms ≡ handed n (map roomy rooms)
-handed_roomy n rooms = with_room n (record { rows = map roomy rooms; left = n }) ∙ ap (λ (rows : List Share). rounds n (record { rows = rows; left = n })) (sym (roomy_rows rooms))
+handed_roomy n rooms = by_level n (map roomy rooms)
 
 got_zero : (rooms : List (Option ℤ)) → map (λ (s : Share). s.got) (map with_nothing (map roomy rooms)) ≡ map (λ (r : Option ℤ). pos 0) rooms
 got_zero [] = refl

@@ -4,7 +4,7 @@ use Rattle.std.specs.Int.{int_max, int_min}
 use Rattle.lunit.specs.Units.{clamp, floor_div}
 use Rattle.part_rules.specs.declared.flex.FlexItem.{FlexItem}
 use Rattle.part_rules.specs.Lists.{sum_of, total_of, filled, zipped, at_most, greatest_with, above_zero}
-use Rattle.part_rules.specs.Sharing.{apportioned_whole, shares, rounds_with_room}
+use Rattle.part_rules.specs.Sharing.{apportioned_whole, shares, handed_by_level}
 
 -- ---- lines (CSS Flexbox 1, 9.3)
 
@@ -191,53 +191,53 @@ item base min max grow shrink = record { base = base; min = min; max = max; marg
 
 -- 6400 by two equal factors: 3200 each; the first is lowered to 1920 and frozen. Then 4480 are left for the second.
 one_limit : line_sizes (pos 6400) (pos 0) (item (pos 0) (pos 0) (Some (pos 1920)) 1000 1000 ∷ item (pos 0) (pos 0) None 1000 1000 ∷ []) ≡ pos 1920 ∷ pos 4480 ∷ []
-unfolding resolved clamp floor_div rounds_with_room
+unfolding resolved clamp floor_div handed_by_level
 one_limit = refl
 
 -- The first has the greatest size already, and margins that take it back. Of 200 each gets 100: the first is lowered by 100 and
 -- the second raised by 50, so the first is frozen, and the second takes all. The range alone lowers no size.
 past_the_range : line_sizes (pos 200) (pos 0) (record { base = pos 1073741824; min = pos 0; max = Some (pos 1073741824); margins = negsuc 1073741823; inner = pos 0; grow = 1000; shrink = 1000 } ∷ item (pos 0) (pos 150) None 1000 1000 ∷ []) ≡ pos 1073741824 ∷ pos 200 ∷ []
-unfolding resolved clamp floor_div rounds_with_room
+unfolding resolved clamp floor_div handed_by_level
 past_the_range = refl
 
 -- A factor of 0.25 alone takes a quarter of 6400.
 quarter : line_sizes (pos 6400) (pos 0) (item (pos 0) (pos 0) None 250 1000 ∷ []) ≡ pos 1600 ∷ []
-unfolding resolved clamp floor_div rounds_with_room
+unfolding resolved clamp floor_div handed_by_level
 quarter = refl
 
 -- 300 by three: 100 each; 50 less for the first and 50 more for the second sum to 0, so all are frozen.
 limits_even_out : line_sizes (pos 300) (pos 0) (item (pos 0) (pos 0) (Some (pos 50)) 1000 1000 ∷ item (pos 0) (pos 150) None 1000 1000 ∷ item (pos 0) (pos 0) None 1000 1000 ∷ []) ≡ pos 50 ∷ pos 150 ∷ pos 100 ∷ []
-unfolding resolved clamp floor_div rounds_with_room
+unfolding resolved clamp floor_div handed_by_level
 limits_even_out = refl
 
 -- 50 are lacking; the weights 100 and 50 take floor(5000 / 150) = 33 and the rest 17.
 shrinks : line_sizes (pos 100) (pos 0) (item (pos 100) (pos 0) None 0 1000 ∷ item (pos 50) (pos 0) None 0 1000 ∷ []) ≡ pos 67 ∷ pos 33 ∷ []
-unfolding resolved clamp floor_div rounds_with_room
+unfolding resolved clamp floor_div handed_by_level
 shrinks = refl
 
 -- The same with a minimum of 90 for the first: 67 is raised by 23, so it alone is frozen, and the second gives all 40 that lack.
 shrinks_to_minimum : line_sizes (pos 100) (pos 0) (item (pos 100) (pos 90) None 0 1000 ∷ item (pos 50) (pos 0) None 0 1000 ∷ []) ≡ pos 90 ∷ pos 10 ∷ []
-unfolding resolved clamp floor_div rounds_with_room
+unfolding resolved clamp floor_div handed_by_level
 shrinks_to_minimum = refl
 
 -- A shrink factor of 0.5 alone gives back half of the 100 that lack.
 shrinks_half : line_sizes (pos 100) (pos 0) (item (pos 200) (pos 0) None 0 500 ∷ []) ≡ pos 150 ∷ []
-unfolding resolved clamp floor_div rounds_with_room
+unfolding resolved clamp floor_div handed_by_level
 shrinks_half = refl
 
 -- Borders and paddings do not shrink: the weights are 60 - 20 and 60 - 40, so 30 are taken as 20 and 10.
 inner_kept : line_sizes (pos 90) (pos 0) (record { base = pos 60; min = pos 0; max = None; margins = pos 0; inner = pos 20; grow = 0; shrink = 1000 } ∷ record { base = pos 60; min = pos 0; max = None; margins = pos 0; inner = pos 40; grow = 0; shrink = 1000 } ∷ []) ≡ pos 40 ∷ pos 50 ∷ []
-unfolding resolved clamp floor_div rounds_with_room
+unfolding resolved clamp floor_div handed_by_level
 inner_kept = refl
 
 -- Margins of 30 and a gap of 5 go off 100: 65 for two items, by the weights 1 and 3; floor(65 / 4) = 16 and 49.
 margins_and_gap : line_sizes (pos 100) (pos 5) (record { base = pos 0; min = pos 0; max = None; margins = pos 30; inner = pos 0; grow = 1000; shrink = 1000 } ∷ item (pos 0) (pos 0) None 3000 1000 ∷ []) ≡ pos 16 ∷ pos 49 ∷ []
-unfolding resolved clamp floor_div rounds_with_room
+unfolding resolved clamp floor_div handed_by_level
 margins_and_gap = refl
 
 -- An item without a factor keeps its hypothetical size, here its maximum; the other takes the rest.
 no_factor : line_sizes (pos 100) (pos 0) (item (pos 40) (pos 0) (Some (pos 30)) 0 1000 ∷ item (pos 0) (pos 0) None 1000 1000 ∷ []) ≡ pos 30 ∷ pos 70 ∷ []
-unfolding resolved clamp floor_div rounds_with_room
+unfolding resolved clamp floor_div handed_by_level
 no_factor = refl
 
 -- 40 + 10 + 40 = 90 fits 100, and 140 does not.
@@ -256,7 +256,7 @@ no_items = refl
 
 -- Lines of 30 and 20 with a gap of 5 in 100: the rest of 45 goes to them as 23 and 22.
 cross_stretch : line_crosses (pos 10 ∷ pos 30 ∷ pos 20 ∷ []) ((0, 2) ∷ (2, 3) ∷ []) (Some (pos 100)) (pos 5) true true ≡ pos 53 ∷ pos 42 ∷ []
-unfolding clamp rounds_with_room
+unfolding clamp handed_by_level
 cross_stretch = refl
 
 cross_start : line_crosses (pos 10 ∷ pos 30 ∷ pos 20 ∷ []) ((0, 2) ∷ (2, 3) ∷ []) (Some (pos 100)) (pos 5) true false ≡ pos 30 ∷ pos 20 ∷ []
@@ -272,7 +272,7 @@ cross_unknown = refl
 
 -- Three of four margins are `auto` and share 10 as 4, 3 and 3.
 margins_share : line_margins (pos 10) (true ∷ false ∷ true ∷ true ∷ []) ≡ pos 4 ∷ pos 0 ∷ pos 3 ∷ pos 3 ∷ []
-unfolding clamp rounds_with_room
+unfolding clamp handed_by_level
 margins_share = refl
 
 margins_none : line_margins (negsuc 2) (true ∷ []) ≡ pos 0 ∷ []

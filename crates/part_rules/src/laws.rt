@@ -14,7 +14,7 @@ ghost use Rattle.part_rules.specs.WordLines.{AreFewest, are_widths, word_lines};
 ghost use Rattle.part_rules.specs.Placement.{Field, Position, IsFreeOf, IsInside, IsLeast, NoOverlap, free_column, free_position, free_row, next_area, placed, row_area, rows_to_search, to_end};
 ghost use Rattle.lunit.specs.Areas.{is_free};
 ghost use Rattle.lunit.specs.declared.geometry.Span.{Span};
-ghost use Rattle.part_rules.specs.Sharing.{IsShared, shared_rows, left_over, apportioned_whole};
+ghost use Rattle.part_rules.specs.Sharing.{IsLevel, IsShared, handed, handed_by_level, level_of, shared_rows, left_over, apportioned_whole};
 
 use crate::{FlexItem, FrRow, Mode, RepeatSpace, Shape, Share, Wish};
 use lunit::Lu;
@@ -24,6 +24,14 @@ use lunit::Lu;
 pub fn shares_are_the_space(space: Lu, rows: &[Share])
     ensures sum { sum_of (map (λ (s : Share). s.got) (shared_rows space rows.now)) +ℤ left_over space rows.now ≡ space }
     ensures used { IsShared space rows.now }
+{}
+
+/// Units that are handed out by one level are those that are handed out one at a time, round after round; the level is the
+/// greatest whose total does not pass the units, or one that no row takes more than.
+#[tactic(auto, using(crate::proofs::Levels::by_level))]
+pub fn levels_are_rounds(units: u64, rows: &[Share])
+    ensures same { handed_by_level units rows.now ≡ handed units rows.now }
+    ensures greatest { IsLevel units rows.now (level_of units rows.now) }
 {}
 
 /// Parts by weights are the whole space.

@@ -4,8 +4,8 @@ ghost use Rattle.std.specs.Prelude.{◌≡◌, ℤ, pos, ◌+ℤ◌, ◌≤ℤ�
 ghost use Rattle.std.specs.List.{list_any};
 ghost use Rattle.part_rules.specs.declared.share.Share.{Share};
 ghost use Rattle.part_rules.specs.Lists.{sum_of};
-ghost use Rattle.part_rules.specs.Sharing.{has_room, handed, shared_rows, left_over};
-ghost use Rattle.share_out.specs.Levels.{above, filled_rows};
+ghost use Rattle.part_rules.specs.Sharing.{above, has_room, handed, shared_rows, left_over};
+ghost use Rattle.share_out.specs.Levels.{filled_rows};
 
 use crate::level::{fill, tally_at};
 use crate::row::{end_of, is_above, length, units};
@@ -21,7 +21,7 @@ struct Filling {
 }
 
 /// The place before which so many rows take more than the level.
-#[tactic(auto, using(crate::proofs::Levels::above_parts))]
+#[tactic(auto, using(part_rules::proofs::Levels::above_parts))]
 fn place_after(count: u64, level: u64, rows: &[Share]) -> usize
     requires { count ≤ above level rows.now }
     ensures within { result ≤ length rows.now }
@@ -42,7 +42,7 @@ fn place_after(count: u64, level: u64, rows: &[Share]) -> usize
 
 /// How far the units fill the rows. The level rises by what each row that takes more would get of what is left; where some of
 /// them become full, there is something left for a further turn.
-#[tactic(auto, using(crate::proofs::Levels::ends_at, crate::proofs::Levels::full_at, crate::proofs::Levels::used_none, crate::proofs::Levels::level_least))]
+#[tactic(auto, using(crate::proofs::Levels::ends_at, crate::proofs::Levels::full_at, part_rules::proofs::Levels::used_none, part_rules::proofs::Levels::level_least))]
 fn find_filling(units: u64, rows: &[Share]) -> Filling
     ensures same { handed units rows.now ≡ record { rows = filled_rows result.level result.higher rows.now; left = result.left } }
     ensures within { result.higher ≤ length rows.now }

@@ -1,7 +1,7 @@
 //! The level to which rows are filled.
 
 ghost use Rattle.std.specs.Prelude.{◌≡◌, ◌≤◌, ◌<◌, ◌^◌, ◌+◌, map};
-ghost use Rattle.share_out.specs.Levels.{above, used, filled};
+ghost use Rattle.part_rules.specs.Sharing.{above, used, filled_to};
 
 use crate::row::{end_of, filled, is_above, up_to};
 use part_rules::Share;
@@ -37,7 +37,7 @@ pub fn tally_at(level: u64, rows: &[Share]) -> Tally
 #[tactic(auto, using(std::proofs::lemmas::List::Edits::map_over_more))]
 pub fn fill(rows: &mut [Share], level: u64)
     requires { level ≤ 2 ^ 30 }
-    ensures { rows.new ≡ map (filled level) rows.old }
+    ensures { rows.new ≡ map (filled_to level) rows.old }
 {
     for row in rows.iter_mut() {
         *row = filled(*row, level);

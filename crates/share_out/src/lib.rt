@@ -11,4 +11,3 @@ mod weights;
 pub use equal::hand_out;
 pub use part_rules::Share;
 pub use weights::apportion;
-

@@ -2,7 +2,7 @@
 
 ghost use Rattle.std.specs.Prelude.{◌≡◌, ◌≤◌, ◌<◌, ◌^◌, ◌+◌, pos, ◌≤ℤ◌, nat_lt};
 ghost use Rattle.part_rules.specs.Lists.{above_zero};
-ghost use Rattle.share_out.specs.Levels.{end_of, is_above, up_to, filled};
+ghost use Rattle.part_rules.specs.Sharing.{end_of, is_above, up_to, filled_to};
 
 use lunit::{Lu, Wide};
 use part_rules::Share;
@@ -58,7 +58,7 @@ pub fn up_to(level: u64, end: Option<u64>) -> u64
 /// The row, filled to the level.
 pub fn filled(row: Share, level: u64) -> Share
     requires { level ≤ 2 ^ 30 }
-    ensures { result ≡ filled level row }
+    ensures { result ≡ filled_to level row }
 {
     Share {
         room: row.room,

@@ -1,5 +1,5 @@
 use Rattle.std.proofs.Common.{arith, ◌<◌, ◌-◌, ◌+◌, ◌/◌}
-use Rattle.share_out.proofs.Levels.{IsNextLevel, next_level}
+use Rattle.part_rules.proofs.Levels.{IsNextLevel, next_level}
 use Rattle.share_out.proofs.equal.find_filling.Goals as goal
 
 pub overflow_add-level : goal.overflow_add-level

@@ -1,5 +1,5 @@
 use Rattle.std.proofs.Common.{◌≡◌, ◌≤◌, ◌-◌}
-use Rattle.share_out.specs.Levels.{above, used}
+use Rattle.part_rules.specs.Sharing.{above, used}
 use Rattle.share_out.proofs.equal.find_filling.Given as goal
 
 abbrev pub invariant-loop-tally : goal.invariant-loop-tally

@@ -3,7 +3,7 @@ use Rattle.std.proofs.lemmas.Int.{ints}
 use Rattle.part_rules.specs.declared.share.Share.{Share}
 use Rattle.part_rules.specs.Sharing.{handed}
 use Rattle.share_out.proofs.Levels.{sum_of_space, sum_of_debt, used_of_space}
-use Rattle.share_out.proofs.Rounds.{plain}
+use Rattle.part_rules.proofs.Rounds.{plain}
 use Rattle.share_out.proofs.equal.hand_out.Goals as goal
 
 pub returns-then-units-lt0-clause-sum : goal.returns-then-units-lt0-clause-sum

@@ -1,5 +1,5 @@
 use Rattle.std.proofs.Common.{◌≡◌, ◌+◌, ◌≤◌, ◌<◌, drop}
-use Rattle.share_out.specs.Levels.{above}
+use Rattle.part_rules.specs.Sharing.{above}
 use Rattle.share_out.proofs.equal.place_after.Given as goal
 
 abbrev pub invariant-loop-place : goal.invariant-loop-place

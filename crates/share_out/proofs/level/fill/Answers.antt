@@ -1,7 +1,7 @@
 use Rattle.std.proofs.Common.{◌≡◌, ℕ, ◌+◌, ◌<◌, List, ◌++◌, length, take, drop, map, get_or, set, arith}
 use Rattle.std.proofs.lemmas.List.{get_or_default}
 use Rattle.std.proofs.lemmas.List.Edits.{map_over_more}
-use Rattle.share_out.specs.Levels.{filled}
+use Rattle.part_rules.specs.Sharing.{filled_to}
 use Rattle.share_out.proofs.level.fill.Goals as goal
 
 -- the same as `map_over_more`, for an element that is read with a default
@@ -10,4 +10,4 @@ over_more f xs ys i d g h e = map_over_more f xs ys i (get_or ys i d) h e (get_o
 
 pub loop-row-preserved : goal.loop-row-preserved
 loop-row-preserved c =
-    rw c.filled.ensures (over_more (filled c.args.level) c.args.rows.now c.loop-row.rows c.loop-row.row-index _ (omega arith) (omega arith) c.loop-row.invariant)
+    rw c.filled.ensures (over_more (filled_to c.args.level) c.args.rows.now c.loop-row.rows c.loop-row.row-index _ (omega arith) (omega arith) c.loop-row.invariant)

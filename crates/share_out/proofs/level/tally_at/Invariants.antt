@@ -1,5 +1,5 @@
 use Rattle.std.proofs.Common.{◌≡◌, ◌+◌, ◌≤◌, drop}
-use Rattle.share_out.specs.Levels.{above, used}
+use Rattle.part_rules.specs.Sharing.{above, used}
 use Rattle.share_out.proofs.level.tally_at.Given as goal
 
 abbrev pub invariant-loop-row : goal.invariant-loop-row
