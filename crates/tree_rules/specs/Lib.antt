@@ -1,0 +1,17 @@
+pub mod Answers
+pub mod Boxes
+pub mod Chains
+pub mod Contexts
+pub mod Distribution
+pub mod FlexSizes
+pub mod Frames
+pub mod GridSizes
+pub mod Labels
+pub mod LentItems
+pub mod NodeSizes
+pub mod Orders
+pub mod Places
+pub mod Repetitions
+pub mod Templates
+pub mod TrackRules
+pub mod Whole

@@ -1,0 +1,11 @@
+//! The definitions over a whole tree of nodes, in `specs/`: what the rules read of a node, the lines and areas of a grid,
+//! the sizes of grids and flex containers, the items that subgrids lend, frames, boxes, and the questions that they answer.
+//!
+//! Nothing is computed here. The crates above prove that their calls give what these definitions give.
+#![tactic(auto)]
+
+mod kind;
+mod query;
+
+pub use kind::NodeKind;
+pub use query::{Ask, Given, Query};
