@@ -2,6 +2,7 @@ pub mod Aligned
 pub mod Apart
 pub mod Floor
 pub mod Fractions
+pub mod Groups
 pub mod Placed
 pub mod Repeats
 pub mod Rounds

@@ -1,9 +1,9 @@
 -- The sizes of the tracks of one axis (CSS Grid 2, section 12).
-use Rattle.std.specs.Prelude.{ℕ, zero, suc, ◌+◌, ◌-◌, ◌==◌, max, ℤ, pos, ◌+ℤ◌, ◌-ℤ◌, ◌*ℤ◌, int_lt, int_le, Bool, true, false, not, ◌&&◌, ◌||◌, List, [], ◌∷◌, ◌++◌, map, filter, length, Option, Some, None, option_map, is_some, is_none, unwrap_or, if◌then◌else◌}
+use Rattle.std.specs.Prelude.{◌≡◌, ◌≤ℤ◌, ℕ, zero, suc, ◌+◌, ◌-◌, ◌==◌, max, ℤ, pos, ◌+ℤ◌, ◌-ℤ◌, ◌*ℤ◌, int_lt, int_le, Bool, true, false, not, ◌&&◌, ◌||◌, List, [], ◌∷◌, ◌++◌, map, filter, length, Option, Some, None, option_map, is_some, is_none, unwrap_or, if◌then◌else◌}
 use Rattle.std.specs.Int.{int_max, int_min}
 use Rattle.std.specs.List.{list_any}
 use Rattle.std.specs.Ordering.{int_eq}
-use Rattle.lunit.specs.Units.{clamp}
+use Rattle.lunit.specs.Units.{clamp, IsUnits}
 use Rattle.lunit.specs.declared.item.Item.{Item}
 use Rattle.lunit.specs.declared.item.Floor.{Floor}
 use Rattle.lunit.specs.declared.item.Floor.TheVariants.{Known, Content}
@@ -518,13 +518,15 @@ group_fitted space gap crossing items ts =
 abbrev pub of_span : List Track → List Item → ℕ → List Item
 of_span ts items n = filter (λ i. int_eq (span_length i) (pos n) && not (crosses_flexible ts i)) items
 
+-- the steps for a group, where some item is in it; a group that no item is in is passed over (see the laws)
+abbrev pub some_fitted : {axis : ℕ} → Space axis → ℤ → List Item → List Track → List Track
+some_fitted space gap [] ts = ts
+some_fitted space gap (i ∷ rest) ts = group_fitted space gap false (i ∷ rest) ts
+
 -- the groups of so many spans, from this one up
 unfoldable pub spans_fitted : {axis : ℕ} → Space axis → ℤ → List Item → ℕ → ℕ → List Track → List Track
 spans_fitted space gap items zero n ts = ts
-spans_fitted space gap items (suc more) n ts =
-    let group = of_span ts items n in
-    let next = group_fitted space gap false group ts in
-    spans_fitted space gap items more (n + 1) next
+spans_fitted space gap items (suc more) n ts = spans_fitted space gap items more (n + 1) (some_fitted space gap (of_span ts items n) ts)
 
 -- the growth limits that still have no end become the base size (CSS Grid 2, 12.5, step 5)
 abbrev pub close_limit : Track → Track
@@ -539,6 +541,26 @@ content_sized space gap items ts =
     let crossing = filter (crosses_flexible ts) items in
     let all = group_fitted space gap true crossing spanning in
     map close_limit all
+
+-- no growth limit below the base size
+abbrev pub IsReached : ℤ → Option ℤ → Type 0
+IsReached base None = Unit {0}
+IsReached base (Some limit) = base ≤ℤ limit
+
+-- a track between two groups: its base size is in the range of lengths and not above its growth limit, and no increase is planned
+pub record IsSettled (t : Track) : Type 0 where
+  pub base : IsUnits t.base
+  pub limit : IsReached t.base t.limit
+  pub planned : t.planned ≡ pos 0
+
+-- each of these tracks
+abbrev pub AreSettled : List Track → Type 0
+AreSettled [] = Unit {0}
+AreSettled (t ∷ ts) = IsSettled t × AreSettled ts
+
+-- a track without its mark, which the next group makes anew before it reads it
+abbrev pub unmarked : Track → Track
+unmarked t = record t { endless = false }
 
 -- ---- the rest of the space (CSS Grid 2, 12.6 to 12.8)
 

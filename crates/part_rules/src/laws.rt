@@ -1,6 +1,6 @@
 //! What holds of the definitions. Each law is the contract of a function that does nothing.
 
-ghost use Rattle.std.specs.Prelude.{◌≡◌, Bool, List, false, true, is_some, ℕ, ◌<ℤ◌, ℤ, pos, length, ◌+ℤ◌, ◌-◌, ◌-ℤ◌, ◌≤ℤ◌, ◌<◌, map, IsTrue};
+ghost use Rattle.std.specs.Prelude.{◌≡◌, Bool, List, [], false, true, is_some, ℕ, ◌<ℤ◌, ℤ, pos, length, ◌+ℤ◌, ◌-◌, ◌-ℤ◌, ◌≤ℤ◌, ◌<◌, map, IsTrue};
 ghost use Rattle.std.specs.List.{list_all, list_any};
 ghost use Rattle.lunit.specs.declared.geometry.Area.{Area};
 ghost use Rattle.lunit.specs.declared.geometry.Spot.{Spot};
@@ -10,13 +10,14 @@ ghost use Rattle.part_rules.specs.Fractions.{are_bases, expanded, falls_short, f
 ghost use Rattle.part_rules.specs.FlexLines.{Piece, begin, resolved};
 ghost use Rattle.part_rules.specs.Lists.{sum_of, total_of};
 ghost use Rattle.part_rules.specs.Repetition.{repetitions, repetitions_by_division};
+ghost use Rattle.part_rules.specs.Tracks.{AreSettled, Track, group_fitted, unmarked};
 ghost use Rattle.part_rules.specs.WordLines.{AreFewest, are_widths, word_lines};
 ghost use Rattle.part_rules.specs.Placement.{Field, Position, IsFreeOf, IsInside, IsLeast, NoOverlap, free_column, free_position, free_row, next_area, placed, row_area, rows_to_search, to_end};
 ghost use Rattle.lunit.specs.Areas.{is_free};
 ghost use Rattle.lunit.specs.declared.geometry.Span.{Span};
 ghost use Rattle.part_rules.specs.Sharing.{IsLevel, IsShared, handed, handed_by_level, level_of, shared_rows, left_over, apportioned_whole};
 
-use crate::{FlexItem, FrRow, Mode, RepeatSpace, Shape, Share, Wish};
+use crate::{Fit, FlexItem, FrRow, Mode, RepeatSpace, Shape, Share, Wish};
 use lunit::Lu;
 
 /// Nothing is lost where a space is handed out, and it is handed out as far as there is room.
@@ -102,4 +103,10 @@ pub fn free_items_take_the_least_place()
 #[tactic(auto, using(crate::proofs::Repeats::by_division))]
 pub fn division_counts_repetitions(fixed: &[Lu], repeated: &[Lu], gap: Lu, space: RepeatSpace)
     ensures { repetitions_by_division fixed.now repeated.now gap space ≡ repetitions fixed.now repeated.now gap space }
+{}
+
+/// A group of spanning items that no item is in changes no size of tracks that are settled, so it may be passed over.
+#[tactic(auto, using(crate::proofs::Groups::none_fitted))]
+pub fn empty_groups_change_nothing<const AXIS: u8>(fit: Fit<AXIS>)
+    ensures { (crossing : Bool) (ts : List Track) → AreSettled ts → group_fitted fit.entry.space fit.entry.gap crossing [] ts ≡ map unmarked ts }
 {}

@@ -22,8 +22,8 @@ pub use flex::FlexItem;
 pub use fraction::{FrRow, Fraction};
 pub use laws::{
     all_items_are_frozen, areas_are_apart, between_fills, division_counts_repetitions,
-    fractions_cover_bases, free_items_overlap_nothing, free_items_take_the_least_place,
-    lines_are_fewest, parts_are_the_space, shares_are_the_space,
+    empty_groups_change_nothing, fractions_cover_bases, free_items_overlap_nothing,
+    free_items_take_the_least_place, lines_are_fewest, parts_are_the_space, shares_are_the_space,
 };
 pub use mode::Mode;
 pub use names::RepeatSpace;
