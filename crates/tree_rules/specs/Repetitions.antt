@@ -4,7 +4,7 @@ use Rattle.std.specs.Int.{int_max}
 use Rattle.lunit.specs.Units.{percent}
 use Rattle.part_rules.specs.declared.names.RepeatSpace.{RepeatSpace}
 use Rattle.part_rules.specs.declared.names.RepeatSpace.TheVariants.{Fits, Fills, Endless}
-use Rattle.part_rules.specs.Repetition.{counted, repetitions}
+use Rattle.part_rules.specs.Repetition.{counted, repetitions_by_division}
 use Rattle.style_types.specs.declared.track.Breadth.{Breadth}
 use Rattle.style_types.specs.declared.track.Breadth.TheVariants as breadth
 use Rattle.style_types.specs.declared.track.Repeat.{Repeat}
@@ -69,7 +69,7 @@ abbrev pub list_count : GridAxis → List TrackFn → Option Repeat → RepeatSp
 list_count g sizes None space = 1
 list_count g sizes (Some r) space =
     let x = size_of_space space in
-    repetitions (map (counted_track x) sizes) (map (counted_track x) r.sizes) (gap_by (Some x) (pos 0) g.gap) space
+    repetitions_by_division (map (counted_track x) sizes) (map (counted_track x) r.sizes) (gap_by (Some x) (pos 0) g.gap) space
 
 -- How often the automatic repeat of a template stands; without one the count is 1, so also for `subgrid`. A percentage gap is here
 -- of the size that is counted against, for rows too (it could also count 0, as it does where content is summed up).
