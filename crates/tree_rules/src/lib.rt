@@ -5,7 +5,9 @@
 #![tactic(auto)]
 
 mod kind;
+mod laws;
 mod query;
 
 pub use kind::NodeKind;
+pub use laws::{chains_are_of_grid_values, equal_nodes_answer_equally, right_answers_stay_right};
 pub use query::{Ask, Given, Query};
