@@ -6,3 +6,4 @@ pub mod Logging
 pub mod Calls
 pub mod Feed
 pub mod Store
+pub mod Measuring

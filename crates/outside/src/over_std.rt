@@ -1,6 +1,7 @@
-ghost use Rattle.std.specs.Prelude.{◌≡◌, ◌≤◌, None, Err, IfOk, take};
+ghost use Rattle.std.specs.Prelude.{◌≡◌, ◌≢◌, ◌≤◌, ◌<◌, None, Err, IfOk, length, take};
 ghost use Rattle.std.specs.Io.KnownBytes.{Appends};
-ghost use Rattle.outside.specs.Faults.{HasCauseOf, one_more};
+ghost use Rattle.outside.specs.Faults.{HasCause, HasCauseOf, counted, one_more};
+ghost use Rattle.outside.specs.Reading.{Reads, IsZeroAtEnd};
 ghost use Rattle.outside.specs.Writing.{Writes, IsPartOf};
 
 use crate::{Failed, Sink, SinkError, Source};
@@ -28,8 +29,14 @@ impl<R: Read> Source for StdSource<R> {
 
     ghost faults = { λ s. s.faults };
 
-    /// Counts each error of the reader.
-    fn read_piece(&mut self, room: &mut [u8]) -> Result<usize, Failed> {
+    /// Counts each error of the reader, and nothing else: the end of input is none.
+    fn read_piece(&mut self, room: &mut [u8]) -> Result<usize, Failed>
+        ensures within { IfOk result (λ n. n ≤ length room.new) }
+        ensures bytes { Reads (R.remaining self.old.reader) (R.remaining self.new.reader) result room.new }
+        ensures end { IfOk result (λ n. 0 < length room.new → IsZeroAtEnd (R.remaining self.old.reader) n) }
+        ensures cause { HasCause self.old.faults self.new.faults result }
+        ensures counted { self.new.faults ≡ counted self.old.faults result }
+    {
         match self.reader.read(room) {
             Ok(count) => Ok(count),
             Err(_) => {
@@ -73,12 +80,14 @@ impl<W: Write> Sink for StdSink<W> {
 
     ghost faults = { λ s. s.faults };
 
-    /// Counts each error of the writer, and a piece that is not empty of which it takes nothing.
+    /// Counts each error of the writer, also of its flush, and a piece that is not empty of which it takes nothing; nothing else.
+    /// Never answers `NoMemory`.
     fn write_piece(&mut self, piece: &[u8]) -> Result<usize, SinkError>
         ensures part { IfOk result (λ n. IsPartOf n piece.now) }
         ensures bytes { Writes None None result piece.now }
         ensures cause { HasCauseOf self.old.faults self.new.faults (result ≡ Err SinkError.Failed) }
-        ensures memory { result ≡ Err SinkError.NoMemory → self.new.faults ≡ self.old.faults }
+        ensures counted { self.new.faults ≡ counted self.old.faults result }
+        ensures sure { result ≢ Err SinkError.NoMemory }
         ensures passed_on { IfOk result (λ n. Appends (W.contents self.old.writer) (W.contents self.new.writer) (take n piece.now)) }
     {
         match self.writer.write(piece) {

@@ -1,18 +1,15 @@
-ghost use Rattle.std.specs.Prelude.{◌≡◌, List, [], Option, Some, None, IsOk};
+ghost use Rattle.std.specs.Prelude.{◌≡◌, List, [], Option, Some, None, IsOk, IfOk};
+ghost use Rattle.word_leaf.specs.Leaves.{IsMeasurable};
 ghost use Rattle.outside.specs.Logging.{Logs};
-ghost use Rattle.outside.specs.declared.ruler.Event.{Event};
-ghost use Rattle.outside.specs.declared.ruler.Event.TheVariants.{Begin};
+ghost use Rattle.outside.specs.Measuring.{measured};
+ghost use Rattle.outside.specs.declared.event.Event.{Event};
+ghost use Rattle.outside.specs.declared.event.Event.TheVariants.{Begin, Measured};
 
-use lunit::NoMemory;
+use crate::event::{Event, Width};
+use lunit::{Lu, Name, NoMemory};
 use std::alloc::Global;
 use std::marker::Model;
-
-/// What a ruler was asked.
-#[derive(Clone, Copy, Debug, PartialEq, Eq)]
-pub enum Event {
-    /// The layout with this number began.
-    Begin(u32),
-}
+use word_leaf::{Content, height_at, narrowest, widest};
 
 /// What measures leaves, and may keep a log of what it was asked.
 pub trait Ruler {
@@ -23,6 +20,34 @@ pub trait Ruler {
     /// logs nothing.
     fn begin(&mut self, k: u32) -> Result<(), NoMemory>
         ensures log { Logs (log self.old) (log self.new) (Event.Begin k) result };
+
+    /// The narrowest width of the leaf's content, its widest width, or its height at a content width. Ok logs
+    /// `Event::Measured` of the name and what was asked, and `NoMemory`, which is want of memory for the log, logs nothing.
+    /// There is no other error.
+    fn measure(&mut self, leaf: &Name, content: &Content, width: Width) -> Result<Lu, NoMemory>
+        requires { IsMeasurable content.now }
+        ensures log { Logs (log self.old) (log self.new) (Event.Measured leaf.now width) result }
+        ensures value { IfOk result (λ size. size ≡ measured content.now width) };
+}
+
+/// What a leaf measures, by its words.
+fn measured(content: &Content, width: Width) -> Lu
+    requires { IsMeasurable content.now }
+    ensures { result ≡ measured content.now width }
+{
+    match width {
+        Width::Narrowest => narrowest(content),
+        Width::Widest => widest(content),
+        Width::At(width) => height_at(content, width),
+    }
+}
+
+/// Logs that a leaf was measured; changes nothing where memory is wanting.
+fn log_measured(events: &mut Vec<Event>, leaf: &Name, width: &Width) -> Result<(), NoMemory>
+    ensures { Logs (Some events.old.items) (Some events.new.items) (Event.Measured leaf.now width.now) result }
+{
+    events.extend_from_slice(&[Event::Measured(*leaf, *width)])?;
+    Ok(())
 }
 
 /// A ruler that tells its log. Contracts see the events.
@@ -33,7 +58,7 @@ pub struct LogRuler {
 
 impl Model for LogRuler {
     ghost use Rattle.std.specs.Prelude.{List};
-    ghost use Rattle.outside.specs.declared.ruler.Event.{Event};
+    ghost use Rattle.outside.specs.declared.event.Event.{Event};
 
     ghost Value = { List Event };
 
@@ -62,8 +87,13 @@ impl Ruler for LogRuler {
     ghost log = { λ events. Some events };
 
     fn begin(&mut self, k: u32) -> Result<(), NoMemory> {
-        self.events.push(Event::Begin(k))?;
+        self.events.extend_from_slice(&[Event::Begin(k)])?;
         Ok(())
+    }
+
+    fn measure(&mut self, leaf: &Name, content: &Content, width: Width) -> Result<Lu, NoMemory> {
+        log_measured(&mut self.events, leaf, &width)?;
+        Ok(measured(content, width))
     }
 }
 
@@ -89,5 +119,15 @@ impl Ruler for WordRuler {
         ensures sure { IsOk result }
     {
         Ok(())
+    }
+
+    /// Answers Ok always.
+    fn measure(&mut self, leaf: &Name, content: &Content, width: Width) -> Result<Lu, NoMemory>
+        requires { IsMeasurable content.now }
+        ensures log { Logs None None (Event.Measured leaf.now width) result }
+        ensures value { IfOk result (λ size. size ≡ measured content.now width) }
+        ensures sure { IsOk result }
+    {
+        Ok(measured(content, width))
     }
 }

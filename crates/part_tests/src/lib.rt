@@ -5,6 +5,8 @@
 #[cfg(test)]
 mod alignment;
 #[cfg(test)]
+mod devices;
+#[cfg(test)]
 mod leaves;
 #[cfg(test)]
 mod pieces;

@@ -2,7 +2,7 @@ use super::*;
 use std::io;
 use std::test::Fail;
 
-/// Fails at its second read. Takes nothing at its second write, fails at its third, and at its second flush.
+/// Fails at its second read, and has no byte left after its third. Takes nothing at its second write, fails at its third, and at its second flush.
 #[derive(Drop)]
 struct Device {
     calls: u8,
@@ -15,7 +15,7 @@ impl Read for Device {
         if self.calls == 2 {
             return Err(io::Error::from(io::ErrorKind::TimedOut));
         }
-        if room.is_empty() {
+        if room.is_empty() || self.calls > 3 {
             return Ok(0);
         }
         room[0] = self.calls;
@@ -56,6 +56,8 @@ fn counts_each_fault_and_flushes_each_piece(rt: HostRuntime) -> Result<(), Fail>
     assert_eq!(rt; source.faults, 1);
     assert_eq!(rt; source.read_piece(&mut room), Ok(1));
     assert_eq!(rt; (room[0], source.faults), (3, 1));
+    assert_eq!(rt; source.read_piece(&mut room), Ok(0));
+    assert_eq!(rt; source.faults, 1);
 
     let mut sink = StdSink::new(NEW);
     assert_eq!(rt; sink.write_piece(b"abc"), Ok(3));

@@ -1,8 +1,9 @@
 ghost use Rattle.std.specs.Prelude.{◌≢◌, Err};
 
-use crate::{
-    Event, Failed, LogRuler, MemorySink, MemorySource, Ruler, Sink, SinkError, Source, SureSink,
-    SureSource, WordRuler, write_all,
+use lunit::{Lu, Name, Sequence};
+use outside::{
+    Content, Event, Failed, LogRuler, MemorySink, MemorySource, Ruler, Sink, SinkError, Source,
+    SureSink, SureSource, Tally, Width, WordRuler, write_all,
 };
 use std::test::Fail;
 
@@ -60,15 +61,53 @@ fn sure_forms_do_not_fail(rt: HostRuntime) -> Result<(), Fail> {
     Ok(())
 }
 
+/// Two words of 40 and 60 with a space of 4, on lines of 20: at 104 they stand on one line, below it on two.
 #[test]
 fn a_log_holds_what_was_asked(rt: HostRuntime) -> Result<(), Fail> {
+    let words = Sequence::from_slice(rt.alloc(), &[Lu::of(40), Lu::of(60)])?;
+    let content = Content::Words {
+        line: Lu::of(20),
+        space: Lu::of(4),
+        words,
+    };
+    let leaf = Name::read(b"leaf")?;
     let mut ruler = LogRuler::new(rt.alloc());
     assert_eq!(rt; ruler.begin(7), Ok(()));
-    assert_eq!(rt; ruler.begin(0), Ok(()));
-    assert_eq!(rt;
-        ruler.events(),
-        [Event::Begin(7), Event::Begin(0)].as_slice()
-    );
+    for (width, size) in &[
+        (Width::Narrowest, 60),
+        (Width::Widest, 104),
+        (Width::At(Lu::of(104)), 20),
+        (Width::At(Lu::of(103)), 40),
+    ] {
+        assert_eq!(rt; ruler.measure(&leaf, &content, *width), Ok(Lu::of(*size)));
+        assert_eq!(rt;
+            WordRuler::new().measure(&leaf, &content, *width),
+            Ok(Lu::of(*size))
+        );
+        assert!(rt; ruler.events().last() == Some(&Event::Measured(leaf, *width)));
+    }
+    assert_eq!(rt; ruler.events().len(), 5);
+    assert_eq!(rt; ruler.events()[0], Event::Begin(7));
     assert_eq!(rt; WordRuler::new().begin(1), Ok(()));
     Ok(())
+}
+
+#[test]
+fn counts_stand_still_at_their_end(rt: HostRuntime) {
+    let mut tally = Tally {
+        measured: u64::MAX - 1,
+        added: 0,
+    };
+    for _ in 0..2 {
+        tally.count_measured();
+        tally.count_added();
+    }
+    assert_eq!(rt; (tally.measured, tally.added), (u64::MAX, 2));
+    assert_eq!(rt;
+        Tally::new(),
+        Tally {
+            measured: 0,
+            added: 0
+        }
+    );
 }

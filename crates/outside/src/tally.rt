@@ -1,0 +1,37 @@
+ghost use Rattle.std.specs.Prelude.{◌≡◌};
+ghost use Rattle.outside.specs.Faults.{one_more};
+
+/// How often a layout measured a leaf, and how many answers it kept. A count that reached 2^64 - 1 stands still.
+#[derive(Clone, Copy, Debug, Default, PartialEq, Eq)]
+pub struct Tally {
+    /// The events of measuring.
+    pub measured: u64,
+    /// The answers that were put.
+    pub added: u64,
+}
+
+impl Tally {
+    /// Counts nothing yet.
+    pub fn new() -> Tally
+        ensures { result ≡ record { measured = 0; added = 0 } }
+    {
+        Tally {
+            measured: 0,
+            added: 0,
+        }
+    }
+
+    /// Counts one more event of measuring.
+    pub fn count_measured(&mut self)
+        ensures { self.new ≡ record self.old { measured = one_more self.old.measured } }
+    {
+        self.measured = self.measured.saturating_add(1);
+    }
+
+    /// Counts one more answer.
+    pub fn count_added(&mut self)
+        ensures { self.new ≡ record self.old { added = one_more self.old.added } }
+    {
+        self.added = self.added.saturating_add(1);
+    }
+}
