@@ -1,10 +1,13 @@
 ghost use Rattle.std.specs.Prelude.{◌≢◌, Err};
+ghost use Rattle.word_leaf.specs.Leaves.{IsMeasurable};
 
-use lunit::{Lu, Name, Sequence};
+use crate::leaves::text;
+use lunit::{Lu, Name};
 use outside::{
     Content, Event, Failed, LogRuler, MemorySink, MemorySource, Ruler, Sink, SinkError, Source,
     SureSink, SureSource, Tally, Width, WordRuler, write_all,
 };
+use std::process::Abort;
 use std::test::Fail;
 
 #[test]
@@ -61,33 +64,52 @@ fn sure_forms_do_not_fail(rt: HostRuntime) -> Result<(), Fail> {
     Ok(())
 }
 
+/// Both rulers answer the size, and the log ends with the event.
+fn asked(
+    rt: &impl Abort,
+    ruler: &mut LogRuler,
+    leaf: &Name,
+    content: &Content,
+    width: &Width,
+    size: i64,
+)
+    requires { IsMeasurable content.now }
+{
+    assert_eq!(rt; ruler.measure(leaf, content, *width), Ok(Lu::of(size)));
+    assert_eq!(rt;
+        WordRuler::new().measure(leaf, content, *width),
+        Ok(Lu::of(size))
+    );
+    assert!(rt; ruler.events().last() == Some(&Event::Measured(*leaf, *width)));
+}
+
 /// Two words of 40 and 60 with a space of 4, on lines of 20: at 104 they stand on one line, below it on two.
 #[test]
 fn a_log_holds_what_was_asked(rt: HostRuntime) -> Result<(), Fail> {
-    let words = Sequence::from_slice(rt.alloc(), &[Lu::of(40), Lu::of(60)])?;
-    let content = Content::Words {
-        line: Lu::of(20),
-        space: Lu::of(4),
-        words,
-    };
+    let content = text(rt.alloc(), 20, 4, &[40, 60])?;
     let leaf = Name::read(b"leaf")?;
     let mut ruler = LogRuler::new(rt.alloc());
     assert_eq!(rt; ruler.begin(7), Ok(()));
-    for (width, size) in &[
-        (Width::Narrowest, 60),
-        (Width::Widest, 104),
-        (Width::At(Lu::of(104)), 20),
-        (Width::At(Lu::of(103)), 40),
-    ] {
-        assert_eq!(rt; ruler.measure(&leaf, &content, *width), Ok(Lu::of(*size)));
-        assert_eq!(rt;
-            WordRuler::new().measure(&leaf, &content, *width),
-            Ok(Lu::of(*size))
-        );
-        assert!(rt; ruler.events().last() == Some(&Event::Measured(leaf, *width)));
-    }
+    asked(&rt, &mut ruler, &leaf, &content, &Width::Narrowest, 60);
+    asked(&rt, &mut ruler, &leaf, &content, &Width::Widest, 104);
+    asked(
+        &rt,
+        &mut ruler,
+        &leaf,
+        &content,
+        &Width::At(Lu::of(104)),
+        20,
+    );
+    asked(
+        &rt,
+        &mut ruler,
+        &leaf,
+        &content,
+        &Width::At(Lu::of(103)),
+        40,
+    );
     assert_eq!(rt; ruler.events().len(), 5);
-    assert_eq!(rt; ruler.events()[0], Event::Begin(7));
+    assert!(rt; ruler.events().first() == Some(&Event::Begin(7)));
     assert_eq!(rt; WordRuler::new().begin(1), Ok(()));
     Ok(())
 }

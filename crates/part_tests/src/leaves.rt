@@ -22,7 +22,12 @@ fn units(number: u32) -> Lu
 
 /// A leaf of words of these widths.
 #[tactic(auto, using(crate::proofs::Measurable::more_widths))]
-fn text(alloc: Global, line: u32, space: u32, widths: &[u32]) -> Result<Content, NoMemory>
+pub(crate) fn text(
+    alloc: Global,
+    line: u32,
+    space: u32,
+    widths: &[u32],
+) -> Result<Content, NoMemory>
     requires { length widths.now ≤ 65536 }
     ensures { IfOk result (λ content. IsMeasurable content) }
 {
