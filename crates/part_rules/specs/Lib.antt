@@ -1,12 +1,17 @@
 pub mod Alignment
 pub mod FlexLines
+pub mod FlexRows
+pub mod FractionRows
 pub mod Fractions
+pub mod LineNameRows
 pub mod LineNames
 pub mod Lists
 pub mod Placement
+pub mod PlacementRows
 pub mod Repetition
 pub mod Sharing
 pub mod TrackRows
 pub mod Tracks
+pub mod ViewRows
 pub mod Views
 pub mod WordLines
