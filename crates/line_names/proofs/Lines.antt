@@ -1,0 +1,77 @@
+-- Lines with their names, as they are collected.
+use Rattle.std.proofs.Common.{arith, rules, refl, sym, ap, subst, ◌∙◌, ◌≡◌, ◌≢◌, ℕ, zero, suc, ◌+◌, ◌-◌, ◌<◌, ◌≤◌, ℤ, pos, negsuc, Bool, true, false, ◌⊎◌, inl, inr, List, [], ◌∷◌, ◌++◌, length, take, get_or, slice_set, length-append, append_assoc, if◌then◌else◌}
+use Rattle.std.specs.Prelude.{None, unwrap_or, slice_get}
+use Rattle.std.proofs.Math.ListN.{get_or-append, length-set}
+use Rattle.std.proofs.Math.Seq.{get_or-append_seam}
+use Rattle.std.proofs.lemmas.List.{append-nil, take_more, get_or-set_same, get_or-set_other, set-get_or}
+use lib.IntN.{nat_abs}
+use Rattle.std.proofs.lemmas.Bool.{cases_eq}
+use Rattle.std.proofs.lemmas.Option.{unwrap_or-slice_get}
+use Rattle.part_rules.specs.LineNames.{Table, NamedSpan, names_at, area_names, names_by_areas}
+use Rattle.line_names.specs.Tables.{AreLines}
+
+-- ---- one line after another
+
+pub are_none : (names : ℕ → List (List ℕ)) → AreLines names 0 []
+are_none names = record { counted = refl; named = λ line h. absurd (omega arith) }
+
+pub are_more : (names : ℕ → List (List ℕ)) (n : ℕ) (lines : List (List (List ℕ))) (x : List (List ℕ)) → x ≡ names n → AreLines names n lines → AreLines names (n + 1) (lines ++ x ∷ [])
+are_more names n lines x e h =
+    record {
+      counted = omega (arith, length-append lines (x ∷ []), h.counted);
+      named = λ line g. more line g (cases_eq line n);
+    }
+  where
+    more : (line : ℕ) → line < n + 1 → (line ≡ n) ⊎ (line ≢ n) → get_or (lines ++ x ∷ []) line [] ≡ names line
+    more line g (inl s) = let k : line ≡ length lines = omega (arith, s, h.counted) in ap (λ j. get_or (lines ++ x ∷ []) j []) k ∙ get_or-append_seam lines x [] [] ∙ e ∙ ap names (sym s)
+    more line g (inr s) = let k : line < length lines = omega (arith, s, g, h.counted) in get_or-append lines (x ∷ []) [] line k ∙ h.named line (omega arith)
+
+-- ---- names put on a line
+
+set_again : {A : Type 0} (xs : List A) (i : ℕ) (a b : A) → slice_set (slice_set xs i a) i b ≡ slice_set xs i b
+set_again [] i a b = refl
+set_again (x ∷ xs) zero a b = refl
+set_again (x ∷ xs) (suc i) a b = ap (λ ys. x ∷ ys) (set_again xs i a b)
+
+pub named_init : (lines : List (List (List ℕ))) (k : ℕ) → lines ≡ slice_set lines k (get_or lines k [] ++ [])
+named_init lines k = sym (ap (λ x. slice_set lines k x) (append-nil (get_or lines k [])) ∙ set-get_or lines k [])
+
+pub named_next : (old now : List (List (List ℕ))) (k i : ℕ) (names : List (List ℕ)) (name : List ℕ) → k < length old → i < length names → name ≡ get_or names i name → now ≡ slice_set old k (get_or old k [] ++ take i names) → slice_set now k (get_or now k [] ++ name ∷ []) ≡ slice_set old k (get_or old k [] ++ take (i + 1) names)
+named_next old now k i names name g h e f =
+    let all : (get_or old k [] ++ take i names) ++ name ∷ [] ≡ get_or old k [] ++ take (i + 1) names = append_assoc (get_or old k []) (take i names) (name ∷ []) ∙ ap (λ n. get_or old k [] ++ (take i names ++ n ∷ [])) e ∙ ap (λ ns. get_or old k [] ++ ns) (sym (take_more names i name h)) in
+    ap (λ z. slice_set z k (get_or z k [] ++ name ∷ [])) f
+    ∙ set_again old k (get_or old k [] ++ take i names) (get_or (slice_set old k (get_or old k [] ++ take i names)) k [] ++ name ∷ [])
+    ∙ ap (λ z. slice_set old k (z ++ name ∷ [])) (get_or-set_same old k (get_or old k [] ++ take i names) [] g)
+    ∙ ap (λ z. slice_set old k z) all
+
+-- ---- the names that areas give
+
+names_by_areas-append : (line : ℤ) (xs ys : List NamedSpan) → names_by_areas line (xs ++ ys) ≡ names_by_areas line xs ++ names_by_areas line ys
+names_by_areas-append line [] ys = refl
+names_by_areas-append line (x ∷ xs) ys = ap (λ names. area_names line x ++ names) (names_by_areas-append line xs ys) ∙ sym (append_assoc (area_names line x) (names_by_areas line xs) (names_by_areas line ys))
+
+names_by_areas-more : (line : ℤ) (areas : List NamedSpan) (i : ℕ) (area : NamedSpan) → i < length areas → area ≡ get_or areas i area → names_by_areas line (take i areas) ++ area_names line area ≡ names_by_areas line (take (i + 1) areas)
+names_by_areas-more line areas i area h e =
+    ap (λ a. names_by_areas line (take i areas) ++ area_names line a) e
+    ∙ ap (λ names. names_by_areas line (take i areas) ++ names) (sym (append-nil (area_names line (get_or areas i area))))
+    ∙ sym (names_by_areas-append line (take i areas) (get_or areas i area ∷ []))
+    ∙ ap (λ xs. names_by_areas line xs) (sym (take_more areas i area h))
+
+-- the names of the next area
+pub areas_next : (old now next : List (List (List ℕ))) (areas : List NamedSpan) (i : ℕ) (area : NamedSpan) → i < length areas → area ≡ get_or areas i area → AreLines (λ line. get_or old line [] ++ names_by_areas (pos line) (take i areas)) (length old) now → AreLines (λ line. get_or now line [] ++ area_names (pos line) area) (length now) next → AreLines (λ line. get_or old line [] ++ names_by_areas (pos line) (take (i + 1) areas)) (length old) next
+areas_next old now next areas i area h e f g =
+    record {
+      counted = g.counted ∙ f.counted;
+      named = λ line k.
+          g.named line (omega (arith, k, f.counted))
+          ∙ ap (λ names. names ++ area_names (pos line) area) (f.named line k)
+          ∙ append_assoc (get_or old line []) (names_by_areas (pos line) (take i areas)) (area_names (pos line) area)
+          ∙ ap (λ names. get_or old line [] ++ names) (names_by_areas-more (pos line) areas i area h e);
+    }
+
+-- ---- the names of a line
+
+-- a line that has no set has no names
+pub names_none : (t : Table) (line : ℤ) → None ≡ slice_get t.lines (nat_abs line) → [] ≡ names_at t line
+names_none t (pos line) h = ap (λ o. unwrap_or o []) h ∙ unwrap_or-slice_get t.lines line []
+names_none t (negsuc line) h = refl

@@ -1,0 +1,70 @@
+-- Tables as they are made.
+use Rattle.std.proofs.Common.{arith, rules, refl, sym, ap, ◌∙◌, ◌≡◌, ◌≢◌, ◌⊎◌, inl, inr, ℕ, zero, suc, ◌+◌, ◌-◌, ◌<◌, ◌≤◌, ℤ, pos, neg_ℤ, ◌+ℤ◌, ◌-ℤ◌, List, [], ◌∷◌, ◌++◌, length, get_or, slice_set, append_assoc}
+use Rattle.std.proofs.Math.ListN.{length-set}
+use Rattle.std.proofs.lemmas.Int.{ints}
+use Rattle.std.proofs.lemmas.Bool.{cases_eq}
+use Rattle.std.proofs.lemmas.List.{get_or-set_same, get_or-set_other}
+use Rattle.lunit.specs.declared.geometry.Span.{Span}
+use Rattle.part_rules.specs.Lists.{above_zero}
+use Rattle.part_rules.specs.LineNames.{Table, NamedSpan, lines_by, names_at, names_by_areas, cut_areas, own_table, subgrid_table}
+use Rattle.line_names.specs.Tables.{AreLines, IsInheritedUpTo}
+
+lines_by_is : (names : ℕ → List (List ℕ)) (count start : ℕ) (lines : List (List (List ℕ))) → length lines ≡ count → ((j : ℕ) → j < count → get_or lines j [] ≡ names (start + j)) → lines ≡ lines_by names count start
+lines_by_is names zero start [] h g = refl
+lines_by_is names zero start (x ∷ xs) h g = absurd (omega arith)
+lines_by_is names (suc count) start [] h g = absurd (omega arith)
+lines_by_is names (suc count) start (x ∷ xs) h g =
+    let at : start + 0 ≡ start = omega arith in
+    let first : x ≡ names start = g 0 (omega arith) ∙ ap names at in
+    let rest : xs ≡ lines_by names count (start + 1) = lines_by_is names count (start + 1) xs (omega arith) (λ j k. let n : start + suc j ≡ start + 1 + j = omega arith in g (suc j) (omega arith) ∙ ap names n) in
+    ap (λ y. y ∷ xs) first ∙ ap (λ ys. names start ∷ ys) rest
+
+pub lines_made : (names : ℕ → List (List ℕ)) (count : ℕ) (lines : List (List (List ℕ))) → AreLines names count lines → lines ≡ lines_by names count 0
+lines_made names count lines h = lines_by_is names count 0 lines h.counted (λ j k. let n : j ≡ 0 + j = omega arith in h.named j k ∙ ap names n)
+
+-- names after names
+pub are_then : (names more : ℕ → List (List ℕ)) (count : ℕ) (old now : List (List (List ℕ))) → AreLines names count old → AreLines (λ line. get_or old line [] ++ more line) (length old) now → AreLines (λ line. names line ++ more line) count now
+are_then names more count old now h g =
+    record {
+      counted = g.counted ∙ h.counted;
+      named = λ line k. g.named line (omega (arith, k, h.counted)) ∙ ap (λ n. n ++ more line) (h.named line k);
+    }
+
+pub own_made : (sets : List (List (List ℕ))) (tracks : ℕ) (areas : List NamedSpan) (old lines : List (List (List ℕ))) → AreLines (λ line. get_or sets line []) (tracks + 1) old → AreLines (λ line. get_or old line [] ++ names_by_areas (pos line) areas) (length old) lines → (let t : Table = record { tracks = tracks; lines = lines; areas = areas; low = neg_ℤ (pos 10000); high = pos 10000 } in t) ≡ own_table sets tracks areas
+own_made sets tracks areas old lines h g =
+    ap (λ ls. let t : Table = record { tracks = tracks; lines = ls; areas = areas; low = neg_ℤ (pos 10000); high = pos 10000 } in t)
+    (lines_made (λ line. get_or sets line [] ++ names_by_areas (pos line) areas) (tracks + 1) lines (are_then (λ line. get_or sets line []) (λ line. names_by_areas (pos line) areas) (tracks + 1) old lines h g))
+
+-- the lines of a subgrid with these tracks and areas
+abbrev below : Table → Span → List (List (List ℕ)) → ℕ → List NamedSpan → Table
+below parent span sets tracks all = record { tracks = tracks; lines = lines_by (λ line. get_or sets line [] ++ names_by_areas (pos line) all ++ names_at parent (span.start +ℤ pos line)) (tracks + 1) 0; areas = all; low = pos 0; high = pos tracks }
+
+pub subgrid_made : (parent : Table) (span : Span) (sets : List (List (List ℕ))) (areas : List NamedSpan) (tracks : ℕ) (all : List NamedSpan) (lines : List (List (List ℕ))) → span.end ≡ span.start +ℤ pos tracks → all ≡ cut_areas (record { start = pos 0; end = pos tracks }) areas ++ cut_areas span parent.areas → AreLines (λ line. get_or sets line [] ++ names_by_areas (pos line) all ++ names_at parent (span.start +ℤ pos line)) (tracks + 1) lines → (let t : Table = record { tracks = tracks; lines = lines; areas = all; low = pos 0; high = pos tracks } in t) ≡ subgrid_table parent span sets areas
+subgrid_made parent span sets areas tracks all lines e is h =
+    let length_is : span.end -ℤ span.start ≡ pos tracks = omega (arith, ints, e) in
+    let count : above_zero (span.end -ℤ span.start) ≡ tracks = ap above_zero length_is in
+    ap (λ ls. let t : Table = record { tracks = tracks; lines = ls; areas = all; low = pos 0; high = pos tracks } in t) (lines_made (λ line. get_or sets line [] ++ names_by_areas (pos line) all ++ names_at parent (span.start +ℤ pos line)) (tracks + 1) lines h)
+    ∙ ap (λ a. below parent span sets tracks a) is
+    ∙ ap (λ n. below parent span sets n (cut_areas (record { start = pos 0; end = pos n }) areas ++ cut_areas span parent.areas)) (sym count)
+
+-- ---- the names of the parent's lines
+
+pub inherited_none : (t : Table) (start : ℤ) (old : List (List (List ℕ))) → IsInheritedUpTo t start old 0 old
+inherited_none t start old = record { counted = refl; named = λ line h. absurd (omega arith); left = λ line h. refl }
+
+pub inherited_next : (t : Table) (start : ℤ) (old : List (List (List ℕ))) (k : ℕ) (now next : List (List (List ℕ))) (names : List (List ℕ)) → k < length old → names ≡ names_at t (start +ℤ pos k) → next ≡ slice_set now k (get_or now k [] ++ names) → IsInheritedUpTo t start old k now → IsInheritedUpTo t start old (k + 1) next
+inherited_next t start old k now next names g e f h =
+    record {
+      counted = ap length f ∙ length-set now k (get_or now k [] ++ names) ∙ h.counted;
+      named = λ line n. more line n (cases_eq line k);
+      left = λ line n. let apart : line ≢ k = omega (arith, n) in ap (λ ls. get_or ls line []) f ∙ get_or-set_other now k line (get_or now k [] ++ names) [] apart ∙ h.left line (omega arith);
+    }
+  where
+    more : (line : ℕ) → line < k + 1 → (line ≡ k) ⊎ (line ≢ k) → get_or next line [] ≡ get_or old line [] ++ names_at t (start +ℤ pos line)
+    more line n (inl s) =
+        let room : k < length now = omega (arith, g, h.counted) in
+        ap (λ j. get_or next j []) s ∙ ap (λ ls. get_or ls k []) f ∙ get_or-set_same now k (get_or now k [] ++ names) [] room ∙ ap (λ ns. ns ++ names) (h.left k (omega arith)) ∙ ap (λ ns. get_or old k [] ++ ns) e ∙ ap (λ j. get_or old j [] ++ names_at t (start +ℤ pos j)) (sym s)
+    more line n (inr s) = ap (λ ls. get_or ls line []) f ∙ get_or-set_other now k line (get_or now k [] ++ names) [] s ∙ h.named line (omega (arith, n, s))
+
+pub inherited_all : (t : Table) (start : ℤ) (old : List (List (List ℕ))) (k : ℕ) (now : List (List (List ℕ))) → length old ≤ k → IsInheritedUpTo t start old k now → AreLines (λ line. get_or old line [] ++ names_at t (start +ℤ pos line)) (length old) now
+inherited_all t start old k now g h = record { counted = h.counted; named = λ line n. h.named line (omega (arith, n, g)) }

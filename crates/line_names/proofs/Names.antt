@@ -1,0 +1,127 @@
+-- The lines of a name, one line after another.
+use Rattle.std.proofs.Common.{arith, rules, refl, sym, ap, ◌∙◌, ◌≡◌, ℕ, zero, suc, ◌+◌, ◌-◌, ◌<◌, ◌≤◌, ℤ, pos, ◌+ℤ◌, ◌<ℤ◌, ◌≤ℤ◌, Bool, true, false, ◌||◌, List, [], ◌∷◌, ◌++◌, length, take, get_or, int_lt, if◌then◌else◌, length-append}
+use Rattle.std.proofs.Math.ListN.{length-take}
+use Rattle.std.proofs.Math.Seq.{get_or-append_seam}
+use Rattle.std.proofs.lemmas.List.{append-nil, take_more}
+use Rattle.std.specs.Prelude.{Some, None, unwrap_or, slice_get}
+use Rattle.std.specs.Ordering.{nat_cmp, is_eq}
+use Rattle.std.specs.Cmp.Lexicographic.{slice_cmp}
+use Rattle.std.specs.Str.{bytes_eq}
+use Rattle.std.proofs.lemmas.Int.{ints}
+use Rattle.std.proofs.lemmas.List.Folds.{list_any_more}
+use Rattle.std.proofs.lemmas.Map.Text.{is_eq-slice_cmp}
+use Rattle.std.proofs.lemmas.Option.{slice_get-get_or}
+use Rattle.part_rules.specs.LineNames.{named_from, holds_name}
+use Rattle.line_names.specs.Indexes.{precedes, ends_before, noted, marked}
+
+-- the order of names as bytes tells the same names apart
+pub ruleset found = (is_eq-slice_cmp)
+
+abbrev picked : Bool → ℤ → List ℤ → List ℤ
+picked held line more = if held then line ∷ more else more
+
+picked-append : (held : Bool) (line : ℤ) (xs ys : List ℤ) → picked held line (xs ++ ys) ≡ picked held line xs ++ ys
+picked-append true line xs ys = refl
+picked-append false line xs ys = refl
+
+pub named_from-append : (name : List ℕ) (line : ℤ) (xs ys : List (List (List ℕ))) → named_from name line (xs ++ ys) ≡ named_from name line xs ++ named_from name (line +ℤ pos (length xs)) ys
+named_from-append name line [] ys = ap (λ z. named_from name z ys) (omega (arith, ints))
+named_from-append name line (x ∷ xs) ys =
+    let at : line +ℤ pos 1 +ℤ pos (length xs) ≡ line +ℤ pos (length (x ∷ xs)) = omega (arith, ints) in
+    let rest : named_from name (line +ℤ pos 1) (xs ++ ys) ≡ named_from name (line +ℤ pos 1) xs ++ named_from name (line +ℤ pos (length (x ∷ xs))) ys = named_from-append name (line +ℤ pos 1) xs ys ∙ ap (λ z. named_from name (line +ℤ pos 1) xs ++ named_from name z ys) at in
+    ap (λ more. picked (holds_name name x) line more) rest ∙ picked-append (holds_name name x) line (named_from name (line +ℤ pos 1) xs) (named_from name (line +ℤ pos (length (x ∷ xs))) ys)
+
+picked-low : (held : Bool) (line : ℤ) (more : List ℤ) (d : ℤ) → ((k : ℕ) → k < length more → (line +ℤ pos 1) ≤ℤ get_or more k d) → (i : ℕ) → i < length (picked held line more) → line ≤ℤ get_or (picked held line more) i d
+picked-low true line more d f zero h = omega (arith, ints)
+picked-low true line more d f (suc i) h = omega (arith, ints, f i (omega arith))
+picked-low false line more d f i h = omega (arith, ints, f i h)
+
+picked-high : (held : Bool) (line high : ℤ) (more : List ℤ) (d : ℤ) → line <ℤ high → ((k : ℕ) → k < length more → get_or more k d <ℤ high) → (i : ℕ) → i < length (picked held line more) → get_or (picked held line more) i d <ℤ high
+picked-high true line high more d l f zero h = l
+picked-high true line high more d l f (suc i) h = f i (omega arith)
+picked-high false line high more d l f i h = f i h
+
+picked-ascends : (held : Bool) (line : ℤ) (more : List ℤ) (d : ℤ) → ((k : ℕ) → k < length more → (line +ℤ pos 1) ≤ℤ get_or more k d) → ((i j : ℕ) → i ≤ j → j < length more → get_or more i d ≤ℤ get_or more j d) → (i j : ℕ) → i ≤ j → j < length (picked held line more) → get_or (picked held line more) i d ≤ℤ get_or (picked held line more) j d
+picked-ascends true line more d f g zero zero h k = omega (arith, ints)
+picked-ascends true line more d f g zero (suc j) h k = omega (arith, ints, f j (omega arith))
+picked-ascends true line more d f g (suc i) zero h k = absurd (omega arith)
+picked-ascends true line more d f g (suc i) (suc j) h k = g i j (omega arith) (omega arith)
+picked-ascends false line more d f g i j h k = g i j h k
+
+-- all lines of a name are at or after the first of the lines, and before the line after the last of them
+pub named_from-low : (name : List ℕ) (line : ℤ) (xs : List (List (List ℕ))) (d : ℤ) (i : ℕ) → i < length (named_from name line xs) → line ≤ℤ get_or (named_from name line xs) i d
+named_from-low name line [] d i h = absurd (omega arith)
+named_from-low name line (x ∷ xs) d i h = picked-low (holds_name name x) line (named_from name (line +ℤ pos 1) xs) d (λ k g. named_from-low name (line +ℤ pos 1) xs d k g) i h
+
+pub named_from-high : (name : List ℕ) (line : ℤ) (xs : List (List (List ℕ))) (d : ℤ) (i : ℕ) → i < length (named_from name line xs) → get_or (named_from name line xs) i d <ℤ (line +ℤ pos (length xs))
+named_from-high name line [] d i h = absurd (omega arith)
+named_from-high name line (x ∷ xs) d i h =
+    let at : line +ℤ pos 1 +ℤ pos (length xs) ≡ line +ℤ pos (length (x ∷ xs)) = omega (arith, ints) in
+    picked-high (holds_name name x) line (line +ℤ pos (length (x ∷ xs))) (named_from name (line +ℤ pos 1) xs) d (omega (arith, ints)) (λ k g. omega (arith, ints, at, named_from-high name (line +ℤ pos 1) xs d k g)) i h
+
+-- they ascend
+pub named_from-ascends : (name : List ℕ) (line : ℤ) (xs : List (List (List ℕ))) (d : ℤ) (i j : ℕ) → i ≤ j → j < length (named_from name line xs) → get_or (named_from name line xs) i d ≤ℤ get_or (named_from name line xs) j d
+named_from-ascends name line [] d i j h k = absurd (omega arith)
+named_from-ascends name line (x ∷ xs) d i j h k = picked-ascends (holds_name name x) line (named_from name (line +ℤ pos 1) xs) d (λ n g. named_from-low name (line +ℤ pos 1) xs d n g) (λ m n g e. named_from-ascends name (line +ℤ pos 1) xs d m n g e) i j h k
+
+-- ---- one line more
+
+int_lt-from : (a b : ℤ) → a <ℤ b → int_lt a b ≡ true
+int_lt-from a b h = search rules
+
+int_lt-same : (a : ℤ) → int_lt a a ≡ false
+int_lt-same a = search rules
+
+ends_before-from : (xs : List ℤ) (line : ℤ) → ((i : ℕ) → i < length xs → get_or xs i line <ℤ line) → ends_before xs line ≡ true
+ends_before-from [] line h = refl
+ends_before-from (x ∷ xs) line h =
+    let e : slice_get (x ∷ xs) (length (x ∷ xs) - 1) ≡ Some (get_or (x ∷ xs) (length (x ∷ xs) - 1) line) = slice_get-get_or (x ∷ xs) (length (x ∷ xs) - 1) line (omega arith) in
+    ap (λ o. precedes o line) e ∙ int_lt-from (get_or (x ∷ xs) (length (x ∷ xs) - 1) line) line (h (length (x ∷ xs) - 1) (omega arith))
+
+ends_before-pushed : (xs : List ℤ) (line : ℤ) → ends_before (xs ++ line ∷ []) line ≡ false
+ends_before-pushed xs line =
+    let n : length (xs ++ line ∷ []) - 1 ≡ length xs = omega (arith, length-append xs (line ∷ [])) in
+    let e : slice_get (xs ++ line ∷ []) (length xs) ≡ Some (get_or (xs ++ line ∷ []) (length xs) line) = slice_get-get_or (xs ++ line ∷ []) (length xs) line (omega (arith, length-append xs (line ∷ []))) in
+    ap (λ k. precedes (slice_get (xs ++ line ∷ []) k) line) n ∙ ap (λ o. precedes o line) e ∙ ap (λ z. int_lt z line) (get_or-append_seam xs line [] line) ∙ int_lt-same line
+
+noted_again : (held : Bool) (xs : List ℤ) (line : ℤ) → noted (marked held xs line) line ≡ noted xs line
+noted_again false xs line = refl
+noted_again true xs line = again (ends_before xs line) refl
+  where
+    again : (b : Bool) → b ≡ ends_before xs line → noted (if b then xs ++ line ∷ [] else xs) line ≡ (if b then xs ++ line ∷ [] else xs)
+    again true e = ap (λ b. if b then (xs ++ line ∷ []) ++ line ∷ [] else xs ++ line ∷ []) (ends_before-pushed xs line)
+    again false e = ap (λ b. if b then xs ++ line ∷ [] else xs) (sym e)
+
+-- marked twice is marked by either
+pub marked_again : (first second : Bool) (xs : List ℤ) (line : ℤ) → marked second (marked first xs line) line ≡ marked (first || second) xs line
+marked_again true true xs line = noted_again true xs line
+marked_again true false xs line = refl
+marked_again false true xs line = refl
+marked_again false false xs line = refl
+
+marked_end : (held : Bool) (xs : List ℤ) (line : ℤ) → ends_before xs line ≡ true → xs ++ picked held line [] ≡ marked held xs line
+marked_end true xs line e = sym (ap (λ b. if b then xs ++ line ∷ [] else xs) e)
+marked_end false xs line e = append-nil xs
+
+-- the lines of a name, when a line comes after these
+pub named_more : (name : List ℕ) (xs : List (List (List ℕ))) (x : List (List ℕ)) → named_from name (pos 0) (xs ++ x ∷ []) ≡ marked (holds_name name x) (named_from name (pos 0) xs) (pos (length xs))
+named_more name xs x =
+    let at : pos 0 +ℤ pos (length xs) ≡ pos (length xs) = omega (arith, ints) in
+    let ends : ends_before (named_from name (pos 0) xs) (pos (length xs)) ≡ true = ends_before-from (named_from name (pos 0) xs) (pos (length xs)) (λ i h. omega (arith, ints, at, named_from-high name (pos 0) xs (pos (length xs)) i h)) in
+    named_from-append name (pos 0) xs (x ∷ []) ∙ ap (λ z. named_from name (pos 0) xs ++ named_from name z (x ∷ [])) at ∙ marked_end (holds_name name x) (named_from name (pos 0) xs) (pos (length xs)) ends
+
+-- the same of the lines up to one of them
+pub named_step : (name : List ℕ) (xs : List (List (List ℕ))) (k : ℕ) (d : List (List ℕ)) → k < length xs → named_from name (pos 0) (take (k + 1) xs) ≡ marked (holds_name name (get_or xs k d)) (named_from name (pos 0) (take k xs)) (pos k)
+named_step name xs k d h =
+    let n : length (take k xs) ≡ k = omega (arith, length-take k xs) in
+    ap (λ ys. named_from name (pos 0) ys) (take_more xs k d h) ∙ named_more name (take k xs) (get_or xs k d) ∙ ap (λ m. marked (holds_name name (get_or xs k d)) (named_from name (pos 0) (take k xs)) (pos m)) n
+
+-- a name of a line more
+pub marked_step : (other : List ℕ) (names : List (List ℕ)) (i : ℕ) (name : List ℕ) (now before : List ℤ) (line : ℤ) → i < length names → name ≡ get_or names i name → now ≡ marked (holds_name other (take i names)) before line → marked (bytes_eq name other) now line ≡ marked (holds_name other (take (i + 1) names)) before line
+marked_step other names i name now before line h e f =
+    ap (λ xs. marked (bytes_eq name other) xs line) f ∙ marked_again (holds_name other (take i names)) (bytes_eq name other) before line ∙ ap (λ n. marked (holds_name other (take i names) || bytes_eq n other) before line) e ∙ ap (λ b. marked b before line) (sym (list_any_more (λ held. bytes_eq held other) names i name h))
+
+-- a line more
+pub index_step : (name : List ℕ) (lines : List (List (List ℕ))) (k : ℕ) (names : List (List ℕ)) (now : List ℤ) → k < length lines → names ≡ get_or lines k names → now ≡ named_from name (pos 0) (take k lines) → marked (holds_name name names) now (pos k) ≡ named_from name (pos 0) (take (k + 1) lines)
+index_step name lines k names now h e f =
+    ap (λ xs. marked (holds_name name names) xs (pos k)) f ∙ ap (λ n. marked (holds_name name n) (named_from name (pos 0) (take k lines)) (pos k)) e ∙ sym (named_step name lines k names h)

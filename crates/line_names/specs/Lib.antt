@@ -1,0 +1,7 @@
+pub mod Counting
+pub mod Indexes
+pub mod Repeats
+pub mod Sides
+pub mod Tables
+pub use Rattle.part_rules.specs.LineNames as LineNames
+pub use Rattle.part_rules.specs.Repetition as Repetition
