@@ -44,3 +44,7 @@ right_put {A} s plain kept q a right absent new =
       each = each_drop (IsRightPair s plain) (length all - most_kept) all (each_put (IsRightPair s plain) kept (q, a) right.each new);
       few = few_last most_kept all;
     }
+
+-- no answers are right
+pub none_right : {A : Type 0} (s : Seen) (plain : A → Answer) → AreRight {A = A} s plain []
+none_right s plain = record { distinct = tt; each = tt; few = omega arith }

@@ -6,6 +6,8 @@ use Rattle.style_types.specs.declared.track.Template.TheVariants as template
 use Rattle.tree_rules.specs.declared.kind.NodeKind.{NodeKind}
 use Rattle.tree_rules.specs.declared.kind.NodeKind.TheVariants as kind
 use Rattle.tree_rules.specs.Labels.{Label, GridStyle}
+use Rattle.std.specs.Prelude.{◌≡◌, refl, codes}
+use Rattle.tree_rules.specs.Labels.{plain_axis, plain_content, plain_grid}
 
 -- What the areas of a grid depend on of one of its children.
 pub record Sibling : Type 0 where
@@ -72,3 +74,35 @@ chain_of above n x = if above.is_grid && (is_grid_kind x.kind && has_subgrid x.g
 abbrev pub has_chain : List Link → Bool
 has_chain [] = false
 has_chain (link ∷ chain) = true
+
+-- ---- worked rows
+
+abbrev sub_columns : GridStyle
+sub_columns = record plain_grid { columns = record plain_axis { template = template.Subgrid [] } }
+
+abbrev grid_with : List ℕ → GridStyle → Label
+grid_with name g = record { name = name; kind = kind.Grid; grid = g; content = plain_content }
+
+-- a grid `g` with one child, the subgrid `s`
+abbrev above_s : Above
+above_s = above_of (grid_with (codes "g") plain_grid) [] (tree (grid_with (codes "s") sub_columns) leafless leafless)
+
+one_link : chain_of above_s 0 (grid_with (codes "s") sub_columns) ≡ record { name = codes "g"; grid = plain_grid; children = record { name = codes "s"; is_grid = true; grid = sub_columns } ∷ []; way = 0 } ∷ []
+one_link = refl
+
+-- A subgrid of the subgrid has two links, the nearest first.
+two_links : chain_of (above_of (grid_with (codes "s") sub_columns) (chain_of above_s 0 (grid_with (codes "s") sub_columns)) leafless) 3 (grid_with (codes "t") sub_columns)
+    ≡ record { name = codes "s"; grid = sub_columns; children = []; way = 3 } ∷ record { name = codes "g"; grid = plain_grid; children = record { name = codes "s"; is_grid = true; grid = sub_columns } ∷ []; way = 0 } ∷ []
+two_links = refl
+
+-- A grid in it with tracks of its own sees nothing above it.
+no_subgrid : chain_of (above_of (grid_with (codes "s") sub_columns) (link_to above_s 0 ∷ []) leafless) 0 (grid_with (codes "t") plain_grid) ≡ []
+no_subgrid = refl
+
+-- `subgrid` in a flex container is `none`.
+in_flex : chain_of (above_of (record { name = codes "f"; kind = kind.Flex; grid = plain_grid; content = plain_content }) [] leafless) 0 (grid_with (codes "t") sub_columns) ≡ []
+in_flex = refl
+
+-- A flex container is no subgrid, whatever its template.
+flex_child : chain_of above_s 0 (record { name = codes "f"; kind = kind.Flex; grid = sub_columns; content = plain_content }) ≡ []
+flex_child = refl

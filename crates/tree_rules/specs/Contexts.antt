@@ -1,5 +1,5 @@
 -- The lines of a grid, where its tracks lie under the grids above it, and the areas of its children (CSS Grid 2, sections 7 to 9).
-use Rattle.std.specs.Prelude.{ℕ, ◌-◌, max, ℤ, pos, Bool, true, false, List, [], ◌∷◌, map, length, Option, Some, None, if◌then◌else◌}
+use Rattle.std.specs.Prelude.{◌≡◌, refl, ℕ, ◌-◌, max, ℤ, pos, Bool, true, false, List, [], ◌∷◌, map, length, Option, Some, None, if◌then◌else◌, codes, negsuc}
 use Rattle.lunit.specs.declared.geometry.Area.{Area}
 use Rattle.lunit.specs.declared.geometry.Span.{Span}
 use Rattle.part_rules.specs.declared.view.Level.{Level}
@@ -18,6 +18,11 @@ use Rattle.tree_rules.specs.NodeSizes.{outer_start, outer_end}
 use Rattle.tree_rules.specs.Orders.{in_order, of_number}
 use Rattle.tree_rules.specs.Repetitions.{gap_by}
 use Rattle.tree_rules.specs.Templates.{written, subgrid_sets}
+use Rattle.lunit.specs.declared.line_value.LineValue.TheVariants as line
+use Rattle.part_rules.specs.Placement.{placed_by_rows}
+use Rattle.style_types.specs.declared.value.Size.TheVariants as size
+use Rattle.tree_rules.specs.Labels.{plain_axis, plain_grid}
+use Rattle.tree_rules.specs.Templates.{a_name, z_name, px_track}
 
 -- What a grid has in one axis: whether it is a subgrid there, its lines, its gap, and the subgrids from it up to the grid that sizes the tracks,
 -- itself first. The gaps are those for lent items, where a percentage counts 0 (own rule).
@@ -152,3 +157,64 @@ context_by g (link ∷ chain) pairs =
     let parent = context_by link.grid chain (outer_pairs pairs) in
     let areas = placed_children parent link.grid link.children in
     lower_context parent (area_of areas link.way) g (first_pair pairs)
+
+-- ---- worked rows, in units
+
+abbrev from_line : ℤ → ℤ → Span
+from_line start end = record { start = start; end = end }
+
+abbrev child : GridStyle → Sibling
+child g = record { name = []; is_grid = false; grid = g }
+
+-- three columns of 100 with a gap of 8, an area `a` over the last two of four cells and both rows
+abbrev upper : GridStyle
+upper = record plain_grid { columns = record plain_axis { template = template.Tracks (record { sizes = px_track 100 ∷ px_track 100 ∷ px_track 100 ∷ []; names = (z_name ∷ []) ∷ [] ∷ [] ∷ [] ∷ []; repeat = None }); gap = size.Length (pos 8) }; areas = Some (record { columns = 4; rows = 2; named = (a_name, record { columns = from_line (pos 2) (pos 4); rows = from_line (pos 0) (pos 2) }) ∷ [] }) }
+
+abbrev upper_context : Context
+upper_context = top_context upper (1, 1)
+
+-- Four cells are more than three tracks; two rows are explicit by the cells alone.
+explicit_columns : upper_context.columns.table.tracks ≡ 4
+explicit_columns = refl
+
+explicit_rows : upper_context.rows.table.tracks ≡ 2
+explicit_rows = refl
+
+-- An item at the area `a`, and one that is free: it stands in the first cell. An item before it in order is told before it.
+in_area : (placed_children upper_context upper (child plain_grid ∷ child (record plain_grid { columns = record plain_axis { start_line = line.Named a_name; end_line = line.Named a_name }; rows = record plain_axis { start_line = line.Named a_name; end_line = line.Named a_name }; order = negsuc 0 }) ∷ [])).areas
+    ≡ (1, record { columns = from_line (pos 2) (pos 4); rows = from_line (pos 0) (pos 2) }) ∷ (0, record { columns = from_line (pos 0) (pos 1); rows = from_line (pos 0) (pos 1) }) ∷ []
+unfolding placed_by_rows
+in_area = refl
+
+-- Columns 2 to 3 and 3 to 4 as a subgrid with the area name `z` of its own in its second cell and a gap of 3 in place of 8, with margins of 1.
+abbrev lower : GridStyle
+lower = record plain_grid { columns = record plain_axis { template = template.Subgrid ((z_name ∷ []) ∷ []); gap = size.Length (pos 3); margin_start = Some (pos 1); margin_end = Some (pos 1) } }
+
+abbrev lower_context_by : Context
+lower_context_by = lower_context upper_context (record { columns = from_line (pos 2) (pos 4); rows = from_line (pos 0) (pos 1) }) lower (1, 1)
+
+-- It has the parent's gap in mind, its own set on its first line and the edges of the parent's area on both.
+two_tracks : lower_context_by.columns.table.tracks ≡ 2
+two_tracks = refl
+
+own_levels : lower_context_by.columns.levels ≡ record { span = from_line (pos 2) (pos 4); gap = pos 3; outer_gap = pos 8; before = pos 1; after = pos 1 } ∷ []
+own_levels = refl
+
+lower_edges : lower_context_by.columns.table.lines ≡ (z_name ∷ codes "a-start" ∷ codes "a-start" ∷ []) ∷ [] ∷ (codes "a-end" ∷ codes "a-end" ∷ []) ∷ []
+lower_edges = refl
+
+-- In the rows it is no subgrid.
+no_levels : lower_context_by.rows.levels ≡ []
+no_levels = refl
+
+-- A subgrid with three name sets spans two tracks where it is free, and a node that is no grid one.
+spans_its_sets : automatic_span true (template.Subgrid ([] ∷ [] ∷ [] ∷ [])) ≡ 2
+spans_its_sets = refl
+
+spans_one : automatic_span false (template.Subgrid ([] ∷ [] ∷ [] ∷ [])) ≡ 1
+spans_one = refl
+
+-- Line -7 of four tracks lies at -2, so an item of one column from there on makes the columns begin at -2.
+range_reaches_out : (placed_children upper_context upper (child (record plain_grid { columns = record plain_axis { start_line = line.Line (negsuc 6) None } }) ∷ [])).columns ≡ from_line (negsuc 1) (pos 4)
+unfolding placed_by_rows
+range_reaches_out = refl

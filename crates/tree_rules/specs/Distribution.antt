@@ -1,7 +1,7 @@
 -- Where the tracks of a grid and the items in their areas stand (CSS Box Alignment 3).
-use Rattle.std.specs.Prelude.{ℕ, ◌+◌, ◌-◌, ℤ, pos, ◌+ℤ◌, ◌-ℤ◌, ◌*ℤ◌, Bool, false, not, List, [], ◌∷◌, filter, length, Some, unwrap_or, if◌then◌else◌}
+use Rattle.std.specs.Prelude.{refl, ℕ, ◌+◌, ◌-◌, ℤ, pos, ◌+ℤ◌, ◌-ℤ◌, ◌*ℤ◌, Bool, false, not, List, [], ◌∷◌, filter, length, Some, unwrap_or, if◌then◌else◌, true, ◌≡◌}
 use Rattle.std.specs.Int.{int_max}
-use Rattle.lunit.specs.Units.{clamp}
+use Rattle.lunit.specs.Units.{clamp, floor_div}
 use Rattle.lunit.specs.declared.geometry.Span.{Span}
 use Rattle.part_rules.specs.declared.mode.Mode.{Mode}
 use Rattle.part_rules.specs.declared.mode.Mode.TheVariants as mode
@@ -18,6 +18,11 @@ use Rattle.tree_rules.specs.declared.query.Given.TheVariants as given
 use Rattle.tree_rules.specs.Labels.{GridAxis}
 use Rattle.tree_rules.specs.NodeSizes.{inner, is_auto_margin, margin, margins, outer_end, outer_start}
 use Rattle.tree_rules.specs.Repetitions.{gap_by}
+use Rattle.part_rules.specs.declared.track.Least.TheVariants as least
+use Rattle.part_rules.specs.declared.track.Most.TheVariants as most
+use Rattle.std.specs.Prelude.{negsuc, None}
+use Rattle.style_types.specs.declared.value.Size.TheVariants as size
+use Rattle.tree_rules.specs.Labels.{plain_axis}
 
 -- ---- values of alignment
 
@@ -100,3 +105,58 @@ view_in outer span g =
 -- what a subgrid is given that sees these tracks
 abbrev pub given_view : {axis : ℕ} → View axis → Given
 given_view v = given.Tracks v.edges v.gap
+
+-- ---- worked rows, in units
+
+abbrev fixed_rule : Bool → Rule
+fixed_rule collapsed = record { least = least.Fixed (pos 0); most = most.Fixed (pos 0); collapsed = collapsed }
+
+-- tracks of 10, 0 (collapsed) and 20 with a gap of 5
+abbrev three : Sized
+three = record { rules = fixed_rule false ∷ fixed_rule true ∷ fixed_rule false ∷ []; sizes = pos 10 ∷ pos 0 ∷ pos 20 ∷ []; gap = pos 5 }
+
+abbrev by : AlignMode → Align
+by m = record { mode = m; safe = None }
+
+-- One gutter lies between the two that are not collapsed.
+one_gutter : total_of_tracks three ≡ pos 35
+one_gutter = refl
+
+-- Of 56 there are 21 left, of which 10 lie before the tracks.
+in_the_middle : edges_in (by align_mode.Center) (pos 56) three ≡ (pos 10, pos 20) ∷ (pos 0, pos 0) ∷ (pos 25, pos 45) ∷ []
+unfolding floor_div
+in_the_middle = refl
+
+spread : edges_in (by align_mode.Between) (pos 56) three ≡ (pos 0, pos 10) ∷ (pos 0, pos 0) ∷ (pos 36, pos 56) ∷ []
+unfolding floor_div
+spread = refl
+
+-- Tracks that pass the container by 5 end where it ends; under `safe` they start at its start.
+at_the_end : edges_in (by align_mode.FlexEnd) (pos 30) three ≡ (negsuc 4, pos 5) ∷ (pos 0, pos 0) ∷ (pos 10, pos 30) ∷ []
+at_the_end = refl
+
+safe_end : edges_in (record { mode = align_mode.End; safe = Some true }) (pos 30) three ≡ (pos 0, pos 10) ∷ (pos 0, pos 0) ∷ (pos 15, pos 35) ∷ []
+safe_end = refl
+
+-- An item of 30 with margins of 4 and 6 in an area of 100 from 50: 60 are free, half of which lies before it.
+item_in_middle : aligned_at (by align_mode.Center) (record plain_axis { margin_start = Some (pos 4); margin_end = Some (pos 6) }) (pos 50) (pos 100) (pos 30) ≡ pos 84
+unfolding floor_div
+item_in_middle = refl
+
+-- One `auto` margin after it takes all of that, whatever its alignment.
+auto_after : aligned_at (by align_mode.End) (record plain_axis { margin_start = Some (pos 4); margin_end = None }) (pos 50) (pos 100) (pos 30) ≡ pos 54
+auto_after = refl
+
+-- In an area of 20 it passes by 14: the margin takes nothing, and the item ends where the area ends.
+auto_overflow : aligned_at (by align_mode.End) (record plain_axis { margin_start = Some (pos 4); margin_end = None }) (pos 50) (pos 20) (pos 30) ≡ pos 40
+auto_overflow = refl
+
+-- A subgrid in an area of 10 with margins of 4 and paddings of 9 is 9 wide.
+least_subgrid : subgrid_box (record plain_axis { margin_start = Some (pos 4); padding_end = pos 9 }) (pos 10) ≡ pos 9
+unfolding clamp
+least_subgrid = refl
+
+-- Two tracks of 40 with a gap of 20, seen by a subgrid with a gap of 10% of its 100: the gap is 10, and each track is 5 longer at the gutter.
+percentage_gap : view_in {axis = 0} (record { edges = (pos 0, pos 40) ∷ (pos 60, pos 100) ∷ []; gap = pos 20 }) (record { start = pos 0; end = pos 2 }) (record plain_axis { gap = size.Percent 10000 }) ≡ record { edges = (pos 0, pos 45) ∷ (pos 55, pos 100) ∷ []; gap = pos 10 }
+unfolding clamp floor_div
+percentage_gap = refl

@@ -1,5 +1,5 @@
 -- The items of a flex container, and the intrinsic sizes of its content (CSS Flexbox 1, section 9).
-use Rattle.std.specs.Prelude.{ℕ, ℤ, pos, ◌+ℤ◌, Bool, true, false, not, ◌&&◌, List, [], map, length, Option, Some, None, option_map, unwrap_or, if◌then◌else◌}
+use Rattle.std.specs.Prelude.{◌≡◌, refl, ℕ, ℤ, pos, ◌+ℤ◌, Bool, true, false, not, ◌&&◌, List, [], map, length, Option, Some, None, option_map, unwrap_or, if◌then◌else◌, ◌∷◌}
 use Rattle.std.specs.Int.{int_max}
 use Rattle.lunit.specs.Units.{clamp}
 use Rattle.part_rules.specs.declared.flex.FlexItem.{FlexItem}
@@ -11,10 +11,14 @@ use Rattle.style_types.specs.declared.value.Size.TheVariants as size
 use Rattle.tree_rules.specs.declared.query.Given.{Given}
 use Rattle.tree_rules.specs.declared.query.Given.TheVariants as given
 use Rattle.tree_rules.specs.Answers.{Down, Kid}
-use Rattle.tree_rules.specs.Labels.{ContentAxis, GridAxis, Label}
+use Rattle.tree_rules.specs.Labels.{ContentAxis, GridAxis, Label, ContentStyle}
 use Rattle.tree_rules.specs.NodeSizes.{Bounds, block_used, border_size, bounds_of, content_of_box, contribution, inline_used, is_stretched, margins, resolved, self_align, stretches}
 use Rattle.tree_rules.specs.Orders.{in_order}
 use Rattle.tree_rules.specs.Repetitions.{gap_by}
+use Rattle.std.specs.Prelude.{negsuc}
+use Rattle.lunit.specs.Units.{floor_div}
+use Rattle.tree_rules.specs.declared.kind.NodeKind.TheVariants as kind
+use Rattle.tree_rules.specs.Labels.{plain_axis, plain_content, plain_content_axis, plain_grid}
 
 -- ---- axes
 
@@ -198,3 +202,55 @@ row_block f lines settled = in_a_row (gap_by None (pos 0) f.label.grid.rows.gap)
 -- The block size of a column: the outer hypothetical main sizes and the gaps between them, on one line also with wrapping (own rule).
 abbrev pub column_block : Flex → List Settled → ℤ
 column_block f settled = in_a_row (gap_by None (pos 0) f.label.grid.rows.gap) (map (λ s. outer_hypothetical (column_item None s)) settled)
+
+-- ---- worked rows, in units
+
+-- a node with these content-class values, borders and paddings of 4 and margins of 3 in both axes
+abbrev a_child : ContentStyle → Label
+a_child c = record { name = []; kind = kind.Flex; grid = record plain_grid { columns = record plain_axis { padding_start = pos 4; margin_end = Some (pos 3) }; rows = record plain_axis { padding_start = pos 4; margin_end = Some (pos 3) } }; content = c }
+
+-- Contents of 20 and 30 with 4: the basis is 34 and the least size 24.
+by_content : flex_item false (Some (pos 100)) (a_child plain_content) (pos 20, pos 30) ≡ record { base = pos 34; min = pos 24; max = None; margins = pos 3; inner = pos 4; grow = 0; shrink = 1000 }
+unfolding clamp
+by_content = refl
+
+-- A width of 10 is 14 with 4; so is the basis, and the least size too, since that is less than the content.
+by_width : flex_item false (Some (pos 100)) (a_child (record plain_content { inline = record plain_content_axis { size = size.Length (pos 10) } })) (pos 20, pos 30) ≡ record { base = pos 14; min = pos 14; max = None; margins = pos 3; inner = pos 4; grow = 0; shrink = 1000 }
+unfolding clamp
+by_width = refl
+
+-- The basis `content` passes over the width.
+by_basis_content : (flex_item false (Some (pos 100)) (a_child (record plain_content { inline = record plain_content_axis { size = size.Length (pos 10) }; basis = size.Content })) (pos 20, pos 30)).base ≡ pos 34
+unfolding clamp
+by_basis_content = refl
+
+-- A basis of 50% of 100 is 54 with 4; of nothing it is `auto`.
+by_percentage : (flex_item false (Some (pos 100)) (a_child (record plain_content { basis = size.Percent 50000 })) (pos 20, pos 30)).base ≡ pos 54
+unfolding clamp floor_div
+by_percentage = refl
+
+by_percentage_of_nothing : (flex_item true None (a_child (record plain_content { basis = size.Percent 50000 })) (pos 20, pos 30)).base ≡ pos 34
+unfolding clamp
+by_percentage_of_nothing = refl
+
+-- A scroll container has no automatic minimum; a percentage minimum of nothing is automatic.
+scrolling : (flex_item false (Some (pos 100)) (a_child (record plain_content { scrolls = true })) (pos 20, pos 30)).min ≡ pos 0
+unfolding clamp
+scrolling = refl
+
+minimum_of_nothing : (flex_item true None (a_child (record plain_content { block = record plain_content_axis { least = size.Percent 50000 } })) (pos 20, pos 30)).min ≡ pos 24
+unfolding clamp
+minimum_of_nothing = refl
+
+-- Three sizes and two gaps; sizes below zero in sum are 0.
+row_of_three : in_a_row (pos 5) (pos 10 ∷ pos 20 ∷ pos 30 ∷ []) ≡ pos 70
+unfolding clamp
+row_of_three = refl
+
+row_below_zero : in_a_row (pos 5) (negsuc 9 ∷ []) ≡ pos 0
+unfolding clamp
+row_below_zero = refl
+
+greatest_of_three : greatest_of (pos 10 ∷ pos 30 ∷ pos 20 ∷ []) ≡ pos 30
+unfolding clamp
+greatest_of_three = refl

@@ -1,6 +1,6 @@
 -- A grid once the counts of its repetitions are known: its items, the sizes of its tracks, and the two intrinsic sizes of its content (CSS Grid
 -- 2, section 12).
-use Rattle.std.specs.Prelude.{ℕ, ℤ, pos, ◌-ℤ◌, Bool, ◌&&◌, List, [], ◌∷◌, ◌++◌, map, reverse, Option, Some, None, option_map, if◌then◌else◌}
+use Rattle.std.specs.Prelude.{◌≡◌, refl, ℕ, ℤ, pos, ◌-ℤ◌, Bool, ◌&&◌, List, [], ◌∷◌, ◌++◌, map, reverse, Option, Some, None, option_map, if◌then◌else◌, false, length}
 use Rattle.std.specs.Int.{int_max}
 use Rattle.lunit.specs.Units.{clamp}
 use Rattle.lunit.specs.declared.geometry.Area.{Area}
@@ -26,6 +26,18 @@ use Rattle.tree_rules.specs.Orders.{in_order}
 use Rattle.tree_rules.specs.Repetitions.{gap_by, own_pair}
 use Rattle.tree_rules.specs.Templates.{Written, written}
 use Rattle.tree_rules.specs.TrackRules.{axis_rules, tracks_of}
+use Rattle.lunit.specs.declared.item.Floor.TheVariants.{Known}
+use Rattle.part_rules.specs.Fractions.{left_flexible}
+use Rattle.part_rules.specs.Sharing.{handed_by_level}
+use Rattle.part_rules.specs.Tracks.{sized, group_fitted, spans_fitted}
+use Rattle.style_types.specs.declared.track.Breadth.TheVariants as breadth
+use Rattle.style_types.specs.declared.value.Size.TheVariants as size
+use Rattle.tree_rules.specs.Labels.{plain_axis, plain_content_axis}
+use Rattle.tree_rules.specs.Templates.{px_track}
+use Rattle.style_types.specs.declared.track.TrackFn.{TrackFn}
+use Rattle.lunit.specs.Units.{floor_div}
+use Rattle.style_types.specs.declared.value.Size.{Size}
+use Rattle.style_types.specs.Table.{auto_track}
 
 -- ---- the tracks of one axis
 
@@ -220,3 +232,51 @@ grid_block g rows =
 -- The items that a subgrid in the rows lends.
 abbrev pub grid_lends_rows : Grid → TrackAxis → List Item
 grid_lends_rows g rows = empty_item g.context.rows.levels ++ rows.items
+
+-- ---- worked rows, in units
+
+abbrev an_item : ℤ → ℤ → ℤ → ℤ → Item
+an_item start end low high = record { span = record { start = start; end = end }; low = low; high = high; floor = Known low }
+
+-- the columns of these sizes, with a gap, a minimum and a maximum, and these items
+abbrev columns_with : List TrackFn → Size → Size → Size → List Item → TrackAxis
+columns_with sizes gap least most items = record { border_box = false; grid = record plain_axis { gap = gap }; content = record plain_content_axis { least = least; most = most }; written = record { sizes = sizes; names = []; fit = None }; spans = []; tracks = record { start = pos 0; end = pos (length sizes) }; items = items }
+
+abbrev low_space : Space 0
+low_space = MinContent
+
+abbrev high_space : Space 0
+high_space = MaxContent
+
+-- An `auto` column of an item of 20 to 50 beside a fixed one of 30, with a gap of 5.
+low_total : total_for (columns_with (auto_track ∷ px_track 30 ∷ []) (size.Length (pos 5)) size.Auto size.Absent (an_item (pos 0) (pos 1) (pos 20) (pos 50) ∷ [])) low_space ≡ pos 55
+unfolding clamp floor_div sized group_fitted spans_fitted handed_by_level left_flexible
+low_total = refl
+
+high_total : total_for (columns_with (auto_track ∷ px_track 30 ∷ []) (size.Length (pos 5)) size.Auto size.Absent (an_item (pos 0) (pos 1) (pos 20) (pos 50) ∷ [])) high_space ≡ pos 85
+unfolding clamp floor_div sized group_fitted spans_fitted handed_by_level left_flexible
+high_total = refl
+
+-- A percentage gap is nothing of an intrinsic space, and a percentage column is `auto`.
+percentages_of_nothing : total_for (columns_with (record { least = breadth.Percent 50000; most = breadth.Percent 50000; fit = None } ∷ px_track 30 ∷ []) (size.Percent 10000) size.Auto size.Absent (an_item (pos 0) (pos 1) (pos 20) (pos 50) ∷ [])) low_space ≡ pos 50
+unfolding clamp floor_div sized group_fitted spans_fitted handed_by_level left_flexible
+percentages_of_nothing = refl
+
+-- Under a declared maximum of 60 the `auto` column grows by what that leaves of 20 and 30, to 30.
+within_maximum : total_for (columns_with (auto_track ∷ px_track 30 ∷ []) size.Normal size.Auto (size.Length (pos 60)) (an_item (pos 0) (pos 1) (pos 20) (pos 50) ∷ [])) high_space ≡ pos 60
+unfolding clamp floor_div sized group_fitted spans_fitted handed_by_level left_flexible
+within_maximum = refl
+
+-- Up to a declared minimum of 100 an `auto` column is stretched.
+up_to_minimum : total_for (columns_with (auto_track ∷ px_track 30 ∷ []) size.Normal (size.Length (pos 100)) size.Absent (an_item (pos 0) (pos 1) (pos 20) (pos 50) ∷ [])) low_space ≡ pos 100
+unfolding clamp floor_div sized group_fitted spans_fitted handed_by_level left_flexible
+up_to_minimum = refl
+
+-- In a width of 200 a gap of 10% is 20, and the `auto` column is stretched over what is left.
+in_width : view_for {axis = 0} (columns_with (auto_track ∷ px_track 30 ∷ []) (size.Percent 10000) size.Auto size.Absent (an_item (pos 0) (pos 1) (pos 20) (pos 50) ∷ [])) (pos 200) ≡ record { edges = (pos 0, pos 150) ∷ (pos 170, pos 200) ∷ []; gap = pos 20 }
+unfolding clamp floor_div sized group_fitted spans_fitted handed_by_level left_flexible
+in_width = refl
+
+-- What a subgrid is given is what it sees.
+given_tracks : view_by {axis = 0} (columns_with [] size.Normal size.Auto size.Absent []) (given.Tracks ((pos 0, pos 9) ∷ []) (pos 3)) ≡ record { edges = (pos 0, pos 9) ∷ []; gap = pos 3 }
+given_tracks = refl

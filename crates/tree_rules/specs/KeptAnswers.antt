@@ -1,5 +1,5 @@
 -- Lists of kept answers that are right (own rule).
-use Rattle.std.specs.Prelude.{◌≡◌, ◌≢◌, ℕ, ◌-◌, ◌≤◌, List, [], ◌∷◌, length, drop}
+use Rattle.std.specs.Prelude.{refl, ◌≡◌, ◌≢◌, ℕ, ◌-◌, ◌≤◌, List, [], ◌∷◌, length, drop}
 use Rattle.tree_rules.specs.declared.query.Query.{Query}
 use Rattle.tree_rules.specs.Places.{Seen}
 use Rattle.tree_rules.specs.Queries.{Answer, Fits, answer_of}
@@ -38,3 +38,12 @@ pub record AreRight {A : Type 0} (s : Seen) (plain : A → Answer) (kept : List 
   pub distinct : AreDistinct kept
   pub each : EachPair (IsRightPair s plain) kept
   pub few : length kept ≤ most_kept
+
+-- ---- worked rows
+
+-- Of three the last two.
+last_two : last_of {A = ℕ} 2 (1 ∷ 2 ∷ 3 ∷ []) ≡ 2 ∷ 3 ∷ []
+last_two = refl
+
+all_of_fewer : last_of {A = ℕ} 2 (1 ∷ []) ≡ 1 ∷ []
+all_of_fewer = refl

@@ -5,6 +5,7 @@ pub mod CardRows
 pub mod Chains
 pub mod Contexts
 pub mod Distribution
+pub mod Documents
 pub mod FlexRows
 pub mod FlexSizes
 pub mod Frames

@@ -1,7 +1,7 @@
 -- The sizes of one node in one axis: margins, borders and paddings, declared sizes, contributions, and the sizes that are used.
-use Rattle.std.specs.Prelude.{ℤ, pos, ◌+ℤ◌, ◌-ℤ◌, Bool, true, false, ◌&&◌, Option, Some, None, option_map, is_some, unwrap_or, if◌then◌else◌}
+use Rattle.std.specs.Prelude.{refl, ℤ, pos, ◌+ℤ◌, ◌-ℤ◌, Bool, true, false, ◌&&◌, Option, Some, None, option_map, is_some, unwrap_or, if◌then◌else◌, ◌≡◌}
 use Rattle.std.specs.Int.{int_max, int_min}
-use Rattle.lunit.specs.Units.{clamp, percent}
+use Rattle.lunit.specs.Units.{clamp, percent, floor_div}
 use Rattle.lunit.specs.declared.item.Floor.{Floor}
 use Rattle.lunit.specs.declared.item.Floor.TheVariants.{Known, Content}
 use Rattle.lunit.specs.declared.item.Item.{Item}
@@ -12,7 +12,7 @@ use Rattle.style_types.specs.declared.value.AlignMode.{AlignMode}
 use Rattle.style_types.specs.declared.value.AlignMode.TheVariants as align_mode
 use Rattle.style_types.specs.declared.value.Size.{Size}
 use Rattle.style_types.specs.declared.value.Size.TheVariants as size
-use Rattle.tree_rules.specs.Labels.{GridAxis, ContentAxis, length_or_zero}
+use Rattle.tree_rules.specs.Labels.{GridAxis, ContentAxis, length_or_zero, plain_axis, plain_content_axis}
 
 -- ---- margins, borders and paddings
 
@@ -166,3 +166,99 @@ block_used b stretched m room content =
 -- the content size of a border-box size
 abbrev pub content_of_box : ℤ → ℤ → ℤ
 content_of_box p box = clamp (box -ℤ p)
+
+-- ---- worked rows, in units
+
+abbrev sized : Size → Size → Size → ContentAxis
+sized s least most = record plain_content_axis { size = s; least = least; most = most }
+
+-- borders and paddings of 6 and 4, margins of 3 and `auto`
+abbrev thick : GridAxis
+thick = record plain_axis { margin_start = Some (pos 3); margin_end = None; border_start = pos 1; border_end = pos 2; padding_start = pos 5; padding_end = pos 2 }
+
+auto_counts_0 : margins thick ≡ pos 3
+auto_counts_0 = refl
+
+-- A width of 20 is 30 with its borders and paddings under `content-box`, and 20 under `border-box`, where it is at least 10.
+content_box : border_size false (inner thick) (pos 20) ≡ pos 30
+content_box = refl
+
+border_box : border_size true (inner thick) (pos 20) ≡ pos 20
+border_box = refl
+
+least_border_box : border_size true (inner thick) (pos 4) ≡ pos 10
+least_border_box = refl
+
+-- The minimum of 50 wins over the maximum of 40.
+minimum_wins : fitted (bounds_of None true plain_axis (sized size.Auto (size.Length (pos 50)) (size.Length (pos 40)))) (pos 45) ≡ pos 50
+minimum_wins = refl
+
+-- A maximum of 5 does not go below borders and paddings of 10.
+inner_wins : fitted (bounds_of None true thick (sized size.Auto size.Auto (size.Length (pos 5)))) (pos 45) ≡ pos 10
+inner_wins = refl
+
+-- 50% of 31 is 15, and of nothing it is `auto`.
+half : (bounds_of (Some (pos 31)) false plain_axis (sized (size.Percent 50000) size.Auto size.Absent)).size ≡ Some (pos 15)
+unfolding clamp floor_div
+half = refl
+
+half_of_nothing : (bounds_of None false plain_axis (sized (size.Percent 50000) size.Auto size.Absent)).size ≡ None
+half_of_nothing = refl
+
+-- Contents of 20 and 30 with inner 10 and margins of 3 and a maximum of 32 as content size, which is 42: 33, 43, and a minimum by content of 30.
+an_item : item_of false false thick (sized size.Auto size.Auto (size.Length (pos 32))) (record { start = pos 0; end = pos 1 }) (pos 3) (pos 20, pos 30)
+    ≡ record { span = record { start = pos 0; end = pos 1 }; low = pos 33; high = pos 43; floor = Content (pos 30) (pos 3) (pos 10) }
+unfolding clamp
+an_item = refl
+
+-- A scroll container has no automatic minimum but its borders and paddings: 3 + 10.
+scrolling : floor_of size.Auto true (bounds_of None false thick (sized size.Auto size.Auto size.Absent)) (pos 3) (pos 20) ≡ Known (pos 13)
+unfolding clamp
+scrolling = refl
+
+-- A percentage minimum counts 0.
+percentage_minimum : floor_of (size.Percent 100000) false (bounds_of None false thick (sized size.Auto (size.Percent 100000) size.Absent)) (pos 3) (pos 20) ≡ Known (pos 13)
+unfolding clamp
+percentage_minimum = refl
+
+-- A declared minimum of 7 is 17 with inner 10; with a declared size of 8 the minimum is the whole contribution, 3 + 18.
+declared_minimum : floor_of (size.Length (pos 7)) false (bounds_of None false thick (sized size.Auto (size.Length (pos 7)) size.Absent)) (pos 3) (pos 20) ≡ Known (pos 20)
+unfolding clamp
+declared_minimum = refl
+
+declared_size : floor_of size.Auto false (bounds_of None false thick (sized (size.Length (pos 8)) size.Auto size.Absent)) (pos 3) (pos 20) ≡ Known (pos 21)
+unfolding clamp
+declared_size = refl
+
+-- In a room of 100 less margins of 3: stretched 97; fit to contents of 20 and 30 the greater one with inner 10; in a room of 35 what is left of it,
+-- 32; and in one of 10 no less than 30.
+stretched_inline : inline_used (bounds_of None false thick plain_content_axis) true (pos 3) (pos 100) (pos 20, pos 30) ≡ pos 97
+unfolding clamp
+stretched_inline = refl
+
+fit_inline : inline_used (bounds_of None false thick plain_content_axis) false (pos 3) (pos 100) (pos 20, pos 30) ≡ pos 40
+unfolding clamp
+fit_inline = refl
+
+narrow_inline : inline_used (bounds_of None false thick plain_content_axis) false (pos 3) (pos 35) (pos 20, pos 30) ≡ pos 32
+unfolding clamp
+narrow_inline = refl
+
+too_narrow_inline : inline_used (bounds_of None false thick plain_content_axis) false (pos 3) (pos 10) (pos 20, pos 30) ≡ pos 30
+unfolding clamp
+too_narrow_inline = refl
+
+-- The content decides the block size, where it is not stretched, also in a smaller room.
+content_block : block_used (bounds_of None false thick plain_content_axis) false (pos 3) (pos 10) (pos 20) ≡ pos 30
+unfolding clamp
+content_block = refl
+
+-- An `auto` margin keeps a node from being stretched, and so does a size.
+not_by_margin : is_stretched (record { mode = align_mode.Stretch; safe = None }) thick plain_content_axis ≡ false
+not_by_margin = refl
+
+not_by_size : is_stretched (record { mode = align_mode.Stretch; safe = None }) plain_axis (sized (size.Percent 0) size.Auto size.Absent) ≡ false
+not_by_size = refl
+
+by_container : self_align (record { mode = align_mode.Auto; safe = None }) (record { mode = align_mode.Center; safe = Some true }) ≡ record { mode = align_mode.Center; safe = Some true }
+by_container = refl

@@ -1,5 +1,5 @@
 -- Questions: what answers them, and which fit a node.
-use Rattle.std.specs.Prelude.{◌≡◌, ℕ, ◌==◌, ℤ, pos, ◌≤ℤ◌, Bool, true, false, ◌&&◌, not, List, [], ◌∷◌, reverse, length}
+use Rattle.std.specs.Prelude.{refl, ◌≡◌, ℕ, ◌==◌, ℤ, pos, ◌≤ℤ◌, Bool, true, false, ◌&&◌, not, List, [], ◌∷◌, reverse, length}
 use Rattle.std.specs.Ordering.{int_eq}
 use Rattle.lunit.specs.declared.item.Item.{Item}
 use Rattle.tree_rules.specs.declared.kind.NodeKind.{NodeKind}
@@ -13,6 +13,9 @@ use Rattle.tree_rules.specs.Answers.{Answers, Frame, Pair}
 use Rattle.tree_rules.specs.Chains.{has_chain, is_subgrid}
 use Rattle.tree_rules.specs.Contexts.{Context, context_by}
 use Rattle.tree_rules.specs.Places.{Seen, answers_of}
+use Rattle.tree_rules.specs.Labels.{plain_content, plain_grid}
+use Rattle.part_rules.specs.declared.content.Content.TheVariants as content
+use Rattle.plain_tree.specs.Trees.{leafless}
 
 -- ---- answers
 
@@ -126,3 +129,45 @@ same_given a b = false
 -- the same question
 abbrev pub same_query : Query → Query → Bool
 same_query q r = (ask_number q.ask == ask_number r.ask) && (same_items (λ (a : Pair) (b : Pair). (a.0 == b.0) && (a.1 == b.1)) q.reps r.reps && (same_given q.inline r.inline && same_given q.block r.block))
+
+-- ---- worked rows
+
+abbrev question : Ask → Given → Given → Query
+question a inline block = record { ask = a; reps = []; inline = inline; block = block }
+
+-- a leaf of 40 by 20
+abbrev a_leaf : Seen
+a_leaf = record { label = record { name = []; kind = kind.Leaf (content.Fixed (pos 40) (pos 20)); grid = plain_grid; content = plain_content }; chain = []; below = leafless }
+
+its_sizes : answer_of a_leaf (question ask.Inline given.None given.None) ≡ inline_sizes (pos 40, pos 40)
+its_sizes = refl
+
+its_height : answer_of a_leaf (question ask.Block (given.Size (pos 7)) given.None) ≡ block_size (pos 20)
+its_height = refl
+
+-- A leaf has no frames, and only a subgrid lends.
+no_frames : may_ask (is_container a_leaf.label.kind) (sees_columns a_leaf) (sees_rows a_leaf) ask.Frames ≡ false
+no_frames = refl
+
+no_lending : may_ask true false true ask.LendColumns ≡ false
+no_lending = refl
+
+lending : may_ask true false true ask.LendRows ≡ true
+lending = refl
+
+no_block_size : may_ask true false true ask.Block ≡ false
+no_block_size = refl
+
+-- The question for the height at a width fits it.
+fits_leaf : Fits a_leaf (question ask.Block (given.Size (pos 7)) given.None)
+fits_leaf = record { ask = refl; reps = refl; inline = record { le = tt }; block = refl }
+
+-- Questions differ by what is given, and by what is asked.
+other_width : same_query (question ask.Block (given.Size (pos 7)) given.None) (question ask.Block (given.Size (pos 8)) given.None) ≡ false
+other_width = refl
+
+other_ask : same_query (question ask.Block (given.Size (pos 7)) given.None) (question ask.LendRows (given.Size (pos 7)) given.None) ≡ false
+other_ask = refl
+
+same_tracks : same_query (question ask.Block (given.Tracks ((pos 0, pos 7) ∷ []) (pos 2)) given.None) (question ask.Block (given.Tracks ((pos 0, pos 7) ∷ []) (pos 2)) given.None) ≡ true
+same_tracks = refl

@@ -1,7 +1,7 @@
 -- How often the automatic repeats of a grid stand (CSS Grid 2, 7.2.3.2).
-use Rattle.std.specs.Prelude.{ℕ, ℤ, pos, ◌-ℤ◌, Bool, List, map, Option, Some, None, unwrap_or}
+use Rattle.std.specs.Prelude.{refl, ℕ, ℤ, pos, ◌-ℤ◌, Bool, List, map, Option, Some, None, unwrap_or, [], false, true, ◌≡◌, ◌∷◌}
 use Rattle.std.specs.Int.{int_max}
-use Rattle.lunit.specs.Units.{percent}
+use Rattle.lunit.specs.Units.{percent, clamp, floor_div}
 use Rattle.part_rules.specs.declared.names.RepeatSpace.{RepeatSpace}
 use Rattle.part_rules.specs.declared.names.RepeatSpace.TheVariants.{Fits, Fills, Endless}
 use Rattle.part_rules.specs.Repetition.{counted, repetitions_by_division}
@@ -18,6 +18,7 @@ use Rattle.tree_rules.specs.declared.query.Given.TheVariants as given
 use Rattle.tree_rules.specs.Answers.{Pair}
 use Rattle.tree_rules.specs.Labels.{Label, GridAxis, ContentAxis}
 use Rattle.tree_rules.specs.NodeSizes.{Bounds, bounds_of, fitted}
+use Rattle.tree_rules.specs.Labels.{plain_axis, plain_content_axis}
 
 -- ---- gaps (CSS Box Alignment 3, section 8)
 
@@ -88,3 +89,50 @@ columns_space x given.None = space_of x.content.border_box x.grid.columns x.cont
 -- (own rule).
 abbrev pub own_pair : Label → Given → Pair
 own_pair x width = (template_count x.grid.columns x.grid.columns.template (columns_space x width), template_count x.grid.rows x.grid.rows.template (space_of x.content.border_box x.grid.rows x.content.block))
+
+-- ---- worked rows, in units
+
+abbrev of_sizes : Size → Size → Size → ContentAxis
+of_sizes s least most = record plain_content_axis { size = s; least = least; most = most }
+
+-- A width of 100 is limited to the maximum of 80.
+by_width : space_of false plain_axis (of_sizes (size.Length (pos 100)) size.Auto (size.Length (pos 80))) ≡ Fits (pos 80)
+by_width = refl
+
+-- Without a width the maximum counts, raised to the minimum.
+by_maximum : space_of false plain_axis (of_sizes size.Auto (size.Length (pos 90)) (size.Length (pos 80))) ≡ Fits (pos 90)
+by_maximum = refl
+
+-- The minimum alone is to be reached; a percentage width is none.
+by_minimum : space_of false plain_axis (of_sizes (size.Percent 50000) (size.Length (pos 90)) size.Absent) ≡ Fills (pos 90)
+by_minimum = refl
+
+by_nothing : space_of false plain_axis (of_sizes (size.Percent 50000) (size.Percent 50000) (size.Percent 50000)) ≡ Endless
+by_nothing = refl
+
+-- Under `border-box` 100 less paddings of 30 are left.
+by_border_box : space_of true (record plain_axis { padding_start = pos 10; padding_end = pos 20 }) (of_sizes (size.Length (pos 100)) size.Auto size.Absent) ≡ Fits (pos 70)
+by_border_box = refl
+
+abbrev repeating : Breadth → Breadth → Template
+repeating a b = template.Tracks (record { sizes = []; names = [] ∷ [] ∷ []; repeat = Some (record { before = 0; auto_fit = false; sizes = record { least = a; most = b; fit = None } ∷ []; names = [] ∷ [] ∷ [] }) })
+
+-- Tracks of 10% of 6400, which are 640, with gaps of 5%, which are 320: six and five gaps are 5440, seven and six are 6400, and eight are 7360.
+percentages : template_count (record plain_axis { gap = size.Percent 5000 }) (repeating (breadth.Percent 10000) (breadth.Percent 10000)) (Fits (pos 6400)) ≡ 7
+unfolding clamp floor_div
+percentages = refl
+
+-- minmax(200px, 1fr) counts as 200px: four of them with gaps of 20px fit 980px, and five do not.
+by_least : template_count (record plain_axis { gap = size.Length (pos 1280) }) (repeating (breadth.Length (pos 12800)) (breadth.Flex 1000)) (Fits (pos 62720)) ≡ 4
+unfolding clamp floor_div
+by_least = refl
+
+no_repeat : template_count plain_axis (template.Subgrid []) (Fits (pos 6400)) ≡ 1
+no_repeat = refl
+
+-- The parent's gap stands for `normal`, and nothing for a percentage of nothing.
+normal_gap : gap_by None (pos 7) size.Normal ≡ pos 7
+normal_gap = refl
+
+no_gap : gap_by None (pos 7) (size.Percent 50000) ≡ pos 0
+no_gap = refl

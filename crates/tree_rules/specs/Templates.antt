@@ -65,10 +65,10 @@ subgrid_sets (template.Tracks l) = []
 
 -- ---- worked rows
 
-abbrev a_name : List ℕ
+abbrev pub a_name : List ℕ
 a_name = codes "a"
 
-abbrev z_name : List ℕ
+abbrev pub z_name : List ℕ
 z_name = codes "z"
 
 abbrev pub px_track : ℕ → TrackFn

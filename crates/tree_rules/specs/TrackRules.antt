@@ -1,7 +1,7 @@
 -- How each track of an axis is sized (CSS Grid 2, 7.2 and 7.6).
-use Rattle.std.specs.Prelude.{ℕ, zero, suc, ◌+ℤ◌, ◌-ℤ◌, ℤ, pos, Bool, false, List, [], ◌∷◌, map, Option, Some, None, unwrap_or}
+use Rattle.std.specs.Prelude.{refl, ℕ, zero, suc, ◌+ℤ◌, ◌-ℤ◌, ℤ, pos, Bool, false, List, [], ◌∷◌, map, Option, Some, None, unwrap_or, ◌≡◌, negsuc, true}
 use Rattle.std.specs.Int.{int_max}
-use Rattle.lunit.specs.Units.{percent}
+use Rattle.lunit.specs.Units.{percent, clamp, floor_div}
 use Rattle.lunit.specs.declared.geometry.Span.{Span}
 use Rattle.part_rules.specs.declared.track.Least.{Least}
 use Rattle.part_rules.specs.declared.track.Least.TheVariants as least
@@ -15,7 +15,8 @@ use Rattle.style_types.specs.declared.track.Breadth.{Breadth}
 use Rattle.style_types.specs.declared.track.Breadth.TheVariants as breadth
 use Rattle.style_types.specs.declared.track.TrackFn.{TrackFn}
 use Rattle.tree_rules.specs.Labels.{GridAxis}
-use Rattle.tree_rules.specs.Templates.{Written}
+use Rattle.tree_rules.specs.Templates.{Written, px_track}
+use Rattle.tree_rules.specs.Labels.{plain_axis}
 
 -- ---- one track
 
@@ -92,3 +93,47 @@ is_collapsed (Some fit) areas at = collapses (pos fit.0) (pos fit.1) areas at
 -- How the tracks of these coordinates are sized, where the children have these spans.
 abbrev pub axis_rules : Option ℤ → GridAxis → Written → List Span → List ℤ → List Rule
 axis_rules base g w areas ats = map (λ at. rule_of base (unwrap_or (size_at w.sizes g.autos at) auto_track) (is_collapsed w.fit areas at)) ats
+
+-- ---- worked rows, in units
+
+abbrev sized_by : Breadth → Breadth → Option Breadth → TrackFn
+sized_by a b f = record { least = a; most = b; fit = f }
+
+-- 25% of 1000 is 250, and of nothing `auto`.
+percentage : rule_of (Some (pos 1000)) (sized_by (breadth.Percent 25000) (breadth.Percent 25000) None) false ≡ record { least = least.Fixed (pos 250); most = most.Fixed (pos 250); collapsed = false }
+unfolding clamp floor_div
+percentage = refl
+
+percentage_of_nothing : rule_of None (sized_by (breadth.Percent 25000) (breadth.Percent 25000) None) false ≡ record { least = least.Auto; most = most.Auto; collapsed = false }
+percentage_of_nothing = refl
+
+-- minmax(30, 20) is minmax(30, 30).
+raised : rule_of None (sized_by (breadth.Length (pos 30)) (breadth.Length (pos 20)) None) false ≡ record { least = least.Fixed (pos 30); most = most.Fixed (pos 30); collapsed = false }
+raised = refl
+
+-- fit-content(40) caps `max-content` at 40; fit-content(50%) of nothing does not cap it.
+capped : rule_of None (sized_by breadth.Auto breadth.MaxContent (Some (breadth.Length (pos 40)))) false ≡ record { least = least.Auto; most = most.Fit (pos 40); collapsed = false }
+capped = refl
+
+not_capped : rule_of None (sized_by breadth.Auto breadth.MaxContent (Some (breadth.Percent 50000))) false ≡ record { least = least.Auto; most = most.MaxContent; collapsed = false }
+not_capped = refl
+
+capped_by_percentage : rule_of (Some (pos 90)) (sized_by breadth.Auto breadth.MaxContent (Some (breadth.Percent 50000))) false ≡ record { least = least.Auto; most = most.Fit (pos 45); collapsed = false }
+unfolding clamp floor_div
+capped_by_percentage = refl
+
+-- a template of 1 unit, repeated twice by `auto-fit`, and automatic tracks of 2 and 3 units
+abbrev fitting : Written
+fitting = record { sizes = px_track 1 ∷ px_track 1 ∷ []; names = []; fit = Some (0, 2) }
+
+abbrev of_size : ℕ → Bool → Rule
+of_size n collapsed = record { least = least.Fixed (pos n); most = most.Fixed (pos n); collapsed = collapsed }
+
+-- The tracks from -1 to 4 with an item in the second one: the first repeated one collapses; before it stands the last automatic size, and after
+-- the template the automatic ones from the first on.
+around_template : axis_rules None (record plain_axis { autos = px_track 2 ∷ px_track 3 ∷ [] }) fitting (record { start = pos 1; end = pos 2 } ∷ []) (tracks_of (record { start = negsuc 0; end = pos 4 }))
+    ≡ of_size 3 false ∷ of_size 1 true ∷ of_size 1 false ∷ of_size 2 false ∷ of_size 3 false ∷ []
+around_template = refl
+
+no_tracks_of : tracks_of (record { start = pos 3; end = pos 3 }) ≡ []
+no_tracks_of = refl

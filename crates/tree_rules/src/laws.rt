@@ -23,9 +23,10 @@ pub fn chains_are_of_grid_values()
     ensures { (x y a b : Label) (chain : List Link) (below under : Trees Label) (n : ℕ) → sibling_of x ≡ sibling_of y → siblings_of below ≡ siblings_of under → sibling_of a ≡ sibling_of b → chain_of (above_of x chain below) n a ≡ chain_of (above_of y chain under) n b }
 {}
 
-/// A list of kept answers that is right stays so where a right answer to a question that it lacks is put and the oldest of
+/// A node that keeps nothing is right, and a list of kept answers that is right stays so where a right answer to a question that it lacks is put and the oldest of
 /// seventeen goes.
-#[tactic(auto, using(crate::proofs::KeptLists::right_put))]
+#[tactic(auto, using(crate::proofs::KeptLists::none_right, crate::proofs::KeptLists::right_put))]
 pub fn right_answers_stay_right<A>()
-    ensures { (s : Seen) (plain : A → Answer) (kept : List (Query × A)) (q : Query) (a : A) → AreRight s plain kept → IsAbsent q kept → IsRightPair s plain q a → AreRight s plain (last_of most_kept (kept ++ (q, a) ∷ [])) }
+    ensures none { (s : Seen) (plain : A → Answer) → AreRight {A = A} s plain [] }
+    ensures put { (s : Seen) (plain : A → Answer) (kept : List (Query × A)) (q : Query) (a : A) → AreRight s plain kept → IsAbsent q kept → IsRightPair s plain q a → AreRight s plain (last_of most_kept (kept ++ (q, a) ∷ [])) }
 {}
