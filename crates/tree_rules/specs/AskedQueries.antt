@@ -1,5 +1,5 @@
 -- What a question asks of the children of a node, and all that laying out a tree asks.
-use Rattle.std.specs.Prelude.{ℕ, ◌+◌, ◌==◌, ℤ, Bool, false, List, [], ◌∷◌, ◌++◌, map, filter, not, if◌then◌else◌}
+use Rattle.std.specs.Prelude.{◌≡◌, refl, ℕ, ◌+◌, ◌==◌, ℤ, Bool, false, List, [], ◌∷◌, ◌++◌, map, filter, not, if◌then◌else◌, pos}
 use Rattle.plain_tree.specs.Trees.{Trees, leafless, tree}
 use Rattle.part_rules.specs.declared.view.View.{View}
 use Rattle.part_rules.specs.Lists.{zipped}
@@ -21,6 +21,13 @@ use Rattle.tree_rules.specs.Orders.{numbered_from}
 use Rattle.tree_rules.specs.Places.{above_root}
 use Rattle.tree_rules.specs.Queries.{is_container, needs_inline, same_query}
 use Rattle.tree_rules.specs.Whole.{kids_of, step}
+use Rattle.lunit.specs.Units.{clamp, floor_div}
+use Rattle.part_rules.specs.Fractions.{left_flexible}
+use Rattle.part_rules.specs.Placement.{placed_by_rows}
+use Rattle.part_rules.specs.Sharing.{handed_by_level}
+use Rattle.part_rules.specs.Tracks.{sized, group_fitted, spans_fitted}
+use Rattle.tree_rules.specs.Samples.{px, fixed, fr, tracks, with_gap, grid, plain_leaf, side_by_side, main, name_a, name_b}
+use Rattle.tree_rules.specs.Labels.{plain_content}
 
 -- A question to a child, with the child's number.
 abbrev pub ToChild : Type 0
@@ -171,3 +178,40 @@ asked width height x below =
     let r = root_of x below in
     let own : List ToChild = (0, inline_query false []) ∷ (0, block_query false [] (root_inline r (root_width width r))) ∷ root_query width height x below in
     spread leads_to above_root 0 own (tree x below leafless)
+
+-- ---- worked rows
+
+-- columns of 100px and 1fr with a gap of 10 and two leaves, in a viewport of 300 by 200
+abbrev two_columns : Label
+two_columns = grid main (with_gap (tracks (fixed 100 ∷ fr 1000 ∷ [])) 10) plain_content
+
+abbrev two_leaves : Trees Label
+two_leaves = side_by_side (plain_leaf name_a 40 20 ∷ plain_leaf name_b 50 30 ∷ [])
+
+abbrev at_width : ℤ → Query
+at_width width = block_query false [] (given.Size width)
+
+abbrev frames_of_main : Query
+frames_of_main = record { ask = ask.Frames; reps = []; inline = given.Size (px 300); block = given.Size (px 30) }
+
+-- The only container is the root, which is 300 wide and 30 high.
+the_path : path (px 300) (px 200) two_columns two_leaves ≡ (main, frames_of_main) ∷ []
+unfolding clamp floor_div sized group_fitted spans_fitted handed_by_level left_flexible placed_by_rows
+the_path = refl
+
+-- Of the leaves it asks their inline sizes, and their heights in columns of 100 and 190.
+all_asked : asked (px 300) (px 200) two_columns two_leaves
+    ≡ (main, inline_query false []) ∷ (main, at_width (px 300)) ∷ (main, frames_of_main) ∷ (name_a, inline_query false []) ∷ (name_a, at_width (px 100)) ∷ (name_b, inline_query false []) ∷ (name_b, at_width (px 190)) ∷ []
+unfolding clamp floor_div sized group_fitted spans_fitted handed_by_level left_flexible placed_by_rows
+all_asked = refl
+
+-- The question for the inline sizes asks for no height.
+inline_uses : uses two_columns [] (kids_of (above_of two_columns [] two_leaves) 0 two_leaves) (inline_query false []) ≡ (0, inline_query false []) ∷ (1, inline_query false []) ∷ []
+unfolding clamp floor_div sized group_fitted spans_fitted handed_by_level left_flexible placed_by_rows
+inline_uses = refl
+
+each_once : without_repeats (at_width (pos 3) ∷ at_width (pos 4) ∷ at_width (pos 3) ∷ []) ≡ at_width (pos 3) ∷ at_width (pos 4) ∷ []
+each_once = refl
+
+for_second : for_child 1 ((1, at_width (pos 3)) ∷ (0, at_width (pos 4)) ∷ (1, at_width (pos 5)) ∷ []) ≡ at_width (pos 3) ∷ at_width (pos 5) ∷ []
+for_second = refl

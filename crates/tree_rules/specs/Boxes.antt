@@ -1,5 +1,5 @@
 -- The boxes of a whole tree in its viewport.
-use Rattle.std.specs.Prelude.{ℤ, pos, false, List, [], ◌∷◌, Some, None}
+use Rattle.std.specs.Prelude.{◌≡◌, refl, ℤ, pos, false, List, [], ◌∷◌, Some, None}
 use Rattle.plain_tree.specs.Trees.{Trees}
 use Rattle.style_types.specs.declared.value.Align.{Align}
 use Rattle.style_types.specs.declared.value.AlignMode.TheVariants as align_mode
@@ -12,6 +12,13 @@ use Rattle.tree_rules.specs.Frames.{Framed, boxes_at}
 use Rattle.tree_rules.specs.Labels.{Label}
 use Rattle.tree_rules.specs.NodeSizes.{block_used, bounds_of, content_of_box, inline_used, inner, is_stretched, margins}
 use Rattle.tree_rules.specs.Whole.{kid_of, kids_of}
+use Rattle.std.specs.Prelude.{codes}
+use Rattle.lunit.specs.Units.{clamp, floor_div}
+use Rattle.plain_tree.specs.Trees.{leafless}
+use Rattle.part_rules.specs.declared.content.Content.TheVariants as content
+use Rattle.style_types.specs.declared.value.Size.TheVariants as size
+use Rattle.tree_rules.specs.declared.kind.NodeKind.TheVariants as kind
+use Rattle.tree_rules.specs.Labels.{GridStyle, ContentStyle, plain_axis, plain_content, plain_content_axis, plain_grid}
 
 -- The root is an item in an area of the size of the viewport, with `justify-self` `stretch` and `align-self` `start` in place of its own
 -- (own rule).
@@ -56,3 +63,36 @@ root_framed width height r =
 -- The boxes of a tree in a viewport of this width and height, in document order.
 abbrev pub boxes : ℤ → ℤ → Label → Trees Label → List Box
 boxes width height x below = boxes_at (pos 0, pos 0) (root_framed width height (root_of x below) ∷ [])
+
+-- ---- worked rows, in units: leaves of 40 by 20 as roots in a viewport of 100 by 50
+
+abbrev leaf : GridStyle → ContentStyle → Label
+leaf g c = record { name = codes "main"; kind = kind.Leaf (content.Fixed (pos 40) (pos 20)); grid = g; content = c }
+
+abbrev at : ℤ → ℤ → ℤ → ℤ → List Box
+at x y width height = (codes "main", record { x = x; y = y; width = width; height = height }) ∷ []
+
+-- The root is stretched to the width, and as high as its content.
+stretched_root : boxes (pos 100) (pos 50) (leaf plain_grid plain_content) leafless ≡ at (pos 0) (pos 0) (pos 100) (pos 20)
+unfolding clamp
+stretched_root = refl
+
+-- Its own alignments count for nothing.
+own_alignment : boxes (pos 100) (pos 50) (leaf plain_grid (record plain_content { inline = record plain_content_axis { own = record { mode = align_mode.End; safe = None } }; block = record plain_content_axis { own = record { mode = align_mode.Stretch; safe = None } } })) leafless ≡ at (pos 0) (pos 0) (pos 100) (pos 20)
+unfolding clamp
+own_alignment = refl
+
+-- With an `auto` margin at the left it is fit to its content, and the margin takes the rest.
+auto_margin : boxes (pos 100) (pos 50) (leaf (record plain_grid { columns = record plain_axis { margin_start = None } }) plain_content) leafless ≡ at (pos 60) (pos 0) (pos 40) (pos 20)
+unfolding clamp
+auto_margin = refl
+
+-- Percentages are of the viewport: half of 100, and the minimum of 90% of 50.
+of_viewport : boxes (pos 100) (pos 50) (leaf plain_grid (record plain_content { inline = record plain_content_axis { size = size.Percent 50000 }; block = record plain_content_axis { least = size.Percent 90000 } })) leafless ≡ at (pos 0) (pos 0) (pos 50) (pos 45)
+unfolding clamp floor_div
+of_viewport = refl
+
+-- Margins of 7 and 5 and a border of 3: 100 less 7 and 5, from 7 on; the height is 20 and 3.
+with_margins : boxes (pos 100) (pos 50) (leaf (record plain_grid { columns = record plain_axis { margin_start = Some (pos 7); margin_end = Some (pos 5) }; rows = record plain_axis { border_start = pos 3 } }) plain_content) leafless ≡ at (pos 7) (pos 0) (pos 88) (pos 23)
+unfolding clamp
+with_margins = refl

@@ -1,5 +1,5 @@
 -- The children of a container with their rectangles and what they are given (CSS Grid 2, sections 6, 10 and 11; CSS Flexbox 1, section 9).
-use Rattle.std.specs.Prelude.{ℕ, ◌+◌, ℤ, pos, ◌+ℤ◌, ◌-ℤ◌, int_lt, Bool, true, false, ◌&&◌, ◌||◌, List, [], ◌∷◌, ◌++◌, map, length, slice_range, Option, Some, if◌then◌else◌}
+use Rattle.std.specs.Prelude.{◌≡◌, refl, ℕ, ◌+◌, ℤ, pos, ◌+ℤ◌, ◌-ℤ◌, int_lt, Bool, true, false, ◌&&◌, ◌||◌, List, [], ◌∷◌, ◌++◌, map, length, slice_range, Option, Some, if◌then◌else◌, None}
 use Rattle.std.specs.Ordering.{int_eq}
 use Rattle.lunit.specs.Units.{clamp}
 use Rattle.lunit.specs.declared.geometry.Rect.{Rect}
@@ -15,10 +15,16 @@ use Rattle.tree_rules.specs.Answers.{Box, Down, Frame}
 use Rattle.tree_rules.specs.Distribution.{aligned_at, given_view, is_safe, mode_of, subgrid_box, view_in}
 use Rattle.tree_rules.specs.FlexSizes.{Flex, Lines, Settled, column_item, cross_box, cross_content, cross_grid, crosses_of, is_stretched_across, line_align, lines_by, main_grid, settled_at}
 use Rattle.tree_rules.specs.GridSizes.{Grid, TrackAxis, Wide, from_first, shares_columns, shares_rows, view_by}
-use Rattle.tree_rules.specs.Labels.{GridAxis, Label}
+use Rattle.tree_rules.specs.Labels.{GridAxis, Label, ContentAxis}
 use Rattle.tree_rules.specs.NodeSizes.{block_used, bounds_of, content_of_box, fitted, inner, inner_start, is_auto_margin, is_stretched, margin, margins, self_align}
 use Rattle.tree_rules.specs.Orders.{in_document_order}
 use Rattle.tree_rules.specs.Repetitions.{gap_by}
+use Rattle.lunit.specs.Units.{clamp}
+use Rattle.std.specs.Prelude.{codes}
+use Rattle.style_types.specs.declared.value.AlignMode.{AlignMode}
+use Rattle.style_types.specs.declared.value.AlignMode.TheVariants as align_mode
+use Rattle.tree_rules.specs.declared.kind.NodeKind.TheVariants as kind
+use Rattle.tree_rules.specs.Labels.{plain_axis, plain_content, plain_content_axis, plain_grid}
 
 -- ---- frames
 
@@ -224,3 +230,41 @@ column_framed f width settled height =
     let main = given_size height in
     let lines = lines_by f.label main (gap_by (Some main) (pos 0) f.label.grid.rows.gap) (map (column_item (Some main)) settled) in
     flex_framed true f main width lines settled
+
+-- ---- worked rows, in units
+
+abbrev line_at : ℤ → ℤ → LineAt
+line_at at size = record { at = at; size = size }
+
+-- a node with these values in the rows
+abbrev node_of : GridAxis → ContentAxis → Label
+node_of g c = record { name = []; kind = kind.Grid; grid = record plain_grid { rows = g }; content = record plain_content { block = c } }
+
+abbrev by : AlignMode → ContentAxis
+by m = record plain_content_axis { own = record { mode = m; safe = None } }
+
+-- A row of 50 from 100 on, in which a node of 20 stands at the end.
+ends_line : place_across false (node_of plain_axis plain_content_axis) (line_at (pos 100) (pos 50)) (node_of plain_axis (by align_mode.End)) (pos 20) ≡ pos 130
+ends_line = refl
+
+-- Its one `auto` margin after it takes what is free.
+margin_takes : place_across false (node_of plain_axis plain_content_axis) (line_at (pos 100) (pos 50)) (node_of (record plain_axis { margin_end = None }) (by align_mode.End)) (pos 20) ≡ pos 100
+margin_takes = refl
+
+-- A node of 70 passes the line by 20: at the end it starts 20 before it, but with an `auto` margin at its start.
+passes_line : place_across false (node_of plain_axis plain_content_axis) (line_at (pos 100) (pos 50)) (node_of plain_axis (by align_mode.End)) (pos 70) ≡ pos 80
+passes_line = refl
+
+passes_with_margin : place_across false (node_of plain_axis plain_content_axis) (line_at (pos 100) (pos 50)) (node_of (record plain_axis { margin_end = None }) (by align_mode.End)) (pos 70) ≡ pos 100
+passes_with_margin = refl
+
+-- Two boxes below a node at (10, 20): the second has one below it at (1, 2) of its own.
+abbrev framed_box : List ℕ → ℤ → ℤ → Down → Framed
+framed_box name x y d = record { name = name; frame = record { rect = record { x = x; y = y; width = pos 5; height = pos 6 }; inline = given.None; block = given.None }; down = d }
+
+abbrev leaf_below : Down
+leaf_below = down_of (pos 0) [] (λ height. [])
+
+told_in_order : boxes_at (pos 10, pos 20) (framed_box (codes "a") (pos 3) (pos 4) leaf_below ∷ framed_box (codes "b") (pos 5) (pos 7) (down_of (pos 0) [] (λ height. framed_box (codes "c") (pos 1) (pos 2) leaf_below ∷ [])) ∷ [])
+    ≡ (codes "a", record { x = pos 13; y = pos 24; width = pos 5; height = pos 6 }) ∷ (codes "b", record { x = pos 15; y = pos 27; width = pos 5; height = pos 6 }) ∷ (codes "c", record { x = pos 16; y = pos 29; width = pos 5; height = pos 6 }) ∷ []
+told_in_order = refl

@@ -1,5 +1,5 @@
 -- What the rules read of a node: its name, its kind and the values of its properties, sorted by axis. They are the computed values.
-use Rattle.std.specs.Prelude.{ℕ, ℤ, pos, Bool, true, false, List, [], Option, Some, None}
+use Rattle.std.specs.Prelude.{◌≡◌, refl, ℕ, ℤ, pos, Bool, true, false, List, [], Option, Some, None}
 use Rattle.lunit.specs.declared.line_value.LineValue.{LineValue}
 use Rattle.lunit.specs.declared.line_value.LineValue.TheVariants as line
 use Rattle.style_types.specs.Styles.{StyleMap, value_of}
@@ -18,6 +18,7 @@ use Rattle.style_types.specs.declared.value.Size.TheVariants as size
 use Rattle.style_types.specs.declared.value.Value.{Value}
 use Rattle.style_types.specs.declared.value.Value.TheVariants as value
 use Rattle.tree_rules.specs.declared.kind.NodeKind.{NodeKind}
+use Rattle.std.specs.Prelude.{negsuc}
 
 -- ---- records
 
@@ -295,3 +296,23 @@ plain_content_axis = record { size = size.Auto; least = size.Auto; most = size.A
 -- where no content-class property is set
 abbrev pub plain_content : ContentStyle
 plain_content = record { inline = plain_content_axis; block = plain_content_axis; border_box = false; scrolls = false; column = false; wrap = false; grow = 0; shrink = 1000; basis = size.Auto }
+
+-- ---- worked rows
+
+an_auto_margin : margin_in (value.Size size.Auto) ≡ None
+an_auto_margin = refl
+
+a_margin_below_zero : margin_in (value.Size (size.Length (negsuc 3))) ≡ Some (negsuc 3)
+a_margin_below_zero = refl
+
+a_padding : length_in (value.Size (size.Length (pos 7))) ≡ pos 7
+a_padding = refl
+
+clip_scrolls_not : scrolls_in (value.Overflow scroll.Clip) ≡ false
+clip_scrolls_not = refl
+
+hidden_scrolls : scrolls_in (value.Overflow scroll.Hidden) ≡ true
+hidden_scrolls = refl
+
+flow_column_dense : flow_in (value.Flow true true) ≡ (true, true)
+flow_column_dense = refl

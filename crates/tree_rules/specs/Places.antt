@@ -1,10 +1,14 @@
 -- A node of a tree as the rules see it: its label, the links upwards, and what stands below it.
-use Rattle.std.specs.Prelude.{ℕ, ◌+◌, Bool, false, List, [], Option, Some, None, bytes_eq, if◌then◌else◌}
+use Rattle.std.specs.Prelude.{◌≡◌, refl, ℕ, ◌+◌, Bool, false, List, [], Option, Some, None, bytes_eq, if◌then◌else◌, ◌∷◌}
 use Rattle.plain_tree.specs.Trees.{Trees, leafless, tree, map_trees}
 use Rattle.tree_rules.specs.Answers.{Answers}
 use Rattle.tree_rules.specs.Chains.{Above, Link, above_of, chain_of}
-use Rattle.tree_rules.specs.Labels.{Label, plain_grid}
+use Rattle.tree_rules.specs.Labels.{Label, plain_grid, GridStyle}
 use Rattle.tree_rules.specs.Whole.{kids_of, step}
+use Rattle.std.specs.Prelude.{codes}
+use Rattle.style_types.specs.declared.track.Template.TheVariants as template
+use Rattle.tree_rules.specs.declared.kind.NodeKind.TheVariants as kind
+use Rattle.tree_rules.specs.Labels.{plain_axis, plain_content}
 
 -- All that the answers of a node depend on.
 pub record Seen : Type 0 where
@@ -45,3 +49,43 @@ seen_by label is t = seen_below label is above_root 0 t
 -- The node of this name.
 abbrev pub seen_named : List ℕ → Trees Label → Option Seen
 seen_named name t = seen_by (λ x. x) (λ (x : Label). bytes_eq x.name name) t
+
+-- ---- worked rows
+
+abbrev grid_of : List ℕ → GridStyle → Label
+grid_of name g = record { name = name; kind = kind.Grid; grid = g; content = plain_content }
+
+abbrev sub : GridStyle
+sub = record plain_grid { columns = record plain_axis { template = template.Subgrid [] } }
+
+-- a grid of a grid and a subgrid, which has a subgrid
+abbrev three_levels : Trees Label
+three_levels = tree (grid_of (codes "a") plain_grid) (tree (grid_of (codes "b") plain_grid) leafless (tree (grid_of (codes "c") sub) (tree (grid_of (codes "d") sub) leafless leafless) leafless)) leafless
+
+abbrev name_of : Option Seen → List ℕ
+name_of None = []
+name_of (Some s) = s.label.name
+
+abbrev ways_of : List Link → List ℕ
+ways_of [] = []
+ways_of (l ∷ rest) = l.way ∷ ways_of rest
+
+abbrev ways : Option Seen → List ℕ
+ways None = []
+ways (Some s) = ways_of s.chain
+
+found_below : name_of (seen_named (codes "d") three_levels) ≡ codes "d"
+found_below = refl
+
+not_found : seen_named (codes "e") three_levels ≡ None
+not_found = refl
+
+-- It is the first child of the second child.
+two_up : ways (seen_named (codes "d") three_levels) ≡ 0 ∷ 1 ∷ []
+two_up = refl
+
+one_up : ways (seen_named (codes "c") three_levels) ≡ 1 ∷ []
+one_up = refl
+
+none_up : ways (seen_named (codes "b") three_levels) ≡ []
+none_up = refl
