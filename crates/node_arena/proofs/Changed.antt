@@ -7,7 +7,7 @@ use Rattle.plain_tree.specs.Trees.{Trees, leafless, tree, size_of, height_of, co
 use Rattle.node_arena.specs.declared.number.NodeId.{NodeId}
 use Rattle.node_arena.specs.declared.slots.Slot.{Slot}
 use Rattle.node_arena.specs.Numbers.{same, one, mapped, top_numbers, times, EachNode, IsNarrow, replaced}
-use Rattle.node_arena.specs.Inside.{Shown, look, shown, held, Holds, in_slot, used, Fits, whole}
+use Rattle.node_arena.specs.Inside.{Shown, look, shown, held, Holds, in_slot, used, Fits, whole, Alike}
 use Rattle.node_arena.proofs.Same.{same_from, same_not, same_both, one_yes, cond_yes, cond_no}
 use Rattle.node_arena.proofs.Standing.{some_is}
 use Rattle.node_arena.proofs.Reading.{live, is_whole}
@@ -144,3 +144,24 @@ module _ {T : Type 0} where
 -- two lenders that end alike
 pub same_lend : {N A B : Type 0} (n : N) (f g : A → B) → ((w : A) → f w ≡ g w) → ◌≡◌ {A = (N × (A → B)) ⊎ B} (inl (n, f)) (inl (n, g))
 same_lend n f g h = λ i. inl (n, λ w. h w i)
+
+-- ---- slots that show the same
+module _ {T : Type 0} (slots new : List (Option (Slot T))) (root : NodeId) (made nodes kids : ℕ) (t : Trees (NodeId × T)) (fits : Fits slots root made nodes kids t) (a : Alike slots new) where
+  pub fits_alike : Fits new root made nodes kids t
+  fits_alike =
+      record {
+        holds = holds_agree (shown slots) (shown new) None t (λ k m. a.each k) fits.holds;
+        rooted = fits.rooted;
+        filled = λ k. fits.filled k ∙ ap used (sym (a.each k));
+        counted = a.counted ∙ fits.counted;
+        low = fits.low;
+        turns = fits.turns;
+        few = fits.few;
+        narrow = fits.narrow;
+      }
+
+  pub whole_alike : whole new root ≡ t
+  whole_alike = is_whole new root made nodes kids t fits_alike
+
+  pub whole_fits_alike : Fits new root made nodes kids (whole new root)
+  whole_fits_alike = rw whole_alike fits_alike

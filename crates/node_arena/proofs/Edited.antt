@@ -9,7 +9,7 @@ use Rattle.node_arena.specs.Numbers.{same, one, Part, part_at, value_of, below_o
 use Rattle.node_arena.specs.Edits.{edited, put_at, graft, grafted, tree_at}
 use Rattle.node_arena.specs.Inside.{in_slot}
 use Rattle.node_arena.proofs.Same.{Here, by_place, part_here, part_below, part_after, same_is, one_yes, one_no, cond_yes, cond_no}
-use Rattle.node_arena.proofs.Standing.{way_here, way_below, way_after}
+use Rattle.node_arena.proofs.Standing.{way_here, way_below, way_after, way_height}
 
 module _ {A : Type 0} (n : NodeId) (f : NodeId × A → Trees (NodeId × A) → Trees (NodeId × A)) where
   pub edited_here : (x : NodeId × A) (below after : Trees (NodeId × A)) → same x.0 n ≡ true → edited n f (tree x below after) ≡ joined (f x below) after
@@ -201,3 +201,41 @@ module _ {A : Type 0} where
       at : (same x.0 parent ≡ true) ⊎ (same x.0 parent ≡ false) → top_numbers (grafted parent index new after) ≡ top_numbers after → top_numbers (grafted parent index new (tree x below after)) ≡ top_numbers (tree x below after)
       at (inl e) a = ap top_numbers (edited_here parent (graft index new) x below after e)
       at (inr e) a = ap top_numbers (edited_not parent (graft index new) x below after e) ∙ ap (λ m. x.0 ∷ m) a
+
+-- ---- trees put under a number
+module _ {A : Type 0} (n : NodeId) (index : ℕ) (new t : Trees (NodeId × A)) (p : Part A) (d : times n t ≤ 1) (e : part_at t n ≡ Some p) where
+  pub graft_summed : (w : NodeId × A → ℕ) → summed w (grafted n index new t) ≡ summed w t + summed w new
+  graft_summed w = omega (arith, summed_edited w n (graft index new) t p d e, summed_put w index new p.1)
+
+  pub graft_in_slot : (k : ℕ) → in_slot k (grafted n index new t) ≡ in_slot k t + in_slot k new
+  graft_in_slot k = omega (arith, in_slot_summed k (grafted n index new t), in_slot_summed k t, in_slot_summed k new, graft_summed (λ x. one (x.0.slot == k)))
+
+  pub graft_size : size_of (grafted n index new t) ≡ size_of t + size_of new
+  graft_size = omega (arith, size_summed (grafted n index new t), size_summed t, size_summed new, graft_summed (λ _. 1))
+
+  pub graft_low : (most : ℕ) → height_of t ≤ most → length (way_up t n) + height_of new ≤ most → height_of (grafted n index new t) ≤ most
+  graft_low most l m = height_edited n (graft index new) most t p d e l (omega (arith, height_put index new p.1, way_height t n p e))
+
+  pub graft_narrow : (most : ℕ) → IsNarrow most t → IsNarrow most new → count_of new + count_of p.1 ≤ most → IsNarrow most (grafted n index new t)
+  graft_narrow most h k c =
+      narrow_edited most n (graft index new) t (λ x below. omega arith)
+      (λ q f g. let same_part : p.1 ≡ q.1 = ap below_of (sym e ∙ f) in (omega (arith, count_put index new q.1, ap count_of same_part), (narrow_put most index new q.1 k g, tt)))
+      d h
+
+-- ---- facts of the tree of a number
+module _ {A : Type 0} (n : NodeId) where
+  pub each_tree : (P : NodeId × A → Type 0) (t : Trees (NodeId × A)) → EachNode P t → EachNode P (tree_at n t)
+  each_tree P leafless h = tt
+  each_tree P (tree x below after) h = at (cases_Bool (same x.0 n)) (each_tree P below h.1.0) (each_tree P after h.1.1)
+    where
+      at : (same x.0 n ≡ true) ⊎ (same x.0 n ≡ false) → EachNode P (tree_at n below) → EachNode P (tree_at n after) → EachNode P (tree_at n (tree x below after))
+      at (inl e) b a = rw (cond_yes (same x.0 n) (tree x below leafless) (joined (tree_at n below) (tree_at n after)) e) (h.0, (h.1.0, tt))
+      at (inr e) b a = rw (cond_no (same x.0 n) (tree x below leafless) (joined (tree_at n below) (tree_at n after)) e) (each_joined P (tree_at n below) (tree_at n after) b a)
+
+  pub narrow_tree : (most : ℕ) (t : Trees (NodeId × A)) → IsNarrow most t → IsNarrow most (tree_at n t)
+  narrow_tree most leafless h = tt
+  narrow_tree most (tree x below after) h = at (cases_Bool (same x.0 n)) (narrow_tree most below h.1.0) (narrow_tree most after h.1.1)
+    where
+      at : (same x.0 n ≡ true) ⊎ (same x.0 n ≡ false) → IsNarrow most (tree_at n below) → IsNarrow most (tree_at n after) → IsNarrow most (tree_at n (tree x below after))
+      at (inl e) b a = rw (cond_yes (same x.0 n) (tree x below leafless) (joined (tree_at n below) (tree_at n after)) e) (h.0, (h.1.0, tt))
+      at (inr e) b a = rw (cond_no (same x.0 n) (tree x below leafless) (joined (tree_at n below) (tree_at n after)) e) (narrow_joined most (tree_at n below) (tree_at n after) b a)

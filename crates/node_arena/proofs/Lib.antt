@@ -5,3 +5,9 @@ pub mod Reading
 pub mod Changed
 pub mod First
 pub mod Edited
+pub mod Loops
+pub mod Linked
+pub mod Removing
+pub mod Inserting
+pub mod Ways
+pub mod Moving

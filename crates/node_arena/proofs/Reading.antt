@@ -1,22 +1,64 @@
 -- What a call finds in slots that hold a tree.
-use Rattle.std.proofs.Common.{◌≡◌, ◌≢◌, ℕ, zero, suc, ◌≤◌, true, false, List, ◌∷◌, Option, Some, None, is_some, length, refl, sym, ap, ◌∙◌, arith, inl, inr, slice_index_or}
+use Rattle.std.proofs.Common.{◌≡◌, ◌≢◌, ℕ, zero, suc, ◌≤◌, true, false, List, [], ◌∷◌, ◌||◌, ◌+◌, Option, Some, None, is_some, is_none, length, length-append, refl, sym, ap, ◌∙◌, arith, inl, inr, slice_index_or}
 use Rattle.std.specs.Prelude.{◌==◌, ◌⊎◌, IfSome, slice_get}
 use Rattle.std.proofs.lemmas.Bool.{cases_eq, ne_eqb, eq-eqb, false≢true}
-use Rattle.plain_tree.specs.Trees.{Trees, leafless, tree, count_of}
+use Rattle.plain_tree.specs.Trees.{Trees, leafless, tree, count_of, height_of}
 use Rattle.node_arena.specs.declared.number.NodeId.{NodeId}
 use Rattle.node_arena.specs.declared.slots.Slot.{Slot}
-use Rattle.node_arena.specs.Numbers.{Part, part_at, value_of, value_at, below_of, tops, top_numbers, number_of, child_at, count_at, parent_at, second, times, way_up, IsChild, IsNumbered, IsDistinct}
+use Rattle.node_arena.specs.Numbers.{same, Part, part_at, below_at, way_of, is_among, value_of, value_at, below_of, tops, top_numbers, number_of, child_at, count_at, parent_at, second, times, way_up, IsChild, IsNumbered, IsDistinct}
+use Rattle.node_arena.specs.Edits.{tree_at}
 use Rattle.node_arena.specs.Plain.{IsSound}
-use Rattle.node_arena.specs.Inside.{Shown, look, shown, held, of_turn, grown, in_slot, used, Fits, whole}
-use Rattle.node_arena.proofs.Same.{part_none, cond_yes, cond_no}
+use Rattle.node_arena.specs.Faults.{is_top}
+use Rattle.node_arena.specs.Inside.{Shown, look, shown, held, of_turn, grown, Holds, in_slot, used, Fits, whole}
+use Rattle.node_arena.proofs.Same.{by_place, one_no, part_none, part_some, part_there, cond_yes, cond_no}
 use Rattle.node_arena.proofs.Parts.{child_is, numbered}
-use Rattle.node_arena.proofs.Standing.{grown_is, times_slot, times_within, Found, found, Step, step_up, some_is, way_head, way_none}
+use Rattle.node_arena.proofs.Standing.{grown_is, times_slot, times_within, Found, found, Step, step_up, some_is, way_head, way_none, way_some, way_height, way_here, way_below}
+use Rattle.node_arena.proofs.Edited.{tree_is}
 
 used_most : {T : Type 0} (o : Option (Shown T)) → used o ≤ 1
 used_most None = omega arith
 used_most (Some s) = omega arith
 
 -- a number that is not live
+pub stale_way : {A : Type 0} (t : Trees (NodeId × A)) (n : NodeId) → is_some (part_at t n) ≡ false → way_up t n ≡ []
+stale_way t n e = at (cases_eq (times n t) 0)
+  where
+    at : (times n t ≡ 0) ⊎ (times n t ≢ 0) → way_up t n ≡ []
+    at (inl z) = way_none t n z
+    at (inr nz) = absurd (false≢true (sym e ∙ part_some t n (omega arith)))
+
+pub way_longer : {A : Type 0} (t : Trees (NodeId × A)) (n : NodeId) (up : Option NodeId) → way_up t n ≡ n ∷ way_of t up → length (way_up t n) ≡ 1 + length (way_of t up)
+way_longer t n up e = omega (arith, ap length e)
+
+pub among_way : {A : Type 0} (t : Trees (NodeId × A)) (id n : NodeId) (up : Option NodeId) → way_up t n ≡ n ∷ way_of t up → same n id ≡ false → is_among id (way_up t n) ≡ is_among id (way_of t up)
+among_way t id n up e k = ap (is_among id) e ∙ ap (λ b. b || is_among id (way_of t up)) k
+
+pub first_way : {A : Type 0} (t : Trees (NodeId × A)) (id n : NodeId) (up : Option NodeId) → way_up t n ≡ n ∷ way_of t up → same n id ≡ true → is_among id (way_up t n) ≡ true
+first_way t id n up e k = ap (is_among id) e ∙ ap (λ b. b || is_among id (way_of t up)) k
+
+pub none_among : {A : Type 0} (t : Trees (NodeId × A)) (id n : NodeId) → is_some (part_at t n) ≡ false → is_among id (way_up t n) ≡ false
+none_among t id n e = ap (is_among id) (stale_way t n e)
+
+pub begins_way : {A : Type 0} (t : Trees (NodeId × A)) (id n : NodeId) → is_some (part_at t n) ≡ true → same n id ≡ true → is_among id (way_up t n) ≡ true
+begins_way t id n h e = at (way_up t n) (way_head t n n (part_there t n h))
+  where
+    at : (way : List NodeId) → second (n ∷ way) ≡ Some n → is_among id way ≡ true
+    at [] k = absurd cc
+    at (m ∷ ms) k = let first : m ≡ n = cc in ap (λ b. b || is_among id ms) (ap (λ z. same z id) first ∙ e)
+
+pub ruleset way_laws = (stale_way, way_longer, among_way, first_way, none_among, begins_way)
+
+-- the top of a list of one tree
+pub top_way : {A : Type 0} (t : Trees (NodeId × A)) (root n : NodeId) → top_numbers t ≡ root ∷ [] → 1 ≤ times n t → ((is_top t n ≡ true) × (length (way_up t n) ≡ 1)) ⊎ ((is_top t n ≡ false) × (2 ≤ length (way_up t n)))
+top_way leafless root n e h = absurd cc
+top_way (tree x below leafless) root n e h =
+    by_place x below n
+    (λ p. inl (ap (λ b. b || false) p.is, ap length (way_here x below leafless n p)))
+    (λ p. inr (ap (λ b. b || false) p.not, omega (arith, ap length (way_below x below leafless n p), length-append (way_up below n) (x.0 ∷ []), way_some below n p.in_below)))
+    (λ p. absurd (omega (arith, one_no (same x.0 n) p.not, p.none)))
+top_way (tree x below (tree y c d)) root n e h = absurd (omega (arith, ap length e))
+
+-- its value
 pub no_value : {A : Type 0} (t : Trees (NodeId × A)) (n : NodeId) → is_some (part_at t n) ≡ false → None ≡ value_at t n
 no_value {A} t n e = at (part_at t n) e
   where
@@ -111,16 +153,66 @@ module _ {T : Type 0} (slots : List (Option (Slot T))) (root : NodeId) (made nod
       at (inl q) = ap second q.1 ∙ sym q.0
       at (inr u) = ap second u.way ∙ way_head t u.upper n u.there ∙ sym u.parent
 
-  pub live_way : (n p : NodeId) (s : Slot T) → held slots n ≡ Some s → s.parent ≡ Some p → way_up t n ≡ n ∷ way_up t p
-  live_way n p s e k = at (live n s e).step
+  pub live_way : (n : NodeId) (s : Slot T) → held slots n ≡ Some s → way_up t n ≡ n ∷ way_of t s.parent
+  live_way n s e = at (live n s e).step
     where
-      at : Step (shown slots) None t n (record { turn = s.turn; value = s.value; parent = s.parent; children = s.children.items }) → way_up t n ≡ n ∷ way_up t p
-      at (inl q) = let none : Some p ≡ None = sym k ∙ q.0 in absurd cc
-      at (inr u) = let same : u.upper ≡ p = some_is u.upper p (sym u.parent ∙ k) in u.way ∙ ap (λ m. n ∷ way_up t m) same
+      at : Step (shown slots) None t n (record { turn = s.turn; value = s.value; parent = s.parent; children = s.children.items }) → way_up t n ≡ n ∷ way_of t s.parent
+      at (inl q) = q.1 ∙ ap (λ o. n ∷ way_of t o) (sym q.0)
+      at (inr u) = u.way ∙ ap (λ o. n ∷ way_of t o) (sym u.parent)
 
-  pub way_there : (n : NodeId) (s : Slot T) (o : Option NodeId) → held slots n ≡ Some s → o ≡ s.parent → IfSome o (λ p. way_up t n ≡ n ∷ way_up t p)
-  way_there n s None e k = tt
-  way_there n s (Some p) e k = live_way n p s e (sym k)
+  pub parent_live : (n : NodeId) (s : Slot T) (o : Option NodeId) → held slots n ≡ Some s → o ≡ s.parent → IfSome o (λ p. is_some (part_at t p) ≡ true)
+  parent_live n s None e k = tt
+  parent_live n s (Some p) e k = at (live n s e).step
+    where
+      at : Step (shown slots) None t n (record { turn = s.turn; value = s.value; parent = s.parent; children = s.children.items }) → is_some (part_at t p) ≡ true
+      at (inl q) = let none : Some p ≡ None = k ∙ q.0 in absurd cc
+      at (inr u) = let same : u.upper ≡ p = some_is u.upper p (sym u.parent ∙ sym k) in ap (λ m. is_some (part_at t m)) (sym same) ∙ part_some t u.upper u.there
+
+  pub root_parent : (n : NodeId) (s : Slot T) → held slots n ≡ Some s → is_none s.parent ≡ is_top t n
+  root_parent n s e = at (live n s e).step (top_way t root n fits.rooted (omega (arith, (live n s e).there)))
+    where
+      at : Step (shown slots) None t n (record { turn = s.turn; value = s.value; parent = s.parent; children = s.children.items }) →
+          ((is_top t n ≡ true) × (length (way_up t n) ≡ 1)) ⊎ ((is_top t n ≡ false) × (2 ≤ length (way_up t n))) → is_none s.parent ≡ is_top t n
+      at (inl q) (inl r) = ap is_none q.0 ∙ sym r.0
+      at (inl q) (inr r) = absurd (omega (arith, ap length q.1, r.1))
+      at (inr u) (inl r) = absurd (omega (arith, ap length u.way, way_some t u.upper u.there, r.1))
+      at (inr u) (inr r) = ap is_none u.parent ∙ sym r.0
+
+  -- a live number's slot
+  pub live_held : (n : NodeId) → is_some (part_at t n) ≡ true → (s : Slot T) × (held slots n ≡ Some s)
+  live_held n h = at (held slots n) refl
+    where
+      at : (o : Option (Slot T)) → held slots n ≡ o → (s : Slot T) × (held slots n ≡ Some s)
+      at None e = absurd (false≢true (ap is_some (sym (stale_part n e)) ∙ h))
+      at (Some s) e = (s, e)
+
+  pub live_numbers : (n : NodeId) (s : Slot T) → held slots n ≡ Some s → top_numbers (below_at t n) ≡ s.children.items
+  live_numbers n s e = let f = (live n s e).found in ap (λ o. top_numbers (below_of o)) f.part ∙ sym f.children
+
+  -- the tree of a live number
+  pub tree_of : (n : NodeId) (s : Slot T) (e : held slots n ≡ Some s) → tree_at n t ≡ tree (n, s.value) (live n s e).found.below leafless
+  tree_of n s e = let l = live n s e in tree_is n t (s.value, l.found.below) (omega (arith, l.there)) l.found.part
+
+  pub way_low : (n : NodeId) (s : Slot T) (e : held slots n ≡ Some s) → length (way_up t n) + height_of (live n s e).found.below ≤ 64
+  way_low n s e = omega (arith, way_height t n (s.value, (live n s e).found.below) (live n s e).found.part, fits.low)
+
+  pub way_most : (n : NodeId) → length (way_up t n) ≤ 64
+  way_most n = at (held slots n) refl
+    where
+      at : (o : Option (Slot T)) → held slots n ≡ o → length (way_up t n) ≤ 64
+      at None e = omega (arith, ap length (way_none t n (stale n e)))
+      at (Some s) e = omega (arith, way_low n s e)
+
+  pub tree_holds : (n : NodeId) (s : Slot T) (e : held slots n ≡ Some s) → Holds (shown slots) s.parent (tree (n, s.value) (live n s e).found.below leafless)
+  tree_holds n s e =
+      let l = live n s e in
+      (ap look l.here ∙ (λ i. Some (record { turn = l.found.turn i; value = s.value; parent = s.parent; children = l.found.children i })), (l.found.holds, tt))
+
+  pub tree_height : (n : NodeId) (s : Slot T) → held slots n ≡ Some s → height_of (grown 64 (shown slots) (n ∷ [])) ≡ height_of (tree_at n t)
+  tree_height n s e =
+      let l = live n s e in
+      let some_way : 1 ≤ length (way_up t n) = way_some t n (omega (arith, l.there)) in
+      ap height_of (grown_is (shown slots) 64 s.parent (tree (n, s.value) l.found.below leafless) (tree_holds n s e) (omega (arith, way_low n s e)) ∙ sym (tree_of n s e))
 
   pub stale_parent : (n : NodeId) → held slots n ≡ None → parent_at t n ≡ None
   stale_parent n e = ap second (way_none t n (stale n e))

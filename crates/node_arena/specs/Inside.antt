@@ -1,9 +1,9 @@
 -- How the slots show the tree.
-use Rattle.std.specs.Prelude.{◌≡◌, ℕ, zero, suc, ◌+◌, ◌<◌, ◌≤◌, ◌==◌, List, [], ◌∷◌, Option, Some, None, slice_index_or, is_some, count_by, if◌then◌else◌, ⊤}
+use Rattle.std.specs.Prelude.{◌≡◌, ◌≢◌, ℕ, slice_set, insert, vec_len, vec_capacity, zero, suc, ◌+◌, ◌<◌, ◌≤◌, ◌==◌, List, [], ◌∷◌, Option, Some, None, slice_index_or, is_some, count_by, if◌then◌else◌, ⊤}
 use Rattle.plain_tree.specs.Trees.{Trees, leafless, tree, size_of, height_of}
 use Rattle.node_arena.specs.declared.number.NodeId.{NodeId}
 use Rattle.node_arena.specs.declared.slots.Slot.{Slot}
-use Rattle.node_arena.specs.Numbers.{top_numbers, one, EachNode, IsNarrow}
+use Rattle.node_arena.specs.Numbers.{top_numbers, one, dropped, EachNode, IsNarrow}
 
 -- what a slot shows
 pub record Shown (T : Type 0) : Type 0 where
@@ -67,3 +67,44 @@ module _ {T : Type 0} where
 
   abbrev pub held : List (Option (Slot T)) → NodeId → Option (Slot T)
   held slots n = of_turn n.turn (slice_index_or slots n.slot None)
+
+  -- what a slot shows once a number is no child of it
+  abbrev pub unlisted : NodeId → Option (Shown T) → Option (Shown T)
+  unlisted n None = None
+  unlisted n (Some s) = Some (record s { children = dropped n s.children })
+
+  -- and once a number is one, at an index
+  abbrev pub listed : ℕ → NodeId → Option (Shown T) → Option (Shown T)
+  listed index n None = None
+  listed index n (Some s) = Some (record s { children = insert s.children index n })
+
+  -- and once it has another parent
+  abbrev pub below_parent : NodeId → Option (Shown T) → Option (Shown T)
+  below_parent parent None = None
+  below_parent parent (Some s) = Some (record s { parent = Some parent })
+
+  -- one slot shows something else, and there are as many
+  pub record Reshows (old new : List (Option (Slot T))) (k : ℕ) (now : Option (Shown T)) : Type 0 where
+    pub changed : shown new k ≡ now
+    pub others : (other : ℕ) → other ≢ k → shown new other ≡ shown old other
+    pub counted : count_by is_some new ≡ count_by is_some old
+
+  -- each slot shows the same
+  pub record Alike (old new : List (Option (Slot T))) : Type 0 where
+    pub each : (k : ℕ) → shown new k ≡ shown old k
+    pub counted : count_by is_some new ≡ count_by is_some old
+
+  -- one more child needs no memory
+  abbrev pub HasRoom : Option (Slot T) → Type 0
+  HasRoom None = ⊤
+  HasRoom (Some s) = vec_len s.children < vec_capacity s.children
+
+  -- the slots once these numbers and all below them are taken out, where the levels are at most the fuel
+  abbrev pub swept_from : (List NodeId → List (Option (Slot T)) → List (Option (Slot T))) → Option (Slot T) → ℕ → List (Option (Slot T)) → List (Option (Slot T))
+  swept_from sweep None k slots = slots
+  swept_from sweep (Some s) k slots = sweep s.children.items (slice_set slots k None)
+
+  unfoldable pub swept : ℕ → List NodeId → List (Option (Slot T)) → List (Option (Slot T))
+  swept fuel [] slots = slots
+  swept zero (n ∷ ns) slots = slots
+  swept (suc fuel) (n ∷ ns) slots = swept (suc fuel) ns (swept_from (swept fuel) (slice_index_or slots n.slot None) n.slot slots)

@@ -1,5 +1,5 @@
 -- What a caller sees of an arena's tree: values, each with its number.
-use Rattle.std.specs.Prelude.{◌≡◌, ℕ, ◌+◌, ◌≤◌, ◌==◌, ◌&&◌, Bool, true, false, List, [], ◌∷◌, ◌++◌, Option, Some, None, slice_get, if◌then◌else◌, ⊤}
+use Rattle.std.specs.Prelude.{◌≡◌, ℕ, ◌+◌, ◌≤◌, ◌==◌, ◌&&◌, ◌||◌, Bool, true, false, List, [], ◌∷◌, ◌++◌, Option, Some, None, slice_get, if◌then◌else◌, ⊤}
 use Rattle.plain_tree.specs.Trees.{Trees, leafless, tree, count_of}
 use Rattle.node_arena.specs.declared.number.NodeId.{NodeId}
 
@@ -111,6 +111,21 @@ module _ {A : Type 0} where
   -- the tree with this value under a number
   abbrev pub replaced : NodeId → A → Trees (NodeId × A) → Trees (NodeId × A)
   replaced n w = mapped (λ k v. if same k n then w else v)
+
+-- the numbers on the way up from a node, if there is one
+abbrev pub way_of : {A : Type 0} → Trees (NodeId × A) → Option NodeId → List NodeId
+way_of t None = []
+way_of t (Some n) = way_up t n
+
+-- a list of numbers without the first place of one
+abbrev pub dropped : NodeId → List NodeId → List NodeId
+dropped n [] = []
+dropped n (m ∷ ms) = if same m n then ms else m ∷ dropped n ms
+
+-- a number among others
+abbrev pub is_among : NodeId → List NodeId → Bool
+is_among n [] = false
+is_among n (m ∷ ms) = same m n || is_among n ms
 
 -- the number of the parent, if there is one
 abbrev pub second : List NodeId → Option NodeId

@@ -1,10 +1,11 @@
 -- What a caller sees of an arena.
-use Rattle.std.specs.Prelude.{ℕ, Bool, ◌<◌, ◌≤◌, refl, is_some}
+use Rattle.std.specs.Prelude.{ℕ, Bool, ◌+◌, ◌<◌, ◌≤◌, refl, is_some}
 use Rattle.std.specs.Coded.{Coded, code_by, coded×, coded_ℕ}
 use Rattle.plain_tree.specs.Trees.{Trees, leafless, tree, coded_trees, size_of, height_of}
 use Rattle.node_arena.specs.declared.number.NodeId.{NodeId}
 use Rattle.node_arena.specs.contracts.number.NodeId as number
 use Rattle.node_arena.specs.Numbers.{EachNode, IsDistinct, IsNarrow, IsNumbered, part_at, replaced}
+use Rattle.node_arena.specs.Edits.{grafted, removed, moved}
 
 -- the tree of values with their numbers, how many nodes were ever made, and how many nodes, and children of one node, there may be
 pub record Nodes (T : Type 0) : Type 0 where
@@ -29,6 +30,18 @@ module _ {T : Type 0} where
   -- the value of a number replaced
   abbrev pub with_value : NodeId → T → Nodes T → Nodes T
   with_value id w n = record n { tree = replaced id w n.tree }
+
+  -- a new node under a parent, at an index of its children
+  abbrev pub with_node : NodeId → ℕ → NodeId → T → Nodes T → Nodes T
+  with_node parent index id value n = record n { tree = grafted parent index (tree (id, value) leafless leafless) n.tree; made = n.made + 1 }
+
+  -- without a node and all below it
+  abbrev pub without_node : NodeId → Nodes T → Nodes T
+  without_node id n = record n { tree = removed id n.tree }
+
+  -- a node and all below it under another parent, at an index of the children that are left
+  abbrev pub with_move : NodeId → NodeId → ℕ → Nodes T → Nodes T
+  with_move id parent index n = record n { tree = moved id parent index n.tree }
 
   -- what holds of every arena
   pub record IsSound (n : Nodes T) : Type 0 where

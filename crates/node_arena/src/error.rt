@@ -1,3 +1,4 @@
+use std::alloc::{AllocError, AllocFailed};
 use thiserror::Error;
 
 /// Why a change of an arena was refused.
@@ -24,4 +25,26 @@ pub enum ArenaError {
     /// Want of memory.
     #[error("want of memory")]
     NoMemory,
+}
+
+impl From<AllocError> for ArenaError {
+    ghost use Rattle.std.specs.Prelude.{◌≡◌};
+    ghost use Rattle.node_arena.specs.declared.error.ArenaError.TheVariants.{NoMemory};
+
+    ghost from_gives = { λ _ e. e ≡ NoMemory };
+
+    fn from(_error: AllocError) -> ArenaError {
+        ArenaError::NoMemory
+    }
+}
+
+impl<T: Drop> From<AllocFailed<T>> for ArenaError {
+    ghost use Rattle.std.specs.Prelude.{◌≡◌};
+    ghost use Rattle.node_arena.specs.declared.error.ArenaError.TheVariants.{NoMemory};
+
+    ghost from_gives = { λ _ e. e ≡ NoMemory };
+
+    fn from(_error: AllocFailed<T>) -> ArenaError {
+        ArenaError::NoMemory
+    }
 }
