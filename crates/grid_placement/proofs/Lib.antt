@@ -1,0 +1,11 @@
+pub mod Near
+pub mod Least
+pub mod InRow
+pub mod Positions
+pub mod Begun
+pub mod Ends
+pub mod InRows
+pub mod Ranges
+pub mod Left
+pub mod Same
+pub mod Whole

@@ -1,0 +1,7 @@
+pub mod Near
+pub mod InRow
+pub mod Wishes
+pub mod Entries
+pub mod Starts
+pub mod Fields
+pub use Rattle.part_rules.specs.Placement as Placement
