@@ -10,4 +10,3 @@ mod rounding;
 pub use content::content_offset;
 pub use item::{auto_margins, self_offset};
 pub use part_rules::Mode;
-
