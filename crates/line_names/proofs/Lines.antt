@@ -1,9 +1,9 @@
 -- Lines with their names, as they are collected.
-use Rattle.std.proofs.Common.{arith, rules, refl, sym, ap, subst, ◌∙◌, ◌≡◌, ◌≢◌, ℕ, zero, suc, ◌+◌, ◌-◌, ◌<◌, ◌≤◌, ℤ, pos, negsuc, Bool, true, false, ◌⊎◌, inl, inr, List, [], ◌∷◌, ◌++◌, length, take, get_or, slice_set, length-append, append_assoc, if◌then◌else◌}
+use Rattle.std.proofs.Common.{arith, refl, sym, ap, ◌∙◌, ◌≡◌, ◌≢◌, ℕ, zero, suc, ◌+◌, ◌<◌, ℤ, pos, negsuc, ◌⊎◌, inl, inr, List, [], ◌∷◌, ◌++◌, length, take, get_or, slice_set, length-append, append_assoc}
 use Rattle.std.specs.Prelude.{None, unwrap_or, slice_get}
-use Rattle.std.proofs.Math.ListN.{get_or-append, length-set}
+use Rattle.std.proofs.Math.ListN.{get_or-append}
 use Rattle.std.proofs.Math.Seq.{get_or-append_seam}
-use Rattle.std.proofs.lemmas.List.{append-nil, take_more, get_or-set_same, get_or-set_other, set-get_or}
+use Rattle.std.proofs.lemmas.List.{append-nil, take_more, get_or-set_same, set-get_or}
 use lib.IntN.{nat_abs}
 use Rattle.std.proofs.lemmas.Bool.{cases_eq}
 use Rattle.std.proofs.lemmas.Option.{unwrap_or-slice_get}

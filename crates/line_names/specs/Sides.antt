@@ -1,5 +1,5 @@
 -- What line values stand for, as the code has it.
-use Rattle.std.specs.Prelude.{ℕ, nat_le, ℤ, Bool, true, IsTrue, List, length, Option, Some, None}
+use Rattle.std.specs.Prelude.{nat_le, Bool, true, length}
 use Rattle.lunit.specs.declared.line_value.LineValue.{LineValue}
 use Rattle.lunit.specs.declared.line_value.LineValue.TheVariants.{Auto, Line, Reach, Named}
 use Rattle.part_rules.specs.LineNames as rules

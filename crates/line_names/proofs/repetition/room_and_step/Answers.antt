@@ -1,4 +1,4 @@
-use Rattle.std.proofs.Common.{arith, rules, ◌≤ℤ◌, ◌<ℤ◌, ◌-ℤ◌, ◌≡◌, pos}
+use Rattle.std.proofs.Common.{arith, ◌≤ℤ◌, ◌<ℤ◌, ◌≡◌, pos}
 use Rattle.std.proofs.lemmas.Int.{ints}
 use Rattle.part_rules.specs.Repetition.{total_with, step_of}
 use Rattle.line_names.proofs.Repeats.{step_short}

@@ -1,4 +1,4 @@
-use Rattle.std.proofs.Common.{ap, ◌∙◌, to_z, of_z, w32}
+use Rattle.std.proofs.Common.{ap, ◌∙◌, w32}
 use Rattle.std.specs.Prelude.{slice_get}
 use lib.IntN.{nat_abs}
 use Rattle.std.proofs.lemmas.Int.{to_z-of_z}
