@@ -1,7 +1,7 @@
 -- Forms of track sizes by the words that they begin with.
 use Rattle.std.proofs.Common.{◌≡◌, ℕ, ◌+◌, ◌<◌, ◌≤◌, length, Bool, true, false, List, ◌∷◌, drop, Option, Some, None, codes, refl, ap, sym, ◌∙◌, subst, arith, if◌then◌else◌, Result, Ok, Err}
 use Rattle.std.proofs.lemmas.List.{drop-drop, length-drop}
-use Rattle.style_types.specs.declared.track.TrackFn.{TrackFn}
+use Rattle.track_text.specs.declared.side.Track.{Track}
 use Rattle.track_text.specs.declared.errors.Stop.{Stop}
 use Rattle.track_text.specs.declared.errors.Stop.TheVariants as stop
 use Rattle.track_text.specs.declared.entry.Entry.{Entry}
@@ -9,7 +9,7 @@ use Rattle.track_text.specs.declared.entry.Often.{Often}
 use Rattle.track_text.specs.declared.entry.Part.{Part}
 use Rattle.std.specs.Option.{option_map}
 use Rattle.std.specs.Str.{bytes_eq}
-use Rattle.style_types.specs.declared.track.Breadth.{Breadth}
+use Rattle.track_text.specs.declared.side.Side.{Side}
 use Rattle.track_text.specs.Words.{Word, Form, bind, past, front, up_to, rest_up_to}
 use Rattle.track_text.specs.NameSets.{name_first, names_after}
 use Rattle.track_text.specs.Repeats.{named, one_track, entry_first, has_track, joined, joined_read, body_or_none, body_after, often_of, part_of, repeat_after, once, part_first}
@@ -21,18 +21,18 @@ pub taken : {A : Type 0} (count : ℕ) (words : List Word) (x : Option A) → op
 taken count words None = refl
 taken count words (Some a) = refl
 
-pub at_minmax : (word : Word) (words : List Word) → bytes_eq word (codes "minmax") ≡ true → front track_first (word ∷ words) ≡ option_map (λ track. (track, drop 5 words)) (minmax_after words)
+pub at_minmax : (relative : Bool) (word : Word) (words : List Word) → bytes_eq word (codes "minmax") ≡ true → front (track_first relative) (word ∷ words) ≡ option_map (λ track. (track, drop 5 words)) (minmax_after relative words)
 unfolding front
-at_minmax word words h = rw h (taken 5 words (minmax_after words))
+at_minmax relative word words h = rw h (taken 5 words (minmax_after relative words))
 
-pub at_fit : (word : Word) (words : List Word) → bytes_eq word (codes "minmax") ≡ false → bytes_eq word (codes "fit-content") ≡ true → front track_first (word ∷ words) ≡ option_map (λ track. (track, drop 3 words)) (fit_after words)
+pub at_fit : (relative : Bool) (word : Word) (words : List Word) → bytes_eq word (codes "minmax") ≡ false → bytes_eq word (codes "fit-content") ≡ true → front (track_first relative) (word ∷ words) ≡ option_map (λ track. (track, drop 3 words)) (fit_after relative words)
 unfolding front
-at_fit word words h e = rw (h, e) (taken 3 words (fit_after words))
+at_fit relative word words h e = rw (h, e) (taken 3 words (fit_after relative words))
 
-pub at_breadth : (word : Word) (words : List Word) (read : Option Breadth) → bytes_eq word (codes "minmax") ≡ false → bytes_eq word (codes "fit-content") ≡ false → breadth_of word ≡ read → front track_first (word ∷ words) ≡ option_map (λ b. (track_alone b, words)) read
+pub at_breadth : (relative : Bool) (word : Word) (words : List Word) (read : Option Side) → bytes_eq word (codes "minmax") ≡ false → bytes_eq word (codes "fit-content") ≡ false → breadth_of relative word ≡ read → front (track_first relative) (word ∷ words) ≡ option_map (λ b. (track_alone b, words)) read
 unfolding front
-at_breadth word words None h e r = rw (h, e, r) refl
-at_breadth word words (Some b) h e r = rw (h, e, r) refl
+at_breadth relative word words None h e r = rw (h, e, r) refl
+at_breadth relative word words (Some b) h e r = rw (h, e, r) refl
 
 pub ruleset sizes = (at_minmax, at_fit, at_breadth)
 
@@ -58,17 +58,17 @@ set_past : (words : List Word) (read : Option (List Word × ℕ)) → option_map
 set_past words None = refl
 set_past words (Some read) = refl
 
-pub at_set : (word : Word) (words : List Word) → bytes_eq word (codes "[") ≡ true → front entry_first (word ∷ words) ≡ option_map named (rest_up_to (codes "]") name_first words)
+pub at_set : (relative : Bool) (word : Word) (words : List Word) → bytes_eq word (codes "[") ≡ true → front (entry_first relative) (word ∷ words) ≡ option_map named (rest_up_to (codes "]") name_first words)
 unfolding front rest_up_to
-at_set word words h = rw h (set_past words (names_after words))
+at_set relative word words h = rw h (set_past words (names_after words))
 
-track_past : (words : List Word) (read : Option (TrackFn × ℕ)) → option_map (past words) (option_map one_track read) ≡ option_map one_track (option_map (past words) read)
+track_past : (words : List Word) (read : Option (Track × ℕ)) → option_map (past words) (option_map one_track read) ≡ option_map one_track (option_map (past words) read)
 track_past words None = refl
 track_past words (Some read) = refl
 
-pub at_track : (word : Word) (words : List Word) → bytes_eq word (codes "[") ≡ false → front entry_first (word ∷ words) ≡ option_map one_track (front track_first (word ∷ words))
+pub at_track : (relative : Bool) (word : Word) (words : List Word) → bytes_eq word (codes "[") ≡ false → front (entry_first relative) (word ∷ words) ≡ option_map one_track (front (track_first relative) (word ∷ words))
 unfolding front
-at_track word words h = rw h (track_past words (track_first (word ∷ words)))
+at_track relative word words h = rw h (track_past words (track_first relative (word ∷ words)))
 
 -- ---- repeats
 
@@ -83,9 +83,9 @@ body_past : (words : List Word) (read : Option (List (List Entry) × ℕ)) → o
 body_past words None = refl
 body_past words (Some read) = checked_past words (joined read.0) read.1 (has_track (joined read.0))
 
-pub at_body : (words : List Word) → option_map (past words) (body_after words) ≡ bind (option_map joined_read (rest_up_to (codes ")") entry_first words)) body_checked
+pub at_body : (relative : Bool) (words : List Word) → option_map (past words) (body_after relative words) ≡ bind (option_map joined_read (rest_up_to (codes ")") (entry_first relative) words)) body_checked
 unfolding rest_up_to
-at_body words = body_past words (up_to (codes ")") entry_first 0 words)
+at_body relative words = body_past words (up_to (codes ")") (entry_first relative) 0 words)
 
 abbrev pub with_often : Often → List Entry × List Word → Part × List Word
 with_often often body = (part_of often body.0, body.1)
@@ -96,36 +96,36 @@ often_past opening word comma words often None = refl
 often_past opening word comma words often (Some read) =
     ap (λ (ws : List Word). Some (part_of often read.0, ws)) (ap (λ (n : ℕ). drop n (opening ∷ word ∷ comma ∷ words)) (omega arith) ∙ sym (drop-drop read.1 3 (opening ∷ word ∷ comma ∷ words)))
 
-repeat_past : (opening word comma : Word) (words : List Word) (often : Option Often)
-    → option_map (past (opening ∷ word ∷ comma ∷ words)) (bind often (λ often. option_map (λ body. (part_of often body.0, body.1 + 3)) (body_after words)))
-    ≡ bind often (λ often. option_map (with_often often) (option_map (past words) (body_after words)))
-repeat_past opening word comma words None = refl
-repeat_past opening word comma words (Some often) = often_past opening word comma words often (body_after words)
+repeat_past : (relative : Bool) (opening word comma : Word) (words : List Word) (often : Option Often)
+    → option_map (past (opening ∷ word ∷ comma ∷ words)) (bind often (λ often. option_map (λ body. (part_of often body.0, body.1 + 3)) (body_after relative words)))
+    ≡ bind often (λ often. option_map (with_often often) (option_map (past words) (body_after relative words)))
+repeat_past relative opening word comma words None = refl
+repeat_past relative opening word comma words (Some often) = often_past opening word comma words often (body_after relative words)
 
-pub at_arguments : (opening word comma : Word) (words : List Word) → bytes_eq opening (codes "(") ≡ true → bytes_eq comma (codes ",") ≡ true
-    → option_map (past (opening ∷ word ∷ comma ∷ words)) (repeat_after (opening ∷ word ∷ comma ∷ words))
-    ≡ bind (often_of word) (λ often. option_map (with_often often) (option_map (past words) (body_after words)))
-at_arguments opening word comma words o k = rw (o, k) (repeat_past opening word comma words (often_of word))
+pub at_arguments : (relative : Bool) (opening word comma : Word) (words : List Word) → bytes_eq opening (codes "(") ≡ true → bytes_eq comma (codes ",") ≡ true
+    → option_map (past (opening ∷ word ∷ comma ∷ words)) (repeat_after relative (opening ∷ word ∷ comma ∷ words))
+    ≡ bind (often_of word) (λ often. option_map (with_often often) (option_map (past words) (body_after relative words)))
+at_arguments relative opening word comma words o k = rw (o, k) (repeat_past relative opening word comma words (often_of word))
 
-pub at_no_opening : (opening word comma : Word) (words : List Word) → bytes_eq opening (codes "(") ≡ false → option_map (past (opening ∷ word ∷ comma ∷ words)) (repeat_after (opening ∷ word ∷ comma ∷ words)) ≡ None
-at_no_opening opening word comma words o = rw o refl
+pub at_no_opening : (relative : Bool) (opening word comma : Word) (words : List Word) → bytes_eq opening (codes "(") ≡ false → option_map (past (opening ∷ word ∷ comma ∷ words)) (repeat_after relative (opening ∷ word ∷ comma ∷ words)) ≡ None
+at_no_opening relative opening word comma words o = rw o refl
 
-pub at_no_comma : (opening word comma : Word) (words : List Word) → bytes_eq opening (codes "(") ≡ true → bytes_eq comma (codes ",") ≡ false → option_map (past (opening ∷ word ∷ comma ∷ words)) (repeat_after (opening ∷ word ∷ comma ∷ words)) ≡ None
-at_no_comma opening word comma words o k = rw (o, k) refl
+pub at_no_comma : (relative : Bool) (opening word comma : Word) (words : List Word) → bytes_eq opening (codes "(") ≡ true → bytes_eq comma (codes ",") ≡ false → option_map (past (opening ∷ word ∷ comma ∷ words)) (repeat_after relative (opening ∷ word ∷ comma ∷ words)) ≡ None
+at_no_comma relative opening word comma words o k = rw (o, k) refl
 
 -- ---- parts
 
-pub at_repeat : (word : Word) (words : List Word) → bytes_eq word (codes "repeat") ≡ true → front part_first (word ∷ words) ≡ option_map (past words) (repeat_after words)
+pub at_repeat : (relative : Bool) (word : Word) (words : List Word) → bytes_eq word (codes "repeat") ≡ true → front (part_first relative) (word ∷ words) ≡ option_map (past words) (repeat_after relative words)
 unfolding front
-at_repeat word words h = rw h refl
+at_repeat relative word words h = rw h refl
 
 once_past : (words : List Word) (read : Option (List Entry × ℕ)) → option_map (past words) (option_map once read) ≡ option_map once (option_map (past words) read)
 once_past words None = refl
 once_past words (Some read) = refl
 
-pub at_once : (word : Word) (words : List Word) → bytes_eq word (codes "repeat") ≡ false → front part_first (word ∷ words) ≡ option_map once (front entry_first (word ∷ words))
+pub at_once : (relative : Bool) (word : Word) (words : List Word) → bytes_eq word (codes "repeat") ≡ false → front (part_first relative) (word ∷ words) ≡ option_map once (front (entry_first relative) (word ∷ words))
 unfolding front
-at_once word words h = rw h (once_past words (entry_first (word ∷ words)))
+at_once relative word words h = rw h (once_past words (entry_first relative (word ∷ words)))
 
 -- ---- what is left is shorter
 

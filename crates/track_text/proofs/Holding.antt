@@ -10,7 +10,7 @@ use Rattle.std.specs.Str.{bytes_eq}
 use Rattle.std.specs.BTreeSet.{BTreeSet, contains, Updates, IsEmpty}
 use Rattle.std.specs.Ordering.{nat_cmp}
 use Rattle.std.specs.Cmp.Lexicographic.{slice_cmp}
-use Rattle.style_types.specs.declared.track.TrackFn.{TrackFn}
+use Rattle.track_text.specs.declared.side.Track.{Track}
 use Rattle.track_text.specs.declared.entry.Entry.{Entry}
 use Rattle.track_text.specs.declared.entry.Entry.TheVariants as entry
 use Rattle.track_text.specs.Words.{Word}
@@ -100,7 +100,7 @@ thinning_first set es e = record { seen = []; holds = holds_none set e; rest = r
 pub thinning_last : (set : BTreeSet Word) (out es : List Entry) (i : ℕ) → Thinning set out (drop i es) es → length es ≤ i → out ≡ thin [] es
 thinning_last set out es i t h = sym (append-nil out) ∙ ap (λ (left : List Entry). out ++ thin t.seen left) (sym (drop_all i es h)) ∙ t.rest
 
-pub thinning_track : (set cleared : BTreeSet Word) (out left rest es : List Entry) (x : Entry) (size : TrackFn) → Thinning set out left es → left ≡ x ∷ rest → x ≡ entry.Track size → IsEmpty cleared
+pub thinning_track : (set cleared : BTreeSet Word) (out left rest es : List Entry) (x : Entry) (size : Track) → Thinning set out left es → left ≡ x ∷ rest → x ≡ entry.Track size → IsEmpty cleared
     → Thinning cleared (out ++ x ∷ []) rest es
 thinning_track set cleared out left rest es x size t e k c = record {
   seen = [];
@@ -188,13 +188,13 @@ trim_at_end left es i d h t z = sym (append-nil (take i es)) ∙ ap (λ (xs : Li
 
 -- ---- tracks
 
-pub tracks_last : (tracks : List TrackFn) (es : List Entry) (i : ℕ) → length es ≤ i → tracks ++ tracks_of (drop i es) ≡ tracks
+pub tracks_last : (tracks : List Track) (es : List Entry) (i : ℕ) → length es ≤ i → tracks ++ tracks_of (drop i es) ≡ tracks
 tracks_last tracks es i h = rw (drop_all i es h) (append-nil tracks)
 
-pub tracks_at_track : (tracks : List TrackFn) (es : List Entry) (i : ℕ) (d : Entry) (size : TrackFn) → i < length es → get_or es i d ≡ entry.Track size → (tracks ++ size ∷ []) ++ tracks_of (drop (i + 1) es) ≡ tracks ++ tracks_of (drop i es)
+pub tracks_at_track : (tracks : List Track) (es : List Entry) (i : ℕ) (d : Entry) (size : Track) → i < length es → get_or es i d ≡ entry.Track size → (tracks ++ size ∷ []) ++ tracks_of (drop (i + 1) es) ≡ tracks ++ tracks_of (drop i es)
 tracks_at_track tracks es i d size h e = append_assoc tracks (size ∷ []) (tracks_of (drop (i + 1) es)) ∙ ap (λ (xs : List Entry). tracks ++ tracks_of xs) (ap (λ (x : Entry). x ∷ drop (i + 1) es) (sym e) ∙ sym (from_item es i d h))
 
-pub tracks_at_name : (tracks : List TrackFn) (es : List Entry) (i : ℕ) (d : Entry) (name : Word) → i < length es → get_or es i d ≡ entry.Named name → tracks ++ tracks_of (drop (i + 1) es) ≡ tracks ++ tracks_of (drop i es)
+pub tracks_at_name : (tracks : List Track) (es : List Entry) (i : ℕ) (d : Entry) (name : Word) → i < length es → get_or es i d ≡ entry.Named name → tracks ++ tracks_of (drop (i + 1) es) ≡ tracks ++ tracks_of (drop i es)
 tracks_at_name tracks es i d name h e = ap (λ (xs : List Entry). tracks ++ tracks_of xs) (ap (λ (x : Entry). x ∷ drop (i + 1) es) (sym e) ∙ sym (from_item es i d h))
 
 -- ---- lines
@@ -222,7 +222,7 @@ lines_first es = seam_first es
 pub lines_last : (lines : List (List Word)) (line : List Word) (es : List Entry) (i : ℕ) → length es ≤ i → lines ++ seam line (lines_of (drop i es)) ≡ lines ++ line ∷ []
 lines_last lines line es i h = rw (drop_all i es h) (ap (λ (xs : List Word). lines ++ xs ∷ []) (append-nil line))
 
-pub lines_at_track : (lines : List (List Word)) (line : List Word) (es : List Entry) (i : ℕ) (d : Entry) (size : TrackFn) → i < length es → get_or es i d ≡ entry.Track size
+pub lines_at_track : (lines : List (List Word)) (line : List Word) (es : List Entry) (i : ℕ) (d : Entry) (size : Track) → i < length es → get_or es i d ≡ entry.Track size
     → (lines ++ line ∷ []) ++ seam [] (lines_of (drop (i + 1) es)) ≡ lines ++ seam line (lines_of (drop i es))
 lines_at_track lines line es i d size h e =
     ap (λ (xs : List (List Word)). (lines ++ line ∷ []) ++ xs) (seam_first (drop (i + 1) es))

@@ -5,7 +5,7 @@ use Rattle.std.proofs.lemmas.List.Folds.{list_any-append}
 use Rattle.std.proofs.lemmas.Bool.{ltb-true}
 use Rattle.std.proofs.lemmas.Slice.Eq.{bytes_eq-Decides}
 use Rattle.std.specs.Str.{bytes_eq}
-use Rattle.style_types.specs.declared.track.TrackFn.{TrackFn}
+use Rattle.track_text.specs.declared.side.Track.{Track}
 use Rattle.track_text.specs.declared.entry.Entry.{Entry}
 use Rattle.track_text.specs.declared.entry.Entry.TheVariants as entry
 use Rattle.track_text.specs.Words.{Word}
@@ -29,7 +29,7 @@ tracks-trim zero [] = refl
 tracks-trim (suc n) [] = refl
 tracks-trim n (entry.Named name ∷ es) = tracks-trim n es
 tracks-trim zero (entry.Track size ∷ es) = refl
-tracks-trim (suc n) (entry.Track size ∷ es) = ap (λ (xs : List TrackFn). size ∷ xs) (tracks-trim n es)
+tracks-trim (suc n) (entry.Track size ∷ es) = ap (λ (xs : List Track). size ∷ xs) (tracks-trim n es)
 
 onto-take : (n : ℕ) (name : Word) (lines : List (List Word)) → onto_first_line name (take (suc n) lines) ≡ take (suc n) (onto_first_line name lines)
 onto-take zero name [] = refl
@@ -47,7 +47,7 @@ lines-trim (suc n) (entry.Track size ∷ es) = ap (λ (xs : List (List Word)). [
 
 pub tracks-thin : (seen : List Word) (es : List Entry) → tracks_of (thin seen es) ≡ tracks_of es
 tracks-thin seen [] = refl
-tracks-thin seen (entry.Track size ∷ es) = ap (λ (xs : List TrackFn). size ∷ xs) (tracks-thin [] es)
+tracks-thin seen (entry.Track size ∷ es) = ap (λ (xs : List Track). size ∷ xs) (tracks-thin [] es)
 tracks-thin seen (entry.Named name ∷ es) = if_one tracks_of (is_among seen name) (thin seen es) (entry.Named name ∷ thin (seen ++ name ∷ []) es) (tracks_of es) (tracks-thin seen es) (tracks-thin (seen ++ name ∷ []) es)
 
 abbrev fresh : List Word → List Word → List Word

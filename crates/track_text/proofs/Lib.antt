@@ -11,4 +11,4 @@ pub mod Within
 pub mod Cuts
 pub mod Suffixes
 pub mod PlainLists
-pub mod NumberParts
+pub mod Units

@@ -8,23 +8,23 @@ use Rattle.track_text.specs.Words.{Word, begins_with}
 use Rattle.track_text.specs.Unsupported.{outside, is_one_of, is_measured, wide_keywords, functions, is_unsupported_before, some_unsupported, automatic_counts, repeats_subgrid, is_masonry, is_unsupported}
 
 -- what is left to find, `subgrid` having stood before where the first argument is true
-unfoldable pub found : Bool → List Word → Bool
-found after_subgrid words = some_unsupported words || (list_any is_masonry words || (if after_subgrid then list_any (is_one_of automatic_counts) words else repeats_subgrid words))
+unfoldable pub found : Bool → Bool → List Word → Bool
+found relative after_subgrid words = some_unsupported relative words || (list_any is_masonry words || (if after_subgrid then list_any (is_one_of automatic_counts) words else repeats_subgrid words))
 
-abbrev pub here : Bool → Word → List Word → Bool
-here after_subgrid word words = is_unsupported_before word words || (is_masonry word || (after_subgrid && is_one_of automatic_counts word))
+abbrev pub here : Bool → Bool → Word → List Word → Bool
+here relative after_subgrid word words = is_unsupported_before relative word words || (is_masonry word || (after_subgrid && is_one_of automatic_counts word))
 
-pub all_left : (words : List Word) → found false (outside false words) ≡ is_unsupported words
+pub all_left : (relative : Bool) (words : List Word) → found relative false (outside false words) ≡ is_unsupported relative words
 unfolding found
-all_left words = refl
+all_left relative words = refl
 
-pub none_left : (after_subgrid within : Bool) → found after_subgrid (outside within []) ≡ false
+pub none_left : (relative : Bool) (after_subgrid within : Bool) → found relative after_subgrid (outside within []) ≡ false
 unfolding found
-none_left true within = refl
-none_left false within = refl
+none_left relative true within = refl
+none_left relative false within = refl
 
-pub in_brackets : (after_subgrid : Bool) (word : Word) (words : List Word) → found after_subgrid (outside true (word ∷ words)) ≡ found after_subgrid (outside (not (bytes_eq word (codes "]"))) words)
-in_brackets after_subgrid word words = refl
+pub in_brackets : (relative : Bool) (after_subgrid : Bool) (word : Word) (words : List Word) → found relative after_subgrid (outside true (word ∷ words)) ≡ found relative after_subgrid (outside (not (bytes_eq word (codes "]"))) words)
+in_brackets relative after_subgrid word words = refl
 
 -- ---- the word that stands next
 
@@ -45,8 +45,8 @@ next_after due word words true e f = elim (false_true (sym (no_function word e) 
   false_true : false ≡ true → ⊥
   false_true h = true≢false (sym h)
 
-before_outside : (word : Word) (words : List Word) → is_unsupported_before word (outside (bytes_eq word (codes "[")) words) ≡ is_unsupported_before word words
-before_outside word words = before_by (is_one_of wide_keywords word) (is_measured word) (is_one_of functions word) (begins_with (codes "(") (outside (bytes_eq word (codes "[")) words)) (begins_with (codes "(") words)
+before_outside : (relative : Bool) (word : Word) (words : List Word) → is_unsupported_before relative word (outside (bytes_eq word (codes "[")) words) ≡ is_unsupported_before relative word words
+before_outside relative word words = before_by (is_one_of wide_keywords word) (is_measured relative word) (is_one_of functions word) (begins_with (codes "(") (outside (bytes_eq word (codes "[")) words)) (begins_with (codes "(") words)
     (next_after (codes "(") word words (bytes_eq word (codes "[")) refl)
 
 -- ---- one word outside brackets
@@ -62,35 +62,35 @@ by_parts false s true n p r = or_true_end s
 by_parts false s false n true r = (ap (λ (x : Bool). s || x) (or_true_end n)) ∙ or_true_end s
 by_parts false s false n false r = refl
 
-one_after : (word : Word) (words : List Word) → found true (word ∷ words) ≡ (here true word words || found true words)
+one_after : (relative : Bool) (word : Word) (words : List Word) → found relative true (word ∷ words) ≡ (here relative true word words || found relative true words)
 unfolding found
-one_after word words = by_parts (is_unsupported_before word words) (some_unsupported words) (is_masonry word) (list_any is_masonry words) (is_one_of automatic_counts word) (list_any (is_one_of automatic_counts) words)
+one_after relative word words = by_parts (is_unsupported_before relative word words) (some_unsupported relative words) (is_masonry word) (list_any is_masonry words) (is_one_of automatic_counts word) (list_any (is_one_of automatic_counts) words)
 
-one_before_by : (word : Word) (words : List Word) (b : Bool) → ((is_unsupported_before word words || some_unsupported words) || ((is_masonry word || list_any is_masonry words) || (if b then list_any (is_one_of automatic_counts) words else repeats_subgrid words)))
-    ≡ (here false word words || found b words)
+one_before_by : (relative : Bool) (word : Word) (words : List Word) (b : Bool) → ((is_unsupported_before relative word words || some_unsupported relative words) || ((is_masonry word || list_any is_masonry words) || (if b then list_any (is_one_of automatic_counts) words else repeats_subgrid words)))
+    ≡ (here relative false word words || found relative b words)
 unfolding found
-one_before_by word words b = by_parts (is_unsupported_before word words) (some_unsupported words) (is_masonry word) (list_any is_masonry words) false (if b then list_any (is_one_of automatic_counts) words else repeats_subgrid words)
+one_before_by relative word words b = by_parts (is_unsupported_before relative word words) (some_unsupported relative words) (is_masonry word) (list_any is_masonry words) false (if b then list_any (is_one_of automatic_counts) words else repeats_subgrid words)
 
-one_before : (word : Word) (words : List Word) → found false (word ∷ words) ≡ (here false word words || found (bytes_eq word (codes "subgrid")) words)
+one_before : (relative : Bool) (word : Word) (words : List Word) → found relative false (word ∷ words) ≡ (here relative false word words || found relative (bytes_eq word (codes "subgrid")) words)
 unfolding found
-one_before word words = one_before_by word words (bytes_eq word (codes "subgrid"))
+one_before relative word words = one_before_by relative word words (bytes_eq word (codes "subgrid"))
 
-one_word : (after_subgrid : Bool) (word : Word) (words : List Word) → found after_subgrid (word ∷ words) ≡ (here after_subgrid word words || found (after_subgrid || bytes_eq word (codes "subgrid")) words)
-one_word true word words = one_after word words
-one_word false word words = one_before word words
+one_word : (relative : Bool) (after_subgrid : Bool) (word : Word) (words : List Word) → found relative after_subgrid (word ∷ words) ≡ (here relative after_subgrid word words || found relative (after_subgrid || bytes_eq word (codes "subgrid")) words)
+one_word relative true word words = one_after relative word words
+one_word relative false word words = one_before relative word words
 
-pub outside_brackets : (after_subgrid : Bool) (word : Word) (words : List Word)
-    → found after_subgrid (outside false (word ∷ words)) ≡ (here after_subgrid word words || found (after_subgrid || bytes_eq word (codes "subgrid")) (outside (bytes_eq word (codes "[")) words))
-outside_brackets after_subgrid word words =
-    one_word after_subgrid word (outside (bytes_eq word (codes "[")) words)
-    ∙ ap (λ (b : Bool). (b || (is_masonry word || (after_subgrid && is_one_of automatic_counts word))) || found (after_subgrid || bytes_eq word (codes "subgrid")) (outside (bytes_eq word (codes "[")) words)) (before_outside word words)
+pub outside_brackets : (relative : Bool) (after_subgrid : Bool) (word : Word) (words : List Word)
+    → found relative after_subgrid (outside false (word ∷ words)) ≡ (here relative after_subgrid word words || found relative (after_subgrid || bytes_eq word (codes "subgrid")) (outside (bytes_eq word (codes "[")) words))
+outside_brackets relative after_subgrid word words =
+    one_word relative after_subgrid word (outside (bytes_eq word (codes "[")) words)
+    ∙ ap (λ (b : Bool). (b || (is_masonry word || (after_subgrid && is_one_of automatic_counts word))) || found relative (after_subgrid || bytes_eq word (codes "subgrid")) (outside (bytes_eq word (codes "[")) words)) (before_outside relative word words)
 
-pub found_here : (after_subgrid : Bool) (word : Word) (words : List Word) → here after_subgrid word words ≡ true → found after_subgrid (outside false (word ∷ words)) ≡ true
-found_here after_subgrid word words h = outside_brackets after_subgrid word words ∙ ap (λ (b : Bool). b || found (after_subgrid || bytes_eq word (codes "subgrid")) (outside (bytes_eq word (codes "[")) words)) h
+pub found_here : (relative : Bool) (after_subgrid : Bool) (word : Word) (words : List Word) → here relative after_subgrid word words ≡ true → found relative after_subgrid (outside false (word ∷ words)) ≡ true
+found_here relative after_subgrid word words h = outside_brackets relative after_subgrid word words ∙ ap (λ (b : Bool). b || found relative (after_subgrid || bytes_eq word (codes "subgrid")) (outside (bytes_eq word (codes "[")) words)) h
 
-pub not_here : (after_subgrid : Bool) (word : Word) (words : List Word) → here after_subgrid word words ≡ false
-    → found after_subgrid (outside false (word ∷ words)) ≡ found (after_subgrid || bytes_eq word (codes "subgrid")) (outside (bytes_eq word (codes "[")) words)
-not_here after_subgrid word words h = outside_brackets after_subgrid word words ∙ ap (λ (b : Bool). b || found (after_subgrid || bytes_eq word (codes "subgrid")) (outside (bytes_eq word (codes "[")) words)) h
+pub not_here : (relative : Bool) (after_subgrid : Bool) (word : Word) (words : List Word) → here relative after_subgrid word words ≡ false
+    → found relative after_subgrid (outside false (word ∷ words)) ≡ found relative (after_subgrid || bytes_eq word (codes "subgrid")) (outside (bytes_eq word (codes "[")) words)
+not_here relative after_subgrid word words h = outside_brackets relative after_subgrid word words ∙ ap (λ (b : Bool). b || found relative (after_subgrid || bytes_eq word (codes "subgrid")) (outside (bytes_eq word (codes "[")) words)) h
 
 pub or_same : (s x : Bool) → s ≡ true → s ≡ (s || x)
 or_same true x h = refl
@@ -103,22 +103,22 @@ or_other true x y h e = elim (true≢false h) [ ]
 -- ---- words that are passed over
 
 -- a word outside brackets of which nothing is to be said
-pub record IsQuiet (word : Word) (words : List Word) : Type 0 where
-  pub here_not : here false word words ≡ false
+pub record IsQuiet (relative : Bool) (word : Word) (words : List Word) : Type 0 where
+  pub here_not : here relative false word words ≡ false
   pub not_subgrid : bytes_eq word (codes "subgrid") ≡ false
   pub not_bracket : bytes_eq word (codes "[") ≡ false
 
-pub quiet_word : (word : Word) (words : List Word) → IsQuiet word words → found false (outside false (word ∷ words)) ≡ found false (outside false words)
-quiet_word word words q =
-    not_here false word words q.here_not
-    ∙ ap (λ (b : Bool). found b (outside (bytes_eq word (codes "[")) words)) q.not_subgrid
-    ∙ ap (λ (b : Bool). found false (outside b words)) q.not_bracket
+pub quiet_word : (relative : Bool) (word : Word) (words : List Word) → IsQuiet relative word words → found relative false (outside false (word ∷ words)) ≡ found relative false (outside false words)
+quiet_word relative word words q =
+    not_here relative false word words q.here_not
+    ∙ ap (λ (b : Bool). found relative b (outside (bytes_eq word (codes "[")) words)) q.not_subgrid
+    ∙ ap (λ (b : Bool). found relative false (outside b words)) q.not_bracket
 
 -- a mark or a word that is none of those looked for
-pub quiet_names : (names rest : List Word) → list_any (λ name. bytes_eq name (codes "]")) names ≡ false → found false (outside true (names ++ codes "]" ∷ rest)) ≡ found false (outside false rest)
-quiet_names [] rest h = refl
-quiet_names (name ∷ names) rest h = by_name (bytes_eq name (codes "]")) refl (quiet_names names rest) where
-  by_name : (b : Bool) → bytes_eq name (codes "]") ≡ b → (list_any (λ name. bytes_eq name (codes "]")) names ≡ false → found false (outside true (names ++ codes "]" ∷ rest)) ≡ found false (outside false rest))
-      → found false (outside true (name ∷ (names ++ codes "]" ∷ rest))) ≡ found false (outside false rest)
+pub quiet_names : (relative : Bool) (names rest : List Word) → list_any (λ name. bytes_eq name (codes "]")) names ≡ false → found relative false (outside true (names ++ codes "]" ∷ rest)) ≡ found relative false (outside false rest)
+quiet_names relative [] rest h = refl
+quiet_names relative (name ∷ names) rest h = by_name (bytes_eq name (codes "]")) refl (quiet_names relative names rest) where
+  by_name : (b : Bool) → bytes_eq name (codes "]") ≡ b → (list_any (λ name. bytes_eq name (codes "]")) names ≡ false → found relative false (outside true (names ++ codes "]" ∷ rest)) ≡ found relative false (outside false rest))
+      → found relative false (outside true (name ∷ (names ++ codes "]" ∷ rest))) ≡ found relative false (outside false rest)
   by_name true e more = elim (true≢false (sym (ap (λ (b : Bool). b || list_any (λ name. bytes_eq name (codes "]")) names) e) ∙ h)) [ ]
-  by_name false e more = ap (λ (b : Bool). found false (outside (not b) (names ++ codes "]" ∷ rest))) e ∙ more (sym (ap (λ (b : Bool). b || list_any (λ name. bytes_eq name (codes "]")) names) e) ∙ h)
+  by_name false e more = ap (λ (b : Bool). found relative false (outside (not b) (names ++ codes "]" ∷ rest))) e ∙ more (sym (ap (λ (b : Bool). b || list_any (λ name. bytes_eq name (codes "]")) names) e) ∙ h)

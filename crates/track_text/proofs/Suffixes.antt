@@ -7,13 +7,15 @@ use Rattle.std.specs.List.{list_all, list_any, position_or_len}
 use Rattle.std.specs.Option.{option_map}
 use Rattle.std.specs.Str.{bytes_eq}
 use Rattle.lunit.specs.declared.number.NumberForm.{NumberForm}
-use Rattle.lunit.specs.Decimals.{Decimal, is_digit, is_sign, is_point, all_digits, has_minus, whole_part, decimal_part, are_parts, decimal_of, decimal_or_none, number_of, read_allowed, read_number}
-use Rattle.style_types.specs.declared.track.Breadth.{Breadth}
-use Rattle.style_types.specs.declared.track.Breadth.TheVariants as breadth
+use Rattle.lunit.specs.Decimals.{Decimal, is_digit, is_sign, is_point, all_digits, has_minus, whole_part, decimal_part, are_parts, decimal_of, decimal_or_none, number_of, is_number, read_allowed, read_number}
+use Rattle.lunit.specs.Forms.{zeros}
+use Rattle.track_text.specs.declared.side.Side.{Side}
+use Rattle.track_text.specs.declared.side.Side.TheVariants as side
 use Rattle.track_text.specs.Words.{Word}
-use Rattle.track_text.specs.Values.{zeros, sizes, ends_in, before, length_in, percentage_of}
-use Rattle.track_text.specs.TrackSizes.{breadth_of, length_or_percentage}
-use Rattle.track_text.specs.Unsupported.{has_unit, units, is_measured, is_number}
+use Rattle.style_types.specs.declared.unit.Unit.{Unit}
+use Rattle.track_text.specs.Values.{in_px, zero_of, relative_of, ends_in, before, length_in, percentage_of}
+use Rattle.track_text.specs.TrackSizes.{breadth_of, length_or_percentage, length_side}
+use Rattle.track_text.specs.Unsupported.{has_unit, units, is_measured}
 
 abbrev last_two : Word → Word
 last_two word = drop (length word - 2) word
@@ -114,11 +116,21 @@ all_dropped zero bytes h = h
 all_dropped (suc k) [] h = refl
 all_dropped (suc k) (byte ∷ bytes) h = all_dropped k bytes (and_parts (in_number byte) (list_all in_number bytes) h).1
 
-number_not : (form : NumberForm) (word : Word) (z : ℤ) → read_number form word ≡ Some z → is_measured word ≡ false
-number_not form word z e = by_number (number_of word) refl where
-  by_number : (d : Option Decimal) → number_of word ≡ d → is_measured word ≡ false
+none_is_number : (word : Word) (all : List Word) (d : Decimal) → number_of word ≡ Some d → list_all (is_other (list_all in_number)) all ≡ true → list_any (has_unit word) all ≡ false
+none_is_number word all d n h = other_units (list_all in_number) word all (all_dropped (length word - 2) word (number_in word d n)) h
+
+-- what ends so has none of the units
+ends_so : (ok : Word → Bool) (relative : Bool) (word : Word) → ok (last_two word) ≡ true → ((b : Bool) → list_all (is_other ok) (units b) ≡ true) → is_measured relative word ≡ false
+ends_so ok relative word o h = other_units ok word (units relative) o (h relative)
+
+number_not : (form : NumberForm) (relative : Bool) (word : Word) (z : ℤ) → read_number form word ≡ Some z → is_measured relative word ≡ false
+number_not form relative word z e = by_number (number_of word) refl where
+  by_number : (d : Option Decimal) → number_of word ≡ d → is_measured relative word ≡ false
   by_number None n = none_some z (sym (ap (read_allowed form) n) ∙ e)
-  by_number (Some d) n = other_units (list_all in_number) word units (all_dropped (length word - 2) word (number_in word d n)) refl
+  by_number (Some d) n = none_is_number word (units relative) d n (all_other relative) where
+    all_other : (b : Bool) → list_all (is_other (list_all in_number)) (units b) ≡ true
+    all_other true = refl
+    all_other false = refl
 
 -- ---- breadths
 
@@ -132,33 +144,87 @@ mapped : {A B : Type 0} (f : A → B) (x : Option A) (y : B) (goal : Type 0) →
 mapped f None y goal e h = none_some y e
 mapped f (Some a) y goal e h = h a refl
 
-length_not : (form : NumberForm) (word : Word) (z : ℤ) → length_in form word ≡ Some z → is_measured word ≡ false
-length_not form word z e = by_test (ends_in (codes "px") word) refl where
-  by_test : (b : Bool) → ends_in (codes "px") word ≡ b → is_measured word ≡ false
-  by_test true t = other_units (λ x. bytes_eq x (codes "px")) word units t refl
-  by_test false t = number_not zeros word z (ap (λ (b : Bool). if b then read_number form (before (codes "px") word) else read_number zeros word) (sym t) ∙ e)
+abbrev Length : Type 0
+Length = ℤ × Unit
 
-pub argument_not : (form : NumberForm) (word : Word) (b : Breadth) → length_or_percentage form word ≡ Some b → is_measured word ≡ false
-argument_not form word b e = by_test (ends_in (codes "%") word) refl where
-  by_test : (t : Bool) → ends_in (codes "%") word ≡ t → is_measured word ≡ false
-  by_test true t = other_units (ends_in (codes "%")) word units (percent_end word t) refl
-  by_test false t = mapped breadth.Length (length_in form word) b (is_measured word ≡ false)
-      (ap (λ (t : Bool). if t then option_map breadth.Percent (percentage_of word) else option_map breadth.Length (length_in form word)) (sym t) ∙ e)
-      (length_not form word)
+zero_not : (relative : Bool) (word : Word) (length : Length) → zero_of word ≡ Some length → is_measured relative word ≡ false
+zero_not relative word length e = mapped in_px (read_number zeros word) length (is_measured relative word ≡ false) e (number_not zeros relative word)
 
-keyword : (word due : Word) → is_measured due ≡ false → (bytes_eq word due ≡ false → is_measured word ≡ false) → is_measured word ≡ false
-keyword word due d more = by_test (bytes_eq word due) refl where
-  by_test : (b : Bool) → bytes_eq word due ≡ b → is_measured word ≡ false
-  by_test true t = ap is_measured ((bytes_eq-Decides word due).0 t) ∙ d
+px_other : (b : Bool) → list_all (is_other (λ x. bytes_eq x (codes "px"))) (units b) ≡ true
+px_other true = refl
+px_other false = refl
+
+-- the last two bytes of a word that ends in a longer unit
+longer_end : (unit word : Word) → 2 ≤ length unit → bytes_eq (last_two unit) (codes "em") ≡ true → ends_in unit word ≡ true → bytes_eq (last_two word) (codes "em") ≡ true
+longer_end unit word h e k = ap (λ (w : Word). bytes_eq w (codes "em")) (same_end unit word h k) ∙ e
+
+relative_not : (below_zero : Bool) (word : Word) (length : Length) → relative_of below_zero word ≡ Some length → is_measured true word ≡ false
+relative_not below_zero word length e = by_rem (ends_in (codes "rem") word) refl where
+  by_em : ends_in (codes "rem") word ≡ false → (b : Bool) → ends_in (codes "em") word ≡ b → is_measured true word ≡ false
+  by_em r true t = other_units (λ x. bytes_eq x (codes "em")) word (units true) (longer_end (codes "em") word (omega arith) refl t) refl
+  by_em r false t = zero_not true word length (sym (rest r t) ∙ e) where
+    rest : ends_in (codes "rem") word ≡ false → ends_in (codes "em") word ≡ false → relative_of below_zero word ≡ zero_of word
+    rest r t = rw (r, t) refl
+
+  by_rem : (b : Bool) → ends_in (codes "rem") word ≡ b → is_measured true word ≡ false
+  by_rem true t = other_units (λ x. bytes_eq x (codes "em")) word (units true) (longer_end (codes "rem") word (omega arith) refl t) refl
+  by_rem false t = by_em t (ends_in (codes "em") word) refl
+
+length_not : (relative below_zero : Bool) (word : Word) (length : Length) → length_in relative below_zero word ≡ Some length → is_measured relative word ≡ false
+length_not relative below_zero word length e = by_test (ends_in (codes "px") word) refl where
+  by_version : (relative : Bool) → ends_in (codes "px") word ≡ false → length_in relative below_zero word ≡ Some length → is_measured relative word ≡ false
+  by_version true t e = relative_not below_zero word length (sym (rest t) ∙ e) where
+    rest : ends_in (codes "px") word ≡ false → length_in true below_zero word ≡ relative_of below_zero word
+    rest t = rw t refl
+  by_version false t e = zero_not false word length (sym (rest t) ∙ e) where
+    rest : ends_in (codes "px") word ≡ false → length_in false below_zero word ≡ zero_of word
+    rest t = rw t refl
+
+  by_test : (b : Bool) → ends_in (codes "px") word ≡ b → is_measured relative word ≡ false
+  by_test true t = ends_so (λ x. bytes_eq x (codes "px")) relative word t px_other
+  by_test false t = by_version relative t e
+
+percent_other : (b : Bool) → list_all (is_other (ends_in (codes "%"))) (units b) ≡ true
+percent_other true = refl
+percent_other false = refl
+
+fr_other : (b : Bool) → list_all (is_other (λ w. bytes_eq w (codes "fr"))) (units b) ≡ true
+fr_other true = refl
+fr_other false = refl
+
+pub argument_not : (relative below_zero : Bool) (word : Word) (b : Side) → length_or_percentage relative below_zero word ≡ Some b → is_measured relative word ≡ false
+argument_not relative below_zero word b e = by_test (ends_in (codes "%") word) refl where
+  by_test : (t : Bool) → ends_in (codes "%") word ≡ t → is_measured relative word ≡ false
+  by_test true t = ends_so (ends_in (codes "%")) relative word (percent_end word t) percent_other
+  by_test false t = mapped length_side (length_in relative below_zero word) b (is_measured relative word ≡ false)
+      (ap (λ (t : Bool). if t then option_map side.Percent (percentage_of word) else option_map length_side (length_in relative below_zero word)) (sym t) ∙ e)
+      (length_not relative below_zero word)
+
+keyword : (relative : Bool) (word due : Word) → ((b : Bool) → is_measured b due ≡ false) → (bytes_eq word due ≡ false → is_measured relative word ≡ false) → is_measured relative word ≡ false
+keyword relative word due d more = by_test (bytes_eq word due) refl where
+  by_test : (b : Bool) → bytes_eq word due ≡ b → is_measured relative word ≡ false
+  by_test true t = ap (is_measured relative) ((bytes_eq-Decides word due).0 t) ∙ d relative
   by_test false t = more t
 
-pub breadth_not : (word : Word) (b : Breadth) → breadth_of word ≡ Some b → is_measured word ≡ false
-breadth_not word b e =
-    keyword word (codes "auto") refl (λ a.
-    keyword word (codes "min-content") refl (λ n.
-    keyword word (codes "max-content") refl (λ x. by_flex a n x (ends_in (codes "fr") word) refl))) where
-      by_flex : bytes_eq word (codes "auto") ≡ false → bytes_eq word (codes "min-content") ≡ false → bytes_eq word (codes "max-content") ≡ false → (t : Bool) → ends_in (codes "fr") word ≡ t → is_measured word ≡ false
-      by_flex a n x true t = other_units (λ w. bytes_eq w (codes "fr")) word units t refl
-      by_flex a n x false t = argument_not sizes word b (sym (rest a n x t) ∙ e) where
-        rest : bytes_eq word (codes "auto") ≡ false → bytes_eq word (codes "min-content") ≡ false → bytes_eq word (codes "max-content") ≡ false → ends_in (codes "fr") word ≡ false → breadth_of word ≡ length_or_percentage sizes word
+auto_not : (b : Bool) → is_measured b (codes "auto") ≡ false
+auto_not true = refl
+auto_not false = refl
+
+min_not : (b : Bool) → is_measured b (codes "min-content") ≡ false
+min_not true = refl
+min_not false = refl
+
+max_not : (b : Bool) → is_measured b (codes "max-content") ≡ false
+max_not true = refl
+max_not false = refl
+
+pub breadth_not : (relative : Bool) (word : Word) (b : Side) → breadth_of relative word ≡ Some b → is_measured relative word ≡ false
+breadth_not relative word b e =
+    keyword relative word (codes "auto") auto_not (λ a.
+    keyword relative word (codes "min-content") min_not (λ n.
+    keyword relative word (codes "max-content") max_not (λ x. by_flex a n x (ends_in (codes "fr") word) refl))) where
+      by_flex : bytes_eq word (codes "auto") ≡ false → bytes_eq word (codes "min-content") ≡ false → bytes_eq word (codes "max-content") ≡ false → (t : Bool) → ends_in (codes "fr") word ≡ t → is_measured relative word ≡ false
+      by_flex a n x true t = ends_so (λ w. bytes_eq w (codes "fr")) relative word t fr_other
+      by_flex a n x false t = argument_not relative false word b (sym (rest a n x t) ∙ e) where
+        rest : bytes_eq word (codes "auto") ≡ false → bytes_eq word (codes "min-content") ≡ false → bytes_eq word (codes "max-content") ≡ false → ends_in (codes "fr") word ≡ false → breadth_of relative word ≡ length_or_percentage relative false word
         rest a n x t = rw (a, n, x, t) refl

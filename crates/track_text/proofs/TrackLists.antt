@@ -5,10 +5,11 @@ use Rattle.std.proofs.lemmas.List.Folds.{list_all-append}
 use Rattle.std.proofs.lemmas.Bool.{true≢false, true_from_ne_false}
 use Rattle.std.specs.List.{list_all}
 use Rattle.std.specs.Option.{option_map}
-use Rattle.style_types.specs.declared.track.TrackFn.{TrackFn}
-use Rattle.style_types.specs.declared.track.TrackList.{TrackList}
+use Rattle.track_text.specs.declared.side.Track.{Track}
+use Rattle.track_text.specs.declared.side.ReadList.{ReadList}
 use Rattle.track_text.specs.declared.entry.Entry.{Entry}
 use Rattle.track_text.specs.declared.entry.Entry.TheVariants as entry
+use Rattle.track_text.specs.declared.entry.Filling.{Filling}
 use Rattle.track_text.specs.declared.entry.Part.{Part}
 use Rattle.track_text.specs.declared.entry.Part.TheVariants as part
 use Rattle.track_text.specs.Words.{Word, bind, all_from}
@@ -36,7 +37,7 @@ fixed-times (suc count) body = by_tests (all_fixed body) (is_never count) ∙ ap
 pub fixed-parts : (parts : List Part) → list_all part_is_fixed parts ≡ all_fixed (entries_of parts)
 fixed-parts [] = refl
 fixed-parts (part.Written count body ∷ parts) = ap (λ (b : Bool). (is_never count || all_fixed body) && b) (fixed-parts parts) ∙ ap (λ (b : Bool). b && all_fixed (entries_of parts)) (fixed-times count body) ∙ sym (fixed-append (times count body) (entries_of parts))
-fixed-parts (part.Automatic auto_fit body ∷ parts) = fixed-parts parts
+fixed-parts (part.Automatic filling body ∷ parts) = fixed-parts parts
 
 -- ---- lists by the first automatic repeat
 
@@ -46,33 +47,33 @@ written-is (part.Written count body ∷ parts) = ap (option_map (λ rest. times 
   by_test : (b : Bool) → option_map (λ rest. times count body ++ rest) (if b then Some (entries_of parts) else None) ≡ (if b then Some (times count body ++ entries_of parts) else None)
   by_test true = refl
   by_test false = refl
-written-is (part.Automatic auto_fit body ∷ parts) = refl
+written-is (part.Automatic filling body ∷ parts) = refl
 
 pub list-plain : (front : List Entry) (parts : List Part) → list_all is_written parts ≡ true → list_of front parts ≡ plain_list (front ++ entries_of parts)
 list-plain front [] h = ap plain_list (sym (append-nil front))
 list-plain front (part.Written count body ∷ parts) h = list-plain (front ++ times count body) parts h ∙ ap plain_list (append_assoc front (times count body) (entries_of parts))
-list-plain front (part.Automatic auto_fit body ∷ parts) h = false_or_true h
+list-plain front (part.Automatic filling body ∷ parts) h = false_or_true h
 
-pub list-around : (front : List Entry) (before : List Part) (auto_fit : Bool) (body : List Entry) (after : List Part) → list_all is_written before ≡ true
-    → list_of front (before ++ part.Automatic auto_fit body ∷ after) ≡ bind (written_out after) (automatic_list (front ++ entries_of before) auto_fit body)
-list-around front [] auto_fit body after h = ap (λ (es : List Entry). bind (written_out after) (automatic_list es auto_fit body)) (sym (append-nil front))
-list-around front (part.Written count more ∷ before) auto_fit body after h = list-around (front ++ times count more) before auto_fit body after h ∙ ap (λ (es : List Entry). bind (written_out after) (automatic_list es auto_fit body)) (append_assoc front (times count more) (entries_of before))
-list-around front (part.Automatic fit more ∷ before) auto_fit body after h = false_or_true h
+pub list-around : (front : List Entry) (before : List Part) (filling : Filling) (body : List Entry) (after : List Part) → list_all is_written before ≡ true
+    → list_of front (before ++ part.Automatic filling body ∷ after) ≡ bind (written_out after) (automatic_list (front ++ entries_of before) filling body)
+list-around front [] filling body after h = ap (λ (es : List Entry). bind (written_out after) (automatic_list es filling body)) (sym (append-nil front))
+list-around front (part.Written count more ∷ before) filling body after h = list-around (front ++ times count more) before filling body after h ∙ ap (λ (es : List Entry). bind (written_out after) (automatic_list es filling body)) (append_assoc front (times count more) (entries_of before))
+list-around front (part.Automatic fit more ∷ before) filling body after h = false_or_true h
 
-pub list-after : (front : List Entry) (auto_fit : Bool) (body : List Entry) (after : List Part) → list_all is_written after ≡ true
-    → bind (written_out after) (automatic_list front auto_fit body) ≡ automatic_list front auto_fit body (entries_of after)
-list-after front auto_fit body after h = ap (λ (es : Option (List Entry)). bind es (automatic_list front auto_fit body)) (written-is after ∙ ap (λ (b : Bool). if b then Some (entries_of after) else None) h)
+pub list-after : (front : List Entry) (filling : Filling) (body : List Entry) (after : List Part) → list_all is_written after ≡ true
+    → bind (written_out after) (automatic_list front filling body) ≡ automatic_list front filling body (entries_of after)
+list-after front filling body after h = ap (λ (es : Option (List Entry)). bind es (automatic_list front filling body)) (written-is after ∙ ap (λ (b : Bool). if b then Some (entries_of after) else None) h)
 
-pub list-twice : (front : List Entry) (auto_fit : Bool) (body : List Entry) (after : List Part) → list_all is_written after ≡ false
-    → bind (written_out after) (automatic_list front auto_fit body) ≡ None
-list-twice front auto_fit body after h = ap (λ (es : Option (List Entry)). bind es (automatic_list front auto_fit body)) (written-is after ∙ ap (λ (b : Bool). if b then Some (entries_of after) else None) h)
+pub list-twice : (front : List Entry) (filling : Filling) (body : List Entry) (after : List Part) → list_all is_written after ≡ false
+    → bind (written_out after) (automatic_list front filling body) ≡ None
+list-twice front filling body after h = ap (λ (es : Option (List Entry)). bind es (automatic_list front filling body)) (written-is after ∙ ap (λ (b : Bool). if b then Some (entries_of after) else None) h)
 
 -- ---- the list has a track
 
 no-tracks : (es : List Entry) → take 10000 (tracks_of es) ≡ [] → has_track es ≡ false
 no-tracks [] e = refl
 no-tracks (entry.Track size ∷ es) e = let wrong : ⊥ = false_length (take 9999 (tracks_of es)) (ap length e) in elim wrong [ ] where
-  false_length : (xs : List TrackFn) → suc (length xs) ≡ 0 → ⊥
+  false_length : (xs : List Track) → suc (length xs) ≡ 0 → ⊥
   false_length xs n = omega arith
 no-tracks (entry.Named name ∷ es) e = no-tracks es e
 
@@ -95,7 +96,7 @@ never-more (suc count) e = refl
 pub plain-some : (es : List Entry) → (kept_tracks es ≡ [] → ⊥) → plain_list es ≡ Some (record { sizes = kept_tracks es; names = kept_names es; repeat = None })
 plain-some es some = rw (true_from_ne_false (has_track es) (λ h. some (ap (take 10000) (none-kept es h)))) refl
 
-few : (n : ℕ) (xs : List TrackFn) → length (take n xs) ≤ n
+few : (n : ℕ) (xs : List Track) → length (take n xs) ≤ n
 few zero xs = omega arith
 few (suc n) [] = omega arith
 few (suc n) (x ∷ xs) = omega (arith, few n xs)
@@ -118,16 +119,16 @@ all-more (y ∷ parts) (suc i) x h e a w =
 pub at-repeat : (parts : List Part) (i : ℕ) (x : Part) → i < length parts → get_or parts i x ≡ x → parts ≡ take i parts ++ x ∷ drop (i + 1) parts
 at-repeat parts i x h e = sym (take-append-drop i parts) ∙ ap (λ (xs : List Part). take i parts ++ xs) (from_there parts i x h e)
 
-abbrev without_repeat : List TrackFn → List (List Word) → Option TrackList
+abbrev without_repeat : List Track → List (List Word) → Option ReadList
 without_repeat sizes names = Some (record { sizes = sizes; names = names; repeat = None })
 
-pub same-list : (sizes tracks : List TrackFn) (names lines : List (List Word)) → sizes ≡ tracks → names ≡ lines → without_repeat tracks lines ≡ without_repeat sizes names
+pub same-list : (sizes tracks : List Track) (names lines : List (List Word)) → sizes ≡ tracks → names ≡ lines → without_repeat tracks lines ≡ without_repeat sizes names
 same-list sizes tracks names lines e f = rw (e, f) refl
 
 pub ruleset around = (fixed-parts, kept-few)
 
 pub ruleset never = (never-zero, never-more)
 
-pub list-parts : (words : List Word) → track_list words ≡ bind (all_from part_first words) (list_of [])
+pub list-parts : (relative : Bool) (words : List Word) → track_list relative words ≡ bind (all_from (part_first relative) words) (list_of [])
 unfolding all_from
-list-parts words = refl
+list-parts relative words = refl

@@ -6,11 +6,31 @@ use Rattle.style_types.specs.declared.track.TrackFn.{TrackFn}
 use Rattle.style_types.specs.declared.track.Template.{Template}
 use Rattle.style_types.specs.declared.track.Template.TheVariants as template
 use Rattle.track_text.specs.Words.{Word, words_of}
-use Rattle.track_text.specs.TrackSizes.{track_alone}
+use Rattle.style_types.specs.declared.unit.Unit.{Unit}
+use Rattle.style_types.specs.declared.unit.Unit.TheVariants as unit
 use Rattle.track_text.specs.Templates.{template_of}
 
+abbrev value : Option (Template × List Unit) → Option Template
+value None = None
+value (Some read) = Some read.0
+
+abbrev units : Option (Template × List Unit) → Option (List Unit)
+units None = None
+units (Some read) = Some read.1
+
+-- the value of a text of version 1, and one of version 2 with the units of its lengths
 abbrev read : List ℕ → Option Template
-read text = template_of (words_of text)
+read text = value (template_of false (words_of text))
+
+abbrev relative : List ℕ → Option Template
+relative text = value (template_of true (words_of text))
+
+abbrev units_of : List ℕ → Option (List Unit)
+units_of text = units (template_of true (words_of text))
+
+-- a breadth alone, but for a factor
+abbrev track_alone : Breadth → TrackFn
+track_alone b = record { least = b; most = b; fit = None }
 
 abbrev length : ℤ → TrackFn
 length units = track_alone (breadth.Length units)
@@ -265,3 +285,35 @@ two_automatic_repeats = refl
 
 automatic_without_a_track : read (codes "repeat(auto-fill, [a])") ≡ None
 automatic_without_a_track = refl
+
+-- ---- units
+
+relative_in_version_1 : read (codes "1em") ≡ None
+relative_in_version_1 = refl
+
+relative_stand_as_0 : relative (codes "2em minmax(.5rem, 3px)") ≡ list (length (pos 0) ∷ sides (breadth.Length (pos 0)) (breadth.Length (pos 192)) ∷ []) ([] ∷ [] ∷ [] ∷ [])
+relative_stand_as_0 = refl
+
+-- a breadth alone stands on both sides, and has two units
+units_in_order : units_of (codes "2em minmax(.5rem, 3px) 10% fit-content(-1em) 0")
+    ≡ Some (unit.Em (pos 2000000) ∷ unit.Em (pos 2000000) ∷ unit.Rem (pos 500000) ∷ unit.Px ∷ unit.Em (neg_ℤ (pos 1000000)) ∷ unit.Px ∷ unit.Px ∷ [])
+units_in_order = refl
+
+units_of_a_repeat_last : units_of (codes "repeat(2, 1em) repeat(auto-fill, minmax(1px, 2em)) 3rem")
+    ≡ Some (unit.Em (pos 1000000) ∷ unit.Em (pos 1000000) ∷ unit.Em (pos 1000000) ∷ unit.Em (pos 1000000) ∷ unit.Rem (pos 3000000) ∷ unit.Rem (pos 3000000) ∷ unit.Px ∷ unit.Em (pos 2000000) ∷ [])
+units_of_a_repeat_last = refl
+
+zero_em : units_of (codes "0em") ≡ Some (unit.Em (pos 0) ∷ unit.Em (pos 0) ∷ [])
+zero_em = refl
+
+millionths_truncated : units_of (codes "0.9999999em") ≡ Some (unit.Em (pos 999999) ∷ unit.Em (pos 999999) ∷ [])
+millionths_truncated = refl
+
+most_em : units_of (codes "10000em") ≡ Some (unit.Em (pos 10000000000) ∷ unit.Em (pos 10000000000) ∷ [])
+most_em = refl
+
+too_much_em : relative (codes "10000.0001em") ≡ None
+too_much_em = refl
+
+em_below_zero : relative (codes "-1em") ≡ None
+em_below_zero = refl

@@ -4,11 +4,11 @@ use Rattle.track_text.specs.declared.errors.Stop.{Stop}
 use Rattle.track_text.specs.declared.errors.Stop.TheVariants as stop
 use Rattle.text_scan.specs.declared.line.Fault.{Fault}
 use Rattle.text_scan.specs.declared.line.Place.{Place}
-use Rattle.style_types.specs.declared.track.Template.{Template}
 use Rattle.track_text.specs.declared.errors.ReadError.{ReadError}
 use Rattle.track_text.specs.declared.errors.ReadError.TheVariants as error
 use Rattle.track_text.specs.Words.{Word}
-use Rattle.track_text.specs.Templates.{template_of}
+use Rattle.track_text.specs.Values.{is_relative}
+use Rattle.track_text.specs.Templates.{ReadTemplate, template_of}
 use Rattle.track_text.specs.Unsupported.{is_unsupported}
 
 -- the value exactly where the words stand for one, or want of memory
@@ -33,7 +33,7 @@ abbrev pub or_bad : {A : Type 0} → Place → Option A → Result A Fault
 or_bad at (Some value) = Ok value
 or_bad at None = Err (fault_at 9 at)
 
--- the template that the words of a value are, or its fault: 11 where the value holds a word that is unsupported in it,
+-- the template that the words of a value are in a version of the language, with the units of its lengths, or its fault: 11 where the value holds a word that is unsupported in it,
 -- and else 9 where it has none of the forms (own rule)
-abbrev pub reading_of : Place → List Word → Result Template Fault
-reading_of at words = if is_unsupported words then Err (fault_at 11 at) else or_bad at (template_of words)
+abbrev pub reading_of : ℕ → Place → List Word → Result ReadTemplate Fault
+reading_of version at words = if is_unsupported (is_relative version) words then Err (fault_at 11 at) else or_bad at (template_of (is_relative version) words)

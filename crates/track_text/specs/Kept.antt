@@ -39,13 +39,13 @@ is_full entries = nat_lt 10000 (length (tracks_of entries))
 
 abbrev pub is_written : Part → Bool
 is_written (part.Written count body) = true
-is_written (part.Automatic auto_fit body) = false
+is_written (part.Automatic filling body) = false
 
 -- the entries of the parts that are no automatic repeats
 abbrev pub entries_of : List Part → List Entry
 entries_of [] = []
 entries_of (part.Written count body ∷ parts) = times count body ++ entries_of parts
-entries_of (part.Automatic auto_fit body ∷ parts) = entries_of parts
+entries_of (part.Automatic filling body ∷ parts) = entries_of parts
 
 abbrev pub is_never : ℕ → Bool
 is_never zero = true
@@ -54,4 +54,4 @@ is_never (suc count) = false
 -- each track of the part may stand beside an automatic repeat, or the part is one
 abbrev pub part_is_fixed : Part → Bool
 part_is_fixed (part.Written count body) = is_never count || all_fixed body
-part_is_fixed (part.Automatic auto_fit body) = true
+part_is_fixed (part.Automatic filling body) = true

@@ -1,5 +1,6 @@
 pub mod Words
 pub mod Values
+pub mod Sides
 pub mod TrackSizes
 pub mod NameSets
 pub mod Repeats

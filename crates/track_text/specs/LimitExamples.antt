@@ -1,19 +1,20 @@
 -- Values of templates past the limits. They hold by computation.
-use Rattle.std.specs.Prelude.{◌≡◌, refl, ℕ, List, [], ◌∷◌, length, slice_get, Option, Some, None, codes}
+use Rattle.std.specs.Prelude.{◌≡◌, refl, ℕ, false, List, [], ◌∷◌, length, slice_get, Option, Some, None, codes}
 use Rattle.style_types.specs.declared.track.Template.{Template}
 use Rattle.style_types.specs.declared.track.Template.TheVariants as template
+use Rattle.style_types.specs.declared.unit.Unit.{Unit}
 use Rattle.track_text.specs.Words.{Word, words_of}
 use Rattle.track_text.specs.Templates.{template_of}
 
 -- how many tracks are kept, how many sets, and the last of these
-abbrev counts : Option Template → Option (ℕ × ℕ × Option (List Word))
+abbrev counts : Option (Template × List Unit) → Option (ℕ × ℕ × Option (List Word))
 counts None = None
-counts (Some template.Absent) = None
-counts (Some (template.Tracks list)) = Some (length list.sizes, length list.names, slice_get list.names 10000)
-counts (Some (template.Subgrid names)) = Some (0, length names, slice_get names 20000)
+counts (Some (template.Absent, units)) = None
+counts (Some (template.Tracks list, units)) = Some (length list.sizes, length list.names, slice_get list.names 10000)
+counts (Some (template.Subgrid names, units)) = Some (0, length names, slice_get names 20000)
 
 abbrev counted : List ℕ → Option (ℕ × ℕ × Option (List Word))
-counted text = counts (template_of (words_of text))
+counted text = counts (template_of false (words_of text))
 
 full : counted (codes "repeat(10000, 1px) [a] [b]") ≡ Some (10000, 10001, Some (codes "a" ∷ codes "b" ∷ []))
 full = refl

@@ -1,8 +1,8 @@
 -- Words that a value may not hold because what they ask for is not supported (own rule).
-use Rattle.std.specs.Prelude.{Bool, true, false, not, ◌&&◌, ◌||◌, List, [], ◌∷◌, is_none, if◌then◌else◌, codes}
+use Rattle.std.specs.Prelude.{Bool, true, false, not, ◌&&◌, ◌||◌, List, [], ◌∷◌, if◌then◌else◌, codes}
 use Rattle.std.specs.Str.{bytes_eq}
 use Rattle.std.specs.List.{list_any}
-use Rattle.lunit.specs.Decimals.{number_of}
+use Rattle.lunit.specs.Decimals.{is_number}
 use Rattle.track_text.specs.Words.{Word, begins_with}
 use Rattle.track_text.specs.Values.{ends_in, before}
 
@@ -22,27 +22,29 @@ wide_keywords = codes "inherit" ∷ codes "initial" ∷ codes "unset" ∷ codes 
 abbrev pub functions : List Word
 functions = codes "calc" ∷ codes "min" ∷ codes "max" ∷ codes "clamp" ∷ []
 
-abbrev pub units : List Word
-units = codes "em" ∷ codes "rem" ∷ codes "ex" ∷ codes "ch" ∷ codes "vw" ∷ codes "vh" ∷ codes "vmin" ∷ codes "vmax" ∷ codes "cm" ∷ codes "mm" ∷ codes "in" ∷ codes "pt" ∷ codes "pc" ∷ []
+-- the units of lengths that are not supported; in version 2 `em` and `rem` are
+abbrev pub other_units : List Word
+other_units = codes "ex" ∷ codes "ch" ∷ codes "vw" ∷ codes "vh" ∷ codes "vmin" ∷ codes "vmax" ∷ codes "cm" ∷ codes "mm" ∷ codes "in" ∷ codes "pt" ∷ codes "pc" ∷ []
 
-abbrev pub is_number : Word → Bool
-is_number word = not (is_none (number_of word))
+abbrev pub units : Bool → List Word
+units true = other_units
+units false = codes "em" ∷ codes "rem" ∷ other_units
 
 abbrev pub has_unit : Word → Word → Bool
 has_unit word unit = ends_in unit word && is_number (before unit word)
 
 -- a number with one of the units
-abbrev pub is_measured : Word → Bool
-is_measured word = list_any (has_unit word) units
+abbrev pub is_measured : Bool → Word → Bool
+is_measured relative word = list_any (has_unit word) (units relative)
 
 -- a word that no property has, before these words
-abbrev pub is_unsupported_before : Word → List Word → Bool
-is_unsupported_before word words = is_one_of wide_keywords word || (is_measured word || (is_one_of functions word && begins_with (codes "(") words))
+abbrev pub is_unsupported_before : Bool → Word → List Word → Bool
+is_unsupported_before relative word words = is_one_of wide_keywords word || (is_measured relative word || (is_one_of functions word && begins_with (codes "(") words))
 
 -- among the words is one that no property has
-abbrev pub some_unsupported : List Word → Bool
-some_unsupported [] = false
-some_unsupported (word ∷ words) = is_unsupported_before word words || some_unsupported words
+abbrev pub some_unsupported : Bool → List Word → Bool
+some_unsupported relative [] = false
+some_unsupported relative (word ∷ words) = is_unsupported_before relative word words || some_unsupported relative words
 
 abbrev pub automatic_counts : List Word
 automatic_counts = codes "auto-fill" ∷ codes "auto-fit" ∷ []
@@ -56,9 +58,9 @@ abbrev pub is_masonry : Word → Bool
 is_masonry word = bytes_eq word (codes "masonry")
 
 -- among the words outside brackets is one that no template has
-abbrev pub unsupported_in_template : List Word → Bool
-unsupported_in_template words = some_unsupported words || (list_any is_masonry words || repeats_subgrid words)
+abbrev pub unsupported_in_template : Bool → List Word → Bool
+unsupported_in_template relative words = some_unsupported relative words || (list_any is_masonry words || repeats_subgrid words)
 
 -- the value of a template holds an unsupported word
-abbrev pub is_unsupported : List Word → Bool
-is_unsupported words = unsupported_in_template (outside false words)
+abbrev pub is_unsupported : Bool → List Word → Bool
+is_unsupported relative words = unsupported_in_template relative (outside false words)

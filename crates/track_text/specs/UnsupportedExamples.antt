@@ -4,7 +4,7 @@ use Rattle.track_text.specs.Words.{words_of}
 use Rattle.track_text.specs.Unsupported.{is_unsupported}
 
 abbrev refused : List ℕ → Bool
-refused text = is_unsupported (words_of text)
+refused text = is_unsupported false (words_of text)
 
 masonry : refused (codes "masonry") ≡ true
 masonry = refl
@@ -35,6 +35,12 @@ em = refl
 
 rem : refused (codes "-.5rem") ≡ true
 rem = refl
+
+rem_in_version_2 : is_unsupported true (words_of (codes "-.5rem")) ≡ false
+rem_in_version_2 = refl
+
+ex_in_version_2 : is_unsupported true (words_of (codes "1ex")) ≡ true
+ex_in_version_2 = refl
 
 unit_alone : refused (codes "vmin") ≡ false
 unit_alone = refl

@@ -1,36 +1,18 @@
 -- Numbers with and without units, as the values of all properties have them.
-use Rattle.std.specs.Prelude.{ℕ, ℤ, ◌-◌, Bool, true, false, List, length, take, drop, unsigned_abs, if◌then◌else◌, Option, None, codes}
+use Rattle.std.specs.Prelude.{ℕ, ℤ, pos, ◌-◌, ◌==◌, Bool, List, length, take, drop, unsigned_abs, if◌then◌else◌, Option, None, codes}
 use Rattle.std.specs.Option.{option_map}
 use Rattle.std.specs.Str.{bytes_eq}
 use Rattle.std.specs.List.{list_any}
 use Rattle.lunit.specs.declared.number.NumberForm.{NumberForm}
 use Rattle.lunit.specs.Decimals.{read_number, is_point}
+use Rattle.lunit.specs.Forms.{lengths, zeros, percentages, factors, integers, relative_lengths}
+use Rattle.style_types.specs.declared.unit.Unit.{Unit}
+use Rattle.style_types.specs.declared.unit.Unit.TheVariants as unit
 use Rattle.track_text.specs.Words.{Word}
 
--- px in units of a sixty-fourth, of a magnitude of at most 1,048,576 px; this, as the bounds below, is asked of the
--- exact number, before it is truncated (own rule)
-abbrev pub lengths : NumberForm
-lengths = record { scale = 64; most = 1048576; below_zero = true }
-
--- the same without those below zero; `-0` is not below zero (own rule)
-abbrev pub sizes : NumberForm
-sizes = record { scale = 64; most = 1048576; below_zero = false }
-
--- numbers of value zero
-abbrev pub zeros : NumberForm
-zeros = record { scale = 64; most = 0; below_zero = true }
-
--- percentages from 0 to 1000, in thousandths of a percent (own rule)
-abbrev pub percentages : NumberForm
-percentages = record { scale = 1000; most = 1000; below_zero = false }
-
--- factors from 0 to 10,000, in thousandths (own rule)
-abbrev pub factors : NumberForm
-factors = record { scale = 1000; most = 10000; below_zero = false }
-
--- whole numbers of a magnitude of at most 1,000,000 (own rule)
-abbrev pub integers : NumberForm
-integers = record { scale = 1; most = 1000000; below_zero = true }
+-- whether lengths may be relative to a font size: in version 2 of the language (own rule)
+abbrev pub is_relative : ℕ → Bool
+is_relative version = version == 2
 
 abbrev pub ends_in : List ℕ → Word → Bool
 ends_in unit word = bytes_eq (drop (length word - length unit) word) unit
@@ -43,17 +25,49 @@ before unit word = take (length word - length unit) word
 abbrev pub measured : NumberForm → List ℕ → Word → Option ℤ
 measured form unit word = if ends_in unit word then read_number form (before unit word) else None
 
--- a length in units whose number has the form: a number with `px`, or a number of value zero alone (CSS Values 4, 6)
-abbrev pub length_in : NumberForm → Word → Option ℤ
-length_in form word = if ends_in (codes "px") word then read_number form (before (codes "px") word) else read_number zeros word
+-- px, and numbers with a relative unit, which may be below zero where this says so
+abbrev pub px_form : Bool → NumberForm
+px_form below_zero = record lengths { below_zero = below_zero }
 
--- a length
-abbrev pub length_of : Word → Option ℤ
-length_of word = length_in lengths word
+abbrev pub relative_form : Bool → NumberForm
+relative_form below_zero = record relative_lengths { below_zero = below_zero }
 
--- a length of at least 0
-abbrev pub size_of : Word → Option ℤ
-size_of word = length_in sizes word
+-- a length as it stands in a value, and its unit: one with a relative unit stands as 0
+abbrev pub in_px : ℤ → ℤ × Unit
+in_px units = (units, unit.Px)
+
+abbrev pub in_em : ℤ → ℤ × Unit
+in_em millionths = (pos 0, unit.Em millionths)
+
+abbrev pub in_rem : ℤ → ℤ × Unit
+in_rem millionths = (pos 0, unit.Rem millionths)
+
+-- a number of value zero alone is a length of 0 px (CSS Values 4, 6)
+abbrev pub zero_of : Word → Option (ℤ × Unit)
+zero_of word = option_map in_px (read_number zeros word)
+
+-- a number with `em`, or one of value zero alone
+abbrev pub em_or_zero : Bool → Word → Option (ℤ × Unit)
+em_or_zero below_zero word =
+    if ends_in (codes "em") word then option_map in_em (read_number (relative_form below_zero) (before (codes "em") word))
+    else zero_of word
+
+-- a number with `rem` or `em` (CSS Values 4, 6.1), or one of value zero alone
+abbrev pub relative_of : Bool → Word → Option (ℤ × Unit)
+relative_of below_zero word =
+    if ends_in (codes "rem") word then option_map in_rem (read_number (relative_form below_zero) (before (codes "rem") word))
+    else em_or_zero below_zero word
+
+-- a length without `px`, which may be relative where this says so
+abbrev pub other_length : Bool → Bool → Word → Option (ℤ × Unit)
+other_length relative below_zero word = if relative then relative_of below_zero word else zero_of word
+
+-- a length, which may be relative and may be below zero where these say so: a number with `px`, or with `rem` or `em`,
+-- or a number of value zero alone
+abbrev pub length_in : Bool → Bool → Word → Option (ℤ × Unit)
+length_in relative below_zero word =
+    if ends_in (codes "px") word then option_map in_px (read_number (px_form below_zero) (before (codes "px") word))
+    else other_length relative below_zero word
 
 -- a percentage, in thousandths of a percent (CSS Values 4, 5.5)
 abbrev pub percentage_of : Word → Option ℕ

@@ -25,6 +25,11 @@ abbrev pub ended : List Word → Bool
 ended [] = true
 ended (word ∷ words) = false
 
+-- this word stands alone
+abbrev pub is_alone : Word → List Word → Bool
+is_alone due (word ∷ []) = bytes_eq word due
+is_alone due words = false
+
 -- a token stands within the bytes
 abbrev pub fits : List ℕ → Token → Bool
 fits bytes token = nat_le token.start token.end && nat_le token.end (length bytes)

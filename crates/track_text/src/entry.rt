@@ -1,11 +1,20 @@
+use crate::side::Track;
 use lunit::{Name, NameSet, Sequence};
-use style_types::TrackFn;
 
 /// What stands in a track list: a track, or a name of the line that stands there. A set is its names one after another.
 #[derive(Clone, Copy, Debug)]
 pub enum Entry {
-    Track(TrackFn),
+    Track(Track),
     Named(Name),
+}
+
+/// What an automatic repeat does with the room that is left (CSS Grid 2, section 7.2.3.2).
+#[derive(Clone, Copy, Debug)]
+pub enum Filling {
+    /// `auto-fill`.
+    Fill,
+    /// `auto-fit`.
+    Fit,
 }
 
 /// How often a repeat stands in a list.
@@ -13,8 +22,8 @@ pub enum Entry {
 pub enum Often {
     /// So many times.
     Times(u32),
-    /// As often as there is room; `auto-fit` where this is true, else `auto-fill`.
-    Automatic(bool),
+    /// As often as there is room.
+    Automatic(Filling),
 }
 
 /// A part of a track list.
@@ -22,8 +31,8 @@ pub enum Often {
 pub enum Part {
     /// Entries that stand so many times, one time after another.
     Written(u32, Sequence<Entry>),
-    /// An automatic repeat of entries; `auto-fit` where this is true, else `auto-fill`.
-    Automatic(bool, Sequence<Entry>),
+    /// An automatic repeat of entries.
+    Automatic(Filling, Sequence<Entry>),
 }
 
 /// Sets of names that stand so many times after `subgrid`, one time after another.

@@ -25,9 +25,31 @@ impl From<NoMemory> for ReadError {
     }
 }
 
-/// Why words were not read.
+impl From<AllocError> for ReadError {
+    ghost use Rattle.std.specs.Prelude.{◌≡◌};
+    ghost use Rattle.track_text.specs.declared.errors.ReadError.TheVariants.{NoMemory};
+
+    ghost from_gives = { λ _ e. e ≡ NoMemory };
+
+    fn from(_error: AllocError) -> ReadError {
+        ReadError::NoMemory
+    }
+}
+
+impl<T: Drop> From<AllocFailed<T>> for ReadError {
+    ghost use Rattle.std.specs.Prelude.{◌≡◌};
+    ghost use Rattle.track_text.specs.declared.errors.ReadError.TheVariants.{NoMemory};
+
+    ghost from_gives = { λ _ e. e ≡ NoMemory };
+
+    fn from(_error: AllocFailed<T>) -> ReadError {
+        ReadError::NoMemory
+    }
+}
+
+/// Why the words of a value were not read.
 #[derive(Clone, Copy, Debug, PartialEq, Eq)]
-pub(crate) enum Stop {
+pub enum Stop {
     /// They have none of the forms.
     Bad,
     /// Memory was wanting.

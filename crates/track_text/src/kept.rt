@@ -9,11 +9,11 @@ ghost use Rattle.track_text.specs.Kept.{cut, trim, thin, kept, is_full, entries_
 
 use crate::entry::{Entry, Part};
 use crate::parts::is_track;
+use crate::side::Track;
 use lunit::{Name, NameSet, NoMemory, Sequence};
 use std::alloc::Global;
 use std::collections::BTreeSet;
 use std::marker::Model;
-use style_types::TrackFn;
 
 /// How many tracks are kept.
 const MOST: usize = 10_000;
@@ -157,7 +157,7 @@ fn trimmed(entries: &[Entry]) -> &[Entry]
 }
 
 /// The tracks among entries.
-fn tracks_of(alloc: Global, entries: &[Entry]) -> Result<Sequence<TrackFn>, NoMemory>
+fn tracks_of(alloc: Global, entries: &[Entry]) -> Result<Sequence<Track>, NoMemory>
     ensures { IfOk result (λ tracks. tracks ≡ tracks_of entries.now) }
 {
     let mut tracks = Sequence::new(alloc);
@@ -192,7 +192,7 @@ fn lines_of(alloc: Global, entries: &[Entry]) -> Result<Sequence<NameSet>, NoMem
 /// The kept tracks of a list, and the names of their lines.
 #[derive(Drop)]
 pub(crate) struct Kept {
-    pub(crate) sizes: Sequence<TrackFn>,
+    pub(crate) sizes: Sequence<Track>,
     pub(crate) names: Sequence<NameSet>,
 }
 

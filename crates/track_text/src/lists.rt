@@ -5,39 +5,39 @@ ghost use Rattle.std.specs.List.{list_all};
 ghost use Rattle.track_text.specs.declared.entry.Part.TheVariants.{Automatic};
 ghost use Rattle.track_text.specs.Words.{bind};
 ghost use Rattle.track_text.specs.Repeats.{is_track};
-ghost use Rattle.track_text.specs.Templates.{entry_is_fixed, all_fixed, written_out, plain_list, automatic_list, list_of, track_list};
+ghost use Rattle.track_text.specs.Templates.{entry_is_fixed, all_fixed, written_out, plain_list, is_fit, automatic_list, list_of, track_list};
 ghost use Rattle.track_text.specs.Kept.{is_written, entries_of, is_never, part_is_fixed};
 ghost use Rattle.track_text.specs.Gives.{Gives};
 
-use crate::entry::{Entry, Part};
+use crate::entry::{Entry, Filling, Part};
 use crate::errors::Stop;
 use crate::kept::{kept_of, kept_of_parts};
 use crate::parts::parts_of;
+use crate::side::{ReadList, ReadRepeat};
 use crate::track_sizes::is_fixed;
 use crate::words::Words;
 use lunit::{NoMemory, Sequence};
 use std::alloc::Global;
-use style_types::{Repeat, TrackList};
 
 /// An automatic repeat, between the parts before it and those after it.
 #[derive(Drop)]
 struct Around<'a> {
     front: &'a [Part],
-    auto_fit: bool,
+    filling: Filling,
     body: &'a [Entry],
     back: &'a [Part],
 }
 
 /// The first automatic repeat among the parts; `None` exactly where there is none.
 fn first_repeat(parts: &[Part]) -> Option<Around<'_>>
-    ensures { MatchOption result (list_all is_written parts.now ≡ true) (λ s. (list_all is_written s.front.now ≡ true) × (parts.now ≡ s.front.now ++ Automatic s.auto_fit s.body.now ∷ s.back.now)) }
+    ensures { MatchOption result (list_all is_written parts.now ≡ true) (λ s. (list_all is_written s.front.now ≡ true) × (parts.now ≡ s.front.now ++ Automatic s.filling s.body.now ∷ s.back.now)) }
 {
     let mut at = 0;
     while at < parts.len() {
-        if let Part::Automatic(auto_fit, body) = &parts[at] {
+        if let Part::Automatic(filling, body) = &parts[at] {
             return Some(Around {
                 front: &parts[..at],
-                auto_fit: *auto_fit,
+                filling: *filling,
                 body: body.as_slice(),
                 back: &parts[at + 1..],
             });
@@ -96,14 +96,14 @@ fn all_written(parts: &[Part]) -> bool
 }
 
 /// The list of parts without an automatic repeat.
-fn plain_list(alloc: Global, parts: &[Part]) -> Result<TrackList, Stop>
+fn plain_list(alloc: Global, parts: &[Part]) -> Result<ReadList, Stop>
     ensures { Gives result (plain_list (entries_of parts.now)) }
 {
     let kept = kept_of_parts(alloc, parts)?;
     if kept.sizes.is_empty() {
         return Err(Stop::Bad);
     }
-    Ok(TrackList {
+    Ok(ReadList {
         sizes: kept.sizes,
         names: kept.names,
         repeat: None,
@@ -115,6 +115,12 @@ fn is_fixed_around(around: &Around) -> bool
     ensures { result ≡ (list_all part_is_fixed around.now.front.now && (all_fixed around.now.body.now && list_all part_is_fixed around.now.back.now)) }
 {
     parts_are_fixed(around.front) && entries_are_fixed(around.body) && parts_are_fixed(around.back)
+}
+
+fn is_fit(filling: Filling) -> bool
+    ensures { result ≡ is_fit filling }
+{
+    matches!(filling, Filling::Fit)
 }
 
 /// One list after the other.
@@ -129,8 +135,8 @@ fn joined<T: Drop>(front: Sequence<T>, back: Sequence<T>) -> Result<Sequence<T>,
 
 #[tactic(auto, using(crate::proofs::TrackLists::around))]
 /// The list of parts around an automatic repeat.
-fn automatic_list(alloc: Global, around: &Around) -> Result<TrackList, Stop>
-    ensures { Gives result (automatic_list (entries_of around.now.front.now) around.now.auto_fit around.now.body.now (entries_of around.now.back.now)) }
+fn automatic_list(alloc: Global, around: &Around) -> Result<ReadList, Stop>
+    ensures { Gives result (automatic_list (entries_of around.now.front.now) around.now.filling around.now.body.now (entries_of around.now.back.now)) }
 {
     if !is_fixed_around(around) {
         return Err(Stop::Bad);
@@ -139,12 +145,12 @@ fn automatic_list(alloc: Global, around: &Around) -> Result<TrackList, Stop>
     let body = kept_of(alloc, around.body)?;
     let back = kept_of_parts(alloc, around.back)?;
     let before = front.sizes.len() as u32;
-    Ok(TrackList {
+    Ok(ReadList {
         sizes: joined(front.sizes, back.sizes)?,
         names: joined(front.names, back.names)?,
-        repeat: Some(Repeat {
+        repeat: Some(ReadRepeat {
             before,
-            auto_fit: around.auto_fit,
+            auto_fit: is_fit(around.filling),
             sizes: body.sizes,
             names: body.names,
         }),
@@ -152,7 +158,7 @@ fn automatic_list(alloc: Global, around: &Around) -> Result<TrackList, Stop>
 }
 
 /// The list of parts, of which one at most may be an automatic repeat.
-fn list_of(alloc: Global, parts: &[Part]) -> Result<TrackList, Stop>
+fn list_of(alloc: Global, parts: &[Part]) -> Result<ReadList, Stop>
     ensures { Gives result (list_of [] parts.now) }
 {
     match first_repeat(parts) {
@@ -167,9 +173,9 @@ fn list_of(alloc: Global, parts: &[Part]) -> Result<TrackList, Stop>
 }
 
 /// The track list that the words are.
-pub(crate) fn track_list(alloc: Global, words: Words) -> Result<TrackList, Stop>
-    ensures { Gives result (track_list words.entry) }
+pub(crate) fn track_list(alloc: Global, relative: bool, words: Words) -> Result<ReadList, Stop>
+    ensures { Gives result (track_list relative words.entry) }
 {
-    let parts = parts_of(alloc, words)?;
+    let parts = parts_of(alloc, relative, words)?;
     list_of(alloc, parts.as_slice())
 }

@@ -8,7 +8,7 @@ ghost use Rattle.track_text.specs.NameSets.{name_first};
 ghost use Rattle.track_text.specs.Repeats.{is_track, has_track, named, entry_first, joined_read, body_or_none, body_after, count_of, often_of, part_of, repeat_after, part_first};
 ghost use Rattle.track_text.specs.Gives.{Gives};
 
-use crate::entry::{Entry, Often, Part};
+use crate::entry::{Entry, Filling, Often, Part};
 use crate::errors::Stop;
 use crate::name_sets::names_after;
 use crate::track_sizes::track_from;
@@ -57,23 +57,28 @@ fn set_from<'a>(alloc: Global, words: Words<'a>) -> Result<(Sequence<Entry>, Wor
 /// The track size or the names of the set that a word and those after it begin with, and the words after that.
 fn entry_from<'a>(
     alloc: Global,
+    relative: bool,
     word: &[u8],
     words: Words<'a>,
 ) -> Result<(Sequence<Entry>, Words<'a>), Stop>
-    ensures { Gives result (front entry_first (word.now ∷ words.entry)) }
+    ensures { Gives result (front (entry_first relative) (word.now ∷ words.entry)) }
 {
     if word == b"[".as_slice() {
         return set_from(alloc, words);
     }
-    let (track, words) = track_from(word, words).ok_or(Stop::Bad)?;
+    let (track, words) = track_from(relative, word, words).ok_or(Stop::Bad)?;
     let mut entries = Sequence::new(alloc);
     entries.push(Entry::Track(track))?;
     Ok((entries, words))
 }
 
 /// The entries up to the bracket that closes a repeat, and the words after it.
-fn entries_up_to<'a>(alloc: Global, words: Words<'a>) -> Result<(Sequence<Entry>, Words<'a>), Stop>
-    ensures { Gives result (option_map joined_read (rest_up_to (codes ")") entry_first words.entry)) }
+fn entries_up_to<'a>(
+    alloc: Global,
+    relative: bool,
+    words: Words<'a>,
+) -> Result<(Sequence<Entry>, Words<'a>), Stop>
+    ensures { Gives result (option_map joined_read (rest_up_to (codes ")") (entry_first relative) words.entry)) }
 {
     let mut entries = Sequence::new(alloc);
     let mut words = words;
@@ -82,7 +87,7 @@ fn entries_up_to<'a>(alloc: Global, words: Words<'a>) -> Result<(Sequence<Entry>
         if word == b")".as_slice() {
             return Ok((entries, rest));
         }
-        let (more, rest) = entry_from(alloc, word, rest)?;
+        let (more, rest) = entry_from(alloc, relative, word, rest)?;
         push_all(&mut entries, more.as_slice())?;
         words = rest;
     }
@@ -102,10 +107,14 @@ pub(crate) fn is_track(entry: Entry) -> bool
 }
 
 /// The body of a repeat, and the words after the bracket that closes it.
-fn body_from<'a>(alloc: Global, words: Words<'a>) -> Result<(Sequence<Entry>, Words<'a>), Stop>
-    ensures { Gives result (option_map (past words.entry) (body_after words.entry)) }
+fn body_from<'a>(
+    alloc: Global,
+    relative: bool,
+    words: Words<'a>,
+) -> Result<(Sequence<Entry>, Words<'a>), Stop>
+    ensures { Gives result (option_map (past words.entry) (body_after relative words.entry)) }
 {
-    let (entries, words) = entries_up_to(alloc, words)?;
+    let (entries, words) = entries_up_to(alloc, relative, words)?;
     if has_track(entries.as_slice()) {
         Ok((entries, words))
     } else {
@@ -130,10 +139,10 @@ fn often_of(word: &[u8]) -> Option<Often>
     ensures { result ≡ often_of word.now }
 {
     if word == b"auto-fill".as_slice() {
-        return Some(Often::Automatic(false));
+        return Some(Often::Automatic(Filling::Fill));
     }
     if word == b"auto-fit".as_slice() {
-        return Some(Often::Automatic(true));
+        return Some(Often::Automatic(Filling::Fit));
     }
     Some(Often::Times(count_of(word)?))
 }
@@ -144,13 +153,17 @@ fn part_of(often: Often, body: Sequence<Entry>) -> Part
 {
     match often {
         Often::Times(count) => Part::Written(count, body),
-        Often::Automatic(auto_fit) => Part::Automatic(auto_fit, body),
+        Often::Automatic(filling) => Part::Automatic(filling, body),
     }
 }
 
 /// The arguments of `repeat` in their brackets, and the words after them.
-fn repeat_from<'a>(alloc: Global, words: Words<'a>) -> Result<(Part, Words<'a>), Stop>
-    ensures { Gives result (option_map (past words.entry) (repeat_after words.entry)) }
+fn repeat_from<'a>(
+    alloc: Global,
+    relative: bool,
+    words: Words<'a>,
+) -> Result<(Part, Words<'a>), Stop>
+    ensures { Gives result (option_map (past words.entry) (repeat_after relative words.entry)) }
 {
     let (opening, words) = words.first().ok_or(Stop::Bad)?;
     let (word, words) = words.first().ok_or(Stop::Bad)?;
@@ -159,29 +172,34 @@ fn repeat_from<'a>(alloc: Global, words: Words<'a>) -> Result<(Part, Words<'a>),
         return Err(Stop::Bad);
     }
     let often = often_of(word).ok_or(Stop::Bad)?;
-    let (body, words) = body_from(alloc, words)?;
+    let (body, words) = body_from(alloc, relative, words)?;
     Ok((part_of(often, body), words))
 }
 
 /// The part of a track list that a word and those after it begin with, and the words after that.
-fn part_from<'a>(alloc: Global, word: &[u8], words: Words<'a>) -> Result<(Part, Words<'a>), Stop>
-    ensures { Gives result (front part_first (word.now ∷ words.entry)) }
+fn part_from<'a>(
+    alloc: Global,
+    relative: bool,
+    word: &[u8],
+    words: Words<'a>,
+) -> Result<(Part, Words<'a>), Stop>
+    ensures { Gives result (front (part_first relative) (word.now ∷ words.entry)) }
 {
     if word == b"repeat".as_slice() {
-        return repeat_from(alloc, words);
+        return repeat_from(alloc, relative, words);
     }
-    let (entries, words) = entry_from(alloc, word, words)?;
+    let (entries, words) = entry_from(alloc, relative, word, words)?;
     Ok((Part::Written(1, entries), words))
 }
 
 /// The parts of a track list.
-pub(crate) fn parts_of(alloc: Global, words: Words) -> Result<Sequence<Part>, Stop>
-    ensures { Gives result (all_from part_first words.entry) }
+pub(crate) fn parts_of(alloc: Global, relative: bool, words: Words) -> Result<Sequence<Part>, Stop>
+    ensures { Gives result (all_from (part_first relative) words.entry) }
 {
     let mut parts = Sequence::new(alloc);
     let mut words = words;
     while let Some((word, rest)) = words.first() {
-        let (part, rest) = part_from(alloc, word, rest)?;
+        let (part, rest) = part_from(alloc, relative, word, rest)?;
         parts.push(part)?;
         words = rest;
     }

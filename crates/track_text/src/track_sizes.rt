@@ -1,55 +1,60 @@
-ghost use Rattle.std.specs.Prelude.{◌≡◌, ◌*◌, ◌≤◌, ◌∷◌, drop};
+ghost use Rattle.std.specs.Prelude.{◌≡◌, ◌∷◌, drop};
 ghost use Rattle.std.specs.Option.{option_map};
-ghost use Rattle.lunit.specs.Decimals.{IsScale};
 ghost use Rattle.track_text.specs.Words.{front};
-ghost use Rattle.track_text.specs.TrackSizes.{length_or_percentage, breadth_of, track_alone, minmax, minmax_after, fit_after, fit_to, track_first, is_fixed_breadth, is_fixed};
+ghost use Rattle.track_text.specs.TrackSizes.{length_side, length_or_percentage, breadth_of, track_alone, minmax, minmax_after, fit_after, fit_to, track_first, is_fixed_side, is_fixed};
 
-use crate::values::{LENGTHS, SIZES, flex_of, has_unit, length_in, percentage_of};
+use crate::side::{Side, Track};
+use crate::values::{flex_of, has_unit, length_in, percentage_of};
 use crate::words::Words;
-use lunit::NumberForm;
-use style_types::{Breadth, TrackFn};
+use lunit::Lu;
+use style_types::Unit;
 
-/// The percentage that the word is, or the length whose number the form allows.
-fn length_or_percentage(form: NumberForm, word: &[u8]) -> Option<Breadth>
-    requires scale { IsScale form.scale }
-    requires most { form.most * form.scale ≤ 67108864 }
-    ensures { result ≡ length_or_percentage form word.now }
+fn length_side(length: (Lu, Unit)) -> Side
+    ensures { result ≡ length_side length }
+{
+    let (px, unit) = length;
+    Side::Length(px, unit)
+}
+
+/// The percentage that the word is, or the length, which may be relative and may be below zero where these say so.
+pub fn length_or_percentage(relative: bool, below_zero: bool, word: &[u8]) -> Option<Side>
+    ensures { result ≡ length_or_percentage relative below_zero word.now }
 {
     if has_unit(b"%", word) {
-        Some(Breadth::Percent(percentage_of(word)?))
+        Some(Side::Percent(percentage_of(word)?))
     } else {
-        Some(Breadth::Length(length_in(form, word)?))
+        Some(length_side(length_in(relative, below_zero, word)?))
     }
 }
 
 /// The breadth that the word is.
-fn breadth_of(word: &[u8]) -> Option<Breadth>
-    ensures { result ≡ breadth_of word.now }
+fn breadth_of(relative: bool, word: &[u8]) -> Option<Side>
+    ensures { result ≡ breadth_of relative word.now }
 {
     if word == b"auto".as_slice() {
-        return Some(Breadth::Auto);
+        return Some(Side::Auto);
     }
     if word == b"min-content".as_slice() {
-        return Some(Breadth::MinContent);
+        return Some(Side::MinContent);
     }
     if word == b"max-content".as_slice() {
-        return Some(Breadth::MaxContent);
+        return Some(Side::MaxContent);
     }
     if has_unit(b"fr", word) {
-        return Some(Breadth::Flex(flex_of(word)?));
+        return Some(Side::Flex(flex_of(word)?));
     }
-    length_or_percentage(SIZES, word)
+    length_or_percentage(relative, false, word)
 }
 
 /// The size of a track of one breadth.
-fn track_alone(breadth: Breadth) -> TrackFn
+fn track_alone(breadth: Side) -> Track
     ensures { result ≡ track_alone breadth }
 {
     let least = match breadth {
-        Breadth::Flex(_) => Breadth::Auto,
+        Side::Flex(_) => Side::Auto,
         other => other,
     };
-    TrackFn {
+    Track {
         least,
         most: breadth,
         fit: None,
@@ -57,12 +62,12 @@ fn track_alone(breadth: Breadth) -> TrackFn
 }
 
 /// The size of a track of two sides, of which the least is no factor.
-fn minmax(least: Breadth, most: Breadth) -> Option<TrackFn>
+fn minmax(least: Side, most: Side) -> Option<Track>
     ensures { result ≡ minmax least most }
 {
     match least {
-        Breadth::Flex(_) => None,
-        least => Some(TrackFn {
+        Side::Flex(_) => None,
+        least => Some(Track {
             least,
             most,
             fit: None,
@@ -71,8 +76,8 @@ fn minmax(least: Breadth, most: Breadth) -> Option<TrackFn>
 }
 
 /// The two sides after `minmax`, and the words after them.
-fn minmax_after(words: Words) -> Option<(TrackFn, Words)>
-    ensures { result ≡ option_map (λ track. (track, drop 5 words.entry)) (minmax_after words.entry) }
+fn minmax_after(relative: bool, words: Words) -> Option<(Track, Words)>
+    ensures { result ≡ option_map (λ track. (track, drop 5 words.entry)) (minmax_after relative words.entry) }
 {
     let (opening, words) = words.first()?;
     let (least, words) = words.first()?;
@@ -82,24 +87,24 @@ fn minmax_after(words: Words) -> Option<(TrackFn, Words)>
     if opening != b"(".as_slice() || comma != b",".as_slice() || close != b")".as_slice() {
         return None;
     }
-    let track = minmax(breadth_of(least)?, breadth_of(most)?)?;
+    let track = minmax(breadth_of(relative, least)?, breadth_of(relative, most)?)?;
     Some((track, words))
 }
 
 /// The size of a track that is fit to its content up to a breadth.
-fn fit_to(breadth: Breadth) -> TrackFn
+fn fit_to(breadth: Side) -> Track
     ensures { result ≡ fit_to breadth }
 {
-    TrackFn {
-        least: Breadth::Auto,
-        most: Breadth::MaxContent,
+    Track {
+        least: Side::Auto,
+        most: Side::MaxContent,
         fit: Some(breadth),
     }
 }
 
 /// The argument after `fit-content`, and the words after it.
-fn fit_after(words: Words) -> Option<(TrackFn, Words)>
-    ensures { result ≡ option_map (λ track. (track, drop 3 words.entry)) (fit_after words.entry) }
+fn fit_after(relative: bool, words: Words) -> Option<(Track, Words)>
+    ensures { result ≡ option_map (λ track. (track, drop 3 words.entry)) (fit_after relative words.entry) }
 {
     let (opening, words) = words.first()?;
     let (argument, words) = words.first()?;
@@ -107,34 +112,34 @@ fn fit_after(words: Words) -> Option<(TrackFn, Words)>
     if opening != b"(".as_slice() || close != b")".as_slice() {
         return None;
     }
-    let breadth = length_or_percentage(LENGTHS, argument)?;
+    let breadth = length_or_percentage(relative, true, argument)?;
     Some((fit_to(breadth), words))
 }
 
 #[tactic(auto, using(crate::proofs::Fronts::sizes))]
 /// The track size that a word and those after it begin with, and the words after it.
-pub fn track_from<'a>(word: &[u8], words: Words<'a>) -> Option<(TrackFn, Words<'a>)>
-    ensures { result ≡ front track_first (word.now ∷ words.entry) }
+pub fn track_from<'a>(relative: bool, word: &[u8], words: Words<'a>) -> Option<(Track, Words<'a>)>
+    ensures { result ≡ front (track_first relative) (word.now ∷ words.entry) }
 {
     if word == b"minmax".as_slice() {
-        return minmax_after(words);
+        return minmax_after(relative, words);
     }
     if word == b"fit-content".as_slice() {
-        return fit_after(words);
+        return fit_after(relative, words);
     }
-    let breadth = breadth_of(word)?;
+    let breadth = breadth_of(relative, word)?;
     Some((track_alone(breadth), words))
 }
 
-fn is_fixed_breadth(breadth: Breadth) -> bool
-    ensures { result ≡ is_fixed_breadth breadth }
+fn is_fixed_side(breadth: Side) -> bool
+    ensures { result ≡ is_fixed_side breadth }
 {
-    matches!(breadth, Breadth::Length(_) | Breadth::Percent(_))
+    matches!(breadth, Side::Length(_, _) | Side::Percent(_))
 }
 
 /// Whether the track may stand in a list with an automatic repeat.
-pub(crate) fn is_fixed(track: TrackFn) -> bool
+pub(crate) fn is_fixed(track: Track) -> bool
     ensures { result ≡ is_fixed track }
 {
-    is_fixed_breadth(track.least) || is_fixed_breadth(track.most)
+    is_fixed_side(track.least) || is_fixed_side(track.most)
 }

@@ -1,6 +1,6 @@
 ghost use Rattle.std.specs.Prelude.{◌≡◌, ◌∷◌, [], true, map, MatchOption};
 ghost use Rattle.std.specs.List.{list_all};
-ghost use Rattle.track_text.specs.Words.{word_at, begins_with, ended, fits};
+ghost use Rattle.track_text.specs.Words.{word_at, begins_with, is_alone, ended, fits};
 
 use std::marker::Model;
 use text_scan::Token;
@@ -51,6 +51,16 @@ impl<'a> Words<'a> {
         ensures { result ≡ ended self.now }
     {
         self.tokens.is_empty()
+    }
+
+    /// Whether this word stands alone.
+    pub fn are(&self, due: &[u8]) -> bool
+        ensures { result ≡ is_alone due.now self.now }
+    {
+        match self.tokens {
+            [token] => &self.bytes[token.start..token.end] == due,
+            _ => false,
+        }
     }
 
     /// Whether the first word is this one.

@@ -7,7 +7,7 @@ use Rattle.track_text.proofs.parts.entries_up_to.Given as goal
 
 -- the entries so far, before those that are left, are all
 abbrev pub invariant-loop-entries : goal.invariant-loop-entries
-invariant-loop-entries l = option_map (joined_behind l.entries) (rest_up_to (codes ")") entry_first l.words) ≡ option_map joined_read (rest_up_to (codes ")") entry_first l.fn.words)
+invariant-loop-entries l = option_map (joined_behind l.entries) (rest_up_to (codes ")") (entry_first l.relative) l.words) ≡ option_map joined_read (rest_up_to (codes ")") (entry_first l.relative) l.fn.words)
 
 abbrev pub decreases-loop-entries : goal.decreases-loop-entries
 decreases-loop-entries l = length l.words

@@ -11,7 +11,7 @@ new-requires c =
     let tokens : c.as_slice-tokens.result.now ≡ tokens_from 0 c.args.text.now = search rules in
     ap (λ (ts : List Token). list_all (fits c.args.text.now) ts) tokens ∙ tokens_fit c.args.text.now
 
-pub template_of-requires : goal.template_of-requires
-template_of-requires c =
+pub new-requires-2 : goal.new-requires-2
+new-requires-2 c =
     let tokens : c.as_slice-tokens.result.now ≡ tokens_from 0 c.args.text.now = search rules in
     ap (λ (ts : List Token). list_all (fits c.args.text.now) ts) tokens ∙ tokens_fit c.args.text.now
