@@ -1,2 +1,6 @@
 pub mod KeptLists
+pub mod Lengths
+pub mod Pairs
 pub mod SameTrees
+pub mod Sorted
+pub mod Told

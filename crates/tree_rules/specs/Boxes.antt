@@ -1,8 +1,9 @@
 -- The boxes of a whole tree in its viewport.
-use Rattle.std.specs.Prelude.{◌≡◌, refl, ℤ, pos, false, List, [], ◌∷◌, Some, None}
-use Rattle.plain_tree.specs.Trees.{Trees}
+use Rattle.std.specs.Prelude.{◌≡◌, refl, ℤ, pos, false, List, [], ◌∷◌, Some, None, ℕ, map}
+use Rattle.plain_tree.specs.Trees.{Trees, tree, labels_of}
 use Rattle.style_types.specs.declared.value.Align.{Align}
 use Rattle.style_types.specs.declared.value.AlignMode.TheVariants as align_mode
+use Rattle.tree_rules.specs.declared.kind.NodeKind.{NodeKind}
 use Rattle.tree_rules.specs.declared.query.Given.{Given}
 use Rattle.tree_rules.specs.declared.query.Given.TheVariants as given
 use Rattle.tree_rules.specs.Answers.{Box, Down, Kid}
@@ -13,7 +14,7 @@ use Rattle.tree_rules.specs.Labels.{Label}
 use Rattle.tree_rules.specs.NodeSizes.{block_used, bounds_of, content_of_box, inline_used, inner, is_stretched, margins}
 use Rattle.tree_rules.specs.Whole.{kid_of, kids_of}
 use Rattle.std.specs.Prelude.{codes}
-use Rattle.lunit.specs.Units.{clamp, floor_div}
+use Rattle.lunit.specs.Units.{IsUnits, clamp, floor_div}
 use Rattle.plain_tree.specs.Trees.{leafless}
 use Rattle.part_rules.specs.declared.content.Content.TheVariants as content
 use Rattle.style_types.specs.declared.value.Size.TheVariants as size
@@ -63,6 +64,33 @@ root_framed width height r =
 -- The boxes of a tree in a viewport of this width and height, in document order.
 abbrev pub boxes : ℤ → ℤ → Label → Trees Label → List Box
 boxes width height x below = boxes_at (pos 0, pos 0) (root_framed width height (root_of x below) ∷ [])
+
+-- ---- what is said of boxes
+
+-- nothing stands below a leaf
+abbrev pub IsBareLeaf : NodeKind → Trees Label → Type 0
+IsBareLeaf kind.Grid below = Unit {0}
+IsBareLeaf kind.Flex below = Unit {0}
+IsBareLeaf (kind.Leaf content) leafless = Unit {0}
+IsBareLeaf (kind.Leaf content) (tree x below after) = ⊥
+
+-- only containers have children
+abbrev pub LeavesAreBare : Trees Label → Type 0
+LeavesAreBare leafless = Unit {0}
+LeavesAreBare (tree x below after) = IsBareLeaf x.kind below × (LeavesAreBare below × LeavesAreBare after)
+
+-- the name of each box
+abbrev pub names_told : List Box → List (List ℕ)
+names_told told = map (λ (b : Box). b.0) told
+
+-- the name of each node, in document order
+abbrev pub names_of : Trees Label → List (List ℕ)
+names_of t = map (λ (x : Label). x.name) (labels_of t)
+
+-- the size of each box is within the range of lengths
+abbrev pub AreLimited : List Box → Type 0
+AreLimited [] = Unit {0}
+AreLimited (b ∷ rest) = (IsUnits b.1.width × IsUnits b.1.height) × AreLimited rest
 
 -- ---- worked rows, in units: leaves of 40 by 20 as roots in a viewport of 100 by 50
 

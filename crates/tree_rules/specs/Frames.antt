@@ -198,9 +198,9 @@ lines_framed column container main cross gap between moved k at (size ∷ sizes)
     let l : LineAt = record { at = at +ℤ moved k; size = size } in
     line_framed column container main cross gap l (slice_range all range.0 range.1) ++ lines_framed column container main cross gap between moved (k + 1) (at +ℤ size +ℤ between) sizes ranges all
 
--- a child with its main size
+-- a child with its main size, limited as each box size is
 abbrev pub sitting_of : Bool → Option ℤ → Settled → ℤ → Sitting
-sitting_of column cross s main = record { settled = s; main = main; cross = cross_box column cross s }
+sitting_of column cross s main = record { settled = s; main = clamp main; cross = cross_box column cross s }
 
 -- The children of a flex container with these sizes of its content box, in document order.
 abbrev pub flex_framed : Bool → Flex → ℤ → ℤ → Lines → List Settled → List Framed
