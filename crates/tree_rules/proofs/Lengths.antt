@@ -1,11 +1,10 @@
 -- How long the lists are that the definitions make.
-use Rattle.std.specs.Prelude.{◌≡◌, refl, ℕ, zero, suc, ◌+◌, ◌-◌, ◌*◌, ◌==◌, ◌&&◌, ◌≤◌, ℤ, pos, negsuc, ◌+ℤ◌, int_le, Bool, true, false, List, [], ◌∷◌, ◌++◌, map, length, take, drop, slice_range, Option, Some, None, option_to_list, unwrap_or, if◌then◌else◌}
-use Rattle.std.proofs.Common.{ap, sym, arith, subst, ◌∙◌}
+use Rattle.std.specs.Prelude.{◌≡◌, refl, ℕ, zero, suc, ◌+◌, ◌==◌, ◌&&◌, ℤ, pos, negsuc, int_le, Bool, true, false, List, [], ◌∷◌, ◌++◌, map, length, drop, slice_range, Option, Some, None, option_to_list, unwrap_or, if◌then◌else◌}
+use Rattle.std.proofs.Common.{ap, sym, arith, ◌∙◌}
 use Rattle.std.proofs.lemmas.List.{append_assoc, append-nil, length-append}
 use Rattle.std.proofs.lemmas.List.Folds.{drop_split}
 use Rattle.std.proofs.Math.ListN.{drop_of_length-le}
 use Rattle.lunit.specs.declared.geometry.Area.{Area}
-use Rattle.lunit.specs.declared.geometry.Spot.{Spot}
 use Rattle.part_rules.specs.declared.flex.FlexItem.{FlexItem}
 use Rattle.part_rules.specs.declared.share.Share.{Share}
 use Rattle.part_rules.specs.declared.wish.Shape.{Shape}
@@ -13,7 +12,7 @@ use Rattle.part_rules.specs.declared.wish.Wish.{Wish}
 use Rattle.part_rules.specs.FlexLines.{Piece, begin, free_space, frozen_by, given_parts, given_space, grows, line_crosses, line_length, line_margins, line_ranges, line_sizes, lines_of, main_sizes, one_line, own_cross, ranges_from, resolved, size_of, stretched_lines, tried, turn, violation, weight_of}
 use Rattle.part_rules.specs.Lists.{filled, filled_from, joined, zipped, sum_of, total_of}
 use Rattle.part_rules.specs.Placement.{Entry, Field, Position, areas_of, begun, columns_for, cursor_after, first_row, next_area, no_area, placed, placed_by_rows, rest_placed, row_area, rows_placed, turned_wish, turned_area}
-use Rattle.part_rules.specs.Sharing.{Handed, after_row, apportioned_after, apportioned_whole, has_room, one_more, handed_by_level, handed_to, round, shares}
+use Rattle.part_rules.specs.Sharing.{Handed, after_row, apportioned_after, apportioned_whole, has_room, one_more, handed_by_level, round, shares}
 use Rattle.tree_rules.specs.Orders.{in_order, numbered_from, put_before, sorted_by}
 
 -- ---- of lists

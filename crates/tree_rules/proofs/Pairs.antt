@@ -1,5 +1,5 @@
 -- Lists whose items belong together one by one.
-use Rattle.std.specs.Prelude.{◌≡◌, refl, ℕ, suc, List, [], ◌∷◌, ◌++◌, map, length}
+use Rattle.std.specs.Prelude.{◌≡◌, List, [], ◌∷◌, ◌++◌, map, length}
 use Rattle.std.proofs.Common.{arith}
 use Rattle.part_rules.specs.Lists.{zipped}
 use Rattle.tree_rules.proofs.Sorted.{EachTwo}

@@ -1,8 +1,8 @@
 -- Sorting by keys: two sorts after one another, and lists that are sorted alike.
-use Rattle.std.specs.Prelude.{◌≡◌, ◌≢◌, refl, ℕ, ◌+◌, ◌<◌, ◌≤◌, ℤ, pos, ◌≤ℤ◌, ◌<ℤ◌, int_le, Bool, true, false, List, [], ◌∷◌, map, if◌then◌else◌}
+use Rattle.std.specs.Prelude.{◌≡◌, ◌≢◌, refl, ℕ, ◌+◌, ◌<◌, ℤ, pos, ◌≤ℤ◌, ◌<ℤ◌, int_le, Bool, true, false, List, [], ◌∷◌, map, if◌then◌else◌}
 use Rattle.std.proofs.Common.{ap, sym, arith, subst, ◌∙◌}
 use Rattle.std.proofs.lemmas.Int.{ints}
-use Rattle.tree_rules.specs.Orders.{put_before, sorted_by, numbered_from, in_order, in_document_order}
+use Rattle.tree_rules.specs.Orders.{put_before, sorted_by, numbered_from, in_order}
 
 -- ---- one step of a sort
 

@@ -1,8 +1,9 @@
 //! What holds of the definitions. Each law is the contract of a function that does nothing.
 
-ghost use Rattle.std.specs.Prelude.{◌≡◌, ℕ, List, ◌∷◌, [], ◌++◌};
-ghost use Rattle.plain_tree.specs.Trees.{Trees};
+ghost use Rattle.std.specs.Prelude.{◌≡◌, ℕ, ℤ, List, ◌∷◌, [], ◌++◌};
+ghost use Rattle.plain_tree.specs.Trees.{Trees, leafless, tree};
 ghost use Rattle.tree_rules.specs.declared.query.Query.{Query};
+ghost use Rattle.tree_rules.specs.Boxes.{AreLimited, LeavesAreBare, boxes, names_of, names_told};
 ghost use Rattle.tree_rules.specs.Chains.{Link, above_of, chain_of, sibling_of, siblings_of};
 ghost use Rattle.tree_rules.specs.KeptAnswers.{AreRight, IsAbsent, IsRightPair, last_of, most_kept};
 ghost use Rattle.tree_rules.specs.Labels.{Label};
@@ -29,4 +30,11 @@ pub fn chains_are_of_grid_values()
 pub fn right_answers_stay_right<A>()
     ensures none { (s : Seen) (plain : A → Answer) → AreRight {A = A} s plain [] }
     ensures put { (s : Seen) (plain : A → Answer) (kept : List (Query × A)) (q : Query) (a : A) → AreRight s plain kept → IsAbsent q kept → IsRightPair s plain q a → AreRight s plain (last_of most_kept (kept ++ (q, a) ∷ [])) }
+{}
+
+/// The boxes of a tree in which only containers have children name each node once, in document order, and the size of each is
+/// within the range of lengths.
+pub fn boxes_are_of_all_nodes()
+    ensures names { (width height : ℤ) (x : Label) (below : Trees Label) → LeavesAreBare (tree x below leafless) → names_told (boxes width height x below) ≡ names_of (tree x below leafless) }
+    ensures sizes { (width height : ℤ) (x : Label) (below : Trees Label) → LeavesAreBare (tree x below leafless) → AreLimited (boxes width height x below) }
 {}

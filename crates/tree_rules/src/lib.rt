@@ -9,5 +9,8 @@ mod laws;
 mod query;
 
 pub use kind::NodeKind;
-pub use laws::{chains_are_of_grid_values, equal_nodes_answer_equally, right_answers_stay_right};
+pub use laws::{
+    boxes_are_of_all_nodes, chains_are_of_grid_values, equal_nodes_answer_equally,
+    right_answers_stay_right,
+};
 pub use query::{Ask, Given, Query};
