@@ -1,0 +1,9 @@
+mod AllLines
+mod Begun
+mod Crossing
+mod Kept
+mod Orders
+mod Sizes
+mod Starts
+mod Steps
+mod Turns

@@ -1,0 +1,10 @@
+use Rattle.std.proofs.Common.{◌≡◌, ◌≤ℤ◌, pos, drop}
+use Rattle.std.specs.Int.{int_max}
+use Rattle.part_rules.specs.Lists.{greatest_with}
+use Rattle.flex_lines.proofs.crosses.greatest.Given as goal
+
+abbrev pub invariant-loop-size : goal.invariant-loop-size
+invariant-loop-size l = record {
+  so_far : int_max l.greatest (greatest_with (pos 0) (drop l.size-index l.outer)) ≡ greatest_with (pos 0) l.outer;
+  some : pos 0 ≤ℤ l.greatest;
+}

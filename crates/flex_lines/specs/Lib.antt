@@ -1,0 +1,4 @@
+pub mod Crosses
+pub mod Lines
+pub mod Ranges
+pub mod Rounds

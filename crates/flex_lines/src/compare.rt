@@ -1,0 +1,28 @@
+//! Exact numbers of units, and how they compare.
+
+ghost use Rattle.std.specs.Prelude.{◌≡◌, int_le, int_lt};
+
+use lunit::Wide;
+
+/// So many units.
+pub fn units(number: i64) -> Wide
+    ensures { result ≡ number }
+{
+    Wide::of(number as i128)
+}
+
+/// Whether the first is at most the second.
+#[tactic(auto, using(crate::proofs::Orders::le_is))]
+pub fn is_at_most(first: Wide, second: Wide) -> bool
+    ensures { result ≡ int_le first second }
+{
+    first <= second
+}
+
+/// Whether the first is less than the second.
+#[tactic(auto, using(crate::proofs::Orders::lt_is))]
+pub fn is_less(first: Wide, second: Wide) -> bool
+    ensures { result ≡ int_lt first second }
+{
+    first < second
+}
