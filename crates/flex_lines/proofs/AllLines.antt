@@ -1,6 +1,6 @@
 -- All lines, one after another.
-use Rattle.std.proofs.Common.{arith, ap, ◌≡◌, ◌∙◌, sym, subst, refl, ℕ, zero, suc, ◌+◌, ◌<◌, ◌≤◌, ℤ, pos, List, [], ◌∷◌, ◌++◌, drop, get_or, length, slice_range}
-use Rattle.std.proofs.lemmas.List.{append_assoc, drop_all, drop_more}
+use Rattle.std.proofs.Common.{arith, ap, ◌≡◌, ◌∙◌, sym, ℕ, zero, suc, ◌+◌, ◌<◌, ℤ, List, [], ◌∷◌, ◌++◌, drop, get_or, length, slice_range}
+use Rattle.std.proofs.lemmas.List.{append_assoc, drop_more}
 use Rattle.part_rules.specs.declared.flex.FlexItem.{FlexItem}
 use Rattle.part_rules.specs.FlexLines.{line_sizes, main_sizes}
 use Rattle.flex_lines.specs.Lines.{AreRanges, IsRange}

@@ -1,7 +1,7 @@
 -- The lines from the outer size of the line that stands are those of the definition.
-use Rattle.std.proofs.Common.{arith, ap, ◌≡◌, ◌∙◌, sym, refl, true≢false, ℕ, suc, ◌+◌, ◌-◌, ◌<◌, ◌≤◌, ℤ, pos, ◌+ℤ◌, ◌*ℤ◌, Bool, true, false, List, [], ◌∷◌, ◌++◌, length, drop, get_or, map, if◌then◌else◌, int_le, add-one}
+use Rattle.std.proofs.Common.{arith, ap, ◌≡◌, ◌∙◌, sym, true≢false, ℕ, suc, ◌+◌, ◌-◌, ◌<◌, ◌≤◌, ℤ, pos, ◌+ℤ◌, ◌*ℤ◌, Bool, true, false, List, [], ◌∷◌, ◌++◌, length, drop, get_or, map, if◌then◌else◌, int_le, add-one}
 use Rattle.std.proofs.lemmas.Int.{ints}
-use Rattle.std.proofs.lemmas.List.{drop_all, drop_more, length-append, append_assoc}
+use Rattle.std.proofs.lemmas.List.{drop_more, length-append, append_assoc}
 use Rattle.part_rules.specs.declared.flex.FlexItem.{FlexItem}
 use Rattle.part_rules.specs.Lists.{sum_of, filled_from}
 use Rattle.part_rules.specs.FlexLines.{outer_hypothetical, line_length, ranges_from, line_ranges}
@@ -83,14 +83,6 @@ one_begins main gap present joined outer start place i rest d made all h o j t e
     ∙ ap (λ (z : ℤ). made ++ (start, place) ∷ begun main gap place (suc place) z (drop (i + 1) rest)) o
     ∙ sym (ap (λ (ls : Lines). made ++ ls) (step main gap present joined start place i rest d false h j t)) ∙ e
 
--- the last line ends with the items
-pub last_begun : (main gap present : ℤ) (start place i : ℕ) (rest : List FlexItem) (made all : Lines) → length rest ≤ i → place ≡ length rest + 1
-    → made ++ begun main gap start (i + 1) present (drop i rest) ≡ all → i ≤ length rest → made ++ (start, place) ∷ [] ≡ all
-last_begun main gap present start place i rest made all h p e k =
-    let same : place ≡ i + 1 = omega (arith, h, k, p) in
-    ap (λ (n : ℕ). made ++ (start, n) ∷ []) same
-    ∙ sym (ap (λ (ls : List FlexItem). made ++ begun main gap start (i + 1) present ls) (drop_all i rest h)) ∙ e
-
 -- all lines are ranges of the items
 begun_ranges : (main gap present : ℤ) (start place items : ℕ) (rest : List FlexItem) → start ≤ place → place + length rest ≡ items → AreRanges items (begun main gap start place present rest)
 begun_ranges main gap present start place items [] h e = (record { order = h; end = omega (arith, e) }, tt)
@@ -107,6 +99,3 @@ begun_ranges main gap present start place items (x ∷ rest) h e =
 
 pub lines_ranges : (main gap first : ℤ) (y : FlexItem) (rest : List FlexItem) → AreRanges (length (y ∷ rest)) (begun main gap 0 1 first rest)
 lines_ranges main gap first y rest = begun_ranges main gap first 0 1 (length (y ∷ rest)) rest (omega arith) (omega arith)
-
-pub one_range : (items : ℕ) → AreRanges items ((0, items) ∷ [])
-one_range items = (record { order = omega arith; end = omega arith }, tt)

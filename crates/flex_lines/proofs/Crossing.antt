@@ -1,13 +1,13 @@
 -- The cross sizes of lines.
-use Rattle.std.proofs.Common.{arith, ap, ◌≡◌, ◌∙◌, sym, subst, refl, ℕ, zero, suc, ◌+◌, ◌<◌, ◌≤◌, ℤ, pos, negsuc, ◌+ℤ◌, ◌≤ℤ◌, Bool, ◌&&◌, List, [], ◌∷◌, ◌++◌, drop, take, get_or, length, map, Option, Some, None, true}
+use Rattle.std.proofs.Common.{arith, ap, ◌≡◌, ◌∙◌, sym, refl, ℕ, ◌+◌, ◌<◌, ◌≤◌, ℤ, pos, ◌+ℤ◌, ◌≤ℤ◌, Bool, ◌&&◌, List, [], ◌∷◌, ◌++◌, drop, take, get_or, length, map, Option, Some, None, true}
 use Rattle.std.specs.Int.{int_max}
 use Rattle.std.proofs.lemmas.Int.{ints, int_max_is}
-use Rattle.std.proofs.lemmas.List.{append-nil, append_assoc, drop_all, drop_more, take_all}
+use Rattle.std.proofs.lemmas.List.{append-nil, drop_all, drop_more, take_all}
 use Rattle.lunit.specs.Units.{clamp}
 use Rattle.part_rules.specs.declared.share.Share.{Share}
 use Rattle.part_rules.specs.Lists.{greatest_with, sum_of, zipped}
 use Rattle.part_rules.specs.FlexLines.{cross_rest, line_crosses, own_cross, stretched_lines}
-use Rattle.part_rules.specs.Sharing.{roomy, shared_rows, shares}
+use Rattle.part_rules.specs.Sharing.{roomy, shared_rows}
 use Rattle.part_rules.proofs.Sharing.{shares_are}
 use Rattle.flex_lines.specs.Crosses.{added, open_rows}
 

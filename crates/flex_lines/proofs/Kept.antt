@@ -1,16 +1,15 @@
 -- What is kept of a line tells all that its next round needs.
-use Rattle.std.proofs.Common.{arith, ap, subst, ◌≡◌, ◌∙◌, sym, refl, ℕ, zero, suc, ◌+◌, ◌-◌, ◌*◌, ◌<◌, ◌≤◌, ℤ, pos, ◌+ℤ◌, ◌-ℤ◌, ◌*ℤ◌, Bool, true, false, ◌&&◌, List, [], ◌∷◌, ◌++◌, length, map, set, Option, Some, None, if◌then◌else◌, add-zero, append_assoc}
-use Rattle.std.specs.Prelude.{◌==◌, is_some}
+use Rattle.std.proofs.Common.{arith, ap, ◌≡◌, ◌∙◌, sym, refl, ℕ, suc, ◌+◌, ℤ, pos, ◌+ℤ◌, ◌-ℤ◌, Bool, true, false, List, [], ◌∷◌, ◌++◌, length, map, set, Option, Some, None, if◌then◌else◌, append_assoc}
+use Rattle.std.specs.Prelude.{◌==◌}
 use Rattle.std.proofs.lemmas.Int.{ints}
 use Rattle.std.proofs.lemmas.List.{length-append}
 use Rattle.std.proofs.Math.Seq.{set-append_seam}
-use Rattle.lunit.specs.Units.{clamp}
 use Rattle.part_rules.specs.declared.flex.FlexItem.{FlexItem}
-use Rattle.part_rules.specs.Lists.{sum_of, total_of, zipped, above_zero}
-use Rattle.part_rules.specs.Sharing.{part, apportioned_after, apportioned_whole}
-use Rattle.part_rules.specs.FlexLines.{Piece, factor_of, free_factor, free_space, freezes, frozen_by, gaps, given_parts, given_space, is_free, limited_main, outer_now, resolved, size_of, tried, turn, violation, weight_of}
+use Rattle.part_rules.specs.Lists.{sum_of, total_of, zipped}
+use Rattle.part_rules.specs.Sharing.{part, apportioned_after}
+use Rattle.part_rules.specs.FlexLines.{Piece, factor_of, free_factor, frozen_by, given_space, outer_now, size_of, tried, turn, violation, weight_of}
 use Rattle.flex_lines.specs.declared.flexible.Flexible.{Flexible}
-use Rattle.flex_lines.specs.Rounds.{flexible_from, free_item, given, held_by, left, newly_held, piece, pieces, reach, settled, stopped, stops, tries, IsKeptOf}
+use Rattle.flex_lines.specs.Rounds.{flexible_from, free_item, given, held_by, left, newly_held, pieces, settled, stopped, stops, tries}
 
 -- ---- the sizes that are tried
 

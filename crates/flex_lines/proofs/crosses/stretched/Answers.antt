@@ -1,4 +1,4 @@
-use Rattle.std.proofs.Common.{rules, ap, ◌≡◌, ◌∙◌, sym, subst, pos, List, ℤ, length, map, Some, true}
+use Rattle.std.proofs.Common.{rules, ap, ◌≡◌, ◌∙◌, sym, subst, List, ℤ, length, map, Some, true}
 use Rattle.std.specs.Prelude.{IfOk}
 use Rattle.part_rules.specs.declared.share.Share.{Share}
 use Rattle.part_rules.specs.FlexLines.{stretched_lines}

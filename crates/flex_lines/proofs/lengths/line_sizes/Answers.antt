@@ -1,4 +1,4 @@
-use Rattle.std.proofs.Common.{arith, rules, ap, ◌≡◌, ◌∙◌, sym, ◌+◌, ◌-◌, ◌≤◌, [], length, map}
+use Rattle.std.proofs.Common.{arith, ap, ◌≡◌, ◌∙◌, sym, ◌-◌, ◌≤◌, [], length, map}
 use Rattle.std.proofs.lemmas.Int.{ints}
 use Rattle.part_rules.specs.FlexLines.{begin, free_space, resolved, size_of, turn}
 use Rattle.flex_lines.specs.Rounds.{flexible_from}

@@ -1,4 +1,3 @@
-use Rattle.flex_lines.proofs.Turns.{kept_next}
 use Rattle.std.proofs.Common.{arith, ◌≡◌, ◌∙◌, ap, ◌+ℤ◌}
 use Rattle.std.proofs.lemmas.Int.{ints}
 use Rattle.flex_lines.specs.Rounds.{change_of, left, newly_held, round_sizes, settled}

@@ -1,7 +1,7 @@
-use Rattle.std.proofs.Common.{rules, ◌≡◌, ◌∙◌, ap, sym, subst, ℤ, List, length, map}
+use Rattle.std.proofs.Common.{◌≡◌, ◌∙◌, ap, subst, ℤ, List, length, map}
 use Rattle.std.specs.Prelude.{IfOk}
 use Rattle.std.proofs.lemmas.Result.{IfOk-weaker}
-use Rattle.part_rules.specs.FlexLines.{free_factor, outer_now, weight_of}
+use Rattle.part_rules.specs.FlexLines.{free_factor, outer_now}
 use Rattle.part_rules.specs.Lists.{sum_of, total_of}
 use Rattle.flex_lines.specs.Rounds.{pieces, round_sizes, round_space, space_given, space_left, tries}
 use Rattle.flex_lines.proofs.Steps.{tries-length}

@@ -1,7 +1,7 @@
-use Rattle.std.proofs.Common.{rules, ap, ◌≡◌, ◌∙◌, sym, subst, true, List, ◌∷◌, length, ℕ}
+use Rattle.std.proofs.Common.{rules, ap, ◌≡◌, ◌∙◌, sym, subst, List, ◌∷◌, length, ℕ}
 use Rattle.std.specs.Prelude.{IfOk}
 use Rattle.std.proofs.lemmas.Result.{IfOk-weaker}
-use Rattle.part_rules.specs.FlexLines.{line_ranges, outer_hypothetical}
+use Rattle.part_rules.specs.FlexLines.{line_ranges}
 use Rattle.flex_lines.specs.Lines.{AreRanges, begun}
 use Rattle.flex_lines.proofs.Begun.{lines_begun, lines_ranges}
 use Rattle.flex_lines.proofs.lines.collect_lines.Goals as goal

@@ -1,7 +1,6 @@
-use Rattle.std.proofs.Common.{arith, rules, ap, ◌≡◌, ◌∙◌, sym, ◌+ℤ◌, get_or, true, false, int_le}
+use Rattle.std.proofs.Common.{arith, ap, ◌≡◌, ◌∙◌, sym, ◌+ℤ◌, get_or, true, false, int_le}
 use Rattle.std.proofs.lemmas.Int.{ints}
 use Rattle.part_rules.specs.FlexLines.{outer_hypothetical}
-use Rattle.flex_lines.specs.Lines.{begun}
 use Rattle.flex_lines.proofs.Begun.{one_joins, one_begins}
 use Rattle.flex_lines.proofs.lines.wrapped.Goals as goal
 

@@ -1,4 +1,4 @@
-use Rattle.std.proofs.Common.{◌≡◌, ◌+◌, ◌*◌, ◌≤◌, ◌++◌, ◌≤ℤ◌, pos, neg_ℤ, drop}
+use Rattle.std.proofs.Common.{◌≡◌, ◌+◌, ◌*◌, ◌++◌, ◌≤ℤ◌, pos, neg_ℤ, drop}
 use Rattle.flex_lines.specs.Lines.{begun}
 use Rattle.flex_lines.proofs.lines.wrapped.Given as goal
 

@@ -1,4 +1,4 @@
-use Rattle.std.proofs.Common.{◌≡◌, ◌∙◌, ap}
+use Rattle.std.proofs.Common.{◌∙◌, ap}
 use Rattle.part_rules.specs.Sharing.{part}
 use Rattle.flex_lines.proofs.Sizes.{part_is}
 use Rattle.flex_lines.proofs.round.part.Goals as goal

@@ -1,4 +1,4 @@
-use Rattle.std.proofs.Common.{◌≡◌, ◌+◌, ◌*◌, ◌≤◌, ◌^◌, ◌+ℤ◌, ◌≤ℤ◌, pos, neg_ℤ, drop, map}
+use Rattle.std.proofs.Common.{◌≡◌, ◌+◌, ◌*◌, ◌≤◌, ◌+ℤ◌, ◌≤ℤ◌, pos, neg_ℤ, drop, map}
 use Rattle.part_rules.specs.FlexLines.{free_factor, outer_now, weight_of}
 use Rattle.part_rules.specs.Lists.{sum_of, total_of}
 use Rattle.flex_lines.specs.Rounds.{pieces}
