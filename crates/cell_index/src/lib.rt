@@ -1,7 +1,11 @@
 //! Which cells of a grid are taken (CSS Grid 2, 8.5).
 #![tactic(auto)]
 
+mod bands;
+mod columns;
+mod intervals;
 mod list;
 
+pub use intervals::IntervalCells;
 pub use list::ListCells;
 pub use lunit::Occupancy;

@@ -1,0 +1,4 @@
+pub mod Changes
+pub mod Filled
+pub mod Spans
+pub mod Told

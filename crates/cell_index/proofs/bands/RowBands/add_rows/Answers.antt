@@ -1,0 +1,40 @@
+use Rattle.std.proofs.Common.{arith, rules, sym, ap, subst, ◌∙◌, ◌≡◌, ℤ, ◌&&◌, ◌||◌, to_z, of_z, w32, SFits}
+use Rattle.std.specs.Prelude.{IsSome}
+use Rattle.std.specs.BTreeMap as tree
+use Rattle.std.specs.Ordering.{int_cmp}
+use Rattle.std.proofs.lemmas.Int.{ints, to_z-of_z}
+use Rattle.cell_index.specs.Taken.{held, within}
+use Rattle.cell_index.proofs.Filled.{band_added, empty_span, in_turn, or_no, spread, still_begins}
+use Rattle.cell_index.proofs.bands.RowBands.add_rows.Goals as goal
+
+pub loop-row-init : goal.loop-row-init
+loop-row-init c =
+    let fits : SFits w32 c.args.area.rows.start = search rules in
+    let e : to_z w32 (of_z w32 c.args.area.rows.start) ≡ c.args.area.rows.start = to_z-of_z w32 c.args.area.rows.start fits in
+    let P : ℤ → Type 0 = λ z. IsSome (tree.get int_cmp c.args.self.now.bands z) in
+    record {
+      begins = subst P (sym e) c.requires.first;
+      ends = c.requires.last;
+      low = omega (arith, ints, e);
+      high = omega (arith, ints, e, c.requires.some);
+      added = λ row column. sym (ap (λ b. held c.args.self.now row column || (b && within c.args.area.columns column)) (empty_span c.args.area.rows.start (to_z w32 (of_z w32 c.args.area.rows.start)) row (omega (arith, ints, e))) ∙ or_no (held c.args.self.now row column));
+    }
+
+pub loop-row-preserved : goal.loop-row-preserved
+loop-row-preserved c =
+    let fits : SFits w32 c.next-next.result = search rules in
+    let e : to_z w32 (of_z w32 c.next-next.result) ≡ c.next-next.result = to_z-of_z w32 c.next-next.result fits in
+    let r : to_z w32 c.loop-row.row-bits ≡ c.loop-row.row = c.loop-row.row-is in
+    let P : ℤ → Type 0 = λ z. IsSome (tree.get int_cmp c.add_to_band.new.self.bands z) in
+    record {
+      begins = subst P (sym e) (still_begins (to_z w32 c.loop-row.row-bits) c.args.area.columns c.loop-row.self c.add_to_band.new.self c.next-next.result c.in_ok-add_to_band.ensures c.next-next.ensures.begins);
+      ends = still_begins (to_z w32 c.loop-row.row-bits) c.args.area.columns c.loop-row.self c.add_to_band.new.self c.args.area.rows.end c.in_ok-add_to_band.ensures c.loop-row.invariant.ends;
+      low = omega (arith, ints, e, c.next-next.ensures.later, r, c.loop-row.invariant.low);
+      high = omega (arith, ints, e, c.next-next.ensures.within);
+      added = λ row column.
+          let turn : (within (record { start = c.args.area.rows.start; end = to_z w32 c.loop-row.row-bits }) row || within (record { start = to_z w32 c.loop-row.row-bits; end = c.next-next.result }) row) ≡ within (record { start = c.args.area.rows.start; end = c.next-next.result }) row = in_turn c.args.area.rows.start (to_z w32 c.loop-row.row-bits) c.next-next.result row c.loop-row.invariant.low (omega (arith, ints, c.next-next.ensures.later)) in
+          let turned : (within (record { start = c.args.area.rows.start; end = to_z w32 c.loop-row.row-bits }) row || within (record { start = to_z w32 c.loop-row.row-bits; end = c.next-next.result }) row) ≡ within (record { start = c.args.area.rows.start; end = to_z w32 (of_z w32 c.next-next.result) }) row = turn ∙ ap (λ z. within (record { start = c.args.area.rows.start; end = z }) row) (sym e) in
+          band_added (to_z w32 c.loop-row.row-bits) c.next-next.result c.args.area.columns c.loop-row.self c.add_to_band.new.self c.in_ok-add_to_band.ensures c.next-next.ensures.ordered c.next-next.ensures.later c.next-next.ensures.begins c.next-next.ensures.none row column
+          ∙ ap (λ b. b || (within (record { start = to_z w32 c.loop-row.row-bits; end = c.next-next.result }) row && within c.args.area.columns column)) (c.loop-row.invariant.added row column)
+          ∙ spread (held c.args.self.now row column) (within (record { start = c.args.area.rows.start; end = to_z w32 c.loop-row.row-bits }) row) (within (record { start = to_z w32 c.loop-row.row-bits; end = c.next-next.result }) row) (within (record { start = c.args.area.rows.start; end = to_z w32 (of_z w32 c.next-next.result) }) row) (within c.args.area.columns column) turned;
+    }

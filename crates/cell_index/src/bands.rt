@@ -1,0 +1,157 @@
+//! The cells that are taken, by bands of rows.
+
+ghost use Rattle.std.specs.Prelude.{◌≡◌, ℤ, [], filter, true, false, ◌||◌, ◌≤ℤ◌, ◌<ℤ◌, None, IsSome, IfOk, OnOk, MatchOption};
+ghost use Rattle.std.specs.List.{list_all};
+ghost use Rattle.std.specs.Ordering.{int_cmp};
+ghost use Rattle.cell_index.specs.declared.columns.TakenColumns.{TakenColumns};
+ghost use Rattle.std.specs.BTreeMap as tree;
+ghost use Rattle.cell_index.specs.Taken.{held, holds, is_open, strictly, taken, within, HasHeld, IsAddedAt};
+
+use crate::columns::TakenColumns;
+use lunit::{Area, NoMemory, Span};
+use std::alloc::Global;
+use std::collections::BTreeMap;
+use std::ops::Bound;
+
+/// Bands of rows, each from its first row up to the next band, with the columns that are taken in all of its rows.
+#[derive(Drop)]
+pub(crate) struct RowBands {
+    bands: BTreeMap<i32, TakenColumns>,
+}
+
+impl RowBands {
+    /// No cell is taken. Takes no memory.
+    pub(crate) fn new(alloc: Global) -> RowBands
+        ensures { (row column : ℤ) → held result row column ≡ false }
+    {
+        RowBands {
+            bands: BTreeMap::new(alloc),
+        }
+    }
+
+    /// The columns that are taken in a row; `None` before all bands, where none are.
+    fn columns_at(&self, row: i32) -> Option<&TakenColumns>
+        ensures { MatchOption result ((column : ℤ) → held self.now row column ≡ false) (λ columns. (column : ℤ) → held self.now row column ≡ taken columns.now column) }
+    {
+        let until = (Bound::Unbounded, Bound::Included(row));
+        match self.bands.range(until).next_back() {
+            Some((_, columns)) => Some(columns),
+            None => None,
+        }
+    }
+
+    /// Whether in each band that begins strictly between two rows no column of a span is taken.
+    fn is_open_between(&self, area: Area) -> bool
+        requires { area.rows.start <ℤ area.rows.end }
+        ensures ordered { tree.IsOrdered int_cmp self.now.bands }
+        ensures value { result ≡ list_all (λ (e : ℤ × TakenColumns). is_open e.1 area.columns) (filter (λ (e : ℤ × TakenColumns). strictly area.rows.start area.rows.end e.0) self.now.bands.entries) }
+    {
+        let between = (
+            Bound::Excluded(area.rows.start),
+            Bound::Excluded(area.rows.end),
+        );
+        self.bands
+            .range(between)
+            .all(|(_, columns)| columns.is_open(area.columns))
+    }
+
+    /// Whether in the band of the area's first row no column of the area is taken.
+    fn is_open_at_start(&self, area: Area) -> bool
+        ensures free { result ≡ true → (column : ℤ) → area.columns.start ≤ℤ column → column <ℤ area.columns.end → held self.now area.rows.start column ≡ false }
+        ensures shut { result ≡ false → area.rows.start <ℤ area.rows.end → HasHeld self.now area }
+    {
+        match self.columns_at(area.rows.start) {
+            Some(columns) => columns.is_open(area.columns),
+            None => true,
+        }
+    }
+
+    /// The same columns as those that are taken in a row.
+    fn copy_at(&self, alloc: Global, row: i32) -> Result<TakenColumns, NoMemory>
+        ensures { IfOk result (λ columns. (column : ℤ) → taken columns column ≡ held self.now row column) }
+    {
+        match self.columns_at(row) {
+            Some(columns) => columns.copy(alloc),
+            None => Ok(TakenColumns::new(alloc)),
+        }
+    }
+
+    /// Makes a row one where a band begins.
+    fn cut(&mut self, alloc: Global, row: i32) -> Result<(), NoMemory>
+        ensures same { OnOk result ((other column : ℤ) → held self.new other column ≡ held self.old other column) }
+        ensures begins { OnOk result (IsSome (tree.get int_cmp self.new.bands row)) }
+        ensures kept { OnOk result ((other : ℤ) → IsSome (tree.get int_cmp self.old.bands other) → IsSome (tree.get int_cmp self.new.bands other)) }
+    {
+        let columns = self.copy_at(alloc, row)?;
+        self.bands.insert(row, columns)?;
+        Ok(())
+    }
+
+    /// The row where the next band begins after a row, up to a row where one begins.
+    fn next(&self, row: i32, last: i32) -> i32
+        requires order { row <ℤ last }
+        requires last { IsSome (tree.get int_cmp self.now.bands last) }
+        ensures later { row <ℤ result }
+        ensures within { result ≤ℤ last }
+        ensures begins { IsSome (tree.get int_cmp self.now.bands result) }
+        ensures ordered { tree.IsOrdered int_cmp self.now.bands }
+        ensures none { filter (λ (e : ℤ × TakenColumns). strictly row result e.0) self.now.bands.entries ≡ [] }
+    {
+        let between = (Bound::Excluded(row), Bound::Excluded(last));
+        match self.bands.range(between).next() {
+            Some((next, _)) => *next,
+            None => last,
+        }
+    }
+
+    /// Takes the columns of a span in the band that begins at a row.
+    fn add_to_band(&mut self, row: i32, columns: Span) -> Result<(), NoMemory>
+        requires { IsSome (tree.get int_cmp self.old.bands row) }
+        ensures { OnOk result (IsAddedAt row columns self.old self.new) }
+    {
+        match self.bands.get_mut(&row) {
+            Some(band) => band.add(columns),
+            None => Ok(()),
+        }
+    }
+
+    /// Whether no cell of an area is taken.
+    pub(crate) fn is_free(&self, area: Area) -> bool
+        requires { area.rows.start <ℤ area.rows.end }
+        ensures free { result ≡ true → (row column : ℤ) → holds area row column ≡ true → held self.now row column ≡ false }
+        ensures shut { result ≡ false → HasHeld self.now area }
+    {
+        if !self.is_open_at_start(area) {
+            return false;
+        }
+        self.is_open_between(area)
+    }
+
+    /// Takes the cells of an area in whose first row a band begins, and one after its last row.
+    fn add_rows(&mut self, area: Area) -> Result<(), NoMemory>
+        requires some { area.rows.start <ℤ area.rows.end }
+        requires first { IsSome (tree.get int_cmp self.old.bands area.rows.start) }
+        requires last { IsSome (tree.get int_cmp self.old.bands area.rows.end) }
+        ensures { OnOk result ((row column : ℤ) → held self.new row column ≡ (held self.old row column || holds area row column)) }
+    {
+        let mut row = area.rows.start;
+        while row < area.rows.end {
+            let next = self.next(row, area.rows.end);
+            self.add_to_band(row, area.columns)?;
+            row = next;
+        }
+        Ok(())
+    }
+
+    /// Takes the cells of an area. After want of memory more or fewer cells may be taken.
+    pub(crate) fn add(&mut self, alloc: Global, area: Area) -> Result<(), NoMemory>
+        ensures { OnOk result ((row column : ℤ) → held self.new row column ≡ (held self.old row column || holds area row column)) }
+    {
+        if area.rows.start >= area.rows.end {
+            return Ok(());
+        }
+        self.cut(alloc, area.rows.start)?;
+        self.cut(alloc, area.rows.end)?;
+        self.add_rows(area)
+    }
+}
