@@ -24,3 +24,4 @@ pub mod SubgridRows
 pub mod Templates
 pub mod TrackRules
 pub mod Whole
+pub use Rattle.plain_tree.specs.Trees as PlainTrees

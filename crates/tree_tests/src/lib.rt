@@ -1,0 +1,6 @@
+//! Tests from the arena of nodes to the boxes, as tables of cases worked by hand. They stand above the crates that they test,
+//! so that none of these is proved twice.
+#![tactic(auto)]
+
+#[cfg(test)]
+mod questions;

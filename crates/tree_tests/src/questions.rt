@@ -1,0 +1,33 @@
+use lunit::{Copied, Lu, Sequence};
+use part_rules::Content;
+use std::test::Fail;
+use tree_rules::{Ask, Given, NodeKind, Query};
+
+#[test]
+fn a_copy_of_a_question_has_its_tracks_and_counts(rt: HostRuntime) -> Result<(), Fail> {
+    let edges = Sequence::from_slice(rt.alloc(), &[(0, 640), (704, 1280)])?;
+    let query = Query {
+        ask: Ask::Frames,
+        reps: Sequence::from_slice(rt.alloc(), &[(3, 1), (1, 2)])?,
+        inline: Given::Tracks(edges, Lu::of(64)),
+        block: Given::Size(Lu::of(300)),
+    };
+    let copy = query.copy(rt.alloc())?;
+    assert_eq!(rt; &copy, &query);
+    Ok(())
+}
+
+#[test]
+fn a_copy_of_a_kind_has_its_content(rt: HostRuntime) -> Result<(), Fail> {
+    let words = Sequence::from_slice(rt.alloc(), &[Lu::of(40), Lu::of(7)])?;
+    let leaf = NodeKind::Leaf(Content::Words {
+        line: Lu::of(20),
+        space: Lu::of(4),
+        words,
+    });
+    let copy = leaf.copy(rt.alloc())?;
+    assert_eq!(rt; &copy, &leaf);
+    let flex = NodeKind::Flex.copy(rt.alloc())?;
+    assert_eq!(rt; &flex, &NodeKind::Flex);
+    Ok(())
+}
