@@ -1,14 +1,14 @@
 -- The least free place along one axis.
-use Rattle.std.proofs.Common.{arith, rules, ◌≡◌, refl, sym, ◌∙◌, subst, true≢false, ℕ, zero, suc, ℤ, pos, ◌+ℤ◌, ◌-ℤ◌, ◌≤ℤ◌, ◌<ℤ◌, Bool, true, false, int_lt, List, if◌then◌else◌}
+use Rattle.std.proofs.Common.{arith, rules, ◌≡◌, refl, sym, ◌∙◌, subst, true≢false, ℕ, zero, suc, ℤ, pos, ◌+ℤ◌, ◌-ℤ◌, ◌≤ℤ◌, ◌<ℤ◌, Bool, true, false, not, ◌&&◌, int_lt, List, [], ◌∷◌, ◌++◌, if◌then◌else◌}
 use Rattle.std.proofs.lemmas.Int.{ints}
-use Rattle.lunit.specs.Areas.{is_free}
+use Rattle.lunit.specs.Areas.{areas_overlap, is_free}
 use Rattle.lunit.specs.declared.geometry.Area.{Area}
 use Rattle.lunit.specs.declared.geometry.Span.{Span}
 use Rattle.part_rules.specs.Lists.{above_zero}
 use Rattle.part_rules.specs.Placement.{to_end, first_free, far_column, far_row, free_column, free_row}
 use Rattle.part_rules.proofs.Placed.{none_before, free_column_free, free_row_free}
 use Rattle.grid_placement.specs.Near.{AllEndBy}
-use Rattle.grid_placement.proofs.Near.{taken_starts}
+use Rattle.grid_placement.proofs.Near.{both_pass, pass_both, taken_starts}
 
 -- the place found is not before where the search begins
 pub found_after : (area : ℤ → Area) (held : List Area) (n : ℕ) (from : ℤ) → from ≤ℤ first_free area held n from
@@ -37,6 +37,32 @@ found_later area held n from x found high taken = go (int_lt x (first_free area 
         let k : first_free area held n from ≤ℤ x = search rules in
         let same : first_free area held n from ≡ x = omega (arith, ints) in
         absurd (true≢false (sym found ∙ subst (λ z. is_free (area z) held ≡ false) (sym same) taken))
+
+-- A search that begins between where another began and what it found finds the same.
+found_again : (area : ℤ → Area) (held : List Area) (m n : ℕ) (from x : ℤ) → from ≤ℤ x → x ≤ℤ first_free area held m from → is_free (area (first_free area held m from)) held ≡ true → is_free (area (first_free area held n x)) held ≡ true
+    → first_free area held n x ≡ first_free area held m from
+found_again area held m n from x low high one two = go (int_lt (first_free area held n x) (first_free area held m from)) (int_lt (first_free area held m from) (first_free area held n x)) refl refl
+  where
+    go : (s t : Bool) → int_lt (first_free area held n x) (first_free area held m from) ≡ s → int_lt (first_free area held m from) (first_free area held n x) ≡ t → first_free area held n x ≡ first_free area held m from
+    go true t e f = let h = found_after area held n x in absurd (true≢false (sym two ∙ none_before area held m from (first_free area held n x) (omega (arith, ints)) (search rules)))
+    go false true e f = absurd (true≢false (sym one ∙ none_before area held n x (first_free area held m from) high (search rules)))
+    go false false e f =
+        let a : first_free area held m from ≤ℤ first_free area held n x = search rules in
+        let b : first_free area held n x ≤ℤ first_free area held m from = search rules in
+        omega (arith, ints)
+
+-- what is free of more is free of the first ones
+free_first : (x : Area) (held new : List Area) → is_free x (held ++ new) ≡ true → is_free x held ≡ true
+free_first x [] new h = refl
+free_first x (a ∷ held) new h = let p = both_pass (not (areas_overlap x a)) (is_free x (held ++ new)) h in pass_both (not (areas_overlap x a)) (is_free x held) p.0 (free_first x held new p.1)
+
+-- Where more is taken, the place found is not before.
+found_grows : (area : ℤ → Area) (held new : List Area) (m n : ℕ) (from : ℤ) → is_free (area (first_free area (held ++ new) n from)) (held ++ new) ≡ true → first_free area held m from ≤ℤ first_free area (held ++ new) n from
+found_grows area held new m n from free = go (int_lt (first_free area (held ++ new) n from) (first_free area held m from)) refl
+  where
+    go : (t : Bool) → int_lt (first_free area (held ++ new) n from) (first_free area held m from) ≡ t → first_free area held m from ≤ℤ first_free area (held ++ new) n from
+    go true e = absurd (true≢false (sym (free_first (area (first_free area (held ++ new) n from)) held new free) ∙ none_before area held m from (first_free area (held ++ new) n from) (found_after area (held ++ new) n from) (search rules)))
+    go false e = search rules
 
 -- ---- columns
 
@@ -83,3 +109,17 @@ row_near line held columns l from h n = go (int_lt line (free_row held columns l
 pub ruleset columns = (column_here, column_later, column_after)
 
 pub ruleset rows = (row_here, row_later, row_after)
+
+-- ---- searches that begin later, and cells of which more are taken
+
+pub column_again : (held : List Area) (k : ℕ) (rows : Span) (from x : ℤ) → from ≤ℤ x → x ≤ℤ free_column held k rows from → free_column held k rows x ≡ free_column held k rows from
+column_again held k rows from x low high = found_again (λ c. record { columns = to_end c k; rows = rows }) held (above_zero (far_column held from -ℤ from)) (above_zero (far_column held x -ℤ x)) from x low high (free_column_free held k rows from) (free_column_free held k rows x)
+
+pub row_again : (held : List Area) (columns : Span) (l : ℕ) (from x : ℤ) → from ≤ℤ x → x ≤ℤ free_row held columns l from → free_row held columns l x ≡ free_row held columns l from
+row_again held columns l from x low high = found_again (λ r. record { columns = columns; rows = to_end r l }) held (above_zero (far_row held from -ℤ from)) (above_zero (far_row held x -ℤ x)) from x low high (free_row_free held columns l from) (free_row_free held columns l x)
+
+pub column_grows : (held new : List Area) (k : ℕ) (rows : Span) (from : ℤ) → free_column held k rows from ≤ℤ free_column (held ++ new) k rows from
+column_grows held new k rows from = found_grows (λ c. record { columns = to_end c k; rows = rows }) held new (above_zero (far_column held from -ℤ from)) (above_zero (far_column (held ++ new) from -ℤ from)) from (free_column_free (held ++ new) k rows from)
+
+pub row_grows : (held new : List Area) (columns : Span) (l : ℕ) (from : ℤ) → free_row held columns l from ≤ℤ free_row (held ++ new) columns l from
+row_grows held new columns l from = found_grows (λ r. record { columns = columns; rows = to_end r l }) held new (above_zero (far_row held from -ℤ from)) (above_zero (far_row (held ++ new) from -ℤ from)) from (free_row_free (held ++ new) columns l from)

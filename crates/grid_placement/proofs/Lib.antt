@@ -3,6 +3,7 @@ pub mod Least
 pub mod InRow
 pub mod Positions
 pub mod Begun
+pub mod LinesReached
 pub mod Ends
 pub mod InRows
 pub mod Ranges

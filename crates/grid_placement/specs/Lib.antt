@@ -4,4 +4,5 @@ pub mod Wishes
 pub mod Entries
 pub mod Starts
 pub mod Fields
+pub mod Reached
 pub use Rattle.part_rules.specs.Placement as Placement

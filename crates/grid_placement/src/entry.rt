@@ -1,6 +1,6 @@
 //! The items with the areas that they get, in the flow's order.
 ghost use Rattle.std.specs.Prelude.{◌≡◌, ◌++◌, [], map, option_to_list, IfOk, OnOk};
-ghost use Rattle.part_rules.specs.Placement.{areas_of, begun, fixed_area, turned_wish, turned_area};
+ghost use Rattle.part_rules.specs.Placement.{areas_of, begun, fixed_area, free_length};
 ghost use Rattle.grid_placement.specs.Entries.{all_seen};
 ghost use Rattle.grid_placement.specs.Wishes.{area_in_flow, wish_in_flow};
 
@@ -50,6 +50,16 @@ fn fixed_area(wish: Wish) -> Option<Area>
     match (wish.column, wish.row) {
         (Spot::At(columns), Spot::At(rows)) => Some(Area { columns, rows }),
         _ => None,
+    }
+}
+
+/// The span of a free place, and 0 for a definite one.
+pub fn free_length(spot: Spot) -> u32
+    ensures { result ≡ free_length spot }
+{
+    match spot {
+        Spot::At(_) => 0,
+        Spot::Free(tracks) => tracks,
     }
 }
 

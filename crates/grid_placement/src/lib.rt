@@ -11,9 +11,11 @@ ghost use Rattle.grid_placement.specs.Wishes.{are_placeable, explicit_columns};
 mod entry;
 mod field;
 mod line;
+mod reached;
 mod rest;
 mod rows;
 mod search;
+mod starts;
 
 use crate::entry::begin;
 use crate::field::field_of;

@@ -4,44 +4,33 @@ ghost use Rattle.lunit.specs.declared.geometry.Area.{Area};
 ghost use Rattle.part_rules.specs.Placement.{row_area, rows_placed};
 ghost use Rattle.grid_placement.specs.Near.{AllEndBy};
 ghost use Rattle.grid_placement.specs.Entries.{all_seen, can_be_placed, count_in_rows, reach, rows_added};
-ghost use Rattle.grid_placement.specs.Starts.{AllBy, EndsAfter, EndsBy, IsReady, IsRowStep, Keeps, start_at};
+ghost use Rattle.grid_placement.specs.Starts.{AllBy, IsReady, IsRowStep, Keeps};
 ghost use Rattle.grid_placement.specs.Wishes.{is_placeable};
 
 use crate::entry::{Entry, hold};
 use crate::line::FARTHEST;
 use crate::search::columns_from;
-use lunit::{Area, NoMemory, Occupancy, Span, Spot};
+use crate::starts::RowStarts;
+use lunit::{Area, NoMemory, Occupancy, Spot};
 use part_rules::Wish;
 use std::alloc::Global;
 use std::collections::BTreeMap;
 
-/// Where the search in these rows begins: in dense mode at 0, and in sparse mode at the line that is kept at the row start, or
-/// at 0 where none is.
-fn search_start(dense: bool, ends: &BTreeMap<i32, i32>, rows: Span) -> i32
-    ensures { result ≡ start_at dense ends.now rows.start }
-{
-    if dense {
-        0
-    } else {
-        ends.get(&rows.start).copied().unwrap_or(0)
-    }
-}
-
-/// The area of an item with a definite row, where the last ends of the row starts are these; `None` for any other item.
+/// The area of an item with a definite row, `None` for any other item.
 fn row_area<O: Occupancy>(
     wish: Wish,
     dense: bool,
-    ends: &BTreeMap<i32, i32>,
+    starts: &RowStarts,
     cells: &O,
 ) -> Option<Area>
     requires near { AllEndBy FARTHEST (O.areas cells.now) }
-    requires kept { AllBy FARTHEST ends.now }
+    requires kept { AllBy FARTHEST starts.now }
     requires fit { IsTrue (is_placeable wish) }
-    ensures { (mine : List Area) → Keeps dense ends.now mine → result ≡ row_area dense (O.areas cells.now) mine wish.column wish.row }
+    ensures { (mine : List Area) → Keeps dense starts.now (O.areas cells.now) mine → result ≡ row_area dense (O.areas cells.now) mine wish.column wish.row }
 {
     match (wish.column, wish.row) {
         (Spot::Free(tracks), Spot::At(rows)) => {
-            let start = search_start(dense, ends, rows);
+            let start = starts.start(dense, rows, tracks);
             let columns = columns_from(cells, tracks, rows, start);
             Some(Area { columns, rows })
         }
@@ -49,35 +38,22 @@ fn row_area<O: Occupancy>(
     }
 }
 
-/// Keeps where the area ends, in sparse mode.
-fn keep(dense: bool, ends: &mut BTreeMap<i32, i32>, area: Option<Area>) -> Result<(), NoMemory>
-    ensures kept { OnOk result ((mine : List Area) → Keeps dense ends.old mine → EndsAfter dense mine area → Keeps dense ends.new (mine ++ option_to_list area)) }
-    ensures by { OnOk result ((line : ℤ) → AllBy line ends.old → EndsBy line area → AllBy line ends.new) }
-{
-    if let Some(area) = area {
-        if !dense {
-            ends.insert(area.rows.start, area.columns.end)?;
-        }
-    }
-    Ok(())
-}
-
 /// Places an item, if it has a definite row and a free column.
 fn place_one<O: Occupancy>(
     entry: &mut Entry,
     dense: bool,
-    ends: &mut BTreeMap<i32, i32>,
+    starts: &mut RowStarts,
     cells: &mut O,
 ) -> Result<(), NoMemory>
     requires room { length (O.areas cells.old) ≤ 65536 }
-    requires ready { IsReady (O.areas cells.old) ends.old }
+    requires ready { IsReady (O.areas cells.old) starts.old }
     requires fit { IsTrue (is_placeable entry.old.wish) }
-    ensures step { OnOk result ((mine : List Area) → Keeps dense ends.old mine → IsRowStep dense (O.areas cells.old) mine entry.old entry.new (O.areas cells.new) ends.new) }
-    ensures ready { OnOk result ((mine : List Area) → Keeps dense ends.old mine → IsReady (O.areas cells.new) ends.new) }
+    ensures step { OnOk result ((mine : List Area) → Keeps dense starts.old (O.areas cells.old) mine → IsRowStep dense (O.areas cells.old) mine entry.old entry.new (O.areas cells.new) starts.new) }
+    ensures ready { OnOk result ((mine : List Area) → Keeps dense starts.old (O.areas cells.old) mine → IsReady (O.areas cells.new) starts.new) }
 {
-    let area = row_area(entry.wish, dense, ends, cells);
+    let area = row_area(entry.wish, dense, starts, cells);
     hold(cells, area)?;
-    keep(dense, ends, area)?;
+    starts.keep(dense, entry.wish, area)?;
     if area.is_some() {
         entry.area = area;
     }
@@ -98,9 +74,12 @@ pub fn place_rows<O: Occupancy>(
     ensures cells { OnOk result (O.areas cells.new ≡ O.areas cells.old ++ rows_added dense (O.areas cells.old) [] (all_seen entries.old)) }
     ensures near { OnOk result (AllEndBy (reach (length (O.areas cells.new))) (O.areas cells.new)) }
 {
-    let mut ends = BTreeMap::new(alloc);
+    let mut starts = RowStarts {
+        ends: BTreeMap::new(alloc),
+        reached: BTreeMap::new(alloc),
+    };
     for entry in entries.iter_mut() {
-        place_one(entry, dense, &mut ends, cells)?;
+        place_one(entry, dense, &mut starts, cells)?;
     }
     Ok(())
 }
