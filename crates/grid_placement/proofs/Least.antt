@@ -1,5 +1,5 @@
 -- The least free place along one axis.
-use Rattle.std.proofs.Common.{arith, rules, ◌≡◌, refl, sym, ◌∙◌, subst, true≢false, ℕ, zero, suc, ℤ, pos, ◌+ℤ◌, ◌-ℤ◌, ◌≤ℤ◌, ◌<ℤ◌, Bool, true, false, not, ◌&&◌, int_lt, List, [], ◌∷◌, ◌++◌, if◌then◌else◌}
+use Rattle.std.proofs.Common.{arith, rules, ◌≡◌, refl, sym, ◌∙◌, subst, true≢false, ℕ, zero, suc, ℤ, pos, ◌+ℤ◌, ◌-ℤ◌, ◌≤ℤ◌, ◌<ℤ◌, Bool, true, false, not, int_lt, List, [], ◌∷◌, ◌++◌, if◌then◌else◌}
 use Rattle.std.proofs.lemmas.Int.{ints}
 use Rattle.lunit.specs.Areas.{areas_overlap, is_free}
 use Rattle.lunit.specs.declared.geometry.Area.{Area}
@@ -52,7 +52,7 @@ found_again area held m n from x low high one two = go (int_lt (first_free area 
         omega (arith, ints)
 
 -- what is free of more is free of the first ones
-free_first : (x : Area) (held new : List Area) → is_free x (held ++ new) ≡ true → is_free x held ≡ true
+pub free_first : (x : Area) (held new : List Area) → is_free x (held ++ new) ≡ true → is_free x held ≡ true
 free_first x [] new h = refl
 free_first x (a ∷ held) new h = let p = both_pass (not (areas_overlap x a)) (is_free x (held ++ new)) h in pass_both (not (areas_overlap x a)) (is_free x held) p.0 (free_first x held new p.1)
 

@@ -1,6 +1,7 @@
 -- The step of the items that are left.
-use Rattle.std.proofs.Common.{arith, rules, subst, ◌≡◌, ◌≤◌, set, sym, ◌∙◌, ℕ, ◌+◌, ℤ, pos, ◌+ℤ◌, ◌≤ℤ◌, ◌<ℤ◌, Bool, true, false, ◌&&◌, List, [], ◌∷◌, ◌++◌, length, map, if◌then◌else◌}
+use Rattle.std.proofs.Common.{ap, arith, rules, subst, ◌≡◌, ◌≤◌, set, sym, ◌∙◌, ℕ, ◌+◌, ℤ, pos, ◌+ℤ◌, ◌≤ℤ◌, ◌<ℤ◌, Bool, true, false, ◌&&◌, List, [], ◌∷◌, ◌++◌, length, map, if◌then◌else◌}
 use Rattle.std.specs.Prelude.{Option, Some, option_to_list, IsTrue, int_le, int_lt}
+use Rattle.std.specs.BTreeMap.{IsEmpty}
 use Rattle.std.proofs.lemmas.Int.{ints}
 use Rattle.std.proofs.lemmas.List.{length-append}
 use Rattle.lunit.specs.declared.geometry.Area.{Area}
@@ -14,28 +15,33 @@ use Rattle.grid_placement.specs.declared.entry.Entry.{Entry}
 use Rattle.grid_placement.specs.declared.field.Field.{Field}
 use Rattle.grid_placement.specs.declared.search.Position.{Position}
 use Rattle.grid_placement.specs.Entries.{all_seen, can_be_placed, count_left, final_area, one_left, reach}
-use Rattle.grid_placement.specs.Fields.{AllHaveRoom, HasRoom, IsNextStep, IsSet, field_of, next_of, position_of}
+use Rattle.grid_placement.specs.declared.reached.Reached.{Reached}
+use Rattle.grid_placement.specs.Reached.{position_of}
+use Rattle.grid_placement.specs.Fields.{AllHaveRoom, HasRoom, IsNextStep, IsSet, Knows, field_of, next_of, position_from, row_from}
+use Rattle.grid_placement.proofs.Known.{IsBegin, knows_nothing, position_finds, position_from_by, row_finds, row_from_by}
 use Rattle.grid_placement.specs.Wishes.{is_within}
 use Rattle.grid_placement.proofs.Near.{both_pass, ends_later}
 use Rattle.grid_placement.proofs.Least.{row_near}
-use Rattle.grid_placement.proofs.Positions.{row_within, column_within}
+use Rattle.grid_placement.proofs.Positions.{found, row_within, column_within}
 use Rattle.grid_placement.proofs.InRows.{near_more}
 
 -- The areas so far and the entries that are left.
-pub record LeftSoFar (flow : Bool) (field : Field) (first : List Area) (all : List Entry) (held : List Area) (cursor : Position) (done : List Area) (left : List Entry) : Type 0 where
+pub record LeftSoFar (flow : Bool) (field : Field) (first : List Area) (all : List Entry) (held : List Area) (cursor : Position) (reached : Reached) (done : List Area) (left : List Entry) : Type 0 where
   pub areas : done ++ map (final_area flow) (rest_placed (field_of field) held (position_of cursor) (all_seen left)) ≡ map (final_area flow) (rest_placed (field_of field) first (record { column = field.first; row = field.row }) (all_seen all))
   pub set : IsSet held field cursor
+  pub knows : Knows field.dense field reached held
   pub fit : IsTrue (can_be_placed (all_seen left))
   pub room : AllHaveRoom field.first field.last (all_seen left)
   pub count : length held + count_left (all_seen left) ≤ 65536
 
-pub left_begin : (flow : Bool) (field : Field) (first : List Area) (all : List Entry) (cursor : Position) (none : List Area) → none ≡ [] → cursor.column ≡ field.first → cursor.row ≡ field.row
+pub left_begin : (flow : Bool) (field : Field) (first : List Area) (all : List Entry) (cursor : Position) (reached : Reached) (none : List Area) → none ≡ [] → IsEmpty reached.rows → IsEmpty reached.positions → cursor.column ≡ field.first → cursor.row ≡ field.row
     → ((start : Position) → start.column ≡ field.first → start.row ≡ field.row → IsSet first field start) → IsTrue (can_be_placed (all_seen all)) → AllHaveRoom field.first field.last (all_seen all) → length first + count_left (all_seen all) ≤ 65536
-    → LeftSoFar flow field first all first cursor none all
-left_begin flow field first all cursor none n c r set fit room count =
+    → LeftSoFar flow field first all first cursor reached none all
+left_begin flow field first all cursor reached none n e1 e2 c r set fit room count =
     let at : position_of cursor ≡ position_of (record { column = field.first; row = field.row }) = λ i. record { column = c i; row = r i } in record {
       areas = λ i. n i ++ map (final_area flow) (rest_placed (field_of field) first (at i) (all_seen all));
       set = set cursor c r;
+      knows = knows_nothing field.dense field reached first e1 e2 (set cursor c r).first;
       fit = fit;
       room = room;
       count = count;
@@ -53,11 +59,39 @@ search_start_by field held cursor columns s = go field.dense (int_lt columns.sta
     go false true = let h = s.cursor_row in omega (arith, ints)
     go false false = let h = s.cursor_row in omega (arith, ints)
 
-pub start_near : (field : Field) (held : List Area) (cursor : Position) (columns : Span) (row : Spot) (l : ℕ) (from : ℤ) → IsSet held field cursor → row ≡ Free l → length held + one_left row ≤ 65536 → from ≡ column_search_start (field_of field) (position_of cursor) columns → from ≤ℤ pos 1310795536
-start_near field held cursor columns row l from s e h f =
-    let by = search_start_by field held cursor columns s in
+pub start_near : (field : Field) (reached : Reached) (held : List Area) (cursor : Position) (columns : Span) (row : Spot) (l : ℕ) (from : ℤ) → IsSet held field cursor → Knows field.dense field reached held → row ≡ Free l → length held + one_left row ≤ 65536
+    → from ≡ row_from field.dense field cursor reached columns l → from ≤ℤ pos 1310795536
+start_near field reached held cursor columns row l from s k e h f =
+    let by = row_from_by field reached held cursor columns l s k in
     let n = one_room (length held) row l e h in
     omega (arith, ints)
+
+pub rows_are_next : (field : Field) (reached : Reached) (held : List Area) (cursor : Position) (column row : Spot) (columns rows : Span) (l : ℕ) (x from : ℤ) → column ≡ At columns → row ≡ Free l → from ≡ row_from field.dense field cursor reached columns l
+    → rows ≡ to_end (free_row held columns l x) l → x ≡ from → Knows field.dense field reached held → Some (record { columns = columns; rows = rows }) ≡ next_of field held cursor column row
+rows_are_next field reached held cursor column row columns rows l x from ce re fe e xe h =
+    subst (λ (c : Spot). Some (record { columns = columns; rows = rows }) ≡ next_of field held cursor c row) (sym ce)
+    (subst (λ (r : Spot). Some (record { columns = columns; rows = rows }) ≡ next_of field held cursor (At columns) r) (sym re)
+    (λ i. Some (record { columns = columns; rows = (e ∙ (λ j. to_end ((ap (free_row held columns l) (xe ∙ fe) ∙ row_finds field reached held cursor columns l h) j) l)) i })))
+
+pub begin_near : (field : Field) (reached : Reached) (held : List Area) (cursor : Position) (column row : Spot) (k l : ℕ) (from : Position) → IsSet held field cursor → Knows field.dense field reached held → HasRoom field.first field.last column row → column ≡ Free k → row ≡ Free l
+    → length held + one_left row ≤ 65536 → from ≡ position_from field.dense field cursor reached k l → ((field.first ≤ℤ from.column) × (from.column ≤ℤ pos 1310795536) × (from.row <ℤ pos 1310795536)) × ((field.first +ℤ pos k) ≤ℤ field.last)
+begin_near field reached held cursor column row k l from s h room ce re count f =
+    let fits : (field.first +ℤ pos k) ≤ℤ field.last = subst (λ (c : Spot). HasRoom field.first field.last c (Free l)) ce (subst (λ (r : Spot). HasRoom field.first field.last column r) re room) in
+    let n = one_room (length held) row l re count in
+    let by = subst (λ (p : Position). IsBegin field.first (reach (length held)) p) (sym f) (position_from_by field reached held cursor k l s fits h) in
+    let a = by.after in
+    let c = by.column in
+    let r = by.row in
+    ((a, omega (arith, ints), omega (arith, ints)), fits)
+
+pub area_is_next : (field : Field) (reached : Reached) (held : List Area) (cursor : Position) (column row : Spot) (k l : ℕ) (from : Position) (a : Area) (x y : ℤ) → x ≡ field.first → y ≡ field.last → column ≡ Free k → row ≡ Free l → HasRoom field.first field.last column row → from ≡ position_from field.dense field cursor reached k l
+    → a ≡ area_at (found held (record { start = x; end = y }) k l (position_of from)) k l → Knows field.dense field reached held → Some a ≡ next_of field held cursor column row
+area_is_next field reached held cursor column row k l from a x y xe ye ce re room f e0 h =
+    let e : a ≡ area_at (found held (record { start = field.first; end = field.last }) k l (position_of from)) k l = e0 ∙ (λ i. area_at (found held (record { start = xe i; end = ye i }) k l (position_of from)) k l) in
+    let fits : (field.first +ℤ pos k) ≤ℤ field.last = subst (λ (c : Spot). HasRoom field.first field.last c (Free l)) ce (subst (λ (r : Spot). HasRoom field.first field.last column r) re room) in
+    subst (λ (c : Spot). Some a ≡ next_of field held cursor c row) (sym ce)
+    (subst (λ (r : Spot). Some a ≡ next_of field held cursor (Free k) r) (sym re)
+    (λ i. Some ((e ∙ (λ j. area_at (found held (record { start = field.first; end = field.last }) k l (position_of (f j))) k l) ∙ (λ j. area_at (position_finds field reached held cursor k l fits h j) k l)) i)))
 
 record IsStart (first line : ℤ) (p : rules.Position) : Type 0 where
   after : first ≤ℤ p.column
@@ -119,10 +153,10 @@ next_set field held cursor (Free k) (Free l) a s cf rf room e =
     subst (λ (x : Area). IsSet (held ++ x ∷ []) field (record { column = x.columns.start; row = x.rows.start })) same
     (set_more field held cursor (area_at p k l) s inside.starts (omega (arith, ints)) (omega (arith, ints)) (omega (arith, ints)) (omega (arith, ints)))
 
-pub next_step_is : (field : Field) (held now : List Area) (cursor later : Position) (column row : Spot) (found : Option Area) (a : Area) → IsSet held field cursor → (is_within column && is_within row) ≡ true → HasRoom field.first field.last column row
+pub next_step_is : (field : Field) (held now : List Area) (cursor later : Position) (column row : Spot) (found : Option Area) (a : Area) (reached : Reached) → IsSet held field cursor → (is_within column && is_within row) ≡ true → HasRoom field.first field.last column row
     → found ≡ next_of field held cursor column row → found ≡ Some a → now ≡ held ++ option_to_list found → later.column ≡ a.columns.start → later.row ≡ a.rows.start
-    → IsNextStep field held cursor column row (Some a) now later
-next_step_is field held now cursor later column row found a s fit room f e n c r =
+    → (Some a ≡ next_of field held cursor column row → Knows field.dense field reached (held ++ a ∷ [])) → IsNextStep field held cursor column row (Some a) now later reached
+next_step_is field held now cursor later column row found a reached s fit room f e n c r knows =
     let parts = both_pass (is_within column) (is_within row) fit in
     let is : Some a ≡ next_of field held cursor column row = sym e ∙ f in
     let end : now ≡ held ++ a ∷ [] = n ∙ (λ i. held ++ option_to_list (e i)) in
@@ -132,4 +166,5 @@ next_step_is field held now cursor later column row found a s fit room f e n c r
       cells = n ∙ (λ i. held ++ option_to_list (f i));
       cursor_is = at ∙ (λ i. cursor_after (position_of cursor) (is i));
       set = subst (λ (x : List Area). IsSet x field later) (sym end) (subst (λ (p : Position). IsSet (held ++ a ∷ []) field p) (λ i. record { column = sym c i; row = sym r i }) (next_set field held cursor column row a s parts.0 parts.1 room is));
+      knows = subst (λ (x : List Area). Knows field.dense field reached x) (sym end) (knows is);
     }

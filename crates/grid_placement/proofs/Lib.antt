@@ -7,6 +7,7 @@ pub mod LinesReached
 pub mod Ends
 pub mod InRows
 pub mod Ranges
+pub mod Known
 pub mod Left
 pub mod Same
 pub mod Whole

@@ -1,6 +1,6 @@
 -- How far searches along one axis have come.
 use Rattle.std.proofs.Common.{arith, ap, subst, ◌≡◌, refl, sym, ◌∙◌, ℕ, ℤ, pos, ◌≤ℤ◌, Bool, true, false, cond, List, ◌++◌}
-use Rattle.std.specs.Prelude.{Option, Some, unwrap_or}
+use Rattle.std.specs.Prelude.{Some, unwrap_or}
 use Rattle.std.specs.Ordering.{int_cmp, nat_cmp}
 use Rattle.std.specs.BTreeMap.{BTreeMap, Updates, get, is_at}
 use Rattle.std.proofs.lemmas.Int.{ints}

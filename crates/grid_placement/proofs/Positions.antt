@@ -1,5 +1,5 @@
 -- The search by rows and then by columns.
-use Rattle.std.proofs.Common.{arith, rules, ◌≡◌, refl, sym, ◌∙◌, subst, true≢false, ℕ, zero, suc, ℤ, pos, ◌+ℤ◌, ◌-ℤ◌, ◌≤ℤ◌, ◌<ℤ◌, ◌⊎◌, inl, inr, Bool, true, false, int_lt, int_le, List, if◌then◌else◌}
+use Rattle.std.proofs.Common.{arith, rules, ◌≡◌, refl, sym, ◌∙◌, subst, true≢false, ℕ, zero, suc, ℤ, pos, ◌+ℤ◌, ◌-ℤ◌, ◌≤ℤ◌, ◌<ℤ◌, ◌⊎◌, inl, inr, Bool, true, false, int_lt, int_le, List, ◌++◌, if◌then◌else◌}
 use Rattle.std.proofs.lemmas.Int.{ints}
 use Rattle.lunit.specs.Areas.{is_free}
 use Rattle.lunit.specs.declared.geometry.Area.{Area}
@@ -8,14 +8,10 @@ use Rattle.part_rules.specs.Lists.{above_zero}
 use Rattle.part_rules.specs.Placement.{to_end, first_free, free_position, rows_to_search, Position, area_at}
 use Rattle.part_rules.proofs.Placed.{free_position_free, free_position_inside, least_position}
 use Rattle.grid_placement.specs.Near.{AllEndBy}
+use Rattle.grid_placement.specs.Reached.{NotAfter}
 use Rattle.grid_placement.specs.InRow.{NoneFree, IsFirst}
 use Rattle.grid_placement.proofs.Near.{taken_starts, moved_span}
-use Rattle.grid_placement.proofs.Least.{found_after}
-
--- in the flow's order the one position is not after the other
-pub record NotAfter (p q : Position) : Type 0 where
-  pub rows : p.row ≤ℤ q.row
-  pub columns : q.row ≤ℤ p.row → p.column ≤ℤ q.column
+use Rattle.grid_placement.proofs.Least.{found_after, free_first}
 
 -- where a position is found for so many columns and rows
 abbrev pub found : List Area → Span → ℕ → ℕ → Position → Position
@@ -223,3 +219,36 @@ pub search_ends : (held : List Area) (columns : Span) (k l : ℕ) (from : Positi
     → (let a : Area = record { columns = place; rows = area.rows } in a ≡ area_at (found held columns k l from) k l)
 search_ends held columns k l from area place s f =
     (λ i. record { columns = place; rows = s.rows_are i }) ∙ found_here held columns k l from (corner area) place s.sought (subst (λ (r : Span). IsFirst held k r area.columns.start columns.end place) s.rows_are f)
+
+-- ---- searches that begin later, and cells of which more are taken
+
+trans : (p q r : Position) → NotAfter p q → NotAfter q r → NotAfter p r
+trans p q r a b =
+    let x = a.rows in
+    let y = b.rows in record {
+      rows = omega (arith, ints);
+      columns = λ h. let m = a.columns (omega (arith, ints)) in let n = b.columns (omega (arith, ints)) in omega (arith, ints);
+    }
+
+-- A search that begins between where another began and what it found finds the same.
+pub position_again : (held : List Area) (columns : Span) (k l : ℕ) (from at : Position) → columns.start ≤ℤ from.column → columns.start ≤ℤ at.column → (columns.start +ℤ pos k) ≤ℤ columns.end → NotAfter from at → NotAfter at (found held columns k l from)
+    → found held columns k l at ≡ found held columns k l from
+position_again held columns k l from at first start fits after before =
+    let one = free_position_inside held columns k l from first fits in
+    let two = free_position_inside held columns k l at start fits in
+    same_position (found held columns k l at) (found held columns k l from)
+    (not_earlier held columns k l at (found held columns k l from) before one.starts one.ends (free_position_free held columns k l from))
+    (not_earlier held columns k l from (found held columns k l at) (trans from at (found held columns k l at) after (found_not_before held columns k l at)) two.starts two.ends (free_position_free held columns k l at))
+
+-- Where more is taken, the position found is not before.
+pub position_grows : (held new : List Area) (columns : Span) (k l : ℕ) (from : Position) → columns.start ≤ℤ from.column → (columns.start +ℤ pos k) ≤ℤ columns.end → NotAfter (found held columns k l from) (found (held ++ new) columns k l from)
+position_grows held new columns k l from first fits =
+    let inside = free_position_inside (held ++ new) columns k l from first fits in
+    not_earlier held columns k l from (found (held ++ new) columns k l from) (found_not_before (held ++ new) columns k l from) inside.starts inside.ends
+    (free_first (area_at (found (held ++ new) columns k l from) k l) held new (free_position_free (held ++ new) columns k l from))
+
+pub not_after_more : (p q r : Position) → NotAfter p q → NotAfter q r → NotAfter p r
+not_after_more p q r a b = trans p q r a b
+
+pub not_after_itself : (p : Position) → NotAfter p p
+not_after_itself p = record { rows = omega (arith, ints); columns = λ h. omega (arith, ints) }

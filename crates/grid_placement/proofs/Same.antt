@@ -15,7 +15,8 @@ use Rattle.part_rules.proofs.Placed.{none_before, free_row_free, free_position_f
 use Rattle.grid_placement.specs.Entries.{rows_added}
 use Rattle.grid_placement.specs.Fields.{AllHaveRoom, HasRoom}
 use Rattle.grid_placement.proofs.Least.{row_after}
-use Rattle.grid_placement.proofs.Positions.{NotAfter, found, found_not_before, not_earlier, same_position}
+use Rattle.grid_placement.specs.Reached.{NotAfter}
+use Rattle.grid_placement.proofs.Positions.{found, found_not_before, not_earlier, same_position}
 
 -- an area is free of the one list where it is free of the other
 pub record SameCells (a b : List Area) : Type 0 where

@@ -1,5 +1,5 @@
 -- Where the items that are left are placed, as the code keeps it.
-use Rattle.std.specs.Prelude.{◌≡◌, ℤ, pos, ◌+ℤ◌, ◌≤ℤ◌, List, [], ◌∷◌, ◌++◌, length, map, Option, option_to_list}
+use Rattle.std.specs.Prelude.{Bool, true, false, ℕ, ◌≡◌, ℤ, pos, ◌+ℤ◌, ◌≤ℤ◌, List, [], ◌∷◌, ◌++◌, length, map, Option, option_to_list, int_lt, if◌then◌else◌}
 use Rattle.lunit.specs.declared.geometry.Area.{Area}
 use Rattle.lunit.specs.declared.geometry.Span.{Span}
 use Rattle.lunit.specs.declared.geometry.Spot.{Spot}
@@ -11,14 +11,12 @@ use Rattle.grid_placement.specs.declared.field.Lines.{Lines}
 use Rattle.grid_placement.specs.declared.search.Position.{Position}
 use Rattle.grid_placement.specs.Near.{AllEndBy}
 use Rattle.grid_placement.specs.Entries.{reach}
+use Rattle.grid_placement.specs.Reached.{PositionsReached, RowsReached, line_reached, position_of, position_reached}
+use Rattle.grid_placement.specs.declared.reached.Reached.{Reached}
 
 -- the field as the rules see it
 abbrev pub field_of : Field → rules.Field
 field_of f = record { columns = record { start = f.first; end = f.last }; first = f.row; dense = f.dense }
-
--- and the position
-abbrev pub position_of : Position → rules.Position
-position_of p = record { column = p.column; row = p.row }
 
 -- and the lines
 abbrev pub span_of : Lines → Span
@@ -71,9 +69,34 @@ pub record IsSet (held : List Area) (field : Field) (cursor : Position) : Type 0
 abbrev pub next_of : Field → List Area → Position → Spot → Spot → Option Area
 next_of field held cursor column row = next_area (field_of field) held (position_of cursor) column row
 
+-- the first position of the field
+abbrev pub first_of : Field → Position
+first_of field = record { column = field.first; row = field.row }
+
+-- what is known in dense mode of the searches so far
+pub record AreReached (field : Field) (reached : Reached) (held : List Area) : Type 0 where
+  pub lines : RowsReached reached.rows field.row held
+  pub positions : PositionsReached reached.positions (record { start = field.first; end = field.last }) (first_of field) (reach (length held)) held
+
+-- in either mode
+abbrev pub Knows : Bool → Field → Reached → List Area → Type 0
+Knows true field reached held = AreReached field reached held
+Knows false field reached held = Unit {0}
+
+-- where the search for so many rows in these columns begins
+abbrev pub row_from : Bool → Field → Position → Reached → Span → ℕ → ℤ
+row_from true field cursor reached columns l = line_reached reached.rows columns l field.row
+row_from false field cursor reached columns l = if int_lt columns.start cursor.column then cursor.row +ℤ pos 1 else cursor.row
+
+-- where the search for so many columns and rows begins
+abbrev pub position_from : Bool → Field → Position → Reached → ℕ → ℕ → Position
+position_from true field cursor reached k l = position_reached reached.positions k l (first_of field)
+position_from false field cursor reached k l = cursor
+
 -- what one item does in the last step
-pub record IsNextStep (field : Field) (held : List Area) (cursor : Position) (column row : Spot) (found : Option Area) (now : List Area) (later : Position) : Type 0 where
+pub record IsNextStep (field : Field) (held : List Area) (cursor : Position) (column row : Spot) (found : Option Area) (now : List Area) (later : Position) (reached : Reached) : Type 0 where
   pub area : found ≡ next_of field held cursor column row
   pub cells : now ≡ held ++ option_to_list (next_of field held cursor column row)
   pub cursor_is : position_of later ≡ cursor_after (position_of cursor) (next_of field held cursor column row)
   pub set : IsSet now field later
+  pub knows : Knows field.dense field reached now

@@ -1,18 +1,21 @@
 //! The items that are left (CSS Grid 2, 8.5, step 4).
-ghost use Rattle.std.specs.Prelude.{◌≡◌, ◌≤◌, ◌<◌, ◌≤ℤ◌, ◌<ℤ◌, ◌+◌, ◌++◌, map, length, IsTrue, IfOk, OnOk};
-ghost use Rattle.part_rules.specs.Placement.{column_search_start, free_search_start, rest_placed, with_area};
+ghost use Rattle.std.specs.Prelude.{◌≡◌, ◌≤◌, ◌<ℤ◌, ◌+◌, ◌++◌, ◌∷◌, [], List, Some, map, length, IsTrue, IfOk, OnOk};
+ghost use Rattle.part_rules.specs.Placement.{rest_placed, with_area};
 ghost use Rattle.grid_placement.specs.Entries.{all_seen, can_be_placed, count_left, final_area, one_left, seen};
-ghost use Rattle.grid_placement.specs.Fields.{AllHaveRoom, HasRoom, IsNextStep, IsSet, field_of, next_of, position_of};
+ghost use Rattle.grid_placement.specs.Fields.{AllHaveRoom, HasRoom, IsNextStep, IsSet, Knows, field_of, next_of, position_from, row_from};
+ghost use Rattle.lunit.specs.declared.geometry.Area.{Area};
 ghost use Rattle.grid_placement.specs.Wishes.{is_placeable};
 ghost use Rattle.grid_placement.specs.declared.search.Position.{Position};
 
-use crate::entry::{Entry, area_in_flow, hold};
+use crate::entry::{Entry, area_in_flow, free_length, hold};
 use crate::field::Field;
 use crate::line::FARTHEST;
+use crate::reached::{Reached, line_reached, position_reached, reach_line, reach_position};
 use crate::search::{Position, Sought, area_from, rows_from};
 use lunit::{Area, NoMemory, Occupancy, Span, Spot};
 use part_rules::Wish;
 use std::alloc::Global;
+use std::collections::BTreeMap;
 
 /// No area.
 const NO_AREA: Area = Area {
@@ -20,14 +23,14 @@ const NO_AREA: Area = Area {
     rows: Span { start: 0, end: 0 },
 };
 
-/// The row at which the search for an item with a definite column begins: in dense mode the first one; in sparse mode the
-/// cursor's, or the next where the column goes back.
-fn row_start(field: Field, cursor: Position, columns: Span) -> i32
+/// The row at which the search for an item with a definite column begins: in dense mode the first one, or the one that a
+/// search of this size has come to; in sparse mode the cursor's, or the next where the column goes back.
+fn row_from(field: Field, cursor: Position, reached: &Reached, columns: Span, tracks: u32) -> i32
     requires { cursor.row <ℤ FARTHEST }
-    ensures { result ≡ column_search_start (field_of field) (position_of cursor) columns }
+    ensures { result ≡ row_from field.dense field cursor reached.now columns tracks }
 {
     if field.dense {
-        return field.row;
+        return line_reached(&reached.rows, columns, tracks, field.row);
     }
     if columns.start < cursor.column {
         return cursor.row + 1;
@@ -35,31 +38,46 @@ fn row_start(field: Field, cursor: Position, columns: Span) -> i32
     cursor.row
 }
 
-/// The position at which the search for an item that is free in both axes begins.
-fn position_start(field: Field, cursor: Position) -> Position
-    ensures { position_of result ≡ free_search_start (field_of field) (position_of cursor) }
+/// The position at which the search for an item that is free in both axes begins: in dense mode the first one, or the one
+/// that a search of this size has come to; in sparse mode the cursor.
+fn position_from(
+    field: Field,
+    cursor: Position,
+    reached: &Reached,
+    columns: u32,
+    rows: u32,
+) -> Position
+    ensures { result ≡ position_from field.dense field cursor reached.now columns rows }
 {
     if field.dense {
-        Position {
+        let first = Position {
             column: field.first,
             row: field.row,
-        }
+        };
+        position_reached(&reached.positions, columns, rows, first)
     } else {
         cursor
     }
 }
 
 /// The area that an item gets, if its row is not definite.
-fn next_area<O: Occupancy>(field: Field, cursor: Position, wish: Wish, cells: &O) -> Option<Area>
+fn next_area<O: Occupancy>(
+    field: Field,
+    cursor: Position,
+    reached: &Reached,
+    wish: Wish,
+    cells: &O,
+) -> Option<Area>
     requires count { length (O.areas cells.now) + one_left wish.row ≤ 65536 }
     requires set { IsSet (O.areas cells.now) field cursor }
     requires fit { IsTrue (is_placeable wish) }
     requires room { HasRoom field.first field.last wish.column wish.row }
+    requires knows { Knows field.dense field reached.now (O.areas cells.now) }
     ensures { result ≡ next_of field (O.areas cells.now) cursor wish.column wish.row }
 {
     match (wish.column, wish.row) {
         (Spot::At(columns), Spot::Free(tracks)) => {
-            let from = row_start(field, cursor, columns);
+            let from = row_from(field, cursor, reached, columns, tracks);
             Some(Area {
                 columns,
                 rows: rows_from(cells, columns, tracks, from),
@@ -72,16 +90,40 @@ fn next_area<O: Occupancy>(field: Field, cursor: Position, wish: Wish, cells: &O
                 columns,
                 rows,
             };
-            Some(area_from(cells, sought, position_start(field, cursor)))
+            let from = position_from(field, cursor, reached, columns, rows);
+            Some(area_from(cells, sought, from))
         }
         _ => None,
     }
+}
+
+/// Keeps how far the search for an item came, in dense mode.
+fn keep(field: Field, reached: &mut Reached, wish: Wish, area: Area) -> Result<(), NoMemory>
+    ensures { OnOk result ((held : List Area) (cursor : Position) → Knows field.dense field reached.old held → IsSet held field cursor → HasRoom field.first field.last wish.column wish.row → Some area ≡ next_of field held cursor wish.column wish.row → Knows field.dense field reached.new (held ++ area ∷ [])) }
+{
+    if field.dense {
+        let rows = free_length(wish.row);
+        match wish.column {
+            Spot::At(columns) => {
+                reach_line(&mut reached.rows, columns, rows, area.rows.start)?;
+            }
+            Spot::Free(columns) => {
+                let corner = Position {
+                    column: area.columns.start,
+                    row: area.rows.start,
+                };
+                reach_position(&mut reached.positions, columns, rows, corner)?;
+            }
+        }
+    }
+    Ok(())
 }
 
 /// Places an item, if its row is not definite; the cursor stays at the place found.
 fn place_next<O: Occupancy>(
     field: Field,
     cursor: &mut Position,
+    reached: &mut Reached,
     wish: Wish,
     cells: &mut O,
 ) -> Result<Option<Area>, NoMemory>
@@ -89,11 +131,13 @@ fn place_next<O: Occupancy>(
     requires set { IsSet (O.areas cells.old) field cursor.old }
     requires fit { IsTrue (is_placeable wish) }
     requires room { HasRoom field.first field.last wish.column wish.row }
-    ensures { IfOk result (λ area. IsNextStep field (O.areas cells.old) cursor.old wish.column wish.row area (O.areas cells.new) cursor.new) }
+    requires knows { Knows field.dense field reached.old (O.areas cells.old) }
+    ensures { IfOk result (λ area. IsNextStep field (O.areas cells.old) cursor.old wish.column wish.row area (O.areas cells.new) cursor.new reached.new) }
 {
-    let area = next_area(field, *cursor, wish, cells);
+    let area = next_area(field, *cursor, reached, wish, cells);
     hold(cells, area)?;
     if let Some(area) = area {
+        keep(field, reached, wish, area)?;
         *cursor = Position {
             column: area.columns.start,
             row: area.rows.start,
@@ -132,8 +176,12 @@ pub fn place_rest<O: Occupancy>(
         column: field.first,
         row: field.row,
     };
+    let mut reached = Reached {
+        rows: BTreeMap::new(alloc),
+        positions: BTreeMap::new(alloc),
+    };
     for entry in entries {
-        let area = place_next(field, &mut cursor, entry.wish, cells)?;
+        let area = place_next(field, &mut cursor, &mut reached, entry.wish, cells)?;
         areas.push(final_area(column_flow, *entry, area))?;
     }
     Ok(areas)

@@ -17,12 +17,7 @@ use std::alloc::Global;
 use std::collections::BTreeMap;
 
 /// The area of an item with a definite row, `None` for any other item.
-fn row_area<O: Occupancy>(
-    wish: Wish,
-    dense: bool,
-    starts: &RowStarts,
-    cells: &O,
-) -> Option<Area>
+fn row_area<O: Occupancy>(wish: Wish, dense: bool, starts: &RowStarts, cells: &O) -> Option<Area>
     requires near { AllEndBy FARTHEST (O.areas cells.now) }
     requires kept { AllBy FARTHEST starts.now }
     requires fit { IsTrue (is_placeable wish) }

@@ -1,6 +1,6 @@
 use Rattle.std.proofs.Common.{arith, refl}
 use Rattle.std.proofs.lemmas.Int.{ints}
-use Rattle.grid_placement.proofs.Ends.{keep_sparse, keep_dense, keep_none, by_sparse, by_dense}
+use Rattle.grid_placement.proofs.Ends.{keep_sparse, keep_dense, by_sparse, by_dense}
 use Rattle.grid_placement.proofs.starts.RowStarts.keep.Goals as goal
 
 pub returns-in_ok-insert-clause-kept : goal.returns-in_ok-insert-clause-kept
