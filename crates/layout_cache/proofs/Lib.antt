@@ -1,0 +1,4 @@
+pub mod Sames
+pub mod Sets
+pub mod Reaches
+pub mod Forgets

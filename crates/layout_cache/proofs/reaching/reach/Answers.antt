@@ -1,0 +1,14 @@
+use Rattle.std.proofs.Common.{◌++◌, ◌∷◌, [], sym, ap, ◌∙◌}
+use Rattle.layout_cache.proofs.Reaches.{none_by, found_by}
+use Rattle.layout_cache.proofs.reaching.reach.Goals as goal
+
+pub returns-then-not-has : goal.returns-then-not-has
+returns-then-not-has g c =
+    c.new-found.ensures.items
+    ∙ none_by g.T.Linked.subgrid c.args.tree.now.tree c.args.touched.now c.args.grid c.root-root.result c.root-root.ensures.root c.in_ok-marks.marks.touched c.in_ok-marks.marks.above c.in_ok-marks.marks.grid c.in_ok-marks.ensures.touched c.in_ok-marks.ensures.above c.in_ok-marks.ensures.grid
+    (sym c.has.ensures ∙ c.if-not-has.true)
+
+pub returns : goal.returns
+returns g c =
+    found_by g.T.Linked.subgrid c.args.tree.now.tree c.args.touched.now c.args.grid c.root-root.result c.root-root.ensures.root c.in_ok-marks.marks.touched c.in_ok-marks.marks.above c.in_ok-marks.marks.grid c.in_ok-marks.ensures.touched c.in_ok-marks.ensures.above c.in_ok-marks.ensures.grid
+    c.visit.new.found.items c.push.new.self.items c.feels.result (sym c.has.ensures ∙ c.if-not-has.false) (c.in_ok-push.ensures.items ∙ ap (λ l. l ++ c.root-root.result ∷ []) c.new-found.ensures.items) c.feels.ensures c.in_ok-visit.ensures

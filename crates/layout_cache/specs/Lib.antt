@@ -1,0 +1,4 @@
+pub use Rattle.tree_rules.specs.KeptAnswers as KeptAnswers
+pub use Rattle.tree_rules.specs.Queries as Queries
+pub mod Kept
+pub mod Reach

@@ -1,0 +1,49 @@
+-- Which nodes an edit reaches (own rule): a touched node and every node above it; and where the edit is felt by subgrids, each node that is joined to a
+-- touched node above it by subgrids alone.
+use Rattle.std.specs.Prelude.{◌≡◌, ℕ, zero, suc, ◌+◌, Bool, false, ◌&&◌, ◌||◌, List, [], ◌∷◌, ◌++◌, if◌then◌else◌}
+use Rattle.plain_tree.specs.Trees.{Trees, leafless, tree}
+use Rattle.node_arena.specs.declared.number.NodeId.{NodeId}
+use Rattle.node_arena.specs.Numbers.{same, mapped, is_among, way_up, below_at}
+use Rattle.node_arena.specs.Plain.{Nodes}
+
+-- a number on the way up from one of these
+abbrev pub is_above : {A : Type 0} → Trees (NodeId × A) → List NodeId → NodeId → Bool
+is_above t [] n = false
+is_above t (m ∷ ms) n = is_among n (way_up t m) || is_above t ms n
+
+module _ {A : Type 0} (subgrid : A → Bool) (touched above : NodeId → Bool) (grid : Bool) where
+  -- The numbers of the reached nodes in document order. `felt` says that the node above is touched, where the edit is felt by subgrids, or is joined so to one
+  -- that is. Below a node that is not reached none is.
+  abbrev pub reached : Bool → Trees (NodeId × A) → List NodeId
+  reached felt leafless = []
+  reached felt (tree x below after) =
+      (if above x.0 || (felt && subgrid x.1) then x.0 ∷ reached ((grid && touched x.0) || (felt && subgrid x.1)) below else []) ++ reached felt after
+
+-- all that an edit reaches
+abbrev pub reached_by : {A : Type 0} → (A → Bool) → Trees (NodeId × A) → List NodeId → Bool → List NodeId
+reached_by subgrid t touched grid = reached subgrid (λ n. is_among n touched) (is_above t touched) grid false t
+
+-- the trees of a list from an index on
+abbrev pub from_tree : {A : Type 0} → ℕ → Trees A → Trees A
+from_tree zero t = t
+from_tree (suc index) leafless = leafless
+from_tree (suc index) (tree x below after) = from_tree index after
+
+-- the child of an index, before those after it
+pub record NextChild {A : Type 0} (subgrid : A → Bool) (t : Trees (NodeId × A)) (n : NodeId) (index : ℕ) (c : NodeId) (is_sub : Bool) : Type 0 where
+  pub value : A
+  pub next : from_tree index (below_at t n) ≡ tree (c, value) (below_at t c) (from_tree (index + 1) (below_at t n))
+  pub is : subgrid value ≡ is_sub
+
+-- the tree with a value under a number as it is once its kept answers are gone
+abbrev pub forgot : {A : Type 0} → (A → A) → NodeId → Trees (NodeId × A) → Trees (NodeId × A)
+forgot f n = mapped (λ k v. if same k n then f v else v)
+
+-- the same for each of these numbers in turn
+abbrev pub forgets : {A : Type 0} → (A → A) → List NodeId → Trees (NodeId × A) → Trees (NodeId × A)
+forgets f [] t = t
+forgets f (n ∷ ns) t = forgets f ns (forgot f n t)
+
+-- an arena where these have forgotten, and nothing else changed
+abbrev pub all_forgot : {A : Type 0} → (A → A) → List NodeId → Nodes A → Nodes A
+all_forgot f ns arena = record arena { tree = forgets f ns arena.tree }
