@@ -3,4 +3,5 @@ pub mod Lengths
 pub mod Pairs
 pub mod SameTrees
 pub mod Sorted
+pub mod StableSort
 pub mod Told

@@ -2,24 +2,24 @@
 use Rattle.std.specs.Prelude.{◌≡◌, ◌≢◌, refl, ℕ, ◌+◌, ◌<◌, ℤ, pos, ◌≤ℤ◌, ◌<ℤ◌, int_le, Bool, true, false, List, [], ◌∷◌, map, if◌then◌else◌}
 use Rattle.std.proofs.Common.{ap, sym, arith, subst, ◌∙◌}
 use Rattle.std.proofs.lemmas.Int.{ints}
-use Rattle.tree_rules.specs.Orders.{put_before, sorted_by, numbered_from, in_order}
+use Rattle.tree_rules.specs.Orders.{put_before, sorted_by, numbered_from, in_order, in_document_order}
 
 -- ---- one step of a sort
 
-put_here : {A : Type 0} (key : A → ℤ) (x y : A) (rest : List A) → int_le (key x) (key y) ≡ true → put_before key x (y ∷ rest) ≡ x ∷ y ∷ rest
+pub put_here : {A : Type 0} (key : A → ℤ) (x y : A) (rest : List A) → int_le (key x) (key y) ≡ true → put_before key x (y ∷ rest) ≡ x ∷ y ∷ rest
 put_here {A} key x y rest h = ap (λ (b : Bool). if b then x ∷ y ∷ rest else y ∷ put_before key x rest) h
 
-put_later : {A : Type 0} (key : A → ℤ) (x y : A) (rest : List A) → int_le (key x) (key y) ≡ false → put_before key x (y ∷ rest) ≡ y ∷ put_before key x rest
+pub put_later : {A : Type 0} (key : A → ℤ) (x y : A) (rest : List A) → int_le (key x) (key y) ≡ false → put_before key x (y ∷ rest) ≡ y ∷ put_before key x rest
 put_later {A} key x y rest h = ap (λ (b : Bool). if b then x ∷ y ∷ rest else y ∷ put_before key x rest) h
 
-le_true : (a b : ℤ) → a ≤ℤ b → int_le a b ≡ true
+pub le_true : (a b : ℤ) → a ≤ℤ b → int_le a b ≡ true
 le_true a b h = go (int_le a b) refl
   where
     go : (t : Bool) → int_le a b ≡ t → t ≡ true
     go true e = refl
     go false e = absurd (omega (arith, ints))
 
-le_false : (a b : ℤ) → b <ℤ a → int_le a b ≡ false
+pub le_false : (a b : ℤ) → b <ℤ a → int_le a b ≡ false
 le_false a b h = go (int_le a b) refl
   where
     go : (t : Bool) → int_le a b ≡ t → t ≡ false
@@ -121,6 +121,13 @@ sort_numbered {A} n (x ∷ rest) = ap (put_before (number_of {A = A}) (n, x)) (s
 -- items in order-modified document order, sorted back by their numbers
 pub back_in_order : {A : Type 0} (order : A → ℤ) (xs : List A) → sorted_by (number_of {A = A}) (in_order order xs) ≡ numbered_from 0 xs
 back_in_order {A} order xs = sort_sort (number_of {A = A}) (λ (e : ℕ × A). order e.1) (numbered_from 0 xs) (all_numbers_apart 0 xs) ∙ sort_numbered 0 xs
+
+numbers_off : {A : Type 0} (n : ℕ) (xs : List A) → map (λ (e : ℕ × A). e.1) (numbered_from n xs) ≡ xs
+numbers_off n [] = refl
+numbers_off n (x ∷ rest) = ap (λ l. x ∷ l) (numbers_off (n + 1) rest)
+
+pub order_undone : {A : Type 0} (order : A → ℤ) (xs : List A) → in_document_order (in_order order xs) ≡ xs
+order_undone {A} order xs = ap (map (λ (e : ℕ × A). e.1)) (back_in_order order xs) ∙ numbers_off 0 xs
 
 -- ---- lists whose items belong together one by one
 

@@ -1,4 +1,4 @@
--- The answers of a node to all that is asked of it.
+-- The answers of a node to all that is asked of it (own rule: the form in which sizes are told).
 use Rattle.std.specs.Prelude.{ℕ, ℤ, List}
 use Rattle.lunit.specs.declared.geometry.Rect.{Rect}
 use Rattle.lunit.specs.declared.item.Item.{Item}

@@ -1,4 +1,4 @@
--- What a question asks of the children of a node, and all that laying out a tree asks.
+-- What a question asks of the children of a node, and all that laying out a tree asks (own rule).
 use Rattle.std.specs.Prelude.{◌≡◌, refl, ℕ, ◌+◌, ◌==◌, ℤ, Bool, false, List, [], ◌∷◌, ◌++◌, map, filter, not, if◌then◌else◌, pos}
 use Rattle.plain_tree.specs.Trees.{Trees, leafless, tree}
 use Rattle.part_rules.specs.declared.view.View.{View}
@@ -70,7 +70,8 @@ flex_asks_inline m = (m.number, inline_query false [])
 abbrev pub flex_asks_block : Settled → ToChild
 flex_asks_block s = (s.member.number, block_query false [] s.inline)
 
--- the width that a child of a column has in its frame, which can be another than that at which its block size is found
+-- the width that a child of a column has in its frame, which can be another than that at which its block size is found (both count; it could also
+-- be the latter alone)
 abbrev pub frame_width : ℕ × Frame → ToChild
 frame_width f = (f.0, block_query false [] f.1.inline)
 

@@ -1,4 +1,4 @@
--- The boxes of a whole tree in its viewport.
+-- The boxes of a whole tree in its viewport (CSS Grid 2, section 6; that the root is an item in the viewport is an own rule).
 use Rattle.std.specs.Prelude.{◌≡◌, refl, ℤ, pos, false, List, [], ◌∷◌, Some, None, ℕ, map}
 use Rattle.plain_tree.specs.Trees.{Trees, tree, labels_of}
 use Rattle.style_types.specs.declared.value.Align.{Align}
@@ -22,7 +22,7 @@ use Rattle.tree_rules.specs.declared.kind.NodeKind.TheVariants as kind
 use Rattle.tree_rules.specs.Labels.{GridStyle, ContentStyle, plain_axis, plain_content, plain_content_axis, plain_grid}
 
 -- The root is an item in an area of the size of the viewport, with `justify-self` `stretch` and `align-self` `start` in place of its own
--- (own rule).
+-- (own rule: it could also keep its own). Percentages are of the viewport, and with an `auto` margin it is fit to its content.
 abbrev pub root_justify : Align
 root_justify = record { mode = align_mode.Stretch; safe = None }
 

@@ -25,7 +25,8 @@ use Rattle.tree_rules.specs.Labels.{plain_axis, plain_grid}
 use Rattle.tree_rules.specs.Templates.{a_name, z_name, px_track}
 
 -- What a grid has in one axis: whether it is a subgrid there, its lines, its gap, and the subgrids from it up to the grid that sizes the tracks,
--- itself first. The gaps are those for lent items, where a percentage counts 0 (own rule).
+-- itself first. The gaps are those for lent items, where a percentage counts 0 (own rule: while frames are
+-- made it could also be of the size that is known then).
 pub record AxisContext : Type 0 where
   pub subgrid : Bool
   pub table : Table
@@ -44,7 +45,7 @@ pub record Placed : Type 0 where
   pub columns : Span
   pub rows : Span
 
--- ---- one axis
+-- ---- one axis (CSS Grid 2, 7.1, 7.3 and section 9)
 
 -- the named areas of `grid-template-areas` along the columns
 abbrev pub named_columns : Option Areas → List NamedSpan
@@ -77,7 +78,8 @@ own_context g cells named count =
 abbrev pub level_of : GridAxis → Span → ℤ → ℤ → Level
 level_of g span gap outer_gap = record { span = span; gap = gap; outer_gap = outer_gap; before = outer_start g; after = outer_end g }
 
--- A grid that has the tracks of its parent over this span. `normal` is the parent's gap.
+-- A grid that has the tracks of its parent over this span. `normal` is the parent's gap, in this axis alone (it could also be so in an axis in
+-- which it is no subgrid).
 abbrev pub shared_context : AxisContext → Span → GridAxis → List NamedSpan → AxisContext
 shared_context parent span g named =
     let gap = gap_by None parent.gap g.gap in
@@ -90,9 +92,10 @@ context_under parent span g cells named count =
     let own = own_context g cells named count in
     if is_subgrid g.template then shared else own
 
--- ---- areas
+-- ---- areas (CSS Grid 2, 8.3 to 8.5)
 
--- The automatic span of a child: that of its name sets where it is a subgrid in this axis, else 1 (CSS Grid 2, 8.3 and section 9).
+-- The automatic span of a child: that of its name sets where it is a subgrid in this axis, else 1 (CSS Grid 2, 8.3 and section 9; it
+-- could also be so for any child of this template, also one that is no grid).
 abbrev pub automatic_span : Bool → Template → ℕ
 automatic_span true (template.Subgrid sets) = max 1 (length sets - 1)
 automatic_span true template.Absent = 1
@@ -130,7 +133,7 @@ placed_children c g children =
 abbrev pub area_of : Placed → ℕ → Area
 area_of p n = of_number n no_area p.areas
 
--- ---- both axes, down a chain
+-- ---- both axes, down a chain (CSS Grid 2, section 9)
 
 -- the counts of a grid's own repetitions, the first of these
 abbrev pub first_pair : List Pair → Pair

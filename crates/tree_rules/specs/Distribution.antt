@@ -24,7 +24,7 @@ use Rattle.std.specs.Prelude.{negsuc, None}
 use Rattle.style_types.specs.declared.value.Size.TheVariants as size
 use Rattle.tree_rules.specs.Labels.{plain_axis}
 
--- ---- values of alignment
+-- ---- values of alignment (CSS Box Alignment 3, section 4)
 
 -- The way in which a value places: `flex-start` and `flex-end` are `start` and `end` for all that is laid out here, and `normal` and
 -- `stretch` place as `start` (CSS Box Alignment 3, sections 4 and 6).
@@ -45,7 +45,7 @@ mode_of align_mode.Evenly = mode.Evenly
 abbrev pub is_safe : Align → Bool
 is_safe a = unwrap_or a.safe false
 
--- ---- tracks
+-- ---- tracks (CSS Box Alignment 3, section 5; CSS Grid 2, 7.2.3.2)
 
 -- The tracks of an axis with their sizes, and the gap between two of them.
 pub record Sized : Type 0 where
@@ -79,7 +79,7 @@ edges_in a size s =
     let n = open_tracks s.rules in
     edges_from (λ k. content_moved (mode_of a.mode) (is_safe a) free k n) s.gap 0 (pos 0) s.rules s.sizes
 
--- ---- an item in its area
+-- ---- an item in its area (CSS Box Alignment 3, section 6; CSS Grid 2, section 9)
 
 -- Where the border box of an item starts, in an area of this start and size: its `auto` margins take the free space first, and its self value
 -- places it in what is left (CSS Box Alignment 3, section 6; CSS Grid 2, 11.2).

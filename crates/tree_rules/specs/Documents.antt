@@ -1,4 +1,5 @@
--- The boxes of a document, whose nodes have declared styles: font sizes, then computed styles, then boxes.
+-- The boxes of a document, whose nodes have declared styles: font sizes, then computed styles, then boxes (CSS Fonts 4, 2.5; CSS Values 4,
+-- section 6.1).
 use Rattle.std.specs.Prelude.{◌≡◌, refl, ℕ, ℤ, pos, List}
 use Rattle.plain_tree.specs.Trees.{Trees, leafless, tree}
 use Rattle.style_types.specs.Computed.{DeclaredMap, computed_style, font_of}

@@ -20,7 +20,7 @@ use Rattle.lunit.specs.Units.{floor_div}
 use Rattle.tree_rules.specs.declared.kind.NodeKind.TheVariants as kind
 use Rattle.tree_rules.specs.Labels.{plain_axis, plain_content, plain_content_axis, plain_grid}
 
--- ---- axes
+-- ---- axes (CSS Flexbox 1, sections 2 and 5.1)
 
 -- the grid-class values along the main axis, which in a column is the block axis
 abbrev pub main_grid : Bool → Label → GridAxis
@@ -46,7 +46,7 @@ line_align container x = self_align x.content.block.own container.content.block.
 abbrev pub is_stretched_across : Bool → Label → Label → Bool
 is_stretched_across column container x = is_stretched (line_align container x) (cross_grid column x) (cross_content column x)
 
--- ---- items
+-- ---- items (CSS Flexbox 1, 4.5 and 9.2)
 
 -- A child of a flex container with its intrinsic inline sizes.
 pub record Member : Type 0 where
@@ -123,7 +123,7 @@ flex_inline f =
     let along : ℤ × ℤ = (low, in_a_row gap highs) in
     if x.content.column then across else along
 
--- ---- once the inline size is known
+-- ---- once the inline size is known (CSS Flexbox 1, 9.3 and 9.4)
 
 -- A child with its inline size.
 pub record Settled : Type 0 where
@@ -195,7 +195,7 @@ crosses_of column x settled ranges cross =
     line_crosses (map (outer_cross column cross) settled) ranges cross gap x.content.wrap (stretches x.content.block.distribution.mode)
 
 -- The block size of a row: the cross sizes of its lines and the gaps between them, where the cross size is not known, also where a height is
--- declared (own rule).
+-- declared (own rule: a declared height could also count).
 abbrev pub row_block : Flex → Lines → List Settled → ℤ
 row_block f lines settled = in_a_row (gap_by None (pos 0) f.label.grid.rows.gap) (crosses_of false f.label settled lines.ranges None)
 

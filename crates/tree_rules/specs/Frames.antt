@@ -26,7 +26,7 @@ use Rattle.style_types.specs.declared.value.AlignMode.TheVariants as align_mode
 use Rattle.tree_rules.specs.declared.kind.NodeKind.TheVariants as kind
 use Rattle.tree_rules.specs.Labels.{plain_axis, plain_content, plain_content_axis, plain_grid}
 
--- ---- frames
+-- ---- frames and boxes
 
 -- A child with its frame, and what is known of it by its inline size.
 pub record Framed : Type 0 where
@@ -49,7 +49,7 @@ boxes_at at (f ∷ rest) =
 abbrev pub down_of : ℤ → List Item → (Given → List Framed) → Down
 down_of block lent framed = record { block = block; lend_rows = lent; frames = λ height. map (λ (f : Framed). f.frame) (framed height); boxes = λ height at. boxes_at at (framed height) }
 
--- ---- grids
+-- ---- grids (CSS Grid 2, section 6 and 11)
 
 -- the place and the size of a border box along one axis, and what the child is given there
 pub record Extent : Type 0 where
@@ -94,7 +94,7 @@ grid_framed g columns axis wides height =
     let rows : View 1 = view_by axis height in
     in_document_order (map (grid_child g columns rows) wides)
 
--- ---- flex containers
+-- ---- flex containers (CSS Flexbox 1, 9.4 to 9.6)
 
 -- A child with its main size and its hypothetical cross size, as border-box sizes.
 pub record Sitting : Type 0 where
@@ -135,7 +135,8 @@ place_across column container l x size =
 abbrev pub given_box : GridAxis → ℤ → Given
 given_box g box = given.Size (content_of_box (inner g) box)
 
--- In a column a child that is stretched to its line is given that width, and keeps the block size found before (own rule); what is below
+-- In a column a child that is stretched to its line is given that width, and keeps the block size found before (own rule: it could also be
+-- sized again); what is below
 -- it is laid out in the new width.
 abbrev pub settled_across : Settled → ℤ → Settled
 settled_across s box =

@@ -39,7 +39,7 @@ use Rattle.lunit.specs.Units.{floor_div}
 use Rattle.style_types.specs.declared.value.Size.{Size}
 use Rattle.style_types.specs.Table.{auto_track}
 
--- ---- the tracks of one axis
+-- ---- the tracks of one axis (CSS Grid 2, section 12)
 
 -- What the sizes of the tracks of one axis depend on.
 pub record TrackAxis : Type 0 where
@@ -69,7 +69,8 @@ sized_for a space base =
 abbrev pub total_for : {axis : ℕ} → TrackAxis → Space axis → ℤ
 total_for a space = clamp (total_of_tracks (sized_for a space None))
 
--- The tracks in a container whose content box has this size: sized for it as a definite space, and distributed in it.
+-- The tracks in a container whose content box has this size: sized for it as a definite space, and distributed in it, also where
+-- the block size is asked (the sizes alone could also do there).
 abbrev pub view_for : {axis : ℕ} → TrackAxis → ℤ → View axis
 view_for {axis} a size =
     let space : Space axis = Definite size in
@@ -82,7 +83,7 @@ view_by a (given.Tracks edges gap) = record { edges = edges; gap = gap }
 view_by a (given.Size size) = view_for a size
 view_by a given.None = view_for a (pos 0)
 
--- ---- children
+-- ---- children (CSS Grid 2, 12.5 and section 9)
 
 -- a child in its area, with its number in document order
 pub record Entry : Type 0 where
@@ -129,7 +130,7 @@ row_items_of c e d =
     let own = child_item c.levels x.content.border_box x.content.scrolls x.grid.rows x.content.block e.area.rows (d.block, d.block) ∷ [] in
     if shares_rows e.kid then lent else own
 
--- ---- a grid
+-- ---- a grid (CSS Grid 2, section 5.2)
 
 -- A grid once the counts of its repetitions are known. The children stand in order-modified document order.
 pub record Grid : Type 0 where
@@ -177,7 +178,7 @@ grid_inline g =
 abbrev pub grid_lends_columns : Grid → List Item
 grid_lends_columns g = empty_item g.context.columns.levels ++ g.columns.items
 
--- ---- once the columns are known
+-- ---- once the columns are known (CSS Grid 2, 12.1)
 
 -- a span counted from the first track
 abbrev pub from_first : Span → Span → Span

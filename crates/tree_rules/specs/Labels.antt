@@ -1,4 +1,5 @@
--- What the rules read of a node: its name, its kind and the values of its properties, sorted by axis. They are the computed values.
+-- What the rules read of a node: its name, its kind and the values of its properties, sorted by axis. They are the computed values
+-- (of the W3C sections that the properties name; which of them lines and areas depend on is an own rule).
 use Rattle.std.specs.Prelude.{◌≡◌, refl, ℕ, ℤ, pos, Bool, true, false, List, [], Option, Some, None}
 use Rattle.lunit.specs.declared.line_value.LineValue.{LineValue}
 use Rattle.lunit.specs.declared.line_value.LineValue.TheVariants as line

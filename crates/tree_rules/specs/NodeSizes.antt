@@ -14,7 +14,7 @@ use Rattle.style_types.specs.declared.value.Size.{Size}
 use Rattle.style_types.specs.declared.value.Size.TheVariants as size
 use Rattle.tree_rules.specs.Labels.{GridAxis, ContentAxis, length_or_zero, plain_axis, plain_content_axis}
 
--- ---- margins, borders and paddings
+-- ---- margins, borders and paddings (CSS 2, section 8)
 
 -- a margin, `auto` counting 0
 abbrev pub margin : Option ℤ → ℤ
@@ -139,13 +139,14 @@ is_auto_margin (Some x) = false
 abbrev pub is_stretched : Align → GridAxis → ContentAxis → Bool
 is_stretched a g c = stretches a.mode && (is_auto c.size && (is_some g.margin_start && is_some g.margin_end))
 
--- ---- the sizes that are used, as border-box sizes
+-- ---- the sizes that are used, as border-box sizes (CSS Grid 2, 6.2; CSS Sizing 3, section 5)
 
 -- the size of a node that is fit to a room by its two content sizes
 abbrev pub fit_to : Bounds → ℤ → ℤ → ℤ × ℤ → ℤ
 fit_to b m room content = int_min (int_max (content.0 +ℤ b.inner) (room -ℤ m)) (content.1 +ℤ b.inner)
 
--- The inline size of a node in a room of this size, where percentages are of that size: its declared size; else, where it is stretched, the
+-- The inline size of a node in a room of this size, where percentages are of that size (they could also be of it less the margins): its
+-- declared size; else, where it is stretched, the
 -- room less its margins; else fit to its content; within its limits (CSS Grid 2, 6.2).
 abbrev pub inline_used : Bounds → Bool → ℤ → ℤ → ℤ × ℤ → ℤ
 inline_used b stretched m room content =

@@ -1,4 +1,4 @@
--- A node of a tree as the rules see it: its label, the links upwards, and what stands below it.
+-- A node of a tree as the rules see it: its label, the links upwards, and what stands below it (own rule).
 use Rattle.std.specs.Prelude.{◌≡◌, refl, ℕ, ◌+◌, Bool, false, List, [], Option, Some, None, bytes_eq, if◌then◌else◌, ◌∷◌}
 use Rattle.plain_tree.specs.Trees.{Trees, leafless, tree, map_trees}
 use Rattle.tree_rules.specs.Answers.{Answers}

@@ -1,4 +1,4 @@
--- Questions: what answers them, and which fit a node.
+-- Questions: what answers them, and which fit a node (own rule).
 use Rattle.std.specs.Prelude.{refl, ◌≡◌, ℕ, ◌==◌, ℤ, pos, ◌≤ℤ◌, Bool, true, false, ◌&&◌, not, List, [], ◌∷◌, reverse, length}
 use Rattle.std.specs.Ordering.{int_eq}
 use Rattle.lunit.specs.declared.item.Item.{Item}

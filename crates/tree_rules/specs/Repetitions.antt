@@ -30,10 +30,10 @@ gap_by None normal (size.Percent t) = pos 0
 gap_by (Some x) normal (size.Percent t) = percent x t
 gap_by base normal s = pos 0
 
--- ---- the size that is counted against
+-- ---- the size that is counted against (CSS Grid 2, 7.2.3.2)
 
 -- Border-box sizes that are declared as lengths: the size as the limits leave it; else the maximum, raised to the minimum; else the minimum, as a
--- size to be reached. Each is then a content size. A percentage is none of them (own rule).
+-- size to be reached. Each is then a content size (they could also be content sizes as they are declared). A percentage is none of them (own rule).
 abbrev pub declared_space : Bounds → RepeatSpace
 declared_space b = elim b.size [
   | Some v ↦ Fits (fitted b v -ℤ b.inner)
@@ -53,7 +53,7 @@ size_of_space (Fits x) = x
 size_of_space (Fills x) = x
 size_of_space Endless = pos 0
 
--- ---- counting
+-- ---- counting (CSS Grid 2, 7.2.3.2)
 
 -- the length of a track function, a percentage being of this size
 abbrev pub counted_breadth : ℤ → Breadth → Option ℤ

@@ -46,7 +46,7 @@ written_repeat l (Some r) count = record {
 }
 
 -- at most so many tracks (own rule): those after them go, and the lines after them with their names; the last line that is left keeps all its
--- names
+-- names (it could also lose those that come from what goes)
 abbrev pub cut_at : ℕ → Written → Written
 cut_at most w = record { sizes = take most w.sizes; names = take (most + 1) w.names; fit = w.fit }
 

@@ -1,4 +1,4 @@
--- The answers of every node of a tree.
+-- The answers of every node of a tree (own rule: the form in which what the sections say of one node is put together).
 use Rattle.std.specs.Prelude.{ℕ, ◌+◌, ℤ, List, [], ◌∷◌, if◌then◌else◌}
 use Rattle.plain_tree.specs.Trees.{Trees, leafless, tree}
 use Rattle.part_rules.specs.declared.content.Content.{Content}

@@ -1,12 +1,15 @@
 //! What holds of the definitions. Each law is the contract of a function that does nothing.
 
 ghost use Rattle.std.specs.Prelude.{◌≡◌, ℕ, ℤ, List, ◌∷◌, [], ◌++◌};
+ghost use Rattle.std.specs.List.Sorted.{IsSortedByKey, IsStableByKey};
+ghost use Rattle.std.specs.Ordering.{int_cmp};
 ghost use Rattle.plain_tree.specs.Trees.{Trees, leafless, tree};
 ghost use Rattle.tree_rules.specs.declared.query.Query.{Query};
 ghost use Rattle.tree_rules.specs.Boxes.{AreLimited, LeavesAreBare, boxes, names_of, names_told};
 ghost use Rattle.tree_rules.specs.Chains.{Link, above_of, chain_of, sibling_of, siblings_of};
 ghost use Rattle.tree_rules.specs.KeptAnswers.{AreRight, IsAbsent, IsRightPair, last_of, most_kept};
 ghost use Rattle.tree_rules.specs.Labels.{Label};
+ghost use Rattle.tree_rules.specs.Orders.{in_document_order, in_order, sorted_by};
 ghost use Rattle.tree_rules.specs.Places.{Seen, answers_of};
 ghost use Rattle.tree_rules.specs.Queries.{Answer, answer_of};
 
@@ -37,4 +40,11 @@ pub fn right_answers_stay_right<A>()
 pub fn boxes_are_of_all_nodes()
     ensures names { (width height : ℤ) (x : Label) (below : Trees Label) → LeavesAreBare (tree x below leafless) → names_told (boxes width height x below) ≡ names_of (tree x below leafless) }
     ensures sizes { (width height : ℤ) (x : Label) (below : Trees Label) → LeavesAreBare (tree x below leafless) → AreLimited (boxes width height x below) }
+{}
+
+/// A list that a stable sort by a key makes of another is the sorted one of the definitions, and items in order-modified document
+/// order that are brought back in document order are the items as they were.
+pub fn stable_sorts_are_the_order<T>()
+    ensures sort { (key : T → ℤ) (xs ys : List T) → IsSortedByKey key int_cmp ys → IsStableByKey key int_cmp xs ys → ys ≡ sorted_by key xs }
+    ensures back { (order : T → ℤ) (xs : List T) → in_document_order (in_order order xs) ≡ xs }
 {}

@@ -11,6 +11,6 @@ mod query;
 pub use kind::NodeKind;
 pub use laws::{
     boxes_are_of_all_nodes, chains_are_of_grid_values, equal_nodes_answer_equally,
-    right_answers_stay_right,
+    right_answers_stay_right, stable_sorts_are_the_order,
 };
 pub use query::{Ask, Given, Query};
