@@ -4,16 +4,18 @@ ghost use Rattle.std.specs.Prelude.{◌≡◌, ◌<◌, ◌^◌, ◌-ℤ◌, pos
 ghost use Rattle.std.specs.List.{list_any};
 ghost use Rattle.std.specs.Int.{int_max};
 ghost use Rattle.lunit.specs.Units.{clamp, top};
-ghost use Rattle.part_rules.specs.Fractions.{falls_short, found, is_flexible, left_flexible, leftover, settled, weight_of};
+ghost use Rattle.part_rules.specs.Fractions.{falls_short, found, fraction_of, is_flexible, left_flexible, leftover, settled, weight_of};
 ghost use Rattle.fr_tracks.specs.Settled.{HaveBases, IsSpace};
 
 use crate::row::{falls_short, held, is_left, left_factor};
 use lunit::{Lu, Wide};
 use part_rules::{FrRow, Fraction};
 
+#[tactic(auto, unfolding(lunit::specs::Units::clamp))]
 /// A space that is shared: at least 0, and limited to the range of lengths.
 fn shared(space: Wide) -> Lu
-    ensures { result ≡ clamp (int_max (pos 0) space) }
+    ensures value { result ≡ clamp (int_max (pos 0) space) }
+    ensures some { pos 0 ≤ℤ result }
 {
     if space < Wide::of(0) {
         Wide::of(0).clamp()
@@ -28,6 +30,8 @@ fn next_fraction(last: &Fraction, rows: &[FrRow], space: Wide) -> Fraction
     requires few { length rows.now < 2 ^ 32 }
     requires space { IsSpace space }
     ensures space { result.space ≡ leftover space (map (settled last.now.space last.now.weight) rows.now) }
+    ensures least { pos 0 ≤ℤ result.space }
+    ensures some { 0 < result.weight }
     ensures weight { result.weight ≡ weight_of (map (settled last.now.space last.now.weight) rows.now) }
 {
     let mut sum = Wide::of(0);
@@ -92,6 +96,28 @@ fn last_short(rows: &[FrRow], space: Wide) -> Fraction
 }
 
 #[tactic(auto, unfolding(lunit::specs::Units::clamp))]
+/// The size of an `fr` for a space from which the gutters are taken off already, so that it can be below 0 (CSS Grid 2, 12.7.1).
+///
+/// There are fewer than 2^32 tracks, no base size is below 0, and the space is at most the greatest length.
+pub fn find_fr_without_gutters(rows: &[FrRow], space: Wide) -> Fraction
+    requires few { length rows.now < 2 ^ 32 }
+    requires space { IsSpace space }
+    requires bases { HaveBases rows.now }
+    ensures value { result ≡ fraction_of space (left_flexible (length rows.now) space rows.now) }
+    ensures space { pos 0 ≤ℤ result.space }
+    ensures weight { 0 < result.weight }
+{
+    let last = last_short(rows, space);
+    if some_left(&last, rows) {
+        next_fraction(&last, rows, space)
+    } else {
+        Fraction {
+            space: Lu::of(0),
+            weight: 1000,
+        }
+    }
+}
+
 /// The size of an `fr` that fills the space with these tracks and gutters (CSS Grid 2, 12.7.1), as a quotient: the space that
 /// the flexible tracks share over the sum of their factors, which counts as at least 1. A flexible track whose part would be
 /// less than its base size counts as not flexible, and the fraction is then found again among the others. Where no flexible
@@ -102,16 +128,9 @@ pub fn find_fr(rows: &[FrRow], gutters: Lu, space: Lu) -> Fraction
     requires few { length rows.now < 2 ^ 32 }
     requires gutters { pos 0 ≤ℤ gutters }
     requires bases { HaveBases rows.now }
-    ensures { result ≡ found rows.now gutters space }
+    ensures value { result ≡ found rows.now gutters space }
+    ensures space { pos 0 ≤ℤ result.space }
+    ensures weight { 0 < result.weight }
 {
-    let shared = space.wide() - gutters.wide();
-    let last = last_short(rows, shared);
-    if some_left(&last, rows) {
-        next_fraction(&last, rows, shared)
-    } else {
-        Fraction {
-            space: Lu::of(0),
-            weight: 1000,
-        }
-    }
+    find_fr_without_gutters(rows, space.wide() - gutters.wide())
 }

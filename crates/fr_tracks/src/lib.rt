@@ -8,7 +8,7 @@ mod law;
 mod row;
 mod sizes;
 
-pub use find::find_fr;
+pub use find::{find_fr, find_fr_without_gutters};
 pub use law::fractions_fill_the_space;
 pub use part_rules::{FrRow, Fraction};
 pub use sizes::expand;
