@@ -73,3 +73,9 @@ auto_margins : boxes (px 100) (px 40) (flex main plain_grid (record plain_conten
     ≡ px_box main 0 0 100 40 ∷ px_box name_a 80 15 20 10 ∷ []
 unfolding clamp floor_div handed_by_level resolved
 auto_margins = refl
+
+-- With a minimum of 0 they shrink by equal parts.
+shrunk : boxes (px 60) (px 50) (flex main plain_grid plain_content) (side_by_side (leaf name_a (px 40) (px 10) plain_grid (record plain_content { inline = record plain_content_axis { least = px_size 0 } }) ∷ leaf name_b (px 40) (px 10) plain_grid (record plain_content { inline = record plain_content_axis { least = px_size 0 } }) ∷ []))
+    ≡ px_box main 0 0 60 10 ∷ px_box name_a 0 0 30 10 ∷ px_box name_b 30 0 30 10 ∷ []
+unfolding clamp floor_div handed_by_level resolved
+shrunk = refl

@@ -1,6 +1,7 @@
 -- Whole documents of grids, worked by hand.
-use Rattle.std.specs.Prelude.{◌≡◌, refl, ℕ, pos, negsuc, Bool, true, false, [], ◌∷◌, codes, Some}
+use Rattle.std.specs.Prelude.{◌≡◌, refl, ℕ, pos, negsuc, Bool, true, false, [], ◌∷◌, codes, Some, List, ℤ}
 use Rattle.lunit.specs.Units.{clamp, floor_div}
+use Rattle.lunit.specs.declared.geometry.Area.{Area}
 use Rattle.lunit.specs.declared.line_value.LineValue.TheVariants as line
 use Rattle.part_rules.specs.Fractions.{left_flexible}
 use Rattle.part_rules.specs.Placement.{placed_by_rows}
@@ -12,7 +13,7 @@ use Rattle.style_types.specs.declared.value.AlignMode.TheVariants as align_mode
 use Rattle.style_types.specs.declared.value.Size.TheVariants as size
 use Rattle.tree_rules.specs.Boxes.{boxes}
 use Rattle.tree_rules.specs.Labels.{GridStyle, Label, plain_axis, plain_content, plain_content_axis, plain_grid}
-use Rattle.tree_rules.specs.Samples.{px, px_size, track, fixed, fr, auto, tracks, repeated, number, span, aligned, in_columns, with_gap, from_to, grid, leaf, words, plain_leaf, side_by_side, box, px_box, main, name_a, name_b, name_c, name_d}
+use Rattle.tree_rules.specs.Samples.{px, px_size, track, fixed, fr, auto, tracks, repeated, number, span, aligned, in_columns, with_gap, from_to, grid, leaf, words, plain_leaf, side_by_side, box, px_box, main, name_a, name_b, name_c, name_d, name_p, name_s}
 
 -- Columns 100px and 1fr with a gap of 10 in a width of 300: the fraction has 300 - 100 - 10. Both children are stretched to the row of 30.
 pixel_and_fr : boxes (px 300) (px 200) (grid main (with_gap (tracks (fixed 100 ∷ fr 1000 ∷ [])) 10) plain_content) (side_by_side (plain_leaf name_a 40 20 ∷ plain_leaf name_b 50 30 ∷ []))
@@ -108,3 +109,29 @@ percentages : boxes (px 101) (px 100) (grid main (record plain_grid { columns = 
     ≡ px_box main 0 0 101 60 ∷ box name_a (pos 1485) (px 25) (pos 582) (px 10) ∷ []
 unfolding clamp floor_div sized group_fitted spans_fitted handed_by_level left_flexible placed_by_rows
 percentages = refl
+
+-- Items at their lines of fixed tracks: the first over both columns of the first row, the second in the last cell.
+placed_at_lines : boxes (px 300) (px 200) (grid main (record plain_grid { columns = record plain_axis { template = tracks (fixed 100 ∷ fixed 50 ∷ []) }; rows = record plain_axis { template = tracks (fixed 20 ∷ fixed 30 ∷ []) } }) plain_content) (side_by_side (leaf name_a (px 10) (px 10) (record plain_grid { columns = record plain_axis { start_line = number (pos 1); end_line = number (pos 3) }; rows = record plain_axis { start_line = number (pos 1); end_line = number (pos 2) } }) plain_content ∷ leaf name_b (px 10) (px 10) (record plain_grid { columns = record plain_axis { start_line = number (pos 2); end_line = number (pos 3) }; rows = record plain_axis { start_line = number (pos 2); end_line = number (pos 3) } }) plain_content ∷ []))
+    ≡ px_box main 0 0 300 50 ∷ px_box name_a 0 0 150 20 ∷ px_box name_b 100 20 50 30 ∷ []
+unfolding clamp floor_div sized group_fitted spans_fitted handed_by_level left_flexible placed_by_rows
+placed_at_lines = refl
+
+-- Three tracks of 100 with gaps of 10 fit 350. The second is empty and collapses, so the item in the third stands one gap after the first.
+collapsed_between : boxes (px 350) (px 50) (grid main (record plain_grid { columns = record plain_axis { template = repeated true (fixed 100 ∷ []) ([] ∷ [] ∷ []) ([] ∷ [] ∷ []); gap = px_size 10; autos = fixed 50 ∷ [] }; rows = record plain_axis { autos = fixed 10 ∷ [] } }) plain_content) (side_by_side (plain_leaf name_a 0 10 ∷ leaf name_b (pos 0) (px 10) (from_to (number (pos 3)) line.Auto) plain_content ∷ []))
+    ≡ px_box main 0 0 350 10 ∷ px_box name_a 0 0 100 10 ∷ px_box name_b 110 0 100 10 ∷ []
+unfolding clamp floor_div sized group_fitted spans_fitted handed_by_level left_flexible placed_by_rows
+collapsed_between = refl
+
+-- an item at a named area
+abbrev in_area : List ℕ → GridStyle
+in_area name = record plain_grid { columns = record plain_axis { start_line = line.Named name; end_line = line.Named name }; rows = record plain_axis { start_line = line.Named name; end_line = line.Named name } }
+
+-- the cells of an area
+abbrev cells : ℤ → ℤ → ℤ → ℤ → Area
+cells a b c d = record { columns = record { start = a; end = b }; rows = record { start = c; end = d } }
+
+-- Areas `a a` over `b c`: the rows that they make have the automatic size of 10.
+named_areas : boxes (px 300) (px 50) (grid main (record plain_grid { columns = record plain_axis { template = tracks (fixed 50 ∷ fixed 70 ∷ []); autos = fixed 1 ∷ [] }; rows = record plain_axis { autos = fixed 10 ∷ [] }; areas = Some (record { columns = 2; rows = 2; named = (name_a, cells (pos 0) (pos 2) (pos 0) (pos 1)) ∷ (name_b, cells (pos 0) (pos 1) (pos 1) (pos 2)) ∷ (name_c, cells (pos 1) (pos 2) (pos 1) (pos 2)) ∷ [] }) }) plain_content) (side_by_side (leaf name_p (px 1) (px 1) (in_area name_c) plain_content ∷ leaf name_s (px 1) (px 1) (in_area name_a) plain_content ∷ []))
+    ≡ px_box main 0 0 300 20 ∷ px_box name_p 50 10 70 10 ∷ px_box name_s 0 0 120 10 ∷ []
+unfolding clamp floor_div sized group_fitted spans_fitted handed_by_level left_flexible placed_by_rows
+named_areas = refl
