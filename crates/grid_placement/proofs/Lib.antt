@@ -11,3 +11,4 @@ pub mod Known
 pub mod Left
 pub mod Same
 pub mod Whole
+pub mod Fills

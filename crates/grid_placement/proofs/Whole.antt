@@ -157,15 +157,15 @@ field_has_room dense explicit held ws =
 
 -- ---- both flows
 
-all_same : {X : Type 0} (f : X → X) (xs : List X) → ((x : X) → f x ≡ x) → map f xs ≡ xs
+pub all_same : {X : Type 0} (f : X → X) (xs : List X) → ((x : X) → f x ≡ x) → map f xs ≡ xs
 all_same f [] h = refl
 all_same f (x ∷ xs) h = λ i. h x i ∷ all_same f xs h i
 
-map_twice : {X Y Z : Type 0} (g : Y → Z) (f : X → Y) (xs : List X) → map (λ x. g (f x)) xs ≡ map g (map f xs)
+pub map_twice : {X Y Z : Type 0} (g : Y → Z) (f : X → Y) (xs : List X) → map (λ x. g (f x)) xs ≡ map g (map f xs)
 map_twice g f [] = refl
 map_twice g f (x ∷ xs) = ap (λ ys. g (f x) ∷ ys) (map_twice g f xs)
 
-in_flow : (flow : Bool) (items : List Wish) (shape : Shape) → map (area_in_flow flow) (placed_by_rows (explicit_columns flow shape) (explicit_rows flow shape) shape.dense (map (wish_in_flow flow) items))
+pub in_flow : (flow : Bool) (items : List Wish) (shape : Shape) → map (area_in_flow flow) (placed_by_rows (explicit_columns flow shape) (explicit_rows flow shape) shape.dense (map (wish_in_flow flow) items))
     ≡ (if flow then map turned_area (placed_by_rows shape.rows shape.columns shape.dense (map turned_wish items)) else placed_by_rows shape.columns shape.rows shape.dense items)
 in_flow true items shape = refl
 in_flow false items shape = all_same (area_in_flow false) (placed_by_rows shape.columns shape.rows shape.dense (map (wish_in_flow false) items)) (λ x. refl) ∙ ap (λ (ws : List Wish). placed_by_rows shape.columns shape.rows shape.dense ws) (all_same (wish_in_flow false) items (λ x. refl))

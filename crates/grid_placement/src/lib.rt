@@ -6,6 +6,7 @@
 
 ghost use Rattle.std.specs.Prelude.{◌≡◌, ◌≤◌, [], length, IsTrue, IfOk};
 ghost use Rattle.part_rules.specs.Placement.{NoOverlap, placed};
+ghost use Rattle.grid_placement.specs.Dense.{FillsHoles};
 ghost use Rattle.grid_placement.specs.Wishes.{are_placeable, explicit_columns};
 
 mod entry;
@@ -27,6 +28,9 @@ use std::alloc::Global;
 
 /// The areas of the items of a grid, which come in order-modified document order (CSS Grid 2, 8.5).
 ///
+/// The area of an item that is not definite in both axes overlaps no other. In dense mode each item stands at the first place,
+/// from where its search began, that was free of the areas placed before it.
+///
 /// Of the cells nothing may be taken before. They serve the search, in the flow's axes; what they hold after the call is not
 /// said. Each definite span begins before it ends, at line 10,000 or before; each free span is of at most 20,000 tracks; there
 /// are at most 65,536 items. The number of explicit tracks has no limit.
@@ -43,6 +47,7 @@ pub fn place<O: Occupancy>(
     requires spans { IsTrue (are_placeable items.now) }
     ensures areas { IfOk result (λ areas. areas.items ≡ placed items.now shape) }
     ensures apart { IfOk result (λ areas. NoOverlap items.now areas.items) }
+    ensures dense { IfOk result (λ areas. FillsHoles items.now shape areas.items) }
 {
     let flow = shape.column_flow;
     let mut entries = begin(alloc, items, flow, cells)?;

@@ -5,6 +5,8 @@ use Rattle.part_rules.proofs.Apart.{no_overlap}
 use Rattle.part_rules.specs.Placement.{columns_for, first_row, NoOverlap}
 use Rattle.grid_placement.specs.Entries.{all_seen}
 use Rattle.grid_placement.specs.Wishes.{explicit_rows}
+use Rattle.grid_placement.specs.Dense.{FillsHoles}
+use Rattle.grid_placement.proofs.Fills.{fills_holes}
 use Rattle.grid_placement.proofs.Whole.{begun_near, begun_fit, begun_room, flow_items, rest_room, rest_count, rest_fit, field_set, placed_is, written}
 use Rattle.grid_placement.proofs.place.Goals as goal
 
@@ -82,3 +84,6 @@ returns-clause-areas g c = is_placed g c
 
 pub returns-clause-apart : goal.returns-clause-apart
 returns-clause-apart g c = subst (λ (areas : List Area). NoOverlap c.args.items.now areas) (sym (is_placed g c)) (no_overlap c.args.items.now c.args.shape)
+
+pub returns-clause-dense : goal.returns-clause-dense
+returns-clause-dense g c = subst (λ (areas : List Area). FillsHoles c.args.items.now c.args.shape areas) (sym (is_placed g c)) (fills_holes c.args.items.now c.args.shape)
