@@ -189,14 +189,15 @@ in_area : (placed_children upper_context upper (child plain_grid ∷ child (reco
 unfolding placed_by_rows
 in_area = refl
 
--- Columns 2 to 3 and 3 to 4 as a subgrid with the area name `z` of its own in its second cell and a gap of 3 in place of 8, with margins of 1.
+-- A subgrid over the lines 2 to 4 with the name `z` on its first line, a gap of 3 in place of 8, and margins of 1.
 abbrev lower : GridStyle
 lower = record plain_grid { columns = record plain_axis { template = template.Subgrid ((z_name ∷ []) ∷ []); gap = size.Length (pos 3); margin_start = Some (pos 1); margin_end = Some (pos 1) } }
 
 abbrev lower_context_by : Context
 lower_context_by = lower_context upper_context (record { columns = from_line (pos 2) (pos 4); rows = from_line (pos 0) (pos 1) }) lower (1, 1)
 
--- It has the parent's gap in mind, its own set on its first line and the edges of the parent's area on both.
+-- It has two tracks, and one level with the gaps of both. On its first line stand its own name and the name by the parent's area, which it takes over and
+-- has from the parent's line too; on its last line the area ends.
 two_tracks : lower_context_by.columns.table.tracks ≡ 2
 two_tracks = refl
 

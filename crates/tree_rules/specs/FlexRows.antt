@@ -68,7 +68,8 @@ stretched_to_line : boxes (px 100) (px 100) (flex main plain_grid (record plain_
 unfolding clamp floor_div handed_by_level resolved
 stretched_to_line = refl
 
--- An `auto` margin takes the rest of 100 before the content distribution, and across the other takes half of 30.
+-- An `auto` margin takes the rest of 100 before the content distribution, and of two across each takes half
+-- of 30.
 auto_margins : boxes (px 100) (px 40) (flex main plain_grid (record plain_content { block = record plain_content_axis { size = px_size 40 } })) (side_by_side (leaf name_a (px 20) (px 10) (record plain_grid { columns = record plain_axis { margin_start = None }; rows = record plain_axis { margin_start = None; margin_end = None } }) plain_content ∷ []))
     ≡ px_box main 0 0 100 40 ∷ px_box name_a 80 15 20 10 ∷ []
 unfolding clamp floor_div handed_by_level resolved
