@@ -1,0 +1,16 @@
+pub mod Sums
+pub mod Floored
+pub mod Loops
+pub mod Turns
+pub mod Shares
+pub mod Parts
+pub mod Given
+pub mod Around
+pub mod Local
+pub mod Groups
+pub mod Limits
+pub mod Grown
+pub mod Singles
+pub mod Kept
+pub mod Whole
+pub mod Initial

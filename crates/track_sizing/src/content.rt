@@ -1,0 +1,187 @@
+//! Intrinsic track sizes (CSS Grid 2, 12.5).
+
+ghost use Rattle.std.specs.Prelude.{◌≡◌, ◌<◌, ◌^◌, IfOk, OnOk, filter, length, map, true};
+ghost use Rattle.part_rules.specs.Tracks.{close_limit, content_sized, crosses_flexible, group_fitted, of_span, some_fitted, spans_fitted};
+ghost use Rattle.track_sizing.specs.Placed.{AreIn, AreSet, IsIn};
+ghost use Rattle.track_sizing.specs.Spans.{is_of_span};
+
+use crate::alone::fit_alone;
+use crate::distribute::place_of;
+use crate::group::fit_group;
+use crate::item::{some_flexible, span_length};
+use crate::rest::close_set_limits;
+use crate::row::Row;
+use lunit::{Item, Lu, NoMemory, Wide};
+use part_rules::{Share, Space};
+use std::alloc::Global;
+
+/// Whether an item crosses a flexible track.
+pub fn crosses_flexible(first: Wide, rows: &[Row], item: &Item) -> bool
+    requires few { length rows.now < 2 ^ 32 }
+    requires set { AreSet first rows.now }
+    requires item { IsIn first (length rows.now) item.now }
+    ensures { result ≡ crosses_flexible rows.now item.now }
+{
+    let start = place_of(first, item);
+    let tracks = span_length(item) as usize;
+    let (_before, rest) = rows.split_at(start);
+    let (mine, _behind) = rest.split_at(tracks);
+    some_flexible(mine)
+}
+
+/// Whether an item spans so many tracks, of which none is flexible.
+fn is_of_span(first: Wide, rows: &[Row], span: u64, item: &Item) -> bool
+    requires few { length rows.now < 2 ^ 32 }
+    requires set { AreSet first rows.now }
+    requires item { IsIn first (length rows.now) item.now }
+    ensures { result ≡ is_of_span rows.now span item.now }
+{
+    span_length(item) == span && !crosses_flexible(first, rows, item)
+}
+
+/// The items that span so many tracks, of which none is flexible.
+#[tactic(auto, using(crate::proofs::Kept::kept_items))]
+fn of_span(
+    alloc: Global,
+    first: Wide,
+    rows: &[Row],
+    items: &[Item],
+    span: u64,
+) -> Result<Vec<Item>, NoMemory>
+    requires few { length rows.now < 2 ^ 32 }
+    requires set { AreSet first rows.now }
+    requires items { AreIn first (length rows.now) items.now }
+    ensures value { IfOk result (λ group. group.items ≡ of_span rows.now items.now span) }
+    ensures items { IfOk result (λ group. AreIn first (length rows.now) group.items) }
+{
+    let mut group = Vec::new(alloc);
+    for item in items {
+        if is_of_span(first, rows, span, item) {
+            group.push(*item)?;
+        }
+    }
+    Ok(group)
+}
+
+/// The items that cross a flexible track.
+#[tactic(auto, using(crate::proofs::Kept::kept_items))]
+fn crossing_items(
+    alloc: Global,
+    first: Wide,
+    rows: &[Row],
+    items: &[Item],
+) -> Result<Vec<Item>, NoMemory>
+    requires few { length rows.now < 2 ^ 32 }
+    requires set { AreSet first rows.now }
+    requires items { AreIn first (length rows.now) items.now }
+    ensures value { IfOk result (λ group. group.items ≡ filter (crosses_flexible rows.now) items.now) }
+    ensures items { IfOk result (λ group. AreIn first (length rows.now) group.items) }
+{
+    let mut group = Vec::new(alloc);
+    for item in items {
+        if crosses_flexible(first, rows, item) {
+            group.push(*item)?;
+        }
+    }
+    Ok(group)
+}
+
+/// The steps for a group of items that cross no flexible track; a group without items is passed over.
+#[tactic(auto, using(crate::proofs::Kept::some_group, crate::proofs::Kept::no_group))]
+fn fit_some<const AXIS: u8>(
+    space: &Space<AXIS>,
+    gap: Lu,
+    first: Wide,
+    items: &[Item],
+    rows: &mut [Row],
+    takers: &mut [Share],
+)
+    requires few { length rows.old < 2 ^ 32 }
+    requires length { length takers.old ≡ length rows.old }
+    requires set { AreSet first rows.old }
+    requires items { AreIn first (length rows.old) items.now }
+    ensures rows { rows.new ≡ some_fitted space.now gap items.now rows.old }
+    ensures set { AreSet first rows.new }
+{
+    if items.len() > 0 {
+        fit_group(space, gap, false, first, items, rows, takers);
+    }
+}
+
+/// The groups of items of two tracks, of three and so on that cross no flexible track.
+#[tactic(auto, using(crate::proofs::Kept::one_turn, crate::proofs::Kept::no_turn))]
+fn fit_spans<const AXIS: u8>(
+    alloc: Global,
+    space: &Space<AXIS>,
+    gap: Lu,
+    first: Wide,
+    items: &[Item],
+    rows: &mut [Row],
+    takers: &mut [Share],
+) -> Result<(), NoMemory>
+    requires few { length rows.old < 2 ^ 32 }
+    requires length { length takers.old ≡ length rows.old }
+    requires set { AreSet first rows.old }
+    requires items { AreIn first (length rows.old) items.now }
+    ensures rows { OnOk result (rows.new ≡ spans_fitted space.now gap items.now (length rows.old) 2 rows.old) }
+    ensures set { OnOk result (AreSet first rows.new) }
+{
+    let mut span = 2;
+    for _turn in 0..rows.len() {
+        let group = of_span(alloc, first, rows, items, span)?;
+        fit_some(space, gap, first, &group, rows, takers);
+        span += 1;
+    }
+    Ok(())
+}
+
+/// Groups of items of two tracks and more, and last the items that cross a flexible track.
+fn size_groups<const AXIS: u8>(
+    alloc: Global,
+    space: &Space<AXIS>,
+    gap: Lu,
+    first: Wide,
+    items: &[Item],
+    crossing: &[Item],
+    rows: &mut [Row],
+    takers: &mut [Share],
+) -> Result<(), NoMemory>
+    requires few { length rows.old < 2 ^ 32 }
+    requires length { length takers.old ≡ length rows.old }
+    requires set { AreSet first rows.old }
+    requires items { AreIn first (length rows.old) items.now }
+    requires crossing { AreIn first (length rows.old) crossing.now }
+    ensures rows { OnOk result (rows.new ≡ map close_limit (group_fitted space.now gap true crossing.now (spans_fitted space.now gap items.now (length rows.old) 2 rows.old))) }
+    ensures set { OnOk result (AreSet first rows.new) }
+{
+    fit_spans(alloc, space, gap, first, items, rows, takers)?;
+    fit_group(space, gap, true, first, crossing, rows, takers);
+    close_set_limits(first, rows);
+    Ok(())
+}
+
+/// The tracks sized for the contributions of the items: items of one track, groups of items of more tracks, and last the items
+/// that cross a flexible track.
+#[tactic(auto, using(crate::proofs::Whole::length_alone))]
+pub fn size_content<const AXIS: u8>(
+    alloc: Global,
+    space: &Space<AXIS>,
+    gap: Lu,
+    first: Wide,
+    items: &[Item],
+    rows: &[Row],
+    takers: &mut [Share],
+) -> Result<Vec<Row>, NoMemory>
+    requires few { length rows.now < 2 ^ 32 }
+    requires length { length takers.old ≡ length rows.now }
+    requires set { AreSet first rows.now }
+    requires items { AreIn first (length rows.now) items.now }
+    ensures { IfOk result (λ sized. sized.items ≡ content_sized space.now gap items.now rows.now) }
+{
+    let crossing = crossing_items(alloc, first, rows, items)?;
+    let mut sized = fit_alone(alloc, space, gap, first, items, rows)?;
+    size_groups(
+        alloc, space, gap, first, items, &crossing, &mut sized, takers,
+    )?;
+    Ok(sized)
+}

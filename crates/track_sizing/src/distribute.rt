@@ -1,0 +1,277 @@
+//! Steps of distribution for a group of items (modelled after CSS Grid 2, 12.5.1; own rule as a whole).
+
+ghost use Rattle.std.specs.Prelude.{◌≡◌, ◌<◌, ◌^◌, ◌≤◌, ◌+ℤ◌, ◌≤ℤ◌, length, map, pos};
+ghost use Rattle.std.specs.List.{list_any};
+ghost use Rattle.part_rules.specs.Tracks.{affected_by, base_distributed, base_planned_by, base_planned_by_all, high_limits, limit_planned_by, limit_planned_by_all, low_limits, raise_limit, raised_base, raised_limit_by, spans};
+ghost use Rattle.lunit.specs.declared.item.Item.{Item};
+ghost use Rattle.track_sizing.specs.Kinds.{affected_of};
+ghost use Rattle.track_sizing.specs.Placed.{AreIn, AreSet, IsIn, base_step_of, limit_step_in, marked_limit_by};
+
+use crate::item::span_length;
+use crate::kinds::{Affected, Kind, affects};
+use crate::row::Row;
+use crate::step::{BaseStep, plan_base, plan_limit};
+use lunit::{Item, Lu, Wide};
+use part_rules::Share;
+
+/// The place of the first track of an item.
+pub fn place_of(first: Wide, item: &Item) -> usize
+    requires after { first ≤ℤ item.now.span.start }
+    requires near { item.now.span.start ≤ℤ (first +ℤ pos (2 ^ 32)) }
+    ensures { item.now.span.start ≡ first +ℤ pos result }
+{
+    (Wide::of(i128::from(item.span.start)) - first).units() as usize
+}
+
+/// Plans what an item gives the base sizes of its tracks, which are some of these.
+#[tactic(auto, using(crate::proofs::Groups::ready_mine))]
+fn plan_base_at(
+    step: &BaseStep,
+    definite: bool,
+    gap: Lu,
+    first: Wide,
+    item: &Item,
+    rows: &mut [Row],
+    takers: &mut [Share],
+)
+    requires few { length rows.old < 2 ^ 32 }
+    requires length { length takers.old ≡ length rows.old }
+    requires set { AreSet first rows.old }
+    requires item { IsIn first (length rows.old) item.now }
+    ensures rows { rows.new ≡ base_planned_by (base_step_of step.now.affected step.now.receives definite gap step.now.asks) gap rows.old item.now }
+    ensures set { AreSet first rows.new }
+{
+    let start = place_of(first, item);
+    let tracks = span_length(item) as usize;
+    let (_before, rest) = rows.split_at_mut(start);
+    let (mine, _behind) = rest.split_at_mut(tracks);
+    let (takers, _others) = takers.split_at_mut(tracks);
+    plan_base(step, definite, gap, item, mine, takers);
+}
+
+/// Plans what each item of the group gives base sizes.
+fn plan_bases(
+    step: &BaseStep,
+    definite: bool,
+    gap: Lu,
+    first: Wide,
+    items: &[Item],
+    rows: &mut [Row],
+    takers: &mut [Share],
+)
+    requires few { length rows.old < 2 ^ 32 }
+    requires length { length takers.old ≡ length rows.old }
+    requires set { AreSet first rows.old }
+    requires items { AreIn first (length rows.old) items.now }
+    ensures rows { rows.new ≡ base_planned_by_all (base_step_of step.now.affected step.now.receives definite gap step.now.asks) gap items.now rows.old }
+    ensures set { AreSet first rows.new }
+{
+    for item in items {
+        plan_base_at(step, definite, gap, first, item, rows, takers);
+    }
+}
+
+/// Raises each base size by its planned increase.
+#[tactic(auto, using(crate::proofs::Loops::changing))]
+fn raise_bases(rows: &mut [Row])
+    ensures { rows.new ≡ map raised_base rows.old }
+{
+    for row in rows.iter_mut() {
+        *row = row.raised_base();
+    }
+}
+
+/// Raises growth limits below base sizes to them.
+#[tactic(auto, using(crate::proofs::Loops::changing))]
+fn raise_each_limit(rows: &mut [Row])
+    ensures { rows.new ≡ map raise_limit rows.old }
+{
+    for row in rows.iter_mut() {
+        *row = row.raise_limit();
+    }
+}
+
+/// Raises growth limits below base sizes to them.
+pub fn raise_limits_to_bases(first: Wide, rows: &mut [Row])
+    requires { AreSet first rows.old }
+    ensures rows { rows.new ≡ map raise_limit rows.old }
+    ensures set { AreSet first rows.new }
+{
+    raise_each_limit(rows);
+}
+
+/// One step on base sizes.
+pub fn distribute_bases(
+    step: &BaseStep,
+    definite: bool,
+    gap: Lu,
+    first: Wide,
+    items: &[Item],
+    rows: &mut [Row],
+    takers: &mut [Share],
+)
+    requires few { length rows.old < 2 ^ 32 }
+    requires length { length takers.old ≡ length rows.old }
+    requires set { AreSet first rows.old }
+    requires items { AreIn first (length rows.old) items.now }
+    ensures rows { rows.new ≡ base_distributed (base_step_of step.now.affected step.now.receives definite gap step.now.asks) gap items.now rows.old }
+    ensures set { AreSet first rows.new }
+{
+    plan_bases(step, definite, gap, first, items, rows, takers);
+    raise_bases(rows);
+}
+
+#[tactic(auto, using(crate::proofs::Groups::ready_mine))]
+fn plan_limit_at(
+    affected: &Affected,
+    second: bool,
+    gap: Lu,
+    first: Wide,
+    item: &Item,
+    rows: &mut [Row],
+    takers: &mut [Share],
+)
+    requires few { length rows.old < 2 ^ 32 }
+    requires length { length takers.old ≡ length rows.old }
+    requires set { AreSet first rows.old }
+    requires item { IsIn first (length rows.old) item.now }
+    ensures rows { rows.new ≡ limit_planned_by (limit_step_in affected.now second) gap rows.old item.now }
+    ensures set { AreSet first rows.new }
+{
+    let start = place_of(first, item);
+    let tracks = span_length(item) as usize;
+    let (_before, rest) = rows.split_at_mut(start);
+    let (mine, _behind) = rest.split_at_mut(tracks);
+    let (takers, _others) = takers.split_at_mut(tracks);
+    plan_limit(affected, second, gap, item, mine, takers);
+}
+
+/// Plans what each item of the group gives growth limits.
+fn plan_limits(
+    affected: &Affected,
+    second: bool,
+    gap: Lu,
+    first: Wide,
+    items: &[Item],
+    rows: &mut [Row],
+    takers: &mut [Share],
+)
+    requires few { length rows.old < 2 ^ 32 }
+    requires length { length takers.old ≡ length rows.old }
+    requires set { AreSet first rows.old }
+    requires items { AreIn first (length rows.old) items.now }
+    ensures rows { rows.new ≡ limit_planned_by_all (limit_step_in affected.now second) gap items.now rows.old }
+    ensures set { AreSet first rows.new }
+{
+    for item in items {
+        plan_limit_at(affected, second, gap, first, item, rows, takers);
+    }
+}
+
+/// Whether an item spans a track.
+fn spans(item: &Item, row: &Row) -> bool
+    ensures { result ≡ spans item.now row.now }
+{
+    i64::from(item.span.start) <= row.at() && row.at() < i64::from(item.span.end)
+}
+
+/// Whether the step affects a track for some item.
+fn is_reached(affected: &Affected, items: &[Item], row: &Row) -> bool
+    ensures { result ≡ list_any (λ (i : Item). affected_by (affected_of affected.now) i row.now) items.now }
+{
+    for item in items {
+        if affects(affected, row) && spans(item, row) {
+            return true;
+        }
+    }
+    false
+}
+
+/// The track with its growth limit raised, where some item reaches it.
+fn raised_limit_by(affected: &Affected, items: &[Item], row: &Row) -> Row
+    ensures { result ≡ raised_limit_by (affected_of affected.now) items.now row.now }
+{
+    if is_reached(affected, items, row) {
+        row.raised_limit()
+    } else {
+        *row
+    }
+}
+
+/// The same, with the mark for the next step: infinitely growable where the growth limit had no end and has one now.
+fn marked_limit_by(affected: &Affected, items: &[Item], row: &Row) -> Row
+    ensures { result ≡ marked_limit_by (affected_of affected.now) items.now row.now }
+{
+    let raised = raised_limit_by(affected, items, row);
+    raised.with_endless(row.limit().is_none() && raised.limit().is_some())
+}
+
+/// Raises the growth limits that some item reaches, with the marks for the next step.
+#[tactic(auto, using(crate::proofs::Loops::changing))]
+fn raise_marked_limits(affected: &Affected, items: &[Item], rows: &mut [Row])
+    ensures { rows.new ≡ map (marked_limit_by (affected_of affected.now) items.now) rows.old }
+{
+    for row in rows.iter_mut() {
+        *row = marked_limit_by(affected, items, row);
+    }
+}
+
+/// Raises the growth limits that some item reaches.
+#[tactic(auto, using(crate::proofs::Loops::changing))]
+fn raise_limits(affected: &Affected, items: &[Item], rows: &mut [Row])
+    ensures { rows.new ≡ map (raised_limit_by (affected_of affected.now) items.now) rows.old }
+{
+    for row in rows.iter_mut() {
+        *row = raised_limit_by(affected, items, row);
+    }
+}
+
+/// The step on growth limits for min-content contributions.
+#[tactic(auto, using(crate::proofs::Limits::limits))]
+pub fn distribute_low_limits(
+    crossing: bool,
+    gap: Lu,
+    first: Wide,
+    items: &[Item],
+    rows: &mut [Row],
+    takers: &mut [Share],
+)
+    requires few { length rows.old < 2 ^ 32 }
+    requires length { length takers.old ≡ length rows.old }
+    requires set { AreSet first rows.old }
+    requires items { AreIn first (length rows.old) items.now }
+    ensures rows { rows.new ≡ low_limits crossing gap items.now rows.old }
+    ensures set { AreSet first rows.new }
+{
+    let affected = Affected {
+        kind: Kind::IntrinsicMost,
+        crossing,
+    };
+    plan_limits(&affected, false, gap, first, items, rows, takers);
+    raise_marked_limits(&affected, items, rows);
+}
+
+/// The step on growth limits for max-content contributions.
+#[tactic(auto, using(crate::proofs::Limits::limits))]
+pub fn distribute_high_limits(
+    crossing: bool,
+    gap: Lu,
+    first: Wide,
+    items: &[Item],
+    rows: &mut [Row],
+    takers: &mut [Share],
+)
+    requires few { length rows.old < 2 ^ 32 }
+    requires length { length takers.old ≡ length rows.old }
+    requires set { AreSet first rows.old }
+    requires items { AreIn first (length rows.old) items.now }
+    ensures rows { rows.new ≡ high_limits crossing gap items.now rows.old }
+    ensures set { AreSet first rows.new }
+{
+    let affected = Affected {
+        kind: Kind::MaxContentMost,
+        crossing,
+    };
+    plan_limits(&affected, true, gap, first, items, rows, takers);
+    raise_limits(&affected, items, rows);
+}

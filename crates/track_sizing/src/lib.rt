@@ -1,0 +1,22 @@
+//! The sizes of the tracks of one axis (CSS Grid 2, section 12).
+//!
+//! All lengths are in units of one sixty-fourth of a pixel.
+#![tactic(auto)]
+
+mod alone;
+mod content;
+mod distribute;
+mod factors;
+mod group;
+mod item;
+mod kinds;
+mod numbers;
+mod rest;
+mod rooms;
+mod row;
+mod size;
+mod step;
+mod turn;
+
+pub use part_rules::{Fit, Least, Most, Rule, Space};
+pub use size::content_sizes;

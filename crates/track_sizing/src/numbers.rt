@@ -1,0 +1,56 @@
+//! Exact numbers of units.
+
+ghost use Rattle.std.specs.Prelude.{◌≡◌, pos};
+ghost use Rattle.std.specs.Int.{int_max, int_min};
+ghost use Rattle.lunit.specs.Units.{IsUnits, clamp};
+ghost use Rattle.part_rules.specs.Lists.{at_most};
+
+use lunit::{Lu, Wide};
+
+/// The greater of two numbers.
+pub fn greater(one: Wide, other: Wide) -> Wide
+    ensures { result ≡ int_max one other }
+{
+    if one < other { other } else { one }
+}
+
+/// The greater of two lengths.
+pub fn longer(one: Lu, other: Lu) -> Lu
+    ensures { result ≡ int_max one other }
+{
+    if one < other { other } else { one }
+}
+
+/// The lesser of two lengths.
+pub fn shorter(one: Lu, other: Lu) -> Lu
+    ensures { result ≡ int_min one other }
+{
+    if other < one { other } else { one }
+}
+
+/// The number, but at most a limit, where there is one.
+pub fn at_most(limit: Option<Wide>, number: Wide) -> Wide
+    ensures { result ≡ at_most limit number }
+{
+    match limit {
+        Some(limit) => { if number < limit { number } else { limit } }
+        None => number,
+    }
+}
+
+/// A space that is shared: at least 0, and limited to the range of lengths.
+#[tactic(auto, unfolding(lunit::specs::Units::clamp))]
+pub fn shared(space: Wide) -> Lu
+    ensures value { result ≡ clamp (int_max (pos 0) space) }
+{
+    greater(Wide::of(0), space).clamp()
+}
+
+/// A number that is in the range of lengths, as a length.
+#[tactic(auto, unfolding(lunit::specs::Units::clamp))]
+pub fn length(number: Wide) -> Lu
+    requires { IsUnits number }
+    ensures { result ≡ number }
+{
+    number.clamp()
+}

@@ -1,0 +1,257 @@
+//! A track while it is sized (CSS Grid 2, 12.3).
+
+ghost use Rattle.std.specs.Prelude.{◌≡◌, ◌≤ℤ◌, ◌+ℤ◌, pos, Some};
+ghost use Rattle.std.specs.Int.{int_max};
+ghost use Rattle.lunit.specs.Units.{IsLong, IsUnits, clamp};
+ghost use Rattle.part_rules.specs.Tracks.{close_limit, fixed_least, fixed_most, full, grow_base, incur, initial, limit_of, plan, raise_limit, raised_base, raised_limit};
+ghost use Rattle.track_sizing.specs.Rows.{IsLimit};
+
+use crate::numbers::longer;
+use lunit::{Lu, Wide};
+use part_rules::{Least, Most, Rule};
+use std::marker::Model;
+
+/// A track while it is sized. No length in it is below 0.
+#[derive(Clone, Copy)]
+pub struct Row {
+    at: i64,
+    rule: Rule,
+    base: Lu,
+    limit: Option<Lu>,
+    endless: bool,
+    incurred: Lu,
+    planned: Lu,
+}
+
+impl Model for Row {
+    ghost use Rattle.part_rules.specs.Tracks.{Track};
+
+    ghost Value = { Track };
+
+    ghost use Rattle.track_sizing.specs.Rows.{track_of, row_of, IsRow};
+
+    ghost view = { track_of };
+
+    ghost invariant = { IsRow };
+
+    ghost inverse = { row_of };
+}
+
+/// The min function, where it is fixed.
+pub fn fixed_least(least: &Least) -> Option<Lu>
+    ensures { result ≡ fixed_least least.now }
+{
+    match least {
+        Least::Fixed(size) => Some(*size),
+        _ => None,
+    }
+}
+
+/// The max function, where it is fixed.
+pub fn fixed_most(most: &Most) -> Option<Lu>
+    ensures { result ≡ fixed_most most.now }
+{
+    match most {
+        Most::Fixed(size) => Some(*size),
+        _ => None,
+    }
+}
+
+impl Row {
+    /// A track before it is sized (CSS Grid 2, 12.4).
+    #[tactic(auto, unfolding(lunit::specs::Units::clamp))]
+    pub fn initial(at: Wide, rule: &Rule) -> Row
+        requires at { IsLong at }
+        requires fixed { IsLimit (fixed_least rule.now.least) }
+        ensures { result ≡ initial at rule.now }
+    {
+        let base = match fixed_least(&rule.least) {
+            Some(size) => size,
+            None => Lu::of(0),
+        };
+        let limit = match fixed_most(&rule.most) {
+            Some(size) => Some(longer(base, size)),
+            None => None,
+        };
+        Row {
+            at: at.units(),
+            rule: *rule,
+            base,
+            limit,
+            endless: false,
+            incurred: Lu::of(0),
+            planned: Lu::of(0),
+        }
+    }
+
+    /// The coordinate of its first line.
+    pub fn at(&self) -> i64
+        ensures { result ≡ self.now.at }
+    {
+        self.at
+    }
+
+    /// How the track is sized.
+    pub fn rule(&self) -> Rule
+        ensures { result ≡ self.now.rule }
+    {
+        self.rule
+    }
+
+    /// The base size.
+    pub fn base(&self) -> Lu
+        ensures value { result ≡ self.now.base }
+        ensures some { pos 0 ≤ℤ result }
+    {
+        self.base
+    }
+
+    /// The growth limit; `None` is without end.
+    pub fn limit(&self) -> Option<Lu>
+        ensures value { result ≡ self.now.limit }
+        ensures some { IsLimit result }
+    {
+        self.limit
+    }
+
+    /// The growth limit, where one without end counts as the base size.
+    pub fn limit_or_base(&self) -> Lu
+        ensures value { result ≡ limit_of self.now }
+        ensures some { pos 0 ≤ℤ result }
+    {
+        match self.limit {
+            Some(limit) => limit,
+            None => self.base,
+        }
+    }
+
+    /// Whether the track is infinitely growable (CSS Grid 2, 12.5, step 3).
+    pub fn endless(&self) -> bool
+        ensures { result ≡ self.now.endless }
+    {
+        self.endless
+    }
+
+    /// What the item at hand has given it.
+    pub fn incurred(&self) -> Lu
+        ensures value { result ≡ self.now.incurred }
+        ensures some { pos 0 ≤ℤ result }
+    {
+        self.incurred
+    }
+
+    /// The track with another base size.
+    pub fn with_base(&self, base: Lu) -> Row
+        requires { pos 0 ≤ℤ base }
+        ensures { result ≡ record self.now { base = base } }
+    {
+        Row { base, ..*self }
+    }
+
+    /// The track with another growth limit.
+    pub fn with_limit(&self, limit: Option<Lu>) -> Row
+        requires { IsLimit limit }
+        ensures { result ≡ record self.now { limit = limit } }
+    {
+        Row { limit, ..*self }
+    }
+
+    /// The track, infinitely growable or not.
+    pub fn with_endless(&self, endless: bool) -> Row
+        ensures { result ≡ record self.now { endless = endless } }
+    {
+        Row { endless, ..*self }
+    }
+
+    /// The track with this share more from the item at hand.
+    #[tactic(auto, unfolding(lunit::specs::Units::clamp))]
+    pub fn incur(&self, share: Lu) -> Row
+        requires some { pos 0 ≤ℤ share }
+        requires fits { IsUnits (self.now.incurred +ℤ share) }
+        ensures { result ≡ incur self.now share }
+    {
+        Row {
+            incurred: (self.incurred.wide() + share.wide()).clamp(),
+            ..*self
+        }
+    }
+
+    /// The track with its planned increase: the greatest that one of the items gave (CSS Grid 2, 12.5.1).
+    #[tactic(auto, unfolding(lunit::specs::Units::clamp))]
+    pub fn plan(&self) -> Row
+        ensures { result ≡ plan self.now }
+    {
+        Row {
+            planned: longer(self.planned, self.incurred),
+            incurred: Lu::of(0),
+            ..*self
+        }
+    }
+
+    /// The track with its base size raised by its planned increase.
+    #[tactic(auto, unfolding(lunit::specs::Units::clamp))]
+    pub fn raised_base(&self) -> Row
+        ensures { result ≡ raised_base self.now }
+    {
+        Row {
+            base: (self.base.wide() + self.planned.wide()).clamp(),
+            planned: Lu::of(0),
+            ..*self
+        }
+    }
+
+    /// The track with its growth limit raised by its planned increase; one without end becomes the base size and the increase.
+    #[tactic(auto, unfolding(lunit::specs::Units::clamp))]
+    pub fn raised_limit(&self) -> Row
+        ensures { result ≡ raised_limit self.now }
+    {
+        Row {
+            limit: Some((self.limit_or_base().wide() + self.planned.wide()).clamp()),
+            planned: Lu::of(0),
+            ..*self
+        }
+    }
+
+    /// The track with a growth limit of at least its base size.
+    pub fn raise_limit(&self) -> Row
+        ensures { result ≡ raise_limit self.now }
+    {
+        let limit = match self.limit {
+            Some(limit) => Some(longer(self.base, limit)),
+            None => None,
+        };
+        Row { limit, ..*self }
+    }
+
+    /// The track with its base size as its growth limit, where that has no end (CSS Grid 2, 12.5, step 5).
+    pub fn close_limit(&self) -> Row
+        ensures { result ≡ close_limit self.now }
+    {
+        Row {
+            limit: Some(self.limit_or_base()),
+            ..*self
+        }
+    }
+
+    /// The track with its growth limit as its base size.
+    pub fn full(&self) -> Row
+        ensures { result ≡ full self.now }
+    {
+        Row {
+            base: self.limit_or_base(),
+            ..*self
+        }
+    }
+
+    /// The track with a base size that is greater by a share.
+    #[tactic(auto, unfolding(lunit::specs::Units::clamp))]
+    pub fn grow_base(&self, share: Lu) -> Row
+        requires { pos 0 ≤ℤ share }
+        ensures { result ≡ grow_base self.now share }
+    {
+        Row {
+            base: (self.base.wide() + share.wide()).clamp(),
+            ..*self
+        }
+    }
+}
