@@ -7,6 +7,8 @@ mod alignment;
 #[cfg(test)]
 mod devices;
 #[cfg(test)]
+mod flex;
+#[cfg(test)]
 mod leaves;
 #[cfg(test)]
 mod pieces;
@@ -14,3 +16,5 @@ mod pieces;
 mod shares;
 #[cfg(test)]
 mod units;
+#[cfg(test)]
+mod views;
