@@ -36,8 +36,8 @@ fn some_alone(items: &[Item], row: &Row) -> bool
     false
 }
 
-/// The greatest min-content contribution of the items that span this track alone, at least `start`.
 #[tactic(auto, using(crate::proofs::Singles::greatest))]
+/// The greatest min-content contribution of the items that span this track alone, at least `start`.
 fn greatest_low(start: Lu, items: &[Item], row: &Row) -> Lu
     requires { pos 0 ≤ℤ start }
     ensures value { result ≡ greatest_with start (map low (alone items.now row.now)) }
@@ -52,8 +52,8 @@ fn greatest_low(start: Lu, items: &[Item], row: &Row) -> Lu
     best
 }
 
-/// The greatest max-content contribution of the items that span this track alone, at least `start`.
 #[tactic(auto, using(crate::proofs::Singles::greatest))]
+/// The greatest max-content contribution of the items that span this track alone, at least `start`.
 fn greatest_high(start: Lu, items: &[Item], row: &Row) -> Lu
     requires { pos 0 ≤ℤ start }
     ensures value { result ≡ greatest_with start (map high (alone items.now row.now)) }
@@ -88,8 +88,8 @@ fn auto_asks<const AXIS: u8>(
     length(asked(is_definite(space), gap, &Asks::Minimum, mine, item))
 }
 
-/// The greatest that the items which span this track alone ask of an `auto` minimum, at least `start`.
 #[tactic(auto, using(crate::proofs::Singles::greatest))]
+/// The greatest that the items which span this track alone ask of an `auto` minimum, at least `start`.
 fn greatest_asked<const AXIS: u8>(
     space: &Space<AXIS>,
     gap: Lu,
@@ -138,8 +138,8 @@ fn base_for<const AXIS: u8>(
     }
 }
 
-/// The growth limit by the items that span this track alone, of which there is one at least.
 #[tactic(auto, unfolding(lunit::specs::Units::clamp))]
+/// The growth limit by the items that span this track alone, of which there is one at least.
 fn limit_by(most: &Most, limit: Option<Lu>, items: &[Item], row: &Row) -> Option<Lu>
     ensures { result ≡ limit_by (alone items.now row.now) most.now limit }
 {
@@ -153,8 +153,8 @@ fn limit_by(most: &Most, limit: Option<Lu>, items: &[Item], row: &Row) -> Option
     }
 }
 
-/// The growth limit by the items that span this track alone.
 #[tactic(auto, using(crate::proofs::Singles::limit_cases))]
+/// The growth limit by the items that span this track alone.
 fn limit_for(items: &[Item], row: &Row) -> Option<Lu>
     ensures { result ≡ limit_for (alone items.now row.now) row.now.rule.most row.now.limit }
 {

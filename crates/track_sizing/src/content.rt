@@ -39,8 +39,8 @@ fn is_of_span(first: Wide, rows: &[Row], span: u64, item: &Item) -> bool
     span_length(item) == span && !crosses_flexible(first, rows, item)
 }
 
-/// The items that span so many tracks, of which none is flexible.
 #[tactic(auto, using(crate::proofs::Kept::kept_items))]
+/// The items that span so many tracks, of which none is flexible.
 fn of_span(
     alloc: Global,
     first: Wide,
@@ -63,8 +63,8 @@ fn of_span(
     Ok(group)
 }
 
-/// The items that cross a flexible track.
 #[tactic(auto, using(crate::proofs::Kept::kept_items))]
+/// The items that cross a flexible track.
 fn crossing_items(
     alloc: Global,
     first: Wide,
@@ -86,8 +86,8 @@ fn crossing_items(
     Ok(group)
 }
 
-/// The steps for a group of items that cross no flexible track; a group without items is passed over.
 #[tactic(auto, using(crate::proofs::Kept::some_group, crate::proofs::Kept::no_group))]
+/// The steps for a group of items that cross no flexible track; a group without items is passed over.
 fn fit_some<const AXIS: u8>(
     space: &Space<AXIS>,
     gap: Lu,
@@ -108,8 +108,8 @@ fn fit_some<const AXIS: u8>(
     }
 }
 
-/// The groups of items of two tracks, of three and so on that cross no flexible track.
 #[tactic(auto, using(crate::proofs::Kept::one_turn, crate::proofs::Kept::no_turn))]
+/// The groups of items of two tracks, of three and so on that cross no flexible track.
 fn fit_spans<const AXIS: u8>(
     alloc: Global,
     space: &Space<AXIS>,
@@ -160,9 +160,9 @@ fn size_groups<const AXIS: u8>(
     Ok(())
 }
 
+#[tactic(auto, using(crate::proofs::Whole::length_alone))]
 /// The tracks sized for the contributions of the items: items of one track, groups of items of more tracks, and last the items
 /// that cross a flexible track.
-#[tactic(auto, using(crate::proofs::Whole::length_alone))]
 pub fn size_content<const AXIS: u8>(
     alloc: Global,
     space: &Space<AXIS>,

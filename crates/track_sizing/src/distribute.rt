@@ -23,8 +23,8 @@ pub fn place_of(first: Wide, item: &Item) -> usize
     (Wide::of(i128::from(item.span.start)) - first).units() as usize
 }
 
-/// Plans what an item gives the base sizes of its tracks, which are some of these.
 #[tactic(auto, using(crate::proofs::Groups::ready_mine))]
+/// Plans what an item gives the base sizes of its tracks, which are some of these.
 fn plan_base_at(
     step: &BaseStep,
     definite: bool,
@@ -71,8 +71,8 @@ fn plan_bases(
     }
 }
 
-/// Raises each base size by its planned increase.
 #[tactic(auto, using(crate::proofs::Loops::changing))]
+/// Raises each base size by its planned increase.
 fn raise_bases(rows: &mut [Row])
     ensures { rows.new ≡ map raised_base rows.old }
 {
@@ -81,8 +81,8 @@ fn raise_bases(rows: &mut [Row])
     }
 }
 
-/// Raises growth limits below base sizes to them.
 #[tactic(auto, using(crate::proofs::Loops::changing))]
+/// Raises growth limits below base sizes to them.
 fn raise_each_limit(rows: &mut [Row])
     ensures { rows.new ≡ map raise_limit rows.old }
 {
@@ -206,8 +206,8 @@ fn marked_limit_by(affected: &Affected, items: &[Item], row: &Row) -> Row
     raised.with_endless(row.limit().is_none() && raised.limit().is_some())
 }
 
-/// Raises the growth limits that some item reaches, with the marks for the next step.
 #[tactic(auto, using(crate::proofs::Loops::changing))]
+/// Raises the growth limits that some item reaches, with the marks for the next step.
 fn raise_marked_limits(affected: &Affected, items: &[Item], rows: &mut [Row])
     ensures { rows.new ≡ map (marked_limit_by (affected_of affected.now) items.now) rows.old }
 {
@@ -216,8 +216,8 @@ fn raise_marked_limits(affected: &Affected, items: &[Item], rows: &mut [Row])
     }
 }
 
-/// Raises the growth limits that some item reaches.
 #[tactic(auto, using(crate::proofs::Loops::changing))]
+/// Raises the growth limits that some item reaches.
 fn raise_limits(affected: &Affected, items: &[Item], rows: &mut [Row])
     ensures { rows.new ≡ map (raised_limit_by (affected_of affected.now) items.now) rows.old }
 {
@@ -226,8 +226,8 @@ fn raise_limits(affected: &Affected, items: &[Item], rows: &mut [Row])
     }
 }
 
-/// The step on growth limits for min-content contributions.
 #[tactic(auto, using(crate::proofs::Limits::limits))]
+/// The step on growth limits for min-content contributions.
 pub fn distribute_low_limits(
     crossing: bool,
     gap: Lu,
@@ -251,8 +251,8 @@ pub fn distribute_low_limits(
     raise_marked_limits(&affected, items, rows);
 }
 
-/// The step on growth limits for max-content contributions.
 #[tactic(auto, using(crate::proofs::Limits::limits))]
+/// The step on growth limits for max-content contributions.
 pub fn distribute_high_limits(
     crossing: bool,
     gap: Lu,

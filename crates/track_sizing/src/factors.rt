@@ -50,8 +50,8 @@ fn total_weight(affected: &Affected, rows: &[Row]) -> u64
     total
 }
 
-/// Gives each affected track its part of the space by the factors, whose sum is `total`.
 #[tactic(auto, using(crate::proofs::Parts::parts))]
+/// Gives each affected track its part of the space by the factors, whose sum is `total`.
 fn incur_parts(affected: &Affected, space: Lu, total: u64, rows: &mut [Row])
     requires some { pos 0 ≤ℤ space }
     requires quiet { AreQuiet rows.old }

@@ -117,8 +117,8 @@ fn fit_bases(
     fit_last_bases(definite, max, gap, crossing, first, items, rows, takers);
 }
 
-/// The six steps for a group of items: base sizes, growth limits below them, and growth limits.
 #[tactic(auto, unfolding(part_rules::specs::Tracks::group_fitted))]
+/// The six steps for a group of items: base sizes, growth limits below them, and growth limits.
 pub fn fit_group<const AXIS: u8>(
     space: &Space<AXIS>,
     gap: Lu,

@@ -51,8 +51,8 @@ fn some_auto(rows: &[Row]) -> bool
     false
 }
 
-/// The sum of the max functions, where all are fixed.
 #[tactic(auto, using(crate::proofs::Sums::known))]
+/// The sum of the max functions, where all are fixed.
 fn fixed_sum(rows: &[Row]) -> Option<Wide>
     ensures value { result ≡ fixed_of rows.now }
     ensures range { IfSome result (λ sum. IsSum sum) }
@@ -77,8 +77,8 @@ fn capped_most(most: &Most) -> Option<Lu>
     }
 }
 
-/// The sum of the max functions, where all are fixed; the argument of `fit-content` counts.
 #[tactic(auto, using(crate::proofs::Sums::known))]
+/// The sum of the max functions, where all are fixed; the argument of `fit-content` counts.
 fn capped_sum(rows: &[Row]) -> Option<Wide>
     ensures { result ≡ capped_of rows.now }
 {
@@ -92,8 +92,8 @@ fn capped_sum(rows: &[Row]) -> Option<Wide>
     Some(sum)
 }
 
-/// The sum of the base sizes.
 #[tactic(auto, using(crate::proofs::Sums::sums))]
+/// The sum of the base sizes.
 pub fn base_sum(rows: &[Row]) -> Wide
     ensures value { result ≡ sum_of (map base_of rows.now) }
     ensures range { IsSum result }
@@ -105,8 +105,8 @@ pub fn base_sum(rows: &[Row]) -> Wide
     sum
 }
 
-/// The sum of the growth limits, where one without end counts as the base size.
 #[tactic(auto, using(crate::proofs::Sums::sums))]
+/// The sum of the growth limits, where one without end counts as the base size.
 pub fn limit_sum(rows: &[Row]) -> Wide
     ensures value { result ≡ sum_of (map limit_of rows.now) }
     ensures range { IsSum result }

@@ -38,16 +38,16 @@ pub fn at_most(limit: Option<Wide>, number: Wide) -> Wide
     }
 }
 
-/// A space that is shared: at least 0, and limited to the range of lengths.
 #[tactic(auto, unfolding(lunit::specs::Units::clamp))]
+/// A space that is shared: at least 0, and limited to the range of lengths.
 pub fn shared(space: Wide) -> Lu
     ensures value { result ≡ clamp (int_max (pos 0) space) }
 {
     greater(Wide::of(0), space).clamp()
 }
 
-/// A number that is in the range of lengths, as a length.
 #[tactic(auto, unfolding(lunit::specs::Units::clamp))]
+/// A number that is in the range of lengths, as a length.
 pub fn length(number: Wide) -> Lu
     requires { IsUnits number }
     ensures { result ≡ number }

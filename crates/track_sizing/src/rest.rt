@@ -17,8 +17,8 @@ use lunit::{Lu, Wide};
 use part_rules::{Fit, Share, Space};
 use share_out::hand_out;
 
-/// How many tracks are not collapsed.
 #[tactic(auto, using(crate::proofs::Grown::counts))]
+/// How many tracks are not collapsed.
 fn open_tracks(rows: &[Row]) -> u64
     requires { length rows.now < 2 ^ 32 }
     ensures value { result ≡ length (filter (λ (t : Track). not t.rule.collapsed) rows.now) }
@@ -52,8 +52,8 @@ pub fn total(gap: Lu, rows: &[Row]) -> Wide
     base_sum(rows) + all_gutters(gap, rows)
 }
 
-/// What a space leaves.
 #[tactic(auto, unfolding(lunit::specs::Units::clamp))]
+/// What a space leaves.
 pub fn free_of(gap: Lu, space: Wide, rows: &[Row]) -> Lu
     requires few { length rows.now < 2 ^ 32 }
     requires space { IsUnits space }
@@ -63,8 +63,8 @@ pub fn free_of(gap: Lu, space: Wide, rows: &[Row]) -> Lu
     shared(space - base_sum(rows) - all_gutters(gap, rows))
 }
 
-/// Grows the base sizes by what the tracks have got.
 #[tactic(auto, using(crate::proofs::Loops::zipping))]
+/// Grows the base sizes by what the tracks have got.
 fn grow_by_shares(rows: &mut [Row], takers: &[Share])
     requires length { length takers.now ≡ length rows.old }
     requires some { HaveShares takers.now }
@@ -85,8 +85,8 @@ fn grow(rooms: &Rooms, space: Lu, rows: &mut [Row], takers: &mut [Share])
     grow_by_shares(rows, takers);
 }
 
-/// Gives each track its growth limit as its base size.
 #[tactic(auto, using(crate::proofs::Loops::changing))]
+/// Gives each track its growth limit as its base size.
 fn fill_to_limits(rows: &mut [Row])
     ensures { rows.new ≡ map full rows.old }
 {
@@ -95,8 +95,8 @@ fn fill_to_limits(rows: &mut [Row])
     }
 }
 
-/// Gives each growth limit that still has no end the base size (CSS Grid 2, 12.5, step 5).
 #[tactic(auto, using(crate::proofs::Loops::changing))]
+/// Gives each growth limit that still has no end the base size (CSS Grid 2, 12.5, step 5).
 fn close_limits(rows: &mut [Row])
     ensures { rows.new ≡ map close_limit rows.old }
 {
@@ -114,8 +114,8 @@ pub fn close_set_limits(first: Wide, rows: &mut [Row])
     close_limits(rows);
 }
 
-/// The total once each base size is its growth limit.
 #[tactic(auto, using(crate::proofs::Grown::full_sums))]
+/// The total once each base size is its growth limit.
 fn full_total(gap: Lu, rows: &[Row]) -> Wide
     requires { length rows.now < 2 ^ 32 }
     ensures { result ≡ total gap (map full rows.now) }

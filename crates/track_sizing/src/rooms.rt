@@ -35,8 +35,8 @@ pub enum Rooms {
     Stretch,
 }
 
-/// The room up to an end. One below 0 is 0, which takes as little.
 #[tactic(auto, unfolding(lunit::specs::Units::clamp))]
+/// The room up to an end. One below 0 is 0, which takes as little.
 fn up_to(size: Wide, end: Option<Lu>) -> Option<Lu>
     requires some { pos 0 ≤ℤ size }
     requires most { size ≤ℤ pos 4294967296 }
@@ -77,8 +77,8 @@ fn limit_so_far(row: &Row) -> Wide
     row.limit_or_base().wide() + row.incurred().wide()
 }
 
-/// The room of a base size up to the growth limit, and to the argument of `fit-content`.
 #[tactic(auto, using(crate::proofs::Floored::floored_lesser))]
+/// The room of a base size up to the growth limit, and to the argument of `fit-content`.
 fn base_to_limit(row: &Row) -> Option<Lu>
     ensures { result ≡ floored (base_to_limit row.now) }
 {
@@ -114,8 +114,8 @@ pub fn is_open(affected: &Affected, receives: &Kind, row: &Row) -> bool
     affects(affected, row) && is_of(receives, row) && fit_argument(&row.rule().most).is_none()
 }
 
-/// No room.
 #[tactic(auto, unfolding(lunit::specs::Units::clamp))]
+/// No room.
 fn none() -> Option<Lu>
     ensures { result ≡ floored (Some (pos 0)) }
 {
@@ -147,8 +147,8 @@ fn room(rooms: &Rooms, row: &Row) -> Option<Lu>
     }
 }
 
-/// The track as a row that takes part.
 #[tactic(auto, unfolding(lunit::specs::Units::clamp))]
+/// The track as a row that takes part.
 pub fn share(rooms: &Rooms, row: &Row) -> Share
     ensures { result ≡ share_of rooms.now row.now }
 {

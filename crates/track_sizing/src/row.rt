@@ -58,8 +58,8 @@ pub fn fixed_most(most: &Most) -> Option<Lu>
 }
 
 impl Row {
-    /// A track before it is sized (CSS Grid 2, 12.4).
     #[tactic(auto, unfolding(lunit::specs::Units::clamp))]
+    /// A track before it is sized (CSS Grid 2, 12.4).
     pub fn initial(at: Wide, rule: &Rule) -> Row
         requires at { IsLong at }
         requires fixed { IsLimit (fixed_least rule.now.least) }
@@ -163,8 +163,8 @@ impl Row {
         Row { endless, ..*self }
     }
 
-    /// The track with this share more from the item at hand.
     #[tactic(auto, unfolding(lunit::specs::Units::clamp))]
+    /// The track with this share more from the item at hand.
     pub fn incur(&self, share: Lu) -> Row
         requires some { pos 0 ≤ℤ share }
         requires fits { IsUnits (self.now.incurred +ℤ share) }
@@ -176,8 +176,8 @@ impl Row {
         }
     }
 
-    /// The track with its planned increase: the greatest that one of the items gave (CSS Grid 2, 12.5.1).
     #[tactic(auto, unfolding(lunit::specs::Units::clamp))]
+    /// The track with its planned increase: the greatest that one of the items gave (CSS Grid 2, 12.5.1).
     pub fn plan(&self) -> Row
         ensures { result ≡ plan self.now }
     {
@@ -188,8 +188,8 @@ impl Row {
         }
     }
 
-    /// The track with its base size raised by its planned increase.
     #[tactic(auto, unfolding(lunit::specs::Units::clamp))]
+    /// The track with its base size raised by its planned increase.
     pub fn raised_base(&self) -> Row
         ensures { result ≡ raised_base self.now }
     {
@@ -200,8 +200,8 @@ impl Row {
         }
     }
 
-    /// The track with its growth limit raised by its planned increase; one without end becomes the base size and the increase.
     #[tactic(auto, unfolding(lunit::specs::Units::clamp))]
+    /// The track with its growth limit raised by its planned increase; one without end becomes the base size and the increase.
     pub fn raised_limit(&self) -> Row
         ensures { result ≡ raised_limit self.now }
     {
@@ -243,8 +243,8 @@ impl Row {
         }
     }
 
-    /// The track with a base size that is greater by a share.
     #[tactic(auto, unfolding(lunit::specs::Units::clamp))]
+    /// The track with a base size that is greater by a share.
     pub fn grow_base(&self, share: Lu) -> Row
         requires { pos 0 ≤ℤ share }
         ensures { result ≡ grow_base self.now share }

@@ -11,8 +11,8 @@ use lunit::{Item, Lu, NoMemory, Wide};
 use part_rules::{Least, Most, Rule, Share, Space};
 use std::alloc::Global;
 
-/// How a track is sized: a collapsed one as one of the fixed size 0 (CSS Grid 2, 7.2.3.2).
 #[tactic(auto, unfolding(lunit::specs::Units::clamp))]
+/// How a track is sized: a collapsed one as one of the fixed size 0 (CSS Grid 2, 7.2.3.2).
 fn counted_rule(rule: &Rule) -> Rule
     requires { IsFixed rule.now }
     ensures value { result ≡ counted_rule rule.now }
@@ -29,8 +29,8 @@ fn counted_rule(rule: &Rule) -> Rule
     }
 }
 
-/// The tracks before they are sized (CSS Grid 2, 12.4).
 #[tactic(auto, using(crate::proofs::Initial::started))]
+/// The tracks before they are sized (CSS Grid 2, 12.4).
 fn initialise(alloc: Global, first: Wide, rules: &[Rule]) -> Result<Vec<Row>, NoMemory>
     requires few { length rules.now < 2 ^ 32 }
     requires first { IsStart first }

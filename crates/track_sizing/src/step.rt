@@ -60,8 +60,8 @@ fn last_rooms(affected: &Affected, receives: &Kind, rows: &[Row]) -> Rooms
     }
 }
 
-/// Plans what the item at hand has given: the greatest that one of the items gave.
 #[tactic(auto, using(crate::proofs::Loops::changing))]
+/// Plans what the item at hand has given: the greatest that one of the items gave.
 fn plan_all(rows: &mut [Row])
     ensures { rows.new ≡ map plan rows.old }
 {
@@ -70,9 +70,9 @@ fn plan_all(rows: &mut [Row])
     }
 }
 
+#[tactic(auto, using(crate::proofs::Given::given))]
 /// Gives the space to base sizes: to the affected tracks up to limits, to the other tracks, to the receivers, and last without
 /// limit.
-#[tactic(auto, using(crate::proofs::Given::given))]
 fn give_base(step: &BaseStep, space: Lu, rows: &mut [Row], takers: &mut [Share])
     requires few { length rows.old < 2 ^ 32 }
     requires length { length takers.old ≡ length rows.old }
@@ -97,8 +97,8 @@ fn give_base(step: &BaseStep, space: Lu, rows: &mut [Row], takers: &mut [Share])
     let _left = hand_out_to(&last, fourth, rows, takers);
 }
 
-/// Gives the space to growth limits: to the affected tracks up to limits, and then to all of them.
 #[tactic(auto, using(crate::proofs::Given::given))]
+/// Gives the space to growth limits: to the affected tracks up to limits, and then to all of them.
 fn give_limit(affected: &Affected, second: bool, space: Lu, rows: &mut [Row], takers: &mut [Share])
     requires few { length rows.old < 2 ^ 32 }
     requires length { length takers.old ≡ length rows.old }

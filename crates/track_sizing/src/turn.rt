@@ -13,8 +13,8 @@ use lunit::Lu;
 use part_rules::Share;
 use share_out::hand_out;
 
-/// Sets the tracks' rooms.
 #[tactic(auto, using(crate::proofs::Loops::filling))]
+/// Sets the tracks' rooms.
 pub fn set_rooms(rooms: &Rooms, rows: &[Row], takers: &mut [Share])
     requires { length takers.old ≡ length rows.now }
     ensures { takers.new ≡ map (share_of rooms.now) rows.now }
@@ -24,8 +24,8 @@ pub fn set_rooms(rooms: &Rooms, rows: &[Row], takers: &mut [Share])
     }
 }
 
-/// Gives the tracks what they have got.
 #[tactic(auto, using(crate::proofs::Loops::filling))]
+/// Gives the tracks what they have got.
 fn incur_shares(rows: &mut [Row], takers: &[Share])
     requires length { length takers.now ≡ length rows.old }
     requires fits { AreFitting rows.old takers.now }
@@ -36,8 +36,8 @@ fn incur_shares(rows: &mut [Row], takers: &[Share])
     }
 }
 
-/// Hands the space out to the tracks in equal parts, as far as they have room, and answers what is left.
 #[tactic(auto, using(crate::proofs::Turns::turn_rows, crate::proofs::Turns::turn_left))]
+/// Hands the space out to the tracks in equal parts, as far as they have room, and answers what is left.
 pub fn hand_out_to(rooms: &Rooms, space: Lu, rows: &mut [Row], takers: &mut [Share]) -> Lu
     requires length { length takers.old ≡ length rows.old }
     requires some { pos 0 ≤ℤ space }
