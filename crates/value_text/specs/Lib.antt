@@ -1,0 +1,13 @@
+pub mod Properties
+pub mod Forms
+pub mod Sizes
+pub mod Lines
+pub mod Keywords
+pub mod Places
+pub mod AreaText
+pub mod FlexText
+pub mod Refusals
+pub mod ValueText
+pub mod Declarations
+pub mod Examples
+pub mod FaultExamples
