@@ -13,6 +13,8 @@ mod leaves;
 #[cfg(test)]
 mod pieces;
 #[cfg(test)]
+mod places;
+#[cfg(test)]
 mod shares;
 #[cfg(test)]
 mod units;
