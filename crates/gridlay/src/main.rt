@@ -3,19 +3,17 @@
 
 ghost use Rattle.std.specs.Prelude.{◌≡◌, ◌<◌};
 
+mod words;
+
+use crate::words::words_of;
 use lunit::Steps;
 use outside::{StdSink, StdSource, WordRuler};
 use session::{Status, run};
 use std::marker::Brand;
 use std::process::ExitCode;
+use std::io;
 use std::rt::Env;
 use std::sync::ledger::{Blank, Ledger};
-use std::{env, io};
-
-/// The words after the program's name.
-fn words_of(rt: &(impl Env + AllocGlobal)) -> io::Result<Vec<String>> {
-    Ok(env::args(rt)?.skip(1).collect(rt.alloc())?)
-}
 
 fn status<R: Input + Print + Env + AllocGlobal, L: Ledger>(rt: &R, blank: Blank) -> Status
     requires name { blank.name ≡ L.name }
@@ -26,7 +24,7 @@ fn status<R: Input + Print + Env + AllocGlobal, L: Ledger>(rt: &R, blank: Blank)
     let mut source = StdSource::new(rt.reader());
     let mut sink = StdSink::new(io::writer(rt));
     let mut ruler = WordRuler::new();
-    match words_of(rt) {
+    match words_of(rt, rt.alloc()) {
         Ok(words) => run(
             rt.alloc(),
             words,
@@ -35,7 +33,7 @@ fn status<R: Input + Print + Env + AllocGlobal, L: Ledger>(rt: &R, blank: Blank)
             &mut ruler,
             &mut passes,
         ),
-        Err(_) => Status::NoMemory,
+        Err(status) => status,
     }
 }
 
