@@ -9,9 +9,9 @@ use crate::words::words_of;
 use lunit::Steps;
 use outside::{StdSink, StdSource, WordRuler};
 use session::{Status, run};
+use std::io;
 use std::marker::Brand;
 use std::process::ExitCode;
-use std::io;
 use std::rt::Env;
 use std::sync::ledger::{Blank, Ledger};
 

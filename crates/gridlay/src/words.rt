@@ -99,7 +99,9 @@ mod tests {
         assert!(rt; count_of(alloc, &[b"gridlay"]) == Ok(0));
         assert!(rt; count_of(alloc, &[b"gridlay", b"lay\xff"]) == Err(Status::BadWords));
         assert!(rt; count_of(alloc, &[b"gridlay", [b'a'; 256].as_slice()]) == Ok(1));
-        assert!(rt; count_of(alloc, &[b"gridlay", [b'a'; 257].as_slice()]) == Err(Status::BadWords));
+        assert!(rt;
+            count_of(alloc, &[b"gridlay", [b'a'; 257].as_slice()]) == Err(Status::BadWords)
+        );
         assert!(rt; count_of(alloc, [b"w".as_slice(); 16].as_slice()) == Err(Status::BadWords));
     }
 }
