@@ -3,8 +3,8 @@ use Rattle.std.proofs.Common.{◌≡◌, refl, ap, sym, subst, ◌∙◌, ℕ, t
 use Rattle.text_scan.specs.declared.line.Fault.{Fault}
 use Rattle.text_scan.specs.declared.line.Line.{Line}
 use Rattle.outside.specs.Told.{Adds, AddsPrefix}
-use Rattle.outside.specs.declared.ruler.Event.{Event}
-use Rattle.outside.specs.declared.ruler.Event.TheVariants.{Begin}
+use Rattle.outside.specs.declared.event.Event.{Event}
+use Rattle.outside.specs.declared.event.Event.TheVariants.{Begin}
 use Rattle.outside.proofs.Laws.{adds_none, prefix_none}
 use Rattle.doc_text.specs.declared.document.Doc.{Doc}
 use Rattle.doc_text.specs.declared.edit.Edit.{Edit}

@@ -3,7 +3,7 @@ use Rattle.std.proofs.Common.{◌≡◌, ◌≢◌, refl, ap, sym, subst, ◌∙
 use Rattle.std.proofs.lemmas.Bool.{false≢true}
 use Rattle.outside.specs.Told.{Stays, Adds, Loses, AddsPrefix}
 use Rattle.outside.specs.Faults.{Rose}
-use Rattle.outside.specs.declared.ruler.Event.{Event}
+use Rattle.outside.specs.declared.event.Event.{Event}
 use Rattle.outside.proofs.Laws.{all_but_start, all_but_stays, prefix_all_but, prefix_all, prefix_longer}
 use Rattle.text_scan.specs.declared.line.Line.{Line}
 use Rattle.text_scan.specs.Lines.{lines_of, whole_lines}

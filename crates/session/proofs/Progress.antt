@@ -4,7 +4,7 @@ use Rattle.std.specs.Prelude.{if◌then◌else◌}
 use Rattle.text_scan.specs.declared.line.Line.{Line}
 use Rattle.text_scan.specs.Tokens.{is_skipped}
 use Rattle.outside.specs.Told.{Adds}
-use Rattle.outside.specs.declared.ruler.Event.{Event}
+use Rattle.outside.specs.declared.event.Event.{Event}
 use Rattle.outside.proofs.Laws.{adds_more, prefix_after}
 use Rattle.doc_text.specs.declared.document.Doc.{Doc}
 use Rattle.session.specs.Runs.{WritesAll, WritesPrefix}

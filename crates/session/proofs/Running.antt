@@ -8,7 +8,7 @@ use Rattle.text_scan.specs.Stream.{Stream, HasRead}
 use Rattle.text_scan.proofs.Splits.{split_append, numbered_append}
 use Rattle.outside.specs.Faults.{HasCauseOf}
 use Rattle.outside.specs.Told.{Adds, AddsPrefix, Loses}
-use Rattle.outside.specs.declared.ruler.Event.{Event}
+use Rattle.outside.specs.declared.event.Event.{Event}
 use Rattle.outside.proofs.Laws.{stays_same, prefix_all}
 use Rattle.doc_text.specs.declared.document.Doc.{Doc}
 use Rattle.doc_text.specs.Documents.{is_end_of_document}

@@ -5,7 +5,7 @@ use Rattle.std.specs.Prelude.{if◌then◌else◌}
 use Rattle.text_scan.specs.declared.line.Line.{Line}
 use Rattle.text_scan.specs.declared.line.Fault.{Fault}
 use Rattle.text_scan.specs.Tokens.{is_skipped}
-use Rattle.outside.specs.declared.ruler.Event.{Event}
+use Rattle.outside.specs.declared.event.Event.{Event}
 use Rattle.doc_text.specs.declared.document.Doc.{Doc}
 use Rattle.doc_text.specs.Documents.{is_end_of_document}
 use Rattle.session.specs.Script.{has_end, before_end, after_end, made_of, made_in, next_doc, texts, text_of, events, events_of, is_refused, some_refused}

@@ -2,7 +2,7 @@
 use Rattle.std.specs.Prelude.{◌≡◌, ℕ, List, true, take, if◌then◌else◌, Option, Some, None}
 use Rattle.text_scan.specs.Lines.{lines_of, whole_lines}
 use Rattle.text_scan.specs.declared.line.Line.{Line}
-use Rattle.outside.specs.declared.ruler.Event.{Event}
+use Rattle.outside.specs.declared.event.Event.{Event}
 use Rattle.doc_text.specs.declared.document.Doc.{Doc}
 use Rattle.session.specs.Input.{limit}
 use Rattle.session.specs.Script.{has_end, before_end, after_end, document_of_lines, made_in, all_made, texts, events, some_refused}

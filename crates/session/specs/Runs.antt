@@ -2,7 +2,7 @@
 use Rattle.std.specs.Prelude.{◌≡◌, ◌≢◌, ℕ, ◌≤◌, ◌<◌, true, false, List, length, ◌++◌, ◌⊎◌, Option, Some, None, IfSome, ⊤}
 use Rattle.outside.specs.Faults.{Rose}
 use Rattle.outside.specs.Told.{Stays, Adds, Loses, AddsPrefix}
-use Rattle.outside.specs.declared.ruler.Event.{Event}
+use Rattle.outside.specs.declared.event.Event.{Event}
 use Rattle.text_scan.specs.declared.line.Line.{Line}
 use Rattle.text_scan.specs.Lines.{lines_of, whole_lines}
 use Rattle.doc_text.specs.declared.document.Doc.{Doc}

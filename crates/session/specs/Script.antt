@@ -4,8 +4,8 @@ use Rattle.std.specs.List.{list_any}
 use Rattle.text_scan.specs.declared.line.Line.{Line}
 use Rattle.text_scan.specs.declared.line.Fault.{Fault}
 use Rattle.text_scan.specs.Tokens.{is_skipped}
-use Rattle.outside.specs.declared.ruler.Event.{Event}
-use Rattle.outside.specs.declared.ruler.Event.TheVariants.{Begin}
+use Rattle.outside.specs.declared.event.Event.{Event}
+use Rattle.outside.specs.declared.event.Event.TheVariants.{Begin}
 use Rattle.doc_text.specs.declared.document.Doc.{Doc}
 use Rattle.doc_text.specs.declared.edit.Edit.{Edit}
 use Rattle.doc_text.specs.Documents.{document_of, is_end_of_document}

@@ -4,7 +4,7 @@ use Rattle.text_scan.specs.declared.line.Line.{Line}
 use Rattle.text_scan.specs.declared.line.Fault.{Fault}
 use Rattle.text_scan.specs.Stream.{Stream}
 use Rattle.outside.specs.Told.{Adds, AddsPrefix}
-use Rattle.outside.specs.declared.ruler.Event.{Event}
+use Rattle.outside.specs.declared.event.Event.{Event}
 use Rattle.doc_text.specs.declared.document.Doc.{Doc}
 use Rattle.doc_text.specs.Documents.{is_end_of_document}
 use Rattle.doc_text.specs.Gives.{not_built}

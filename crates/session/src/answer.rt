@@ -1,7 +1,7 @@
 ghost use Rattle.std.specs.Prelude.{◌≡◌, ◌+◌, ◌≤◌, ◌<◌, ◌∷◌, ◌++◌, [], ℕ, List, Option, None, Ok, Err, Some, false, length, IfOk, IfErr, OnOk, OnErr};
 ghost use Rattle.outside.specs.Faults.{HasCauseOf};
 ghost use Rattle.outside.specs.Told.{Adds, AddsPrefix};
-ghost use Rattle.outside.specs.declared.ruler.Event.{Event};
+ghost use Rattle.outside.specs.declared.event.Event.{Event};
 ghost use Rattle.doc_text.specs.Gives.{Gives, not_built};
 ghost use Rattle.text_scan.specs.Tokens.{is_skipped};
 ghost use Rattle.text_scan.specs.declared.line.Line.{Line};

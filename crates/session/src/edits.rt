@@ -1,7 +1,7 @@
 ghost use Rattle.std.specs.Prelude.{◌≡◌, ◌+◌, ◌≤◌, ◌<◌, ◌∷◌, [], false, IfOk, OnOk, OnErr, length};
 ghost use Rattle.outside.specs.Told.{Adds, AddsPrefix};
 ghost use Rattle.text_scan.specs.Tokens.{is_skipped};
-ghost use Rattle.outside.specs.declared.ruler.Event.TheVariants.{Begin};
+ghost use Rattle.outside.specs.declared.event.Event.TheVariants.{Begin};
 ghost use Rattle.session.specs.Boxes.{IsBounded, boxes_of};
 ghost use Rattle.session.specs.Engine.{Applies, IsAnswered};
 ghost use Rattle.session.specs.Printing.{print, refusal};

@@ -1,7 +1,7 @@
 ghost use Rattle.std.specs.Prelude.{◌≡◌, ◌+◌, ◌<◌, ◌∷◌, [], true, IfOk, OnOk, OnErr};
 ghost use Rattle.std.specs.List.{All};
 ghost use Rattle.outside.specs.Told.{Adds, AddsPrefix};
-ghost use Rattle.outside.specs.declared.ruler.Event.TheVariants.{Begin};
+ghost use Rattle.outside.specs.declared.event.Event.TheVariants.{Begin};
 ghost use Rattle.doc_text.specs.Edits.{edited, is_ordered_edit};
 ghost use Rattle.session.specs.Boxes.{IsBounded, boxes_of};
 ghost use Rattle.session.specs.Printing.{IsPrintableBox};
