@@ -1,5 +1,5 @@
 -- A declaration: `property: value` (own rule).
-use Rattle.std.specs.Prelude.{ℕ, ◌+◌, min, Bool, true, false, List, [], ◌∷◌, map, length, if◌then◌else◌, Option, Some, None, Result, Ok, Err, codes}
+use Rattle.std.specs.Prelude.{ℕ, ◌+◌, min, Bool, List, [], ◌∷◌, map, length, if◌then◌else◌, Option, Some, None, Result, Err, codes}
 use Rattle.std.specs.Str.{bytes_eq}
 use Rattle.text_scan.specs.declared.line.Fault.{Fault}
 use Rattle.text_scan.specs.declared.line.Place.{Place}

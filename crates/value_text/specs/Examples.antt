@@ -4,7 +4,6 @@ use Rattle.lunit.specs.declared.line_value.LineValue.{LineValue}
 use Rattle.lunit.specs.declared.line_value.LineValue.TheVariants as line
 use Rattle.text_scan.specs.declared.line.Fault.{Fault}
 use Rattle.text_scan.specs.declared.line.Place.{Place}
-use Rattle.style_types.specs.declared.declared.DeclaredValue.{DeclaredValue}
 use Rattle.style_types.specs.declared.prop.Prop.{Prop}
 use Rattle.style_types.specs.declared.prop.Prop.TheVariants as prop
 use Rattle.style_types.specs.declared.unit.Unit.{Unit}

@@ -1,10 +1,8 @@
 -- The value of `flex` (CSS Flexbox 1, 7.1).
-use Rattle.std.specs.Prelude.{ℕ, pos, Bool, true, false, List, [], ◌∷◌, if◌then◌else◌, Option, Some, None, codes}
-use Rattle.std.specs.Option.{option_map}
-use Rattle.std.specs.Str.{bytes_eq}
+use Rattle.std.specs.Prelude.{ℕ, pos, Bool, List, [], ◌∷◌, if◌then◌else◌, Option, Some, None, codes}
 use Rattle.style_types.specs.declared.unit.Unit.TheVariants as unit
 use Rattle.style_types.specs.declared.value.Size.TheVariants as size
-use Rattle.track_text.specs.Words.{Word, bind, is_alone, ended}
+use Rattle.track_text.specs.Words.{Word, bind, is_alone}
 use Rattle.track_text.specs.Values.{factor_of}
 use Rattle.value_text.specs.declared.size.Measured.{Measured}
 use Rattle.value_text.specs.Sizes.{size_of, plain_size, if_ended}

@@ -1,5 +1,5 @@
 -- The forms of values, one row a property.
-use Rattle.std.specs.Prelude.{Bool, true, false}
+use Rattle.std.specs.Prelude.{true, false}
 use Rattle.style_types.specs.declared.prop.Prop.{Prop}
 use Rattle.style_types.specs.declared.prop.Prop.TheVariants as prop
 use Rattle.value_text.specs.declared.form.Form.{Form}
@@ -8,8 +8,6 @@ use Rattle.value_text.specs.declared.form.Refused.{Refused}
 use Rattle.value_text.specs.declared.form.Refused.TheVariants as refused
 use Rattle.value_text.specs.declared.keyword.AlignForm.{AlignForm}
 use Rattle.value_text.specs.declared.size.SizeForm.{SizeForm}
-use Rattle.value_text.specs.declared.property.Property.{Property}
-use Rattle.value_text.specs.declared.property.Property.TheVariants as property
 use Rattle.value_text.specs.declared.property.Shorthand.{Shorthand}
 use Rattle.value_text.specs.declared.property.Shorthand.TheVariants as shorthand
 

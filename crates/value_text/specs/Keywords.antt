@@ -1,5 +1,5 @@
 -- Values of keywords: alignments, the flow of placement, and the others.
-use Rattle.std.specs.Prelude.{ℕ, ℤ, Bool, true, false, not, ◌&&◌, List, [], ◌∷◌, if◌then◌else◌, Option, Some, None, codes}
+use Rattle.std.specs.Prelude.{Bool, true, false, ◌&&◌, List, [], ◌∷◌, if◌then◌else◌, Option, Some, None, codes}
 use Rattle.std.specs.Option.{option_map}
 use Rattle.std.specs.Str.{bytes_eq}
 use Rattle.style_types.specs.declared.value.Align.{Align}
@@ -8,8 +8,6 @@ use Rattle.style_types.specs.declared.value.AlignMode.TheVariants as mode
 use Rattle.style_types.specs.declared.value.Scroll.{Scroll}
 use Rattle.style_types.specs.declared.value.Scroll.TheVariants as scroll
 use Rattle.track_text.specs.Words.{Word, bind, ended}
-use Rattle.value_text.specs.Properties.{named}
-use Rattle.value_text.specs.Sizes.{if_ended}
 use Rattle.value_text.specs.declared.keyword.AlignForm.{AlignForm}
 
 -- a value of one word, which this reads

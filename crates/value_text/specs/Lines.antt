@@ -1,10 +1,10 @@
 -- Line values (CSS Grid 2, 8.3), and two or four of them with `/` between (8.4).
-use Rattle.std.specs.Prelude.{ℕ, ℤ, pos, negsuc, ◌==◌, Bool, true, false, not, List, [], ◌∷◌, if◌then◌else◌, Option, Some, None, codes, nat_lt}
+use Rattle.std.specs.Prelude.{ℕ, ℤ, pos, negsuc, ◌==◌, Bool, true, List, [], ◌∷◌, if◌then◌else◌, Option, Some, None, codes}
 use Rattle.std.specs.Option.{option_map}
 use Rattle.std.specs.Str.{bytes_eq}
 use Rattle.lunit.specs.declared.line_value.LineValue.{LineValue}
 use Rattle.lunit.specs.declared.line_value.LineValue.TheVariants as line
-use Rattle.track_text.specs.Words.{Word, bind, begins_with, ended}
+use Rattle.track_text.specs.Words.{Word, bind}
 use Rattle.track_text.specs.Values.{integer_of}
 use Rattle.track_text.specs.NameSets.{is_line_name}
 use Rattle.value_text.specs.Sizes.{if_ended}

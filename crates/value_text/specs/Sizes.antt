@@ -1,12 +1,11 @@
 -- Sizes: keywords, percentages and lengths, and lists of them.
-use Rattle.std.specs.Prelude.{ℤ, Bool, true, false, ◌&&◌, List, [], ◌∷◌, if◌then◌else◌, Option, Some, None, codes}
+use Rattle.std.specs.Prelude.{ℤ, Bool, ◌&&◌, List, [], ◌∷◌, if◌then◌else◌, Option, Some, None, codes}
 use Rattle.std.specs.Option.{option_map}
 use Rattle.std.specs.Str.{bytes_eq}
 use Rattle.style_types.specs.declared.unit.Unit.{Unit}
 use Rattle.style_types.specs.declared.declared.DeclaredValue.{DeclaredValue}
 use Rattle.style_types.specs.declared.value.Size.{Size}
 use Rattle.style_types.specs.declared.value.Size.TheVariants as size
-use Rattle.style_types.specs.declared.value.Value.{Value}
 use Rattle.style_types.specs.declared.value.Value.TheVariants as value
 use Rattle.track_text.specs.Words.{Word, bind, ended}
 use Rattle.track_text.specs.Values.{ends_in, length_in, percentage_of}

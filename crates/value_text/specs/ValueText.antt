@@ -1,5 +1,5 @@
 -- What the value of a property stands for: one case a form.
-use Rattle.std.specs.Prelude.{ℕ, ℤ, Bool, true, false, List, [], ◌∷◌, Option, Some, None, codes}
+use Rattle.std.specs.Prelude.{ℕ, Bool, List, [], ◌∷◌, Option, None, codes}
 use Rattle.std.specs.Option.{option_map}
 use Rattle.lunit.specs.declared.line_value.LineValue.{LineValue}
 use Rattle.style_types.specs.declared.declared.DeclaredValue.{DeclaredValue}
@@ -10,7 +10,7 @@ use Rattle.style_types.specs.declared.unit.Unit.{Unit}
 use Rattle.style_types.specs.declared.value.Areas.{Areas}
 use Rattle.style_types.specs.declared.value.Value.{Value}
 use Rattle.style_types.specs.declared.value.Value.TheVariants as value
-use Rattle.track_text.specs.Words.{Word, bind}
+use Rattle.track_text.specs.Words.{Word}
 use Rattle.track_text.specs.Values.{integer_of, factor_of}
 use Rattle.track_text.specs.Templates.{ReadTemplate, template_of, auto_tracks}
 use Rattle.value_text.specs.declared.flex.Flex.{Flex}
