@@ -3,4 +3,8 @@
 #![tactic(auto)]
 
 #[cfg(test)]
+mod arenas;
+#[cfg(test)]
+mod caches;
+#[cfg(test)]
 mod questions;
