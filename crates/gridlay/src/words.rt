@@ -57,6 +57,7 @@ mod tests {
     use super::*;
 
     /// A program that was called with these words, its name first.
+    #[derive(Drop)]
     struct Called<'a> {
         words: &'a [&'a [u8]],
     }
