@@ -5,11 +5,11 @@ use Rattle.std.specs.List.{list_all}
 use Rattle.std.specs.Prelude.{if◌then◌else◌, unwrap_or, ◌==◌, codes, ℤ}
 use Rattle.std.proofs.lemmas.Bool.{false≢true, leb-true}
 use Rattle.text_scan.specs.declared.line.Line.{Line}
-use Rattle.doc_text.specs.declared.document.Doc.{Doc}
-use Rattle.doc_text.specs.declared.document.Plain.{Plain}
-use Rattle.doc_text.specs.Words.{Word, Row, bind, rows_of, after_all, ended}
-use Rattle.doc_text.specs.Forms.{name_first, lengths_up_to, tracks_up_to, is_track_count, grid_node, grid_of, root_of, is_header, viewport_of}
-use Rattle.doc_text.specs.Documents.{document_of, document_of_rows, children_of, is_sound}
+use Rattle.first_form.specs.declared.document.Doc.{Doc}
+use Rattle.first_form.specs.declared.document.Plain.{Plain}
+use Rattle.first_form.specs.Words.{Word, Row, bind, rows_of, after_all, ended}
+use Rattle.first_form.specs.Forms.{name_first, lengths_up_to, tracks_up_to, is_track_count, grid_node, grid_of, root_of, is_header, viewport_of}
+use Rattle.first_form.specs.Documents.{document_of, document_of_rows, children_of, is_sound}
 use Rattle.session.specs.Boxes.{IsBounded}
 
 IsThere : {A : Type 0} → Option A → Type 0

@@ -6,11 +6,11 @@ use Rattle.outside.specs.Told.{Adds, AddsPrefix}
 use Rattle.outside.specs.declared.event.Event.{Event}
 use Rattle.outside.specs.declared.event.Event.TheVariants.{Begin}
 use Rattle.outside.proofs.Laws.{adds_none, prefix_none}
-use Rattle.doc_text.specs.declared.document.Doc.{Doc}
-use Rattle.doc_text.specs.declared.edit.Edit.{Edit}
-use Rattle.doc_text.specs.EditLines.{edit_of}
-use Rattle.doc_text.specs.Edits.{edited}
-use Rattle.doc_text.specs.Gives.{not_built_at}
+use Rattle.first_form.specs.declared.document.Doc.{Doc}
+use Rattle.first_form.specs.declared.edit.Edit.{Edit}
+use Rattle.first_form.specs.EditLines.{edit_of}
+use Rattle.first_form.specs.Edits.{edited}
+use Rattle.first_form.specs.Gives.{not_built_at}
 use Rattle.session.specs.Boxes.{boxes_of}
 use Rattle.session.specs.Printing.{print, refusal}
 use Rattle.session.specs.Engine.{Applies, IsAnswered}

@@ -5,11 +5,11 @@ use Rattle.std.specs.Prelude.{if◌then◌else◌}
 use Rattle.text_scan.specs.declared.line.Fault.{Fault}
 use Rattle.outside.specs.Told.{Stays, AddsPrefix}
 use Rattle.outside.proofs.Laws.{all_but_start, all_but_stays, prefix_all_but, prefix_all}
-use Rattle.doc_text.specs.declared.document.Doc.{Doc}
-use Rattle.doc_text.specs.declared.edit.Edit.{Edit}
-use Rattle.doc_text.specs.Trees.{Trees}
-use Rattle.doc_text.specs.Label.{Label}
-use Rattle.doc_text.specs.Edits.{edited, edited_leaves, with_edited, target, axis_of, track_count}
+use Rattle.first_form.specs.declared.document.Doc.{Doc}
+use Rattle.first_form.specs.declared.edit.Edit.{Edit}
+use Rattle.first_form.specs.Trees.{Trees}
+use Rattle.first_form.specs.Label.{Label}
+use Rattle.first_form.specs.Edits.{edited, edited_leaves, with_edited, target, axis_of, track_count}
 use Rattle.session.specs.Boxes.{IsBounded}
 
 -- a document that was made is bounded

@@ -7,8 +7,8 @@ use Rattle.outside.specs.declared.event.Event.{Event}
 use Rattle.outside.proofs.Laws.{all_but_start, all_but_stays, prefix_all_but, prefix_all, prefix_longer}
 use Rattle.text_scan.specs.declared.line.Line.{Line}
 use Rattle.text_scan.specs.Lines.{lines_of, whole_lines}
-use Rattle.doc_text.specs.declared.document.Doc.{Doc}
-use Rattle.doc_text.specs.Gives.{not_built}
+use Rattle.first_form.specs.declared.document.Doc.{Doc}
+use Rattle.first_form.specs.Gives.{not_built}
 use Rattle.session.specs.Input.{limit, IsReadToEnd, IsFront}
 use Rattle.session.specs.Boxes.{boxes_of}
 use Rattle.session.specs.Printing.{print}

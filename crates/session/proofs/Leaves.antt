@@ -2,10 +2,10 @@
 use Rattle.std.proofs.Common.{◌≡◌, ℕ, ◌+◌, ◌<◌, List, [], ◌∷◌, ◌++◌, map, drop, length, get_or, ap, sym, ◌∙◌, append_assoc}
 use Rattle.std.proofs.lemmas.List.{drop_more}
 use Rattle.lunit.specs.declared.geometry.Rect.{Rect}
-use Rattle.doc_text.specs.declared.document.Plain.{Plain}
-use Rattle.doc_text.specs.declared.style.FirstStyle.{FirstStyle}
-use Rattle.doc_text.specs.Trees.{top_labels}
-use Rattle.doc_text.specs.View.{trees_of}
+use Rattle.first_form.specs.declared.document.Plain.{Plain}
+use Rattle.first_form.specs.declared.style.FirstStyle.{FirstStyle}
+use Rattle.first_form.specs.Trees.{top_labels}
+use Rattle.first_form.specs.View.{trees_of}
 use Rattle.session.specs.Boxes.{leaf_box, leaf_rect}
 use Rattle.session.specs.Printing.{Box}
 

@@ -6,7 +6,7 @@ use Rattle.text_scan.specs.Tokens.{is_skipped}
 use Rattle.outside.specs.Told.{Adds}
 use Rattle.outside.specs.declared.event.Event.{Event}
 use Rattle.outside.proofs.Laws.{adds_more, prefix_after}
-use Rattle.doc_text.specs.declared.document.Doc.{Doc}
+use Rattle.first_form.specs.declared.document.Doc.{Doc}
 use Rattle.session.specs.Runs.{WritesAll, WritesPrefix}
 use Rattle.session.specs.Script.{before_end, after_end, document_of_lines, made_of, made_in, made_from, next_doc, all_made, texts, text_of, events, events_of, is_refused, some_refused}
 use Rattle.session.specs.Outcome.{output_of, log_of}

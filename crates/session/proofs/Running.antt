@@ -10,8 +10,8 @@ use Rattle.outside.specs.Faults.{HasCauseOf}
 use Rattle.outside.specs.Told.{Adds, AddsPrefix, Loses}
 use Rattle.outside.specs.declared.event.Event.{Event}
 use Rattle.outside.proofs.Laws.{stays_same, prefix_all}
-use Rattle.doc_text.specs.declared.document.Doc.{Doc}
-use Rattle.doc_text.specs.Documents.{is_end_of_document}
+use Rattle.first_form.specs.declared.document.Doc.{Doc}
+use Rattle.first_form.specs.Documents.{is_end_of_document}
 use Rattle.session.specs.Input.{limit, IsFront, AreFirst, HasLastPiece, HasGiven, HasGivenAll, Stops}
 use Rattle.session.specs.Script.{has_end, before_end, after_end, document_of_lines, made_in, made_from, all_made, texts, text_of, events, events_of, some_refused}
 use Rattle.session.specs.Outcome.{output_of, log_of, answer_of, verdict_of, early_lines}

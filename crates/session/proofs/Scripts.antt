@@ -6,8 +6,8 @@ use Rattle.text_scan.specs.declared.line.Line.{Line}
 use Rattle.text_scan.specs.declared.line.Fault.{Fault}
 use Rattle.text_scan.specs.Tokens.{is_skipped}
 use Rattle.outside.specs.declared.event.Event.{Event}
-use Rattle.doc_text.specs.declared.document.Doc.{Doc}
-use Rattle.doc_text.specs.Documents.{is_end_of_document}
+use Rattle.first_form.specs.declared.document.Doc.{Doc}
+use Rattle.first_form.specs.Documents.{is_end_of_document}
 use Rattle.session.specs.Script.{has_end, before_end, after_end, made_of, made_in, next_doc, texts, text_of, events, events_of, is_refused, some_refused}
 use Rattle.session.specs.Serving.{last_doc}
 

@@ -6,8 +6,8 @@ use Rattle.outside.specs.Told.{Adds, AddsPrefix}
 use Rattle.outside.specs.declared.event.Event.{Event}
 use Rattle.outside.specs.declared.event.Event.TheVariants.{Begin}
 use Rattle.outside.proofs.Laws.{adds_none, prefix_none, prefix_all}
-use Rattle.doc_text.specs.declared.document.Doc.{Doc}
-use Rattle.doc_text.specs.Gives.{not_built}
+use Rattle.first_form.specs.declared.document.Doc.{Doc}
+use Rattle.first_form.specs.Gives.{not_built}
 use Rattle.session.specs.declared.engine.Engine.{Engine}
 use Rattle.session.specs.Boxes.{boxes_of}
 use Rattle.session.specs.Printing.{print, refusal}

@@ -5,7 +5,7 @@ use Rattle.std.specs.Prelude.{if◌then◌else◌}
 use Rattle.text_scan.specs.declared.line.Line.{Line}
 use Rattle.text_scan.specs.Lines.{lines_of, split_lines, onto_first, is_line_feed, numbered}
 use Rattle.text_scan.specs.Stream.{Stream, empty_stream, lines_ahead}
-use Rattle.doc_text.specs.Documents.{is_end_of_document}
+use Rattle.first_form.specs.Documents.{is_end_of_document}
 use Rattle.session.specs.Input.{limit, HasGiven, HasGivenLine, HasGivenAll, Stops, GivesNext}
 use Rattle.session.specs.Script.{has_end}
 use Rattle.session.specs.Serving.{HasEnded, StopsInText}

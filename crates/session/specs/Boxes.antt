@@ -2,12 +2,12 @@
 use Rattle.std.specs.Prelude.{◌≡◌, refl, ℕ, ◌-◌, ◌≤◌, ℤ, pos, negsuc, List, [], ◌∷◌, map, length, Some, None}
 use Rattle.lunit.specs.Units.{clamp}
 use Rattle.lunit.specs.declared.geometry.Rect.{Rect}
-use Rattle.doc_text.specs.declared.document.Doc.{Doc}
-use Rattle.doc_text.specs.declared.style.FirstLines.{FirstLines}
-use Rattle.doc_text.specs.declared.style.FirstStyle.{FirstStyle}
-use Rattle.doc_text.specs.Forms.{last_line}
-use Rattle.doc_text.specs.Label.{Label}
-use Rattle.doc_text.specs.Trees.{top_labels}
+use Rattle.first_form.specs.declared.document.Doc.{Doc}
+use Rattle.first_form.specs.declared.style.FirstLines.{FirstLines}
+use Rattle.first_form.specs.declared.style.FirstStyle.{FirstStyle}
+use Rattle.first_form.specs.Forms.{last_line}
+use Rattle.first_form.specs.Label.{Label}
+use Rattle.first_form.specs.Trees.{top_labels}
 use Rattle.session.specs.Offsets.{offset, sum_of, length_between}
 use Rattle.session.specs.Printing.{Box}
 

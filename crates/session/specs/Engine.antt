@@ -1,7 +1,7 @@
 -- What a call that edits an engine answers and leaves.
 use Rattle.std.specs.Prelude.{◌≡◌, ℕ, List, Result, Ok, Err, Bool}
 use Rattle.text_scan.specs.declared.line.Fault.{Fault}
-use Rattle.doc_text.specs.declared.document.Doc.{Doc}
+use Rattle.first_form.specs.declared.document.Doc.{Doc}
 use Rattle.session.specs.Script.{next_doc, text_of, is_refused}
 use Rattle.session.specs.declared.engine.ApplyError.{ApplyError}
 use Rattle.session.specs.declared.engine.ApplyError.TheVariants as error

@@ -2,9 +2,9 @@ pub use Rattle.outside.specs.Faults as Faults
 pub use Rattle.outside.specs.Told as Told
 pub use Rattle.text_scan.specs.Lines as Lines
 pub use Rattle.text_scan.specs.Stream as Stream
-pub use Rattle.doc_text.specs.Documents as Documents
-pub use Rattle.doc_text.specs.EditLines as EditLines
-pub use Rattle.doc_text.specs.Edits as Edits
+pub use Rattle.first_form.specs.Documents as Documents
+pub use Rattle.first_form.specs.EditLines as EditLines
+pub use Rattle.first_form.specs.Edits as Edits
 pub mod Offsets
 pub mod Printing
 pub mod Boxes

@@ -3,7 +3,7 @@ use Rattle.std.specs.Prelude.{◌≡◌, ℕ, List, true, take, if◌then◌else
 use Rattle.text_scan.specs.Lines.{lines_of, whole_lines}
 use Rattle.text_scan.specs.declared.line.Line.{Line}
 use Rattle.outside.specs.declared.event.Event.{Event}
-use Rattle.doc_text.specs.declared.document.Doc.{Doc}
+use Rattle.first_form.specs.declared.document.Doc.{Doc}
 use Rattle.session.specs.Input.{limit}
 use Rattle.session.specs.Script.{has_end, before_end, after_end, document_of_lines, made_in, all_made, texts, events, some_refused}
 use Rattle.session.specs.declared.status.Status.{Status}

@@ -5,7 +5,7 @@ use Rattle.outside.specs.Told.{Stays, Adds, Loses, AddsPrefix}
 use Rattle.outside.specs.declared.event.Event.{Event}
 use Rattle.text_scan.specs.declared.line.Line.{Line}
 use Rattle.text_scan.specs.Lines.{lines_of, whole_lines}
-use Rattle.doc_text.specs.declared.document.Doc.{Doc}
+use Rattle.first_form.specs.declared.document.Doc.{Doc}
 use Rattle.session.specs.Input.{limit, IsReadToEnd, IsFront, AreFirst}
 use Rattle.session.specs.Boxes.{boxes_of}
 use Rattle.session.specs.Printing.{print}

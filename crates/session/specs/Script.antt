@@ -6,12 +6,12 @@ use Rattle.text_scan.specs.declared.line.Fault.{Fault}
 use Rattle.text_scan.specs.Tokens.{is_skipped}
 use Rattle.outside.specs.declared.event.Event.{Event}
 use Rattle.outside.specs.declared.event.Event.TheVariants.{Begin}
-use Rattle.doc_text.specs.declared.document.Doc.{Doc}
-use Rattle.doc_text.specs.declared.edit.Edit.{Edit}
-use Rattle.doc_text.specs.Documents.{document_of, is_end_of_document}
-use Rattle.doc_text.specs.EditLines.{edit_of}
-use Rattle.doc_text.specs.Edits.{edited}
-use Rattle.doc_text.specs.Gives.{not_built, not_built_at}
+use Rattle.first_form.specs.declared.document.Doc.{Doc}
+use Rattle.first_form.specs.declared.edit.Edit.{Edit}
+use Rattle.first_form.specs.Documents.{document_of, is_end_of_document}
+use Rattle.first_form.specs.EditLines.{edit_of}
+use Rattle.first_form.specs.Edits.{edited}
+use Rattle.first_form.specs.Gives.{not_built, not_built_at}
 use Rattle.session.specs.Boxes.{boxes_of}
 use Rattle.session.specs.Printing.{print, refusal}
 

@@ -2,10 +2,10 @@
 use Rattle.std.specs.Prelude.{◌≡◌, refl, ℕ, false, List, [], ◌∷◌, ◌++◌, Result, Ok, Err, codes}
 use Rattle.text_scan.specs.declared.line.Fault.{Fault}
 use Rattle.text_scan.specs.Lines.{lines_of}
-use Rattle.doc_text.specs.declared.document.Doc.{Doc}
-use Rattle.doc_text.specs.declared.style.FirstLines.{FirstLines}
-use Rattle.doc_text.specs.Trees.{leafless, tree}
-use Rattle.doc_text.specs.Examples.{lines, alone, leaf, grid_of_four}
+use Rattle.first_form.specs.declared.document.Doc.{Doc}
+use Rattle.first_form.specs.declared.style.FirstLines.{FirstLines}
+use Rattle.first_form.specs.Trees.{leafless, tree}
+use Rattle.first_form.specs.Examples.{lines, alone, leaf, grid_of_four}
 use Rattle.session.specs.Script.{has_end, document_of_lines, made_of, all_made}
 use Rattle.session.specs.Outcome.{verdict}
 use Rattle.session.specs.declared.status.Status.TheVariants.{Done, BadDocument, SomeRefused}

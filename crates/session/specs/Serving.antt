@@ -5,9 +5,9 @@ use Rattle.text_scan.specs.declared.line.Fault.{Fault}
 use Rattle.text_scan.specs.Stream.{Stream}
 use Rattle.outside.specs.Told.{Adds, AddsPrefix}
 use Rattle.outside.specs.declared.event.Event.{Event}
-use Rattle.doc_text.specs.declared.document.Doc.{Doc}
-use Rattle.doc_text.specs.Documents.{is_end_of_document}
-use Rattle.doc_text.specs.Gives.{not_built}
+use Rattle.first_form.specs.declared.document.Doc.{Doc}
+use Rattle.first_form.specs.Documents.{is_end_of_document}
+use Rattle.first_form.specs.Gives.{not_built}
 use Rattle.session.specs.declared.engine.Engine.{Engine}
 use Rattle.session.specs.declared.text.Text.{Text}
 use Rattle.session.specs.Input.{HasGiven, HasGivenLine, HasGivenAll, Stops}

@@ -2,7 +2,7 @@ ghost use Rattle.std.specs.Prelude.{◌≡◌, ◌+◌, ◌≤◌, ◌<◌, ◌�
 ghost use Rattle.outside.specs.Faults.{HasCauseOf};
 ghost use Rattle.outside.specs.Told.{Adds, AddsPrefix};
 ghost use Rattle.outside.specs.declared.event.Event.{Event};
-ghost use Rattle.doc_text.specs.Gives.{Gives, not_built};
+ghost use Rattle.first_form.specs.Gives.{Gives, not_built};
 ghost use Rattle.text_scan.specs.Tokens.{is_skipped};
 ghost use Rattle.text_scan.specs.declared.line.Line.{Line};
 ghost use Rattle.session.specs.Boxes.{IsBounded};
@@ -13,7 +13,7 @@ ghost use Rattle.session.specs.Serving.{Answers, AnswersPrefix, EndsFirst, Begin
 use crate::Status;
 use crate::edits::{answer_edit, lay_out, refuse};
 use crate::engine::Engine;
-use doc_text::{Doc, ReadError, read_doc};
+use first_form::{Doc, ReadError, read_doc};
 use lunit::{NoMemory, Steps};
 use outside::{Ruler, Sink, write_all};
 use std::alloc::Global;

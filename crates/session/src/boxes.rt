@@ -1,12 +1,12 @@
 ghost use Rattle.std.specs.Prelude.{◌≡◌, ◌≤◌, length, IfOk};
 ghost use Rattle.std.specs.List.{All};
-ghost use Rattle.doc_text.specs.Forms.{last_line};
+ghost use Rattle.first_form.specs.Forms.{last_line};
 ghost use Rattle.session.specs.Boxes.{boxes_of, tracks_before, leaf_rect, root_rect, start_of, length_of, IsBounded};
 ghost use Rattle.session.specs.Offsets.{HasOffsets, IsNear};
 ghost use Rattle.session.specs.Printing.{IsPrintableBox, IsPrintableRect};
 
 use crate::offsets::{extent, offsets, position};
-use doc_text::{Doc, FirstLines, FirstStyle, Plain};
+use first_form::{Doc, FirstLines, FirstStyle, Plain};
 use lunit::{Along, Lu, Name, NoMemory, Rect, Wide};
 use std::alloc::Global;
 

@@ -9,7 +9,7 @@ ghost use Rattle.session.specs.Script.{applied, made_of, text_of, events_of, fau
 
 use crate::engine::{ApplyError, Engine};
 use crate::print::{print_boxes, print_refusal};
-use doc_text::{ReadError, read_edit};
+use first_form::{ReadError, read_edit};
 use lunit::{NoMemory, Steps};
 use outside::Ruler;
 use std::alloc::Global;

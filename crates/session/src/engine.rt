@@ -2,13 +2,13 @@ ghost use Rattle.std.specs.Prelude.{◌≡◌, ◌+◌, ◌<◌, ◌∷◌, [], 
 ghost use Rattle.std.specs.List.{All};
 ghost use Rattle.outside.specs.Told.{Adds, AddsPrefix};
 ghost use Rattle.outside.specs.declared.event.Event.TheVariants.{Begin};
-ghost use Rattle.doc_text.specs.Edits.{edited, is_ordered_edit};
+ghost use Rattle.first_form.specs.Edits.{edited, is_ordered_edit};
 ghost use Rattle.session.specs.Boxes.{IsBounded, boxes_of};
 ghost use Rattle.session.specs.Printing.{IsPrintableBox};
 ghost use Rattle.session.specs.Engine.{Applies};
 
 use crate::boxes::boxes_of;
-use doc_text::{Doc, Edit};
+use first_form::{Doc, Edit};
 use lunit::{Name, NoMemory, Rect, Steps};
 use outside::Ruler;
 use std::alloc::Global;

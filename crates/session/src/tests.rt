@@ -2,7 +2,7 @@ ghost use Rattle.std.specs.Prelude.{◌≡◌, ◌≤◌, ◌<◌, None, length,
 ghost use Rattle.session.specs.Boxes.{IsBounded};
 
 use super::*;
-use doc_text::{Children, Doc, Edit, FirstAxis, FirstLines, FirstStyle, Named, Plain};
+use first_form::{Children, Doc, Edit, FirstAxis, FirstLines, FirstStyle, Named, Plain};
 use lunit::{Lu, Name, NoMemory, Sequence, Steps};
 use outside::{LogRuler, MemorySink, MemorySource, WordRuler};
 use std::alloc::Global;

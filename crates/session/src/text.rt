@@ -6,7 +6,7 @@ ghost use Rattle.session.specs.Serving.{ReadsText};
 
 use crate::Status;
 use crate::input::{Reader, next_line};
-use doc_text::is_end_of_document;
+use first_form::is_end_of_document;
 use lunit::{NoMemory, Sequence};
 use outside::Source;
 use std::alloc::Global;

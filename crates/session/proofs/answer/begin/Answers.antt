@@ -1,6 +1,6 @@
 use Rattle.std.proofs.Common.{subst, Err}
-use Rattle.doc_text.specs.Gives.{Gives}
-use Rattle.doc_text.specs.declared.errors.ReadError.{ReadError}
+use Rattle.first_form.specs.Gives.{Gives}
+use Rattle.first_form.specs.declared.errors.ReadError.{ReadError}
 use Rattle.session.proofs.Serving.{begins_refused, begins_not}
 use Rattle.session.specs.Script.{document_of_lines}
 use Rattle.session.proofs.answer.begin.Goals as goal

@@ -1,7 +1,7 @@
 use Rattle.std.proofs.Common.{◌≡◌, ◌++◌, drop, map}
 use Rattle.std.specs.List.{All}
-use Rattle.doc_text.specs.Trees.{top_labels}
-use Rattle.doc_text.specs.View.{trees_of}
+use Rattle.first_form.specs.Trees.{top_labels}
+use Rattle.first_form.specs.View.{trees_of}
 use Rattle.session.specs.Boxes.{boxes_of, leaf_box}
 use Rattle.session.specs.Printing.{IsPrintableBox}
 use Rattle.session.proofs.boxes.boxes_of.Given as goal
