@@ -19,7 +19,6 @@ use Rattle.tree_rules.specs.Labels.{GridAxis, Label, ContentAxis}
 use Rattle.tree_rules.specs.NodeSizes.{block_used, bounds_of, content_of_box, fitted, inner, inner_start, is_auto_margin, is_stretched, margin, margins, self_align}
 use Rattle.tree_rules.specs.Orders.{in_document_order}
 use Rattle.tree_rules.specs.Repetitions.{gap_by}
-use Rattle.lunit.specs.Units.{clamp}
 use Rattle.std.specs.Prelude.{codes}
 use Rattle.style_types.specs.declared.value.AlignMode.{AlignMode}
 use Rattle.style_types.specs.declared.value.AlignMode.TheVariants as align_mode

@@ -7,7 +7,7 @@ use Rattle.part_rules.specs.Fractions.{left_flexible}
 use Rattle.part_rules.specs.Placement.{placed_by_rows}
 use Rattle.part_rules.specs.Sharing.{handed_by_level}
 use Rattle.part_rules.specs.Tracks.{sized, group_fitted, spans_fitted}
-use Rattle.plain_tree.specs.Trees.{Trees, leafless}
+use Rattle.plain_tree.specs.Trees.{Trees, leafless, tree}
 use Rattle.style_types.specs.declared.track.Breadth.TheVariants as breadth
 use Rattle.style_types.specs.declared.value.AlignMode.TheVariants as align_mode
 use Rattle.style_types.specs.declared.value.Size.TheVariants as size
@@ -135,3 +135,9 @@ named_areas : boxes (px 300) (px 50) (grid main (record plain_grid { columns = r
     ≡ px_box main 0 0 300 20 ∷ px_box name_p 50 10 70 10 ∷ px_box name_s 0 0 120 10 ∷ []
 unfolding clamp floor_div sized group_fitted spans_fitted handed_by_level left_flexible placed_by_rows
 named_areas = refl
+
+-- A grid in a grid, with a leaf of 10 by 10: each is as high as its content and as wide as the viewport.
+nested : boxes (px 100) (px 50) (grid main plain_grid plain_content) (tree (grid name_a plain_grid plain_content) (side_by_side (plain_leaf (codes "a1") 10 10 ∷ [])) leafless)
+    ≡ px_box main 0 0 100 10 ∷ px_box name_a 0 0 100 10 ∷ px_box (codes "a1") 0 0 100 10 ∷ []
+unfolding clamp floor_div sized group_fitted spans_fitted handed_by_level left_flexible placed_by_rows
+nested = refl
