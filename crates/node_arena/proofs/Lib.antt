@@ -11,3 +11,4 @@ pub mod Removing
 pub mod Inserting
 pub mod Ways
 pub mod Moving
+pub mod Stale

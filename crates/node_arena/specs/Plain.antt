@@ -1,5 +1,5 @@
 -- What a caller sees of an arena.
-use Rattle.std.specs.Prelude.{ℕ, Bool, ◌+◌, ◌<◌, ◌≤◌, refl, is_some}
+use Rattle.std.specs.Prelude.{◌≡◌, ℕ, Bool, false, ◌+◌, ◌<◌, ◌≤◌, refl, is_some}
 use Rattle.std.specs.Coded.{Coded, code_by, coded×, coded_ℕ}
 use Rattle.plain_tree.specs.Trees.{Trees, leafless, tree, coded_trees, size_of, height_of}
 use Rattle.node_arena.specs.declared.number.NodeId.{NodeId}
@@ -51,3 +51,8 @@ module _ {T : Type 0} where
     pub low : height_of n.tree ≤ 64
     pub few : size_of n.tree ≤ n.most_nodes
     pub narrow : IsNarrow n.most_children n.tree
+
+  -- a number that was drawn once and names no node
+  pub record IsStale (n : Nodes T) (id : NodeId) : Type 0 where
+    pub drawn : id.turn < n.made
+    pub dead : is_live n id ≡ false

@@ -4,9 +4,11 @@
 
 mod arena;
 mod error;
+mod laws;
 mod number;
 mod slots;
 
 pub use arena::Arena;
 pub use error::ArenaError;
+pub use laws::stale_stays_stale;
 pub use number::NodeId;
