@@ -37,8 +37,8 @@ pub record RowsSoFar (dense : Bool) (first : List Area) (all : List Entry) (held
   pub room : length held + count_in_rows (all_seen left) ≤ 65536
 
 -- so many areas are not past the farthest line
-pub near_all : (held : List Area) → length held ≤ 65536 → AllEndBy (reach (length held)) held → AllEndBy (pos 1310795536) held
-near_all held n h = ends_later (reach (length held)) (pos 1310795536) held (omega (arith, ints)) h
+pub near_all : (held : List Area) → length held ≤ 65536 → AllEndBy (reach (length held)) held → AllEndBy (pos 1310805536) held
+near_all held n h = ends_later (reach (length held)) (pos 1310805536) held (omega (arith, ints)) h
 
 -- one more area is not past the next reach
 pub near_more : (held : List Area) (a : Area) → AllEndBy (reach (length held)) held → a.columns.end ≤ℤ (reach (length held) +ℤ pos 20001) → a.rows.end ≤ℤ (reach (length held) +ℤ pos 20001) → AllEndBy (reach (length (held ++ a ∷ []))) (held ++ a ∷ [])
@@ -88,8 +88,8 @@ ready_after dense held mine (Free k1) (Free l) starts now s cf rf k h = subst (�
 ready_after dense held mine (Free k1) (At rows) starts now s cf rf k h =
     let found = place_by dense starts held mine k1 rows (reach (length held)) (omega (arith, ints)) s.near s.kept k in
     let short : k1 ≤ 20000 = search rules in
-    let ends_row = both_pass (int_lt rows.start rows.end) (int_le rows.end (pos 10000)) rf in
-    let low : rows.end ≤ℤ pos 10000 = let t = ends_row.1 in search rules in
+    let ends_row = both_pass (int_lt rows.start rows.end) (int_le rows.end (pos 20000)) rf in
+    let low : rows.end ≤ℤ pos 20000 = let t = ends_row.1 in search rules in
     let a : Area = record { columns = to_end (free_column held k1 rows (row_search_start dense mine rows)) k1; rows = rows } in
     let n : length (held ++ a ∷ []) ≡ length held + 1 = length-append held (a ∷ []) in
     let first : a.columns.start ≤ℤ reach (length (held ++ a ∷ [])) = omega (arith, ints) in

@@ -60,7 +60,7 @@ search_start_by field held cursor columns s = go field.dense (int_lt columns.sta
     go false false = let h = s.cursor_row in omega (arith, ints)
 
 pub start_near : (field : Field) (reached : Reached) (held : List Area) (cursor : Position) (columns : Span) (row : Spot) (l : ℕ) (from : ℤ) → IsSet held field cursor → Knows field.dense field reached held → row ≡ Free l → length held + one_left row ≤ 65536
-    → from ≡ row_from field.dense field cursor reached columns l → from ≤ℤ pos 1310795536
+    → from ≡ row_from field.dense field cursor reached columns l → from ≤ℤ pos 1310805536
 start_near field reached held cursor columns row l from s k e h f =
     let by = row_from_by field reached held cursor columns l s k in
     let n = one_room (length held) row l e h in
@@ -74,7 +74,7 @@ rows_are_next field reached held cursor column row columns rows l x from ce re f
     (λ i. Some (record { columns = columns; rows = (e ∙ (λ j. to_end ((ap (free_row held columns l) (xe ∙ fe) ∙ row_finds field reached held cursor columns l h) j) l)) i })))
 
 pub begin_near : (field : Field) (reached : Reached) (held : List Area) (cursor : Position) (column row : Spot) (k l : ℕ) (from : Position) → IsSet held field cursor → Knows field.dense field reached held → HasRoom field.first field.last column row → column ≡ Free k → row ≡ Free l
-    → length held + one_left row ≤ 65536 → from ≡ position_from field.dense field cursor reached k l → ((field.first ≤ℤ from.column) × (from.column ≤ℤ pos 1310795536) × (from.row <ℤ pos 1310795536)) × ((field.first +ℤ pos k) ≤ℤ field.last)
+    → length held + one_left row ≤ 65536 → from ≡ position_from field.dense field cursor reached k l → ((field.first ≤ℤ from.column) × (from.column ≤ℤ pos 1310805536) × (from.row <ℤ pos 1310805536)) × ((field.first +ℤ pos k) ≤ℤ field.last)
 begin_near field reached held cursor column row k l from s h room ce re count f =
     let fits : (field.first +ℤ pos k) ≤ℤ field.last = subst (λ (c : Spot). HasRoom field.first field.last c (Free l)) ce (subst (λ (r : Spot). HasRoom field.first field.last column r) re room) in
     let n = one_room (length held) row l re count in
@@ -131,8 +131,8 @@ next_set field held cursor (At c) (Free l) a s cf rf room e =
     let same : is ≡ a = cc in
     let found = row_near line held c l from (ends_later (reach (length held)) line held (omega (arith, ints)) s.near) (search_start_by field held cursor c s) in
     let short : l ≤ 20000 = search rules in
-    let parts = both_pass (int_lt c.start c.end) (int_le c.end (pos 10000)) cf in
-    let low : c.end ≤ℤ pos 10000 = let t = parts.1 in search rules in
+    let parts = both_pass (int_lt c.start c.end) (int_le c.end (pos 20000)) cf in
+    let low : c.end ≤ℤ pos 20000 = let t = parts.1 in search rules in
     let less : c.start <ℤ c.end = let t = parts.0 in search rules in
     subst (λ (x : Area). IsSet (held ++ x ∷ []) field (record { column = x.columns.start; row = x.rows.start })) same
     (set_more field held cursor is s room (omega (arith, ints)) (omega (arith, ints)) (omega (arith, ints)) (omega (arith, ints)))

@@ -183,9 +183,9 @@ pub record IsSearch (held : List Area) (columns : Span) (k l : ℕ) (from : Posi
   pub columns_are : area.columns ≡ to_end area.columns.start k
   pub rows_are : area.rows ≡ to_end area.rows.start l
   pub sought : IsSought held columns k l from (corner area)
-  pub near : area.columns.start ≤ℤ pos 1310795536
+  pub near : area.columns.start ≤ℤ pos 1310805536
 
-pub search_begins : (held : List Area) (columns : Span) (k l : ℕ) (from : Position) (area : Area) (x y : ℤ) → x ≡ from.column → y ≡ from.row → columns.start ≤ℤ from.column → (columns.start +ℤ pos k) ≤ℤ columns.end → from.column ≤ℤ pos 1310795536
+pub search_begins : (held : List Area) (columns : Span) (k l : ℕ) (from : Position) (area : Area) (x y : ℤ) → x ≡ from.column → y ≡ from.row → columns.start ≤ℤ from.column → (columns.start +ℤ pos k) ≤ℤ columns.end → from.column ≤ℤ pos 1310805536
     → area.columns ≡ to_end x k → area.rows ≡ to_end y l → IsSearch held columns k l from area
 search_begins held columns k l from area x y xe ye s e near c r = subst (λ (a : Area). IsSearch held columns k l from a) (λ i. record { columns = sym (c ∙ λ j. to_end (xe j) k) i; rows = sym (r ∙ λ j. to_end (ye j) l) i }) (record {
   columns_are = refl;
@@ -194,14 +194,14 @@ search_begins held columns k l from area x y xe ye s e near c r = subst (λ (a :
   near = near;
 })
 
-pub search_less : (held : List Area) (columns : Span) (k l : ℕ) (from : Position) (area : Area) → IsSearch held columns k l from area → AllEndBy (pos 1310795536) held → from.row <ℤ pos 1310795536
-    → NoneFree held k area.rows area.columns.start (columns.end -ℤ pos k +ℤ pos 1) → area.rows.start <ℤ pos 1310795536
+pub search_less : (held : List Area) (columns : Span) (k l : ℕ) (from : Position) (area : Area) → IsSearch held columns k l from area → AllEndBy (pos 1310805536) held → from.row <ℤ pos 1310805536
+    → NoneFree held k area.rows area.columns.start (columns.end -ℤ pos k +ℤ pos 1) → area.rows.start <ℤ pos 1310805536
 search_less held columns k l from area s h low none =
     let less = row_passes held columns k l from (corner area) s.sought (subst (λ (r : Span). NoneFree held k r area.columns.start (columns.end -ℤ pos k +ℤ pos 1)) s.rows_are none) in
-    let within = row_within (pos 1310795536) held columns k l from h low s.sought.fits in
+    let within = row_within (pos 1310805536) held columns k l from h low s.sought.fits in
     omega (arith, ints)
 
-pub search_goes_on : (held : List Area) (columns : Span) (k l : ℕ) (from : Position) (area : Area) (first next : Span) (x : ℤ) → x ≡ columns.start → IsSearch held columns k l from area → columns.start ≤ℤ pos 1310795536
+pub search_goes_on : (held : List Area) (columns : Span) (k l : ℕ) (from : Position) (area : Area) (first next : Span) (x : ℤ) → x ≡ columns.start → IsSearch held columns k l from area → columns.start ≤ℤ pos 1310805536
     → NoneFree held k area.rows area.columns.start (columns.end -ℤ pos k +ℤ pos 1) → first ≡ to_end x k → next.start ≡ area.rows.start +ℤ pos 1 → next.end ≡ area.rows.end +ℤ pos 1
     → IsSearch held columns k l from (record { columns = first; rows = next })
 search_goes_on held columns k l from area first next x xe s near none fx start end =

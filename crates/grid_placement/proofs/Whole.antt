@@ -58,16 +58,16 @@ all_counted flow (w ∷ ws) =
     let rest = all_counted flow ws in
     omega (arith, n, one, rest)
 
-fixed_ends : (column row : Spot) → is_within column ≡ true → is_within row ≡ true → (held : List Area) → AllEndBy (pos 10000) held → AllEndBy (pos 10000) (option_to_list (fixed_area column row) ++ held)
+fixed_ends : (column row : Spot) → is_within column ≡ true → is_within row ≡ true → (held : List Area) → AllEndBy (pos 20000) held → AllEndBy (pos 20000) (option_to_list (fixed_area column row) ++ held)
 fixed_ends (At c) (Free l) cf rf held h = h
 fixed_ends (Free k) (At r) cf rf held h = h
 fixed_ends (Free k) (Free l) cf rf held h = h
 fixed_ends (At c) (At r) cf rf held h =
-    let cs = both_pass (int_lt c.start c.end) (int_le c.end (pos 10000)) cf in
-    let rs = both_pass (int_lt r.start r.end) (int_le r.end (pos 10000)) rf in
-    record { each = pass_both (int_le c.end (pos 10000) && int_le r.end (pos 10000)) (list_all (ends_by (pos 10000)) held) (pass_both (int_le c.end (pos 10000)) (int_le r.end (pos 10000)) cs.1 rs.1) h.each }
+    let cs = both_pass (int_lt c.start c.end) (int_le c.end (pos 20000)) cf in
+    let rs = both_pass (int_lt r.start r.end) (int_le r.end (pos 20000)) rf in
+    record { each = pass_both (int_le c.end (pos 20000) && int_le r.end (pos 20000)) (list_all (ends_by (pos 20000)) held) (pass_both (int_le c.end (pos 20000)) (int_le r.end (pos 20000)) cs.1 rs.1) h.each }
 
-fixed_near : (flow : Bool) (items : List Wish) → IsTrue (are_placeable items) → AllEndBy (pos 10000) (areas_of (flow_items flow items))
+fixed_near : (flow : Bool) (items : List Wish) → IsTrue (are_placeable items) → AllEndBy (pos 20000) (areas_of (flow_items flow items))
 fixed_near flow [] h = record { each = refl }
 fixed_near flow (w ∷ ws) h =
     let parts = both_pass (is_placeable w) (are_placeable ws) h in
@@ -76,7 +76,7 @@ fixed_near flow (w ∷ ws) h =
     fixed_ends v.column v.row fits.0 fits.1 (areas_of (flow_items flow ws)) (fixed_near flow ws parts.1)
 
 pub begun_near : (flow : Bool) (items : List Wish) (held : List Area) → IsTrue (are_placeable items) → held ≡ areas_of (flow_items flow items) → AllEndBy (reach (length held)) held
-begun_near flow items held h e = ends_later (pos 10000) (reach (length held)) held (omega (arith, ints)) (subst (λ (a : List Area). AllEndBy (pos 10000) a) (sym e) (fixed_near flow items h))
+begun_near flow items held h e = ends_later (pos 20000) (reach (length held)) held (omega (arith, ints)) (subst (λ (a : List Area). AllEndBy (pos 20000) a) (sym e) (fixed_near flow items h))
 
 pub begun_fit : (flow : Bool) (items : List Wish) (es : List rules.Entry) → IsTrue (are_placeable items) → es ≡ flow_items flow items → IsTrue (can_be_placed es)
 begun_fit flow items es h e = subst (λ (x : List rules.Entry). IsTrue (can_be_placed x)) (sym e) (items_fit flow items h)

@@ -51,7 +51,7 @@ can_be_placed entries = list_all (λ (e : rules.Entry). is_placeable e.wish) ent
 
 -- the line that so many areas end by
 abbrev pub reach : ℕ → ℤ
-reach n = pos (10000 + 20001 * n)
+reach n = pos (20000 + 20001 * n)
 
 -- the area in the end, as the grid sees it
 abbrev pub final_area : Bool → rules.Entry → Area

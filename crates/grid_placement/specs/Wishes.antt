@@ -8,9 +8,9 @@ use Rattle.part_rules.specs.declared.wish.Wish.{Wish}
 use Rattle.part_rules.specs.declared.wish.Shape.{Shape}
 use Rattle.part_rules.specs.Placement.{turned_wish, turned_area}
 
--- a definite span begins before it ends, at line 10,000 or before; a free span is of at most 20,000 tracks
+-- a definite span begins before it ends, at line 20,000 or before; a free span is of at most 20,000 tracks
 abbrev pub is_within : Spot → Bool
-is_within (At s) = int_lt s.start s.end && int_le s.end (pos 10000)
+is_within (At s) = int_lt s.start s.end && int_le s.end (pos 20000)
 is_within (Free k) = nat_le k 20000
 
 -- so in both axes

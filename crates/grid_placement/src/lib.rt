@@ -32,7 +32,7 @@ use std::alloc::Global;
 /// from where its search began, that was free of the areas placed before it.
 ///
 /// Of the cells nothing may be taken before. They serve the search, in the flow's axes; what they hold after the call is not
-/// said. Each definite span begins before it ends, at line 10,000 or before; each free span is of at most 20,000 tracks; there
+/// said. Each definite span begins before it ends, at line 20,000 or before; each free span is of at most 20,000 tracks; there
 /// are at most 65,536 items. The number of explicit tracks has no limit.
 ///
 /// `NoMemory` is answered where memory is wanting.

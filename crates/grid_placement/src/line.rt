@@ -4,8 +4,8 @@ ghost use Rattle.part_rules.specs.Placement.{to_end};
 
 use lunit::Span;
 
-/// No area lies farther, since each of at most 65,536 items moves the last line by at most 20,001 from 10,000 on.
-pub const FARTHEST: i32 = 1_310_795_536;
+/// No area lies farther, since each of at most 65,536 items moves the last line by at most 20,001 from 20,000 on.
+pub const FARTHEST: i32 = 1_310_805_536;
 
 /// So many tracks from a line on.
 pub fn tracks_from(line: i32, tracks: u32) -> Span

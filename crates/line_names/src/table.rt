@@ -190,15 +190,16 @@ impl LineTable {
         }
     }
 
-    /// How many explicit tracks there are.
-    pub(crate) fn tracks(&self) -> u32
-        ensures { result ≡ self.now.tracks }
+    /// How many explicit tracks there are, at most 65,536.
+    pub fn tracks(&self) -> u32
+        ensures value { result ≡ self.now.tracks }
+        ensures few { result ≤ 65536 }
     {
         self.tracks
     }
 
-    /// The lines between which all items lie.
-    pub(crate) fn limit(&self) -> Span
+    /// The lines between which all items lie: some at least, not after line 0 at their start, and at most 20,000 tracks.
+    pub fn limit(&self) -> Span
         ensures value { result ≡ record { start = self.now.low; end = self.now.high } }
         ensures fits { IsLimit result }
     {

@@ -9,7 +9,7 @@ rows_from-requires-clause-ends g c = near_all (g.O.Occupancy.areas c.args.cells.
 
 pub rows_from-requires-clause-near : goal.rows_from-requires-clause-near
 rows_from-requires-clause-near g c =
-    let near : c.row_from-from.result ≤ℤ pos 1310795536 = start_near c.args.field c.args.reached.now (g.O.Occupancy.areas c.args.cells.now) c.args.cursor c.in-At-Free.columns c.args.wish.row c.in-At-Free.tracks c.row_from-from.result c.requires.set c.requires.knows c.in-At-Free.is-1 c.requires.count c.row_from-from.ensures in
+    let near : c.row_from-from.result ≤ℤ pos 1310805536 = start_near c.args.field c.args.reached.now (g.O.Occupancy.areas c.args.cells.now) c.args.cursor c.in-At-Free.columns c.args.wish.row c.in-At-Free.tracks c.row_from-from.result c.requires.set c.requires.knows c.in-At-Free.is-1 c.requires.count c.row_from-from.ensures in
     omega (arith, ints)
 
 pub returns-in-At-Free : goal.returns-in-At-Free

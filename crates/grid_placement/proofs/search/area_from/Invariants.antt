@@ -9,4 +9,4 @@ invariant-search g l =
     IsSearch (areas l.cells) (record { start = l.sought.first; end = l.sought.last }) l.sought.columns l.sought.rows (record { column = l.fn.from.column; row = l.fn.from.row }) l.area
 
 abbrev pub decreases-search : goal.decreases-search
-decreases-search g l = above_zero (pos 1310795536 -ℤ l.area.rows.start)
+decreases-search g l = above_zero (pos 1310805536 -ℤ l.area.rows.start)

@@ -10,9 +10,9 @@ invariant-search g l =
     record {
       span : l.columns ≡ to_end l.columns.start l.sought.columns;
       from : l.fn.area.columns.start ≤ℤ l.columns.start;
-      near : l.columns.start ≤ℤ pos 1310795536;
+      near : l.columns.start ≤ℤ pos 1310805536;
       none : NoneFree (areas l.cells) l.sought.columns l.rows l.fn.area.columns.start l.columns.start;
     }
 
 abbrev pub decreases-search : goal.decreases-search
-decreases-search g l = above_zero (pos 1310795536 -ℤ l.columns.start)
+decreases-search g l = above_zero (pos 1310805536 -ℤ l.columns.start)

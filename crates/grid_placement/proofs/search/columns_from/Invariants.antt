@@ -9,4 +9,4 @@ invariant-search g l =
     record { span : l.columns ≡ to_end l.columns.start l.tracks; from : l.from ≤ℤ l.columns.start; found : l.columns.start ≤ℤ free_column (areas l.cells) l.tracks l.rows l.from }
 
 abbrev pub decreases-search : goal.decreases-search
-decreases-search g l = above_zero (pos 1310795536 -ℤ l.columns.start)
+decreases-search g l = above_zero (pos 1310805536 -ℤ l.columns.start)

@@ -9,4 +9,4 @@ invariant-search g l =
     record { span : l.rows ≡ to_end l.rows.start l.tracks; from : l.from ≤ℤ l.rows.start; found : l.rows.start ≤ℤ free_row (areas l.cells) l.columns l.tracks l.from }
 
 abbrev pub decreases-search : goal.decreases-search
-decreases-search g l = above_zero (pos 1310795536 -ℤ l.rows.start)
+decreases-search g l = above_zero (pos 1310805536 -ℤ l.rows.start)
