@@ -2,3 +2,4 @@ pub mod Sames
 pub mod Sets
 pub mod Reaches
 pub mod Forgets
+pub mod Once

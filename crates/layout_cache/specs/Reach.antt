@@ -3,7 +3,7 @@
 use Rattle.std.specs.Prelude.{◌≡◌, ℕ, zero, suc, ◌+◌, Bool, false, ◌&&◌, ◌||◌, List, [], ◌∷◌, ◌++◌, if◌then◌else◌}
 use Rattle.plain_tree.specs.Trees.{Trees, leafless, tree}
 use Rattle.node_arena.specs.declared.number.NodeId.{NodeId}
-use Rattle.node_arena.specs.Numbers.{same, mapped, is_among, way_up, below_at}
+use Rattle.node_arena.specs.Numbers.{same, mapped, is_among, one, way_up, below_at}
 use Rattle.node_arena.specs.Plain.{Nodes}
 
 -- a number on the way up from one of these
@@ -47,3 +47,8 @@ forgets f (n ∷ ns) t = forgets f ns (forgot f n t)
 -- an arena where these have forgotten, and nothing else changed
 abbrev pub all_forgot : {A : Type 0} → (A → A) → List NodeId → Nodes A → Nodes A
 all_forgot f ns arena = record arena { tree = forgets f ns arena.tree }
+
+-- how often a number stands in a list
+abbrev pub occurs : NodeId → List NodeId → ℕ
+occurs n [] = 0
+occurs n (m ∷ ms) = one (same m n) + occurs n ms

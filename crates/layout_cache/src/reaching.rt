@@ -1,8 +1,8 @@
-ghost use Rattle.std.specs.Prelude.{◌≡◌, ◌++◌, ◌||◌, ◌&&◌, IfOk, IfSome, IfNone, OnOk, OnErr};
+ghost use Rattle.std.specs.Prelude.{◌≡◌, ◌≤◌, ◌++◌, ◌||◌, ◌&&◌, IfOk, IfSome, IfNone, OnOk, OnErr};
 ghost use Rattle.plain_tree.specs.Trees.{leafless};
 ghost use Rattle.node_arena.specs.Numbers.{is_among, way_up, below_at, count_at};
 ghost use Rattle.node_arena.specs.declared.number.NodeId.{NodeId};
-ghost use Rattle.layout_cache.specs.Reach.{is_above, reached, reached_by, from_tree, NextChild, all_forgot};
+ghost use Rattle.layout_cache.specs.Reach.{is_above, reached, reached_by, from_tree, NextChild, all_forgot, occurs};
 
 use crate::linked::Linked;
 use crate::numbers::NumberSet;
@@ -20,7 +20,8 @@ pub fn reach<T: Linked + Drop>(
     touched: &[NodeId],
     grid: bool,
 ) -> Result<Vec<NodeId>, NoMemory>
-    ensures { IfOk result (λ list. list.items ≡ reached_by T.Linked.subgrid tree.now.tree touched.now grid) }
+    ensures list { IfOk result (λ list. list.items ≡ reached_by T.Linked.subgrid tree.now.tree touched.now grid) }
+    ensures once { IfOk result (λ list. (n : NodeId) → occurs n list.items ≤ 1) }
 {
     let marks = Marks::new(alloc, tree, touched, grid)?;
     let mut found = Vec::new(alloc);
