@@ -1,0 +1,52 @@
+-- Where a node stands under the grid of which it is a subgrid (CSS Grid 2, section 9). A context depends on what is above the node by this
+-- alone.
+use Rattle.std.specs.Prelude.{◌≡◌, refl, List, [], ◌∷◌, reverse}
+use Rattle.lunit.specs.declared.geometry.Area.{Area}
+use Rattle.tree_rules.specs.Answers.{Pair}
+use Rattle.tree_rules.specs.Chains.{Link}
+use Rattle.tree_rules.specs.Contexts as rules
+use Rattle.tree_rules.specs.Labels.{GridStyle}
+use Rattle.tree_rules.specs.Places.{Seen}
+use Rattle.placing.specs.declared.context.Above.{Above}
+use Rattle.placing.specs.declared.context.Above.TheVariants as above
+use Rattle.placing.specs.declared.context.AxisContext.{AxisContext}
+use Rattle.placing.specs.declared.context.Context.{Context}
+
+-- the contexts of the definitions
+abbrev pub axis_context_of : AxisContext → rules.AxisContext
+axis_context_of c = record { subgrid = c.subgrid; table = c.table; gap = c.gap; levels = c.levels }
+
+abbrev pub context_of : Context → rules.Context
+context_of c = record { columns = axis_context_of c.columns; rows = axis_context_of c.rows }
+
+-- no grid is above, or the context of that grid and the area in it
+pub data Seat : Type 0 where
+  alone : Seat
+  under : rules.Context → Area → Seat
+
+-- The seat of a node with these links upwards, by the counts of the repetitions of the grids above it, the nearest first.
+abbrev pub seat_of : List Link → List Pair → Seat
+seat_of [] outer = alone
+seat_of (link ∷ chain) outer =
+    let parent = rules.context_by link.grid chain outer in
+    let areas = rules.placed_children parent link.grid link.children in
+    under parent (rules.area_of areas link.way)
+
+-- the context of a grid in a seat, by the counts of its own repetitions
+abbrev pub context_in : Seat → GridStyle → Pair → rules.Context
+context_in alone g p = rules.top_context g p
+context_in (under c a) g p = rules.lower_context c a g p
+
+-- the seat that the code is given
+abbrev pub seat_by : Above → Area → Seat
+seat_by above.Nothing a = alone
+seat_by (above.Grid c) a = under (context_of c) a
+
+-- It is the seat of a node that sees these counts above it, the topmost first.
+abbrev pub IsSeat : Seen → List Pair → Above → Area → Type 0
+IsSeat s reps above a = seat_by above a ≡ seat_of s.chain (reverse reps)
+
+-- The context in the seat is the one by the chain.
+context_by_seat : (g : GridStyle) (chain : List Link) (p : Pair) (outer : List Pair) → rules.context_by g chain (p ∷ outer) ≡ context_in (seat_of chain outer) g p
+context_by_seat g [] p outer = refl
+context_by_seat g (link ∷ chain) p outer = refl

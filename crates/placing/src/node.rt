@@ -1,0 +1,46 @@
+use layout_cache::Kept;
+use lunit::{Item, Lu, Name, Rect, Sequence};
+use node_arena::NodeId;
+use style_types::{Declared, Style};
+use tree_rules::{Given, NodeKind};
+
+/// What the arena holds of a node.
+#[derive(Drop)]
+pub struct Node {
+    /// The name, of at most 58 bytes.
+    pub name: Name,
+    /// A grid, a flex container, or a leaf with its content.
+    pub kind: NodeKind,
+    /// The values as they are declared.
+    pub declared: Declared,
+    /// The computed values (CSS Values 4, section 6.1).
+    pub style: Style,
+    /// The answers that it keeps.
+    pub kept: Kept<Answer>,
+}
+
+/// A child as its parent lays it out.
+#[derive(Drop)]
+pub struct Frame {
+    /// The number of the child.
+    pub child: NodeId,
+    /// Its border box, from the parent's border box, in units of 1/64 px.
+    pub rect: Rect,
+    /// What it is given in the inline axis.
+    pub inline: Given,
+    /// What it is given in the block axis.
+    pub block: Given,
+}
+
+/// What a question to a node is answered by.
+#[derive(Drop)]
+pub enum Answer {
+    /// The two intrinsic inline sizes of the content.
+    Sizes(Lu, Lu),
+    /// The items that a subgrid lends.
+    Lent(Sequence<Item>),
+    /// The block size of the content.
+    Block(Lu),
+    /// The children, in document order.
+    Frames(Sequence<Frame>),
+}
