@@ -1,12 +1,12 @@
 -- The tracks that an item spans, and those before and behind them.
-use Rattle.std.proofs.Common.{arith, ap, subst, ◌≡◌, ◌∙◌, sym, refl, ℕ, zero, suc, ◌+◌, ◌<◌, ◌≤◌, ℤ, pos, ◌+ℤ◌, ◌-ℤ◌, ◌≤ℤ◌, ◌<ℤ◌, Bool, true, false, ◌&&◌, ◌||◌, List, [], ◌∷◌, ◌++◌, map, take, drop, length, cond, int_le, int_lt, filter}
+use Rattle.std.proofs.Common.{arith, ap, subst, ◌≡◌, ◌∙◌, sym, refl, ℕ, zero, suc, ℤ, pos, ◌+ℤ◌, ◌≤ℤ◌, ◌<ℤ◌, Bool, true, false, ◌&&◌, ◌||◌, List, [], ◌∷◌, ◌++◌, take, drop, cond, int_le, int_lt}
 use Rattle.std.specs.List.{list_any}
 use Rattle.std.proofs.lemmas.Int.{ints}
 use Rattle.std.proofs.lemmas.List.{append-nil}
 use Rattle.std.proofs.lemmas.List.Elements.{filter-append}
 use Rattle.lunit.specs.declared.item.Item.{Item}
 use Rattle.part_rules.specs.Tracks.{Track, spans, spanned}
-use Rattle.track_sizing.specs.Placed.{ArePlaced, IsIn}
+use Rattle.track_sizing.specs.Placed.{ArePlaced}
 
 abbrev pub AllSpanned : Item → List Track → Type 0
 AllSpanned i [] = Unit {0}

@@ -1,8 +1,6 @@
 -- Rooms below 0 count as 0.
-use Rattle.std.proofs.Common.{arith, ap, ◌≡◌, refl, ℤ, pos, Option, Some, None}
-use Rattle.std.specs.Int.{int_max, int_min}
+use Rattle.std.proofs.Common.{arith, ap, ◌≡◌, refl, ℤ, Option, Some, None}
 use Rattle.std.proofs.lemmas.Int.{ints, clamps}
-use Rattle.part_rules.specs.Lists.{at_most}
 use Rattle.part_rules.specs.Tracks.{lesser}
 use Rattle.track_sizing.specs.Here.{floored}
 

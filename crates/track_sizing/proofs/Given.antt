@@ -1,7 +1,6 @@
 -- What an item gives, in turns.
-use Rattle.std.proofs.Common.{arith, ap, ◌≡◌, ◌∙◌, sym, refl, ℤ, pos, ◌-ℤ◌, ◌≤ℤ◌, Bool, true, false, List, [], ◌∷◌, map}
+use Rattle.std.proofs.Common.{arith, ℤ, pos, ◌≤ℤ◌, List, [], ◌∷◌}
 use Rattle.std.proofs.lemmas.Int.{ints}
-use Rattle.lunit.specs.Units.{top, IsUnits}
 use Rattle.part_rules.specs.Tracks.{Track}
 use Rattle.track_sizing.specs.Here.{AreBelow, AreQuiet}
 

@@ -1,21 +1,19 @@
 -- Groups of items.
-use Rattle.std.proofs.Common.{arith, ap, subst, ◌≡◌, ◌∙◌, sym, refl, ℕ, zero, suc, ◌+◌, ◌==◌, ◌<◌, ◌≤◌, ℤ, pos, ◌+ℤ◌, ◌-ℤ◌, ◌≤ℤ◌, Bool, true, false, List, [], ◌∷◌, ◌++◌, map, take, drop, length, get_or, Option, if◌then◌else◌}
-use Rattle.std.specs.Int.{int_max}
+use Rattle.std.proofs.Common.{arith, ap, subst, ◌≡◌, ◌∙◌, sym, refl, ℕ, zero, suc, ◌==◌, ◌<◌, ℤ, pos, ◌+ℤ◌, ◌≤ℤ◌, Bool, true, false, List, [], ◌∷◌, ◌++◌, map, take, drop, length, get_or, Option, if◌then◌else◌}
 use Rattle.std.specs.List.{list_any}
 use Rattle.std.proofs.lemmas.Int.{ints, clamps}
 use Rattle.std.proofs.lemmas.List.{take-append-drop}
 use Rattle.lunit.specs.declared.item.Item.{Item}
 use Rattle.part_rules.specs.Lists.{total_of, zipped}
-use Rattle.part_rules.specs.Sharing.{apportioned_after, apportioned_whole, shares, unshared}
-use Rattle.part_rules.specs.Tracks.{Track, BaseStep, LimitStep, incur, in_turns, plan, only, without_end, affected_by, by_factors, crossing_weight, base_rooms, limit_rooms, base_incurred_by, limit_incurred_by, base_planned_by, limit_planned_by, base_of, limit_of, needed, raised_base, raise_limit, base_distributed, base_planned_by_all}
+use Rattle.part_rules.specs.Sharing.{apportioned_whole, shares, unshared}
+use Rattle.part_rules.specs.Tracks.{Track, BaseStep, LimitStep, incur, in_turns, plan, only, without_end, affected_by, by_factors, crossing_weight, base_rooms, limit_rooms, base_incurred_by, limit_incurred_by, base_planned_by, limit_planned_by, base_of, limit_of, needed, raised_base, raise_limit}
 use Rattle.track_sizing.specs.declared.kinds.Affected.{Affected}
 use Rattle.track_sizing.specs.declared.kinds.Kind.{Kind}
 use Rattle.track_sizing.specs.declared.item.Asks.{Asks}
 use Rattle.track_sizing.specs.Here.{AreQuiet, base_planned_of, limit_planned_of}
 use Rattle.track_sizing.specs.Placed.{ArePlaced, AreReady, AreSet, AreIn, IsIn, IsReady, base_step_of, limit_step_in}
-use Rattle.track_sizing.proofs.Around.{IsAround, around}
+use Rattle.track_sizing.proofs.Around.{around}
 use Rattle.track_sizing.proofs.Local.{base_local, limit_local}
-use Rattle.track_sizing.proofs.Shares.{shares_length}
 use Rattle.track_sizing.proofs.Sums.{drop_item}
 
 -- ---- what is set

@@ -1,9 +1,8 @@
 -- The rest of the space.
-use Rattle.std.proofs.Common.{arith, ap, subst, ◌≡◌, ◌∙◌, sym, refl, ℕ, zero, suc, ◌+◌, ◌<◌, ◌≤◌, ℤ, pos, ◌-◌, ◌+ℤ◌, ◌*ℤ◌, ◌≤ℤ◌, Bool, true, false, not, List, [], ◌∷◌, map, drop, length, get_or, cond, filter}
-use Rattle.std.proofs.lemmas.Int.{ints}
+use Rattle.std.proofs.Common.{arith, ap, subst, ◌≡◌, ◌∙◌, sym, refl, ℕ, zero, suc, ◌+◌, ◌<◌, ℤ, pos, ◌-◌, ◌+ℤ◌, ◌*ℤ◌, ◌≤ℤ◌, Bool, true, false, not, List, [], ◌∷◌, map, drop, length, get_or, cond, filter}
 use Rattle.part_rules.specs.declared.share.Share.{Share}
 use Rattle.part_rules.specs.Lists.{sum_of, zipped}
-use Rattle.part_rules.specs.Sharing.{shared_rows, shares}
+use Rattle.part_rules.specs.Sharing.{shared_rows}
 use Rattle.part_rules.specs.Tracks.{Track, grow_base, grown, full, limit_of, total, all_gutters}
 use Rattle.track_sizing.specs.declared.rooms.Rooms.{Rooms}
 use Rattle.track_sizing.specs.Here.{HaveShares, grow_share, room_of, share_of}

@@ -14,3 +14,7 @@ pub mod Singles
 pub mod Kept
 pub mod Whole
 pub mod Initial
+pub mod Best
+pub mod Bounds
+pub mod Flexed
+pub mod Sized

@@ -1,5 +1,5 @@
 -- A step gives an item's tracks what it would give them alone, and nothing to others.
-use Rattle.std.proofs.Common.{arith, ap, subst, ◌≡◌, ◌∙◌, sym, refl, ℕ, zero, suc, ◌+◌, ◌==◌, ℤ, pos, ◌+ℤ◌, ◌-ℤ◌, ◌≤ℤ◌, Bool, true, false, not, ◌&&◌, ◌||◌, List, [], ◌∷◌, ◌++◌, map, length, Option, Some, None, if◌then◌else◌}
+use Rattle.std.proofs.Common.{arith, ap, subst, ◌≡◌, ◌∙◌, sym, refl, ℕ, ◌+◌, ◌==◌, ℤ, pos, ◌+ℤ◌, ◌-ℤ◌, Bool, true, false, not, ◌&&◌, List, [], ◌∷◌, ◌++◌, map, length, Option, Some, if◌then◌else◌}
 use Rattle.std.specs.Prelude.{is_none, unwrap_or}
 use Rattle.std.specs.Int.{int_max}
 use Rattle.std.specs.List.{list_any}
@@ -9,15 +9,14 @@ use Rattle.lunit.specs.declared.item.Floor.{Floor}
 use Rattle.lunit.specs.declared.item.Floor.TheVariants.{Known, Content}
 use Rattle.part_rules.specs.Lists.{total_of, zipped, at_most}
 use Rattle.part_rules.specs.Sharing.{part, apportioned_after, apportioned_whole, shares, unshared}
-use Rattle.part_rules.specs.Tracks.{Track, spans, spanned, fit_argument, factor_of, incur, in_turns, plan, only, without_end, affected_by, receiving, receiving_open, receiving_last, base_to_limit, other_to_limit, base_to_argument, base_rooms, limit_rooms, limit_to_limit, limit_room, crossing_weight, by_factors, base_incurred_by, limit_incurred_by, base_planned_by, limit_planned_by, base_of, limit_of, needed, minimum_by, low, high, BaseStep, LimitStep}
+use Rattle.part_rules.specs.Tracks.{Track, spans, spanned, fit_argument, factor_of, incur, in_turns, plan, only, without_end, affected_by, base_to_limit, other_to_limit, base_to_argument, base_rooms, limit_rooms, limit_to_limit, limit_room, crossing_weight, by_factors, base_incurred_by, limit_incurred_by, base_planned_by, limit_planned_by, base_of, limit_of, needed, minimum_by, BaseStep, LimitStep}
 use Rattle.track_sizing.specs.declared.kinds.Affected.{Affected}
 use Rattle.track_sizing.specs.declared.kinds.Kind.{Kind}
 use Rattle.track_sizing.specs.declared.item.Asks.{Asks}
 use Rattle.track_sizing.specs.declared.item.Asks.TheVariants as asks
-use Rattle.track_sizing.specs.declared.rooms.Rooms.{Rooms}
 use Rattle.track_sizing.specs.declared.rooms.Rooms.TheVariants as rooms
 use Rattle.track_sizing.specs.Kinds.{kind_of, affected_of}
-use Rattle.track_sizing.specs.Here.{minimum_by_of, capped_of, limited_of, asked_of, needed_of, open_of, room_of, last_of, base_rooms_of, limit_rooms_of, weight_of, by_factors_of, base_given_of, limit_given_of, base_planned_of, limit_planned_of}
+use Rattle.track_sizing.specs.Here.{minimum_by_of, capped_of, limited_of, asked_of, needed_of, open_of, room_of, base_rooms_of, limit_rooms_of, weight_of, by_factors_of, base_given_of, limit_given_of, base_planned_of, limit_planned_of}
 use Rattle.track_sizing.specs.Placed.{AreReady, IsReady, asks_in, base_step_of, limit_step_in}
 use Rattle.track_sizing.proofs.Around.{AllSpanned, NoneSpanned, IsAround, IsTest, spanned_mine, any_mine}
 use Rattle.track_sizing.proofs.Shares.{AreClosed, nothings, shares_beside, unshared_beside, shares_length}

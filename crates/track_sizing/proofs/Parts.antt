@@ -1,10 +1,10 @@
 -- Parts of a space by the factors of tracks.
-use Rattle.std.proofs.Common.{arith, ap, subst, ◌≡◌, ◌∙◌, sym, refl, ℕ, zero, suc, ◌+◌, ◌*◌, ◌^◌, ◌<◌, ◌≤◌, ℤ, pos, negsuc, ◌+ℤ◌, ◌-ℤ◌, ◌*ℤ◌, ◌≤ℤ◌, List, [], ◌∷◌, ◌++◌, map, take, drop, set, length, get_or, append_assoc}
+use Rattle.std.proofs.Common.{arith, ap, subst, ◌≡◌, ◌∙◌, sym, refl, ℕ, ◌+◌, ◌^◌, ◌<◌, ◌≤◌, ℤ, pos, negsuc, ◌+ℤ◌, ◌-ℤ◌, ◌*ℤ◌, ◌≤ℤ◌, List, [], ◌∷◌, ◌++◌, map, take, drop, set, length, get_or, append_assoc}
 use Rattle.std.proofs.Math.Nat.{mul-le-mul_left}
 use Rattle.std.proofs.Math.ListN.{drop_of_length-le}
 use Rattle.std.proofs.lemmas.List.{take_more_set, take_all, append-nil, drop-drop, drop-set-lt}
 use Rattle.std.proofs.lemmas.Int.{ints, clamps}
-use Rattle.lunit.specs.Units.{clamp, floor_div, top, IsUnits, IsWide}
+use Rattle.lunit.specs.Units.{clamp, top, IsUnits, IsWide}
 use Rattle.part_rules.specs.Lists.{total_of, zipped}
 use Rattle.part_rules.specs.Sharing.{part, apportioned_after, apportioned_whole}
 use Rattle.part_rules.proofs.Floor.{floor_div_low, floor_div_high, floor_div-none, cancel}

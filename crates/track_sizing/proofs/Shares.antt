@@ -1,10 +1,9 @@
 -- What a space that is handed out gives: nothing below 0, nothing beyond the space, and nothing where there is no room.
-use Rattle.std.proofs.Common.{arith, ap, subst, ◌≡◌, ◌∙◌, sym, refl, true≢false, ℕ, zero, suc, ◌+◌, ◌<◌, ◌≤◌, ℤ, pos, negsuc, ◌+ℤ◌, ◌-ℤ◌, ◌≤ℤ◌, Bool, true, false, List, [], ◌∷◌, ◌++◌, map, length, Option, Some, None, if◌then◌else◌, int_lt}
-use Rattle.std.specs.Prelude.{option_map}
+use Rattle.std.proofs.Common.{arith, ap, ◌≡◌, ◌∙◌, sym, refl, ℕ, zero, suc, ℤ, pos, negsuc, ◌-ℤ◌, ◌≤ℤ◌, Bool, true, false, List, [], ◌∷◌, ◌++◌, map, length, Option, Some, None, if◌then◌else◌, int_lt}
 use Rattle.std.specs.Int.{int_max}
 use Rattle.std.proofs.lemmas.Int.{ints, clamps}
 use Rattle.part_rules.specs.declared.share.Share.{Share}
-use Rattle.part_rules.specs.Lists.{sum_of, zipped}
+use Rattle.part_rules.specs.Lists.{sum_of}
 use Rattle.part_rules.specs.Sharing.{has_room, one_more, Handed, after_row, round, rounds, with_nothing, handed, shared_rows, left_over, roomy, shares, unshared}
 use Rattle.part_rules.proofs.Sharing.{sums_up, shares_are, unshared_is}
 use Rattle.track_sizing.specs.Here.{floored}

@@ -1,7 +1,6 @@
 -- The greatest of what items that span one track ask for.
-use Rattle.std.proofs.Common.{arith, ap, subst, ◌≡◌, ◌∙◌, sym, refl, true≢false, ℕ, ◌+◌, ◌<◌, ◌≤◌, ℤ, pos, ◌+ℤ◌, ◌≤ℤ◌, Bool, true, false, ◌&&◌, ◌||◌, List, [], ◌∷◌, ◌++◌, map, drop, take, length, get_or, cond, filter, Option, Some, None, if◌then◌else◌}
+use Rattle.std.proofs.Common.{arith, ap, ◌≡◌, ◌∙◌, sym, refl, true≢false, ℕ, ◌+◌, ◌<◌, ◌≤◌, ℤ, pos, ◌+ℤ◌, ◌≤ℤ◌, Bool, true, false, ◌||◌, List, [], ◌∷◌, ◌++◌, map, drop, take, length, get_or, cond, Option}
 use Rattle.std.specs.Int.{int_max}
-use Rattle.std.specs.List.{list_any}
 use Rattle.std.proofs.lemmas.Int.{ints, clamps}
 use Rattle.std.proofs.lemmas.List.{take-append-drop}
 use Rattle.std.proofs.Math.ListN.{drop_of_length-le}
@@ -13,7 +12,7 @@ use Rattle.track_sizing.specs.declared.item.Asks.TheVariants as asks
 use Rattle.track_sizing.specs.Alone.{is_alone, is_some_alone}
 use Rattle.track_sizing.specs.Here.{asked_of}
 use Rattle.track_sizing.specs.Placed.{AreSet, asks_in}
-use Rattle.track_sizing.proofs.Around.{IsAround, around, spanned_mine}
+use Rattle.track_sizing.proofs.Around.{around, spanned_mine}
 use Rattle.track_sizing.proofs.Groups.{placed_of}
 use Rattle.track_sizing.proofs.Local.{same_asks}
 use Rattle.track_sizing.proofs.Sums.{drop_item}

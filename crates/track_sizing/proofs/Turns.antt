@@ -1,5 +1,5 @@
 -- Turns: what tracks incur, and how much that can be.
-use Rattle.std.proofs.Common.{arith, ap, subst, ◌≡◌, ◌∙◌, sym, refl, ℕ, zero, suc, ◌+◌, ◌<◌, ◌≤◌, ℤ, pos, ◌+ℤ◌, ◌-ℤ◌, ◌≤ℤ◌, List, [], ◌∷◌, ◌++◌, map, take, drop, length, get_or, Option}
+use Rattle.std.proofs.Common.{arith, ap, subst, ◌≡◌, ◌∙◌, sym, refl, ℕ, zero, suc, ◌+◌, ◌<◌, ℤ, pos, ◌+ℤ◌, ◌-ℤ◌, ◌≤ℤ◌, List, [], ◌∷◌, map, drop, length, get_or}
 use Rattle.std.proofs.lemmas.Int.{ints}
 use Rattle.lunit.specs.Units.{top, IsUnits}
 use Rattle.part_rules.specs.declared.share.Share.{Share}
@@ -7,7 +7,7 @@ use Rattle.part_rules.specs.Lists.{zipped}
 use Rattle.part_rules.specs.Sharing.{shared_rows, left_over, shares, unshared}
 use Rattle.part_rules.specs.Tracks.{Track, incur}
 use Rattle.track_sizing.specs.declared.rooms.Rooms.{Rooms}
-use Rattle.track_sizing.specs.Here.{AreBelow, AreFitting, AreQuiet, incur_share, room_of, share_of, floored}
+use Rattle.track_sizing.specs.Here.{AreBelow, AreFitting, incur_share, room_of, share_of}
 use Rattle.track_sizing.proofs.Sums.{drop_item}
 use Rattle.track_sizing.proofs.Loops.{IsZipped}
 use Rattle.track_sizing.proofs.Shares.{gots, HaveAtMost, shared_most, left_most, left_some, shares_of_rows, left_of_rows, floored_share}

@@ -1,5 +1,5 @@
 -- Steps of distribution for the tracks that one item spans: an item asks for nothing of other tracks.
-use Rattle.std.specs.Prelude.{◌≡◌, ℕ, ◌==◌, ℤ, pos, ◌+ℤ◌, ◌-ℤ◌, ◌≤ℤ◌, ◌^◌, Bool, not, ◌&&◌, ◌||◌, List, [], ◌∷◌, map, Option, Some, None, option_map, is_some, is_none, unwrap_or, if◌then◌else◌}
+use Rattle.std.specs.Prelude.{◌≡◌, ℕ, ◌==◌, ℤ, pos, ◌+ℤ◌, ◌-ℤ◌, ◌≤ℤ◌, ◌^◌, Bool, not, ◌&&◌, ◌||◌, List, [], ◌∷◌, map, Option, Some, None, option_map, is_none, unwrap_or, if◌then◌else◌}
 use Rattle.std.specs.Int.{int_max}
 use Rattle.std.specs.List.{list_any}
 use Rattle.std.specs.Ordering.{int_eq}
@@ -9,7 +9,7 @@ use Rattle.lunit.specs.declared.item.Floor.{Floor}
 use Rattle.lunit.specs.declared.item.Floor.TheVariants.{Known, Content}
 use Rattle.part_rules.specs.Lists.{sum_of, total_of, zipped, at_most, sum_of_known}
 use Rattle.part_rules.specs.Sharing.{apportioned_whole}
-use Rattle.part_rules.specs.Tracks.{Track, is_auto_least, flexible, span_length, inner_gutters, fixed_most, capped_most, fit_argument, factor_of, in_turns, incur, plan, only, without_end, base_of, limit_of, base_to_limit, other_to_limit, base_to_argument, limit_so_far, up_to, low, high, is_without_limit, is_endless, argument_of, to_limit, auto_room, grow_base}
+use Rattle.part_rules.specs.Tracks.{Track, is_auto_least, flexible, span_length, inner_gutters, fixed_most, capped_most, fit_argument, factor_of, in_turns, incur, plan, only, without_end, base_of, limit_of, base_to_limit, other_to_limit, base_to_argument, limit_so_far, up_to, is_without_limit, is_endless, argument_of, to_limit, auto_room, grow_base}
 use Rattle.part_rules.specs.declared.share.Share.{Share}
 use Rattle.track_sizing.specs.declared.kinds.Affected.{Affected}
 use Rattle.track_sizing.specs.declared.kinds.Kind.{Kind}

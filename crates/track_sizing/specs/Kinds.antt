@@ -1,7 +1,6 @@
 -- The tracks that a step names.
-use Rattle.std.specs.Prelude.{ℕ, ℤ, Bool, List}
-use Rattle.lunit.specs.declared.item.Item.{Item}
-use Rattle.part_rules.specs.Tracks.{Track, BaseStep, LimitStep, base_step, low_limit_step, high_limit_step, has_intrinsic_least, has_content_least, has_auto_or_max_content_least, has_max_content_least, has_intrinsic_most, has_max_content_most, in_group, minimum, limited, low, high}
+use Rattle.std.specs.Prelude.{Bool}
+use Rattle.part_rules.specs.Tracks.{Track, has_intrinsic_least, has_content_least, has_auto_or_max_content_least, has_max_content_least, has_intrinsic_most, has_max_content_most, in_group}
 use Rattle.track_sizing.specs.declared.kinds.Kind.{Kind}
 use Rattle.track_sizing.specs.declared.kinds.Kind.TheVariants as kind
 use Rattle.track_sizing.specs.declared.kinds.Affected.{Affected}

@@ -6,3 +6,5 @@ pub mod Groups
 pub mod Alone
 pub mod Spans
 pub mod Fits
+pub mod Flex
+pub mod Whole

@@ -1,5 +1,5 @@
 -- What holds of tracks and items between two steps.
-use Rattle.std.specs.Prelude.{◌≡◌, ℕ, ℤ, pos, ◌+ℤ◌, ◌≤ℤ◌, ◌<ℤ◌, Bool, List, [], ◌∷◌, length, None, if◌then◌else◌}
+use Rattle.std.specs.Prelude.{◌≡◌, ℕ, ℤ, pos, ◌+ℤ◌, ◌≤ℤ◌, ◌<ℤ◌, Bool, List, [], ◌∷◌, None, if◌then◌else◌}
 use Rattle.lunit.specs.declared.item.Item.{Item}
 use Rattle.part_rules.specs.Tracks.{Track, BaseStep, LimitStep, minimum, limited, low, high, argument_of, mark_endless, raised_limit_by}
 use Rattle.track_sizing.specs.declared.kinds.Affected.{Affected}

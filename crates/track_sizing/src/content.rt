@@ -176,7 +176,9 @@ pub fn size_content<const AXIS: u8>(
     requires length { length takers.old ≡ length rows.now }
     requires set { AreSet first rows.now }
     requires items { AreIn first (length rows.now) items.now }
-    ensures { IfOk result (λ sized. sized.items ≡ content_sized space.now gap items.now rows.now) }
+    ensures rows { IfOk result (λ sized. sized.items ≡ content_sized space.now gap items.now rows.now) }
+    ensures set { IfOk result (λ sized. AreSet first sized.items) }
+    ensures length { IfOk result (λ sized. length sized.items ≡ length rows.now) }
 {
     let crossing = crossing_items(alloc, first, rows, items)?;
     let mut sized = fit_alone(alloc, space, gap, first, items, rows)?;

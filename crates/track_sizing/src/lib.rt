@@ -7,6 +7,7 @@ mod alone;
 mod content;
 mod distribute;
 mod factors;
+mod flex;
 mod group;
 mod item;
 mod kinds;
@@ -19,4 +20,4 @@ mod step;
 mod turn;
 
 pub use part_rules::{Fit, Least, Most, Rule, Space};
-pub use size::content_sizes;
+pub use size::size_axis;

@@ -1,15 +1,19 @@
 //! The sizes of the tracks of one axis (CSS Grid 2, 12.3).
 
-ghost use Rattle.std.specs.Prelude.{◌≡◌, ◌<◌, ◌^◌, IfOk, length, map};
-ghost use Rattle.part_rules.specs.Tracks.{Track, content_sized, counted_rule, initialised};
-ghost use Rattle.track_sizing.specs.Fits.{HaveFixed, IsFixed, IsStart};
-ghost use Rattle.track_sizing.specs.Placed.{AreIn};
+ghost use Rattle.std.specs.Prelude.{◌≡◌, ◌<◌, ◌+◌, ◌^◌, ◌≤ℤ◌, IfOk, OnOk, length, map, pos};
+ghost use Rattle.part_rules.specs.Tracks.{Track, counted_rule, initialised, track_sizes};
+ghost use Rattle.track_sizing.specs.Fits.{HaveFixed, IsFixed, IsKnownSpace, IsStart};
+ghost use Rattle.track_sizing.specs.Placed.{AreIn, AreSet};
+ghost use Rattle.track_sizing.specs.Whole.{rest_given, sizes_from};
 
 use crate::content::size_content;
+use crate::flex::flex;
+use crate::rest::{maximise, stretch};
 use crate::row::Row;
-use lunit::{Item, Lu, NoMemory, Wide};
-use part_rules::{Least, Most, Rule, Share, Space};
+use lunit::{Item, Lu, NoMemory, Steps, Wide};
+use part_rules::{Fit, Least, Most, Rule, Share};
 use std::alloc::Global;
+use std::sync::ledger::Ledger;
 
 #[tactic(auto, unfolding(lunit::specs::Units::clamp))]
 /// How a track is sized: a collapsed one as one of the fixed size 0 (CSS Grid 2, 7.2.3.2).
@@ -71,27 +75,74 @@ fn base_sizes(alloc: Global, rows: &[Row]) -> Result<Vec<Lu>, NoMemory>
     Ok(sizes)
 }
 
-/// The base sizes of the tracks of one axis, in their order, once they are sized for the contributions of their items (CSS Grid 2,
-/// 12.4 and 12.5), before the rest of the space is given. `first` is the coordinate of the first track. The lengths are in units
-/// of 1/64 px. `NoMemory` where memory is wanting.
+#[tactic(auto, using(crate::proofs::Sized::rest_is))]
+/// Gives the rest of the space, once the tracks are sized for their items (CSS Grid 2, 12.6 to 12.8).
+fn give_rest<const AXIS: u8>(
+    alloc: Global,
+    fit: &Fit<AXIS>,
+    first: Wide,
+    items: &[Item],
+    rows: &mut [Row],
+    takers: &mut [Share],
+) -> Result<(), NoMemory>
+    requires few { length rows.old < 2 ^ 32 }
+    requires length { length takers.old ≡ length rows.old }
+    requires gap { pos 0 ≤ℤ fit.now.gap }
+    requires space { IsKnownSpace fit.now.space }
+    requires set { AreSet first rows.old }
+    requires items { AreIn first (length rows.old) items.now }
+    ensures { OnOk result (rows.new ≡ rest_given fit.now items.now rows.old) }
+{
+    maximise(&fit.space, fit.max, fit.gap, rows, takers);
+    flex(alloc, fit, first, items, rows)?;
+    stretch(fit, rows, takers);
+    Ok(())
+}
+
+/// The sizes of tracks that are initialised.
+fn sizes_from<const AXIS: u8>(
+    alloc: Global,
+    fit: &Fit<AXIS>,
+    first: Wide,
+    items: &[Item],
+    rows: &[Row],
+) -> Result<Vec<Lu>, NoMemory>
+    requires few { length rows.now < 2 ^ 32 }
+    requires gap { pos 0 ≤ℤ fit.now.gap }
+    requires space { IsKnownSpace fit.now.space }
+    requires set { AreSet first rows.now }
+    requires items { AreIn first (length rows.now) items.now }
+    ensures { IfOk result (λ sizes. sizes.items ≡ sizes_from fit.now items.now rows.now) }
+{
+    let mut takers = takers_for(alloc, rows)?;
+    let mut sized = size_content(alloc, &fit.space, fit.gap, first, items, rows, &mut takers)?;
+    give_rest(alloc, fit, first, items, &mut sized, &mut takers)?;
+    base_sizes(alloc, &sized)
+}
+
+/// The sizes of the tracks of one axis, in their order (CSS Grid 2, 12.3). `first` is the coordinate of the first track. The
+/// lengths are in units of 1/64 px. `NoMemory` where memory is wanting. Each call makes one step.
 ///
-/// There are fewer than 2^32 tracks, each item spans some of them and no others, and each fixed min function is at least 0.
-pub fn content_sizes<const AXIS: u8>(
+/// There are fewer than 2^32 tracks, each item spans some of them and no others, the gap and each fixed min function are at least
+/// 0, and a definite space has a magnitude of at most 2^30.
+pub fn size_axis<const AXIS: u8, L: Ledger>(
     alloc: Global,
     rules: &[Rule],
     first: i32,
     items: &[Item],
-    space: &Space<AXIS>,
-    gap: Lu,
+    fit: &Fit<AXIS>,
+    passes: &mut Steps<L>,
 ) -> Result<Vec<Lu>, NoMemory>
     requires few { length rules.now < 2 ^ 32 }
     requires fixed { HaveFixed rules.now }
+    requires gap { pos 0 ≤ℤ fit.now.gap }
+    requires space { IsKnownSpace fit.now.space }
     requires items { AreIn first (length rules.now) items.now }
-    ensures { IfOk result (λ sizes. sizes.items ≡ map (λ (t : Track). t.base) (content_sized space.now gap items.now (initialised first rules.now))) }
+    ensures sizes { IfOk result (λ sizes. sizes.items ≡ track_sizes rules.now first items.now fit.now) }
+    ensures step { passes.new ≡ passes.old + 1 }
 {
+    passes.tick();
     let first = Wide::of(i128::from(first));
     let rows = initialise(alloc, first, rules)?;
-    let mut takers = takers_for(alloc, &rows)?;
-    let sized = size_content(alloc, space, gap, first, items, &rows, &mut takers)?;
-    base_sizes(alloc, &sized)
+    sizes_from(alloc, fit, first, items, &rows)
 }

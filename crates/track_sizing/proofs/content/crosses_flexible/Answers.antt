@@ -1,7 +1,7 @@
-use Rattle.std.proofs.Common.{arith, ap, ◌≡◌, ◌∙◌, sym, List, take, drop}
+use Rattle.std.proofs.Common.{arith, ap, ◌∙◌, sym, take}
 use Rattle.std.specs.List.{list_any}
 use Rattle.std.proofs.lemmas.Int.{ints}
-use Rattle.part_rules.specs.Tracks.{Track, flexible}
+use Rattle.part_rules.specs.Tracks.{flexible}
 use Rattle.track_sizing.proofs.Singles.{spanned_at}
 use Rattle.track_sizing.proofs.content.crosses_flexible.Goals as goal
 

@@ -1,4 +1,4 @@
-use Rattle.std.proofs.Common.{arith, ap, subst, ◌≡◌, ◌∙◌, sym, ◌+◌, List, length}
+use Rattle.std.proofs.Common.{arith, ap, subst, ◌∙◌, sym, ◌+◌, List, length}
 use Rattle.lunit.specs.declared.item.Item.{Item}
 use Rattle.part_rules.specs.Tracks.{crosses_flexible}
 use Rattle.track_sizing.proofs.Kept.{AreKept, more_kept, passed_kept}

@@ -1,8 +1,8 @@
-use Rattle.std.proofs.Common.{arith, ap, subst, ◌≡◌, ◌∙◌, sym, List, ◌++◌, take, drop}
+use Rattle.std.proofs.Common.{arith, subst, ◌∙◌, sym, List}
 use Rattle.std.proofs.lemmas.Int.{ints}
 use Rattle.part_rules.specs.Tracks.{Track}
 use Rattle.track_sizing.specs.Here.{base_planned_of}
-use Rattle.track_sizing.specs.Placed.{AreSet, base_step_of, limit_step_in}
+use Rattle.track_sizing.specs.Placed.{AreSet, base_step_of}
 use Rattle.track_sizing.proofs.Groups.{base_at, base_set, joined_at}
 use Rattle.track_sizing.proofs.distribute.plan_base_at.Goals as goal
 

@@ -1,6 +1,6 @@
-use Rattle.std.proofs.Common.{arith, ap, ◌≡◌, ◌∙◌, sym, ◌+◌, ℤ, pos, ◌*ℤ◌, ◌≤ℤ◌}
+use Rattle.std.proofs.Common.{arith, ap, ◌≡◌, ◌∙◌, sym, ◌+◌, ℤ, pos, ◌*ℤ◌}
 use Rattle.std.proofs.lemmas.Int.{ints}
-use Rattle.lunit.specs.Units.{clamp, floor_div, top}
+use Rattle.lunit.specs.Units.{clamp, floor_div}
 use Rattle.part_rules.specs.Sharing.{part}
 use Rattle.part_rules.specs.Tracks.{Track, incur}
 use Rattle.track_sizing.specs.Here.{weight_of}

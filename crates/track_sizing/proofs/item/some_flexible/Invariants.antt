@@ -1,6 +1,6 @@
 use Rattle.std.proofs.Common.{◌≡◌, drop}
 use Rattle.std.specs.List.{list_any}
-use Rattle.part_rules.specs.Tracks.{Track, flexible, is_auto_least}
+use Rattle.part_rules.specs.Tracks.{flexible}
 use Rattle.track_sizing.proofs.item.some_flexible.Given as goal
 
 abbrev pub invariant-loop-row : goal.invariant-loop-row

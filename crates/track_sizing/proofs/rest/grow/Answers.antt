@@ -1,5 +1,4 @@
-use Rattle.std.proofs.Common.{subst, sym, List}
-use Rattle.part_rules.specs.declared.share.Share.{Share}
+use Rattle.std.proofs.Common.{subst, sym}
 use Rattle.track_sizing.specs.Here.{HaveShares}
 use Rattle.track_sizing.proofs.Grown.{grown_rows, shared_some}
 use Rattle.track_sizing.proofs.rest.grow.Goals as goal

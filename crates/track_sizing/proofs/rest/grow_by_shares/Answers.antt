@@ -1,4 +1,4 @@
-use Rattle.std.proofs.Common.{arith, subst, ℤ, pos, ◌≤ℤ◌}
+use Rattle.std.proofs.Common.{arith, subst, pos, ◌≤ℤ◌}
 use Rattle.part_rules.specs.declared.share.Share.{Share}
 use Rattle.track_sizing.proofs.Grown.{share_at}
 use Rattle.track_sizing.proofs.rest.grow_by_shares.Goals as goal

@@ -1,4 +1,4 @@
-use Rattle.std.proofs.Common.{arith, ap, ◌∙◌, sym, subst, ℤ, ◌-ℤ◌, List}
+use Rattle.std.proofs.Common.{arith, sym, subst, ◌-ℤ◌, List}
 use Rattle.lunit.specs.Units.{top}
 use Rattle.part_rules.specs.Tracks.{Track}
 use Rattle.track_sizing.specs.Here.{AreBelow}

@@ -1,4 +1,4 @@
-use Rattle.std.proofs.Common.{arith, subst, ℤ, pos, ◌+ℤ◌, ◌≤ℤ◌, get_or}
+use Rattle.std.proofs.Common.{arith, subst, pos, ◌+ℤ◌, ◌≤ℤ◌, get_or}
 use Rattle.lunit.specs.Units.{IsUnits}
 use Rattle.part_rules.specs.declared.share.Share.{Share}
 use Rattle.part_rules.specs.Tracks.{Track}
