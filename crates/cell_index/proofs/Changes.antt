@@ -1,17 +1,17 @@
 -- Changes of a value along a line.
-use Rattle.std.proofs.Common.{arith, rules, refl, sym, ap, subst, length, get_or, ◌∙◌, ◌≡◌, ◌⊎◌, inl, inr, ℤ, ◌≤ℤ◌, ◌<ℤ◌, Bool, true, false, not, ◌&&◌, ◌||◌, List, [], ◌∷◌, ◌++◌, int_le, int_lt, if◌then◌else◌}
-use Rattle.std.specs.Prelude.{filter, Option, Some, None, IsSome, is_some, unwrap_or}
+use Rattle.std.proofs.Common.{arith, rules, refl, sym, ap, subst, length, get_or, ◌∙◌, ◌≡◌, ◌≢◌, ◌⊎◌, inl, inr, ℤ, pos, ◌-ℤ◌, ◌≤ℤ◌, ◌<ℤ◌, Bool, true, false, not, ◌&&◌, List, [], ◌∷◌, ◌++◌, int_le, int_lt, if◌then◌else◌}
+use Rattle.std.specs.Prelude.{filter, Some, IsSome, is_some, unwrap_or}
 use Rattle.std.specs.List.{list_all, AllByRecursion}
 use Rattle.std.specs.List.Sorted.{IsStrictlySortedBy}
 use Rattle.std.specs.Ordering.{int_cmp, is_lt, is_le, is_eq, match_ordering}
-use Rattle.std.specs.Map.{keys_of, lookup, set_value}
+use Rattle.std.specs.Map.{keys_of, lookup, remove_entry, set_value}
 use Rattle.std.specs.BTreeMap.{insert_entry, is_at}
 use Rattle.std.specs.declared.cmp.Ordering.{Ordering}
 use Rattle.std.specs.declared.cmp.Ordering.TheVariants.{Less, Equal, Greater}
 use Rattle.std.proofs.lemmas.Int.{ints}
 use Rattle.std.proofs.lemmas.Map.Keys.{sorted_head, sorted_tail}
 use Rattle.std.proofs.lemmas.Map.Lookups.{exact_signed}
-use Rattle.std.proofs.lemmas.Bool.{and_parts, and_from}
+use Rattle.std.proofs.lemmas.Bool.{and_parts}
 use Rattle.std.proofs.Math.Bool.{true≢false}
 use Rattle.cell_index.specs.Taken.{reads, strictly}
 
@@ -48,6 +48,21 @@ equal_from x q h = exact_signed x q (by (int_cmp x q) h)
     by Less e = absurd (true≢false (sym e))
     by Equal e = refl
     by Greater e = absurd (true≢false (sym e))
+
+before_from : (x q : ℤ) → is_eq (int_cmp x q) ≡ false → q ≤ℤ x → q <ℤ x
+before_from x q h k = by (int_lt x q) (int_lt q x) refl refl h
+  where
+    by : (s t : Bool) → int_lt x q ≡ s → int_lt q x ≡ t → is_eq (if s then Less else (if t then Greater else Equal)) ≡ false → q <ℤ x
+    by true t e f g = absurd (omega (arith, ints, lt_from x q e, k))
+    by false true e f g = lt_from q x f
+    by false false e f g = absurd (true≢false g)
+
+pub other_from : (x q : ℤ) → x ≢ q → is_eq (int_cmp x q) ≡ false
+other_from x q h = by (is_eq (int_cmp x q)) refl
+  where
+    by : (b : Bool) → is_eq (int_cmp x q) ≡ b → b ≡ false
+    by true e = absurd (h (equal_from x q e))
+    by false e = refl
 
 some_is : {B : Type 0} (x y : B) → Some x ≡ Some y → x ≡ y
 some_is x y e = ap (λ o. unwrap_or o x) e
@@ -331,6 +346,47 @@ reads_within {A} says before k t w (e ∷ es) place sorted some none low high = 
 -- the same cut at a place that is spelled otherwise
 pub reads_cut_at : {A : Type 0} (says : A → Bool) (before : Bool) (k row : ℤ) (v : A) (es : List (ℤ × A)) (place : ℤ) → k ≡ row → IsStrictlySortedBy int_cmp (keys_of es) → says v ≡ reads says before es row → reads says before (insert_entry int_cmp es k v) place ≡ reads says before es place
 reads_cut_at says before k row v es place same sorted h = reads_cut says before k v es place sorted (h ∙ ap (λ z. reads says before es z) (sym same))
+
+-- ---- a change fewer
+
+-- the changes that are left come after those before them
+none_removed : {A : Type 0} (says : A → Bool) (before : Bool) (q k : ℤ) (es : List (ℤ × A)) (place : ℤ) → AllByRecursion (λ y. int_cmp q y ≡ Less) (keys_of es) → place ≤ℤ q → reads says before (remove_entry (is_at (int_cmp k)) es) place ≡ before
+none_removed says before q k [] place s h = refl
+none_removed {A} says before q k (e ∷ es) place s h = by (is_eq (int_cmp k e.0)) (none_removed says before q k es place s.1 h)
+  where
+    by : (o : Bool) → reads says before (remove_entry (is_at (int_cmp k)) es) place ≡ before → reads says before (if o then es else e ∷ remove_entry (is_at (int_cmp k)) es) place ≡ before
+    by true again = none_yet says before q es place s.1 h
+    by false again = passed (int_le e.0 place) (reads says (says e.1) (remove_entry (is_at (int_cmp k)) es) place) (reads says before (remove_entry (is_at (int_cmp k)) es) place) (le_false e.0 place (omega (arith, ints, less_from q e.0 s.0, h))) ∙ again
+
+-- a change that says what was said before it can go
+pub reads_joined : {A : Type 0} (says : A → Bool) (before : Bool) (k : ℤ) (es : List (ℤ × A)) (place : ℤ) → IsStrictlySortedBy int_cmp (keys_of es) → reads says before es k ≡ reads says before es (k -ℤ pos 1) → reads says before (remove_entry (is_at (int_cmp k)) es) place ≡ reads says before es place
+reads_joined says before k [] place s h = refl
+reads_joined {A} says before k (e ∷ es) place s h =
+    by (is_eq (int_cmp k e.0)) (int_le e.0 k) refl refl (λ b g. reads_joined says b k es place (sorted_tail int_cmp e.0 (keys_of es) s) g)
+  where
+    behind : AllByRecursion (λ y. int_cmp e.0 y ≡ Less) (keys_of es)
+    behind = sorted_head int_cmp e.0 (keys_of es) s
+
+    rest : List (ℤ × A)
+    rest = remove_entry (is_at (int_cmp k)) es
+
+    -- it is after the first change
+    past : e.0 ≤ℤ (k -ℤ pos 1) → (b : Bool) → int_le e.0 place ≡ b → (reads says (says e.1) es k ≡ reads says (says e.1) es (k -ℤ pos 1) → reads says (says e.1) rest place ≡ reads says (says e.1) es place) → (if b then reads says (says e.1) rest place else reads says before rest place) ≡ (if b then reads says (says e.1) es place else reads says before es place)
+    past low true f again =
+        again (sym (chosen (int_le e.0 k) (reads says (says e.1) es k) (reads says before es k) (le_true e.0 k (omega (arith, ints, low)))) ∙ h ∙ chosen (int_le e.0 (k -ℤ pos 1)) (reads says (says e.1) es (k -ℤ pos 1)) (reads says before es (k -ℤ pos 1)) (le_true e.0 (k -ℤ pos 1) low))
+    past low false f again = none_removed says before e.0 k es place behind (omega (arith, ints, lt_false e.0 place f)) ∙ sym (none_yet says before e.0 es place behind (omega (arith, ints, lt_false e.0 place f)))
+
+    by : (o u : Bool) → is_eq (int_cmp k e.0) ≡ o → int_le e.0 k ≡ u → ((b : Bool) → reads says b es k ≡ reads says b es (k -ℤ pos 1) → reads says b rest place ≡ reads says b es place) → reads says before (if o then es else e ∷ rest) place ≡ reads says before (e ∷ es) place
+    by true u f g again =
+        let same : k ≡ e.0 = equal_from k e.0 f in
+        let here : reads says before (e ∷ es) k ≡ says e.1 = chosen (int_le e.0 k) (reads says (says e.1) es k) (reads says before es k) (le_true e.0 k (omega (arith, ints, same))) ∙ none_yet says (says e.1) e.0 es k behind (omega (arith, ints, same)) in
+        let there : reads says before (e ∷ es) (k -ℤ pos 1) ≡ before = passed (int_le e.0 (k -ℤ pos 1)) (reads says (says e.1) es (k -ℤ pos 1)) (reads says before es (k -ℤ pos 1)) (le_false e.0 (k -ℤ pos 1) (omega (arith, ints, same))) ∙ none_yet says before e.0 es (k -ℤ pos 1) behind (omega (arith, ints, same)) in
+        sym (either (int_le e.0 place) (reads says (says e.1) es place) (reads says before es place) (ap (λ b. reads says b es place) (sym here ∙ h ∙ there)))
+    by false true f g again = past (omega (arith, ints, before_from k e.0 f (le_from e.0 k g))) (int_le e.0 place) refl (again (says e.1))
+    by false false f g again =
+        let less : k <ℤ e.0 = lt_false e.0 k g in
+        let flat : (b : Bool) → reads says b es k ≡ reads says b es (k -ℤ pos 1) = λ b. none_yet says b e.0 es k behind (omega (arith, ints, less)) ∙ sym (none_yet says b e.0 es (k -ℤ pos 1) behind (omega (arith, ints, less))) in
+        both (int_le e.0 place) (reads says (says e.1) rest place) (reads says before rest place) (reads says (says e.1) es place) (reads says before es place) (again (says e.1) (flat (says e.1))) (again before (flat before))
 
 -- ---- the first change between two places
 

@@ -7,15 +7,13 @@ use Rattle.std.specs.List.Sorted.{IsStrictlySortedBy}
 use Rattle.std.specs.Map.{keys_of, lookup, set_value}
 use Rattle.std.specs.Ordering.{int_cmp, is_eq}
 use Rattle.std.proofs.lemmas.Int.{ints}
-use Rattle.std.proofs.lemmas.Bool.{and_parts}
 use Rattle.std.proofs.Math.Bool.{true≢false}
-use Rattle.lunit.specs.declared.geometry.Area.{Area}
 use Rattle.lunit.specs.declared.geometry.Span.{Span}
 use Rattle.cell_index.specs.declared.bands.RowBands.{RowBands}
 use Rattle.cell_index.specs.declared.columns.TakenColumns.{TakenColumns}
-use Rattle.cell_index.specs.Taken.{held, holds, reads, strictly, taken, within, IsAddedAt}
+use Rattle.cell_index.specs.Taken.{held, reads, strictly, taken, within, IsAddedAt}
 use Rattle.cell_index.proofs.Changes.{reads_same, reads_before, reads_after, reads_within}
-use Rattle.cell_index.proofs.Spans.{to_within, within_from}
+use Rattle.cell_index.proofs.Spans.{within_from}
 
 -- ---- tests
 

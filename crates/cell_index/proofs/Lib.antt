@@ -1,4 +1,5 @@
 pub mod Changes
+pub mod Edges
 pub mod Filled
 pub mod Spans
 pub mod Told

@@ -1,11 +1,10 @@
 -- What is taken, by the places where this changes.
-use Rattle.std.specs.Prelude.{◌≡◌, ℤ, ◌≤ℤ◌, ◌<ℤ◌, Bool, true, false, not, Some, ◌||◌, ◌&&◌, List, [], ◌∷◌, int_le, int_lt, if◌then◌else◌}
+use Rattle.std.specs.Prelude.{◌≡◌, ℕ, zero, suc, ◌%◌, ◌==◌, ℤ, pos, negsuc, ◌+ℤ◌, ◌-ℤ◌, ◌≤ℤ◌, ◌<ℤ◌, Bool, true, false, not, Some, ◌||◌, ◌&&◌, List, [], ◌∷◌, ◌++◌, take, drop, int_le, int_lt, if◌then◌else◌}
 use Rattle.std.specs.BTreeMap as tree
 use Rattle.std.specs.BTreeMap.{is_at}
 use Rattle.std.specs.Map.{set_value}
-use Rattle.std.specs.List.{list_any, list_all}
+use Rattle.std.specs.List.{list_any}
 use Rattle.std.specs.Ordering.{int_cmp, is_lt, is_le}
-use Rattle.lunit.specs.Areas.{spans_overlap}
 use Rattle.lunit.specs.declared.geometry.Area.{Area}
 use Rattle.lunit.specs.declared.geometry.Span.{Span}
 use Rattle.cell_index.specs.declared.columns.TakenColumns.{TakenColumns}
@@ -15,9 +14,22 @@ use Rattle.cell_index.specs.declared.bands.RowBands.{RowBands}
 abbrev pub within : Span → ℤ → Bool
 within span track = int_le span.start track && int_lt track span.end
 
+-- whether a place is taken, where this changes at each of these lines
+abbrev pub changes : Bool → List ℤ → ℤ → Bool
+changes now [] place = now
+changes now (edge ∷ edges) place = if int_le edge place then changes (not now) edges place else now
+
 -- the column is taken
-abbrev pub taken : TakenColumns → ℤ → Bool
-taken columns column = list_any (λ (span : Span). within span column) columns.spans.items
+abbrev pub taken : List ℤ → ℤ → Bool
+taken edges column = changes false edges column
+
+-- a line where it is wanted
+abbrev pub one_if : Bool → ℤ → List ℤ
+one_if wanted edge = if wanted then edge ∷ [] else []
+
+-- the lines that are left when the columns of a span are taken too, of which so many stand before it and so many up to its end
+abbrev pub with_span : List ℤ → ℕ → ℕ → Span → List ℤ
+with_span edges first last span = take first edges ++ (one_if (first % 2 == 0) span.start ++ (one_if (last % 2 == 0) span.end ++ drop last edges))
 
 -- what the last change at or before a place says there
 abbrev pub reads : {A : Type 0} → (A → Bool) → Bool → List (ℤ × A) → ℤ → Bool
@@ -40,9 +52,19 @@ any_holds areas row column = list_any (λ (area : Area). holds area row column) 
 abbrev pub strictly : ℤ → ℤ → ℤ → Bool
 strictly first last place = is_lt (int_cmp first place) && not (is_le (int_cmp last place))
 
--- the columns that are taken have none of the span
-abbrev pub is_open : TakenColumns → Span → Bool
-is_open columns span = list_all (λ (other : Span). not (spans_overlap other span)) columns.spans.items
+-- no column is taken of so many from one on
+abbrev pub are_free : List ℤ → ℤ → ℕ → Bool
+are_free edges first zero = true
+are_free edges first (suc more) = not (taken edges first) && are_free edges (first +ℤ pos 1) more
+
+-- how many tracks a span has
+abbrev pub tracks_of : ℤ → ℕ
+tracks_of (pos tracks) = tracks
+tracks_of (negsuc less) = 0
+
+-- no column of a span is taken
+abbrev pub is_open : List ℤ → Span → Bool
+is_open edges span = are_free edges span.start (tracks_of (span.end -ℤ span.start))
 
 -- a cell of the area is taken
 pub record HasHeld (bands : RowBands) (area : Area) : Type 0 where

@@ -1,6 +1,6 @@
 //! The cells that are taken, by bands of rows.
 
-ghost use Rattle.std.specs.Prelude.{◌≡◌, ℤ, [], filter, true, false, ◌||◌, ◌≤ℤ◌, ◌<ℤ◌, None, IsSome, IfOk, OnOk, MatchOption};
+ghost use Rattle.std.specs.Prelude.{◌≡◌, ℤ, pos, ◌-ℤ◌, ◌&&◌, [], filter, true, false, ◌||◌, ◌≤ℤ◌, ◌<ℤ◌, None, IsSome, IfOk, OnOk, MatchOption};
 ghost use Rattle.std.specs.List.{list_all};
 ghost use Rattle.std.specs.Ordering.{int_cmp};
 ghost use Rattle.cell_index.specs.declared.columns.TakenColumns.{TakenColumns};
@@ -13,7 +13,8 @@ use std::alloc::Global;
 use std::collections::BTreeMap;
 use std::ops::Bound;
 
-/// Bands of rows, each from its first row up to the next band, with the columns that are taken in all of its rows.
+/// Bands of rows, each from its first row up to the next band, with the columns that are taken in all of its rows. Neighbouring
+/// rows with the same columns are in one band.
 #[derive(Drop)]
 pub(crate) struct RowBands {
     bands: BTreeMap<i32, TakenColumns>,
@@ -31,7 +32,8 @@ impl RowBands {
 
     /// The columns that are taken in a row; `None` before all bands, where none are.
     fn columns_at(&self, row: i32) -> Option<&TakenColumns>
-        ensures { MatchOption result ((column : ℤ) → held self.now row column ≡ false) (λ columns. (column : ℤ) → held self.now row column ≡ taken columns.now column) }
+        ensures ordered { tree.IsOrdered int_cmp self.now.bands }
+        ensures value { MatchOption result ((column : ℤ) → held self.now row column ≡ false) (λ columns. (column : ℤ) → held self.now row column ≡ taken columns.now column) }
     {
         let until = (Bound::Unbounded, Bound::Included(row));
         match self.bands.range(until).next_back() {
@@ -58,7 +60,7 @@ impl RowBands {
     /// Whether in the band of the area's first row no column of the area is taken.
     fn is_open_at_start(&self, area: Area) -> bool
         ensures free { result ≡ true → (column : ℤ) → area.columns.start ≤ℤ column → column <ℤ area.columns.end → held self.now area.rows.start column ≡ false }
-        ensures shut { result ≡ false → area.rows.start <ℤ area.rows.end → HasHeld self.now area }
+        ensures shut { result ≡ false → area.rows.start <ℤ area.rows.end → area.columns.start <ℤ area.columns.end → HasHeld self.now area }
     {
         match self.columns_at(area.rows.start) {
             Some(columns) => columns.is_open(area.columns),
@@ -76,12 +78,15 @@ impl RowBands {
         }
     }
 
-    /// Makes a row one where a band begins.
+    /// Makes a row one where a band begins. The columns are copied where none does.
     fn cut(&mut self, alloc: Global, row: i32) -> Result<(), NoMemory>
         ensures same { OnOk result ((other column : ℤ) → held self.new other column ≡ held self.old other column) }
         ensures begins { OnOk result (IsSome (tree.get int_cmp self.new.bands row)) }
         ensures kept { OnOk result ((other : ℤ) → IsSome (tree.get int_cmp self.old.bands other) → IsSome (tree.get int_cmp self.new.bands other)) }
     {
+        if self.bands.contains_key(&row) {
+            return Ok(());
+        }
         let columns = self.copy_at(alloc, row)?;
         self.bands.insert(row, columns)?;
         Ok(())
@@ -105,19 +110,20 @@ impl RowBands {
     }
 
     /// Takes the columns of a span in the band that begins at a row.
-    fn add_to_band(&mut self, row: i32, columns: Span) -> Result<(), NoMemory>
+    fn add_to_band(&mut self, alloc: Global, row: i32, columns: Span) -> Result<(), NoMemory>
         requires { IsSome (tree.get int_cmp self.old.bands row) }
         ensures { OnOk result (IsAddedAt row columns self.old self.new) }
     {
         match self.bands.get_mut(&row) {
-            Some(band) => band.add(columns),
+            Some(band) => band.add(alloc, columns),
             None => Ok(()),
         }
     }
 
     /// Whether no cell of an area is taken.
     pub(crate) fn is_free(&self, area: Area) -> bool
-        requires { area.rows.start <ℤ area.rows.end }
+        requires rows { area.rows.start <ℤ area.rows.end }
+        requires columns { area.columns.start <ℤ area.columns.end }
         ensures free { result ≡ true → (row column : ℤ) → holds area row column ≡ true → held self.now row column ≡ false }
         ensures shut { result ≡ false → HasHeld self.now area }
     {
@@ -127,8 +133,54 @@ impl RowBands {
         self.is_open_between(area)
     }
 
+    /// Whether the same columns are taken in a row as in the one before it.
+    fn goes_on(&self, row: i32) -> bool
+        ensures ordered { result ≡ true → tree.IsOrdered int_cmp self.now.bands }
+        ensures same { result ≡ true → (column : ℤ) → held self.now row column ≡ held self.now (row -ℤ pos 1) column }
+    {
+        if row == i32::MIN {
+            return false;
+        }
+        match (self.columns_at(row - 1), self.columns_at(row)) {
+            (Some(before), Some(here)) => before.is_same(here),
+            (None, Some(here)) => here.is_empty(),
+            _ => false,
+        }
+    }
+
+    /// Forgets that a band begins at a row where the one before it has the same columns.
+    fn join(&mut self, row: i32)
+        ensures same { (other column : ℤ) → held self.new other column ≡ held self.old other column }
+        ensures kept { (other : ℤ) → row <ℤ other → IsSome (tree.get int_cmp self.old.bands other) → IsSome (tree.get int_cmp self.new.bands other) }
+    {
+        if self.goes_on(row) {
+            let _ = self.bands.remove(&row);
+        }
+    }
+
+    /// Takes the columns of a span in the band from a row up to the next band.
+    fn fill_band(
+        &mut self,
+        alloc: Global,
+        row: i32,
+        next: i32,
+        columns: Span,
+    ) -> Result<(), NoMemory>
+        requires order { row <ℤ next }
+        requires first { IsSome (tree.get int_cmp self.old.bands row) }
+        requires next { IsSome (tree.get int_cmp self.old.bands next) }
+        requires ordered { tree.IsOrdered int_cmp self.old.bands }
+        requires none { filter (λ (e : ℤ × TakenColumns). strictly row next e.0) self.old.bands.entries ≡ [] }
+        ensures added { OnOk result ((other column : ℤ) → held self.new other column ≡ (held self.old other column || (within (record { start = row; end = next }) other && within columns column))) }
+        ensures kept { OnOk result ((other : ℤ) → row <ℤ other → IsSome (tree.get int_cmp self.old.bands other) → IsSome (tree.get int_cmp self.new.bands other)) }
+    {
+        self.add_to_band(alloc, row, columns)?;
+        self.join(row);
+        Ok(())
+    }
+
     /// Takes the cells of an area in whose first row a band begins, and one after its last row.
-    fn add_rows(&mut self, area: Area) -> Result<(), NoMemory>
+    fn add_rows(&mut self, alloc: Global, area: Area) -> Result<(), NoMemory>
         requires some { area.rows.start <ℤ area.rows.end }
         requires first { IsSome (tree.get int_cmp self.old.bands area.rows.start) }
         requires last { IsSome (tree.get int_cmp self.old.bands area.rows.end) }
@@ -137,7 +189,7 @@ impl RowBands {
         let mut row = area.rows.start;
         while row < area.rows.end {
             let next = self.next(row, area.rows.end);
-            self.add_to_band(row, area.columns)?;
+            self.fill_band(alloc, row, next, area.columns)?;
             row = next;
         }
         Ok(())
@@ -152,6 +204,8 @@ impl RowBands {
         }
         self.cut(alloc, area.rows.start)?;
         self.cut(alloc, area.rows.end)?;
-        self.add_rows(area)
+        self.add_rows(alloc, area)?;
+        self.join(area.rows.end);
+        Ok(())
     }
 }

@@ -1,4 +1,4 @@
-ghost use Rattle.std.specs.Prelude.{◌≡◌, []};
+ghost use Rattle.std.specs.Prelude.{◌≡◌, ◌<ℤ◌, [], true};
 
 use crate::bands::RowBands;
 use lunit::{Area, NoMemory, Occupancy};
@@ -14,6 +14,14 @@ pub struct IntervalCells {
     bands: RowBands,
     whole: bool,
     alloc: Global,
+}
+
+/// Whether an area has rows and columns.
+fn has_cells(area: Area) -> bool
+    ensures rows { result ≡ true → area.rows.start <ℤ area.rows.end }
+    ensures columns { result ≡ true → area.columns.start <ℤ area.columns.end }
+{
+    area.rows.start < area.rows.end && area.columns.start < area.columns.end
 }
 
 impl Model for IntervalCells {
@@ -47,7 +55,7 @@ impl Occupancy for IntervalCells {
     ghost areas = { λ cells. cells };
 
     fn free(&self, area: Area) -> bool {
-        if self.whole && area.rows.start < area.rows.end {
+        if self.whole && has_cells(area) {
             return self.bands.is_free(area);
         }
         self.areas.iter().all(|held| !area.overlaps(*held))

@@ -1,4 +1,4 @@
-use Rattle.std.proofs.Common.{sym, ap, subst, rules, ◌∙◌, ◌≡◌, ℤ, List, [], to_z, of_z, w32, SFits}
+use Rattle.std.proofs.Common.{sym, subst, rules, ◌∙◌, ◌≡◌, ℤ, [], to_z, of_z, w32, SFits}
 use Rattle.std.specs.Prelude.{filter, IsSome}
 use Rattle.std.specs.BTreeMap as tree
 use Rattle.std.specs.Ordering.{int_cmp}
