@@ -1,6 +1,5 @@
 -- The answers that the nodes of an arena keep, and when they are right (own rule).
-use Rattle.std.specs.Prelude.{◌≡◌, ℕ, ℤ, List, [], ◌∷◌, map, Option, Some, None}
-use Rattle.plain_tree.specs.Trees.{Trees}
+use Rattle.std.specs.Prelude.{◌≡◌, List, [], map, Option, Some, None}
 use Rattle.node_arena.specs.declared.number.NodeId.{NodeId}
 use Rattle.node_arena.specs.Numbers.{below_at, top_numbers, value_at}
 use Rattle.tree_rules.specs.declared.query.Query.{Query}
@@ -11,7 +10,7 @@ use Rattle.placing.specs.declared.node.Answer.{Answer}
 use Rattle.placing.specs.declared.node.Answer.TheVariants.{Sizes, Lent, Block, Frames}
 use Rattle.placing.specs.declared.node.Frame.{Frame}
 use Rattle.placing.specs.declared.node.Node.{Node}
-use Rattle.placing.specs.Nodes.{BareTrees, NodeTrees, bare, sight_at}
+use Rattle.placing.specs.Nodes.{NodeTrees, bare, sight_at}
 
 -- a frame without the number of its child
 abbrev pub frame_of : Frame → rules.Frame

@@ -1,15 +1,24 @@
+pub mod Axes
 pub mod Kept
 pub mod Nodes
+pub mod Ranges
 pub mod Seats
 pub mod Walks
 pub use Rattle.layout_cache.specs.Kept as CacheKept
+pub use Rattle.line_names.specs.Sides as LineSides
+pub use Rattle.line_names.specs.Tables as LineTables
 pub use Rattle.node_arena.specs.Numbers as ArenaNumbers
 pub use Rattle.node_arena.specs.Plain as ArenaNodes
 pub use Rattle.outside.specs.Logging as Logging
 pub use Rattle.outside.specs.Told as Told
+pub use Rattle.style_types.specs.Styles as Styles
+pub use Rattle.style_types.specs.Table as StyleTable
 pub use Rattle.tree_rules.specs.AskedQueries as AskedQueries
+pub use Rattle.tree_rules.specs.Chains as Chains
 pub use Rattle.tree_rules.specs.Contexts as Contexts
 pub use Rattle.tree_rules.specs.KeptAnswers as KeptAnswers
 pub use Rattle.tree_rules.specs.Labels as Labels
 pub use Rattle.tree_rules.specs.Places as Places
 pub use Rattle.tree_rules.specs.Queries as Queries
+pub use Rattle.tree_rules.specs.Templates as Templates
+pub use Rattle.word_leaf.specs.Leaves as Leaves

@@ -1,9 +1,9 @@
 -- The bare tree: what an arena of nodes is besides the answers that are kept in it (own rule).
 use Rattle.std.specs.Prelude.{ℕ, List, [], Option, Some, None, IsSome}
 use Rattle.std.specs.FinMap as map
-use Rattle.plain_tree.specs.Trees.{Trees, leafless, map_trees}
+use Rattle.plain_tree.specs.Trees.{Trees, leafless}
 use Rattle.node_arena.specs.declared.number.NodeId.{NodeId}
-use Rattle.node_arena.specs.Numbers.{below_at, mapped, part_at, same, value_at}
+use Rattle.node_arena.specs.Numbers.{mapped, part_at, same}
 use Rattle.style_types.specs.Order.{prop_cmp}
 use Rattle.style_types.specs.Styles.{StyleMap}
 use Rattle.style_types.specs.declared.declared.DeclaredValue.{DeclaredValue}

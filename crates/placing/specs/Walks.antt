@@ -1,6 +1,5 @@
 -- What a call on a node may change: answers are kept at it and below it, and everything else follows from the list of those (own rule).
 use Rattle.std.specs.Prelude.{◌≡◌, ◌≢◌, ℕ, zero, suc, ◌+◌, ◌*◌, ◌≤◌, List, [], ◌∷◌, ◌++◌, Contains, Option, None, length, if◌then◌else◌}
-use Rattle.plain_tree.specs.Trees.{Trees}
 use Rattle.node_arena.specs.declared.number.NodeId.{NodeId}
 use Rattle.node_arena.specs.Numbers.{below_at, child_at, part_at, same}
 use Rattle.outside.specs.Faults.{one_more}
@@ -16,9 +15,8 @@ use Rattle.tree_rules.specs.declared.query.Ask.TheVariants as ask
 use Rattle.tree_rules.specs.declared.query.Query.{Query}
 use Rattle.tree_rules.specs.Frames.{given_size}
 use Rattle.tree_rules.specs.KeptAnswers.{IsAbsent, last_of, most_kept}
-use Rattle.tree_rules.specs.Labels.{Label}
 use Rattle.placing.specs.declared.node.Answer.{Answer}
-use Rattle.placing.specs.Nodes.{BareTrees, IsLive, NodeTrees, bare, sight_at, uses_at}
+use Rattle.placing.specs.Nodes.{BareTrees, NodeTrees, bare, sight_at, uses_at}
 use Rattle.placing.specs.Kept.{kept_at}
 
 -- ---- what is kept anew

@@ -7,6 +7,7 @@
 
 mod context;
 mod node;
+pub mod style;
 
 pub use context::{Above, AxisContext, Context, Placed};
 pub use node::{Answer, Frame, Node};
