@@ -1,4 +1,5 @@
 pub mod Axes
+pub mod Insides
 pub mod Kept
 pub mod Nodes
 pub mod Ranges

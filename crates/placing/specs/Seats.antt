@@ -7,10 +7,11 @@ use Rattle.tree_rules.specs.Chains.{Link}
 use Rattle.tree_rules.specs.Contexts as rules
 use Rattle.tree_rules.specs.Labels.{GridStyle}
 use Rattle.tree_rules.specs.Places.{Seen}
-use Rattle.placing.specs.declared.context.Above.{Above}
-use Rattle.placing.specs.declared.context.Above.TheVariants as above
-use Rattle.placing.specs.declared.context.AxisContext.{AxisContext}
-use Rattle.placing.specs.declared.context.Context.{Context}
+use Rattle.placing.specs.declared.contexts.Above.{Above}
+use Rattle.placing.specs.declared.contexts.Above.TheVariants as above
+use Rattle.placing.specs.declared.contexts.AxisContext.{AxisContext}
+use Rattle.placing.specs.declared.contexts.Context.{Context}
+use Rattle.placing.specs.Insides.{IsInside}
 
 -- the contexts of the definitions
 abbrev pub axis_context_of : AxisContext → rules.AxisContext
@@ -42,11 +43,21 @@ abbrev pub seat_by : Above → Area → Seat
 seat_by above.Nothing a = alone
 seat_by (above.Grid c) a = under (context_of c) a
 
+-- where there is a grid above, the area lies within its limits
+abbrev pub IsInsideOf : Above → Area → Type 0
+IsInsideOf above.Nothing a = Unit {0}
+IsInsideOf (above.Grid c) a = IsInside (context_of c) a
+
 -- It is the seat of a node that sees these counts above it, the topmost first.
-abbrev pub IsSeat : Seen → List Pair → Above → Area → Type 0
-IsSeat s reps above a = seat_by above a ≡ seat_of s.chain (reverse reps)
+pub record IsSeat (s : Seen) (reps : List Pair) (above : Above) (a : Area) : Type 0 where
+  pub seat : seat_by above a ≡ seat_of s.chain (reverse reps)
+  pub inside : IsInsideOf above a
+
+-- These are the contexts of a node by the counts of the grids that it sees and its own, the topmost first.
+abbrev pub context_at : Seen → List Pair → rules.Context
+context_at s reps = rules.context_by s.label.grid s.chain (reverse reps)
 
 -- The context in the seat is the one by the chain.
-context_by_seat : (g : GridStyle) (chain : List Link) (p : Pair) (outer : List Pair) → rules.context_by g chain (p ∷ outer) ≡ context_in (seat_of chain outer) g p
+pub context_by_seat : (g : GridStyle) (chain : List Link) (p : Pair) (outer : List Pair) → rules.context_by g chain (p ∷ outer) ≡ context_in (seat_of chain outer) g p
 context_by_seat g [] p outer = refl
 context_by_seat g (link ∷ chain) p outer = refl

@@ -5,10 +5,10 @@
 //! label, the links upwards, and what stands below it.
 #![tactic(auto)]
 
-mod context;
+mod contexts;
 mod node;
 pub mod style;
 
-pub use context::{Above, AxisContext, Context, Placed};
+pub use contexts::{Above, AxisContext, Context, Placed};
 pub use node::{Answer, Frame, Node};
 pub use tree_rules::NodeKind;

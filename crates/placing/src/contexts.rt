@@ -30,6 +30,8 @@ pub struct Context {
 pub struct Placed {
     /// The children with their areas, in order-modified document order.
     pub areas: Sequence<(NodeId, Area)>,
+    /// The places of these children in document order, from 0.
+    pub numbers: Sequence<usize>,
     /// The tracks of the inline axis: the explicit ones and all that an area has.
     pub columns: Span,
     /// The tracks of the block axis.
