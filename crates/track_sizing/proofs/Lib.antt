@@ -18,3 +18,5 @@ pub mod Best
 pub mod Bounds
 pub mod Flexed
 pub mod Sized
+pub mod Order
+pub mod Noted

@@ -8,3 +8,5 @@ pub mod Spans
 pub mod Fits
 pub mod Flex
 pub mod Whole
+pub mod Ordered
+pub mod Reached

@@ -1,10 +1,11 @@
 //! Items that span one track (CSS Grid 2, 12.5, step 2).
 
-ghost use Rattle.std.specs.Prelude.{◌≡◌, ◌<◌, ◌^◌, ◌≤ℤ◌, IfOk, length, map, pos};
+ghost use Rattle.std.specs.Prelude.{◌≡◌, ◌<◌, ◌≤◌, ◌^◌, ◌≤ℤ◌, IfOk, length, map, pos};
 ghost use Rattle.lunit.specs.Units.{IsUnits};
 ghost use Rattle.part_rules.specs.Lists.{greatest_with};
 ghost use Rattle.part_rules.specs.Tracks.{Track, alone, auto_asks, base_for, fit_alone, fit_items, flexible, high, limit_by, limit_for, low};
 ghost use Rattle.track_sizing.specs.Alone.{fit_or_pass, is_alone, is_some_alone};
+ghost use Rattle.track_sizing.specs.Ordered.{AreFrom, AreRising, IsRun};
 ghost use Rattle.track_sizing.specs.Placed.{AreIn, AreSet, IsIn};
 
 use crate::distribute::place_of;
@@ -13,6 +14,7 @@ use crate::item::{Asks, asked, span_length};
 use crate::kinds::flexible;
 use crate::numbers::{length, longer, shorter};
 use crate::row::Row;
+use crate::runs::{Key, by_start, run_length};
 use lunit::{Item, Lu, NoMemory, Wide};
 use part_rules::{Least, Most, Space};
 use std::alloc::Global;
@@ -190,6 +192,16 @@ fn fit_row<const AXIS: u8>(
     row.with_base(base).with_limit(limit)
 }
 
+/// How many items stand first that begin at this track, where none begins before it.
+fn starting_at(row: &Row, items: &[Item]) -> usize
+    requires rising { AreRising Key.Start items.now }
+    requires from { AreFrom Key.Start row.now.at items.now }
+    ensures fits { result ≤ length items.now }
+    ensures run { IsRun Key.Start row.now.at items.now result }
+{
+    run_length(&Key::Start, Wide::of(i128::from(row.at())), items)
+}
+
 /// The tracks by the items that span one alone.
 pub fn fit_alone<const AXIS: u8>(
     alloc: Global,
@@ -204,9 +216,13 @@ pub fn fit_alone<const AXIS: u8>(
     requires items { AreIn first (length rows.now) items.now }
     ensures { IfOk result (λ fitted. fitted.items ≡ fit_alone space.now gap items.now rows.now) }
 {
+    let sorted = by_start(alloc, items)?;
+    let mut left: &[Item] = &sorted;
     let mut fitted = Vec::new(alloc);
     for row in rows {
-        fitted.push(fit_row(space, gap, first, rows, items, row))?;
+        let (mine, others) = left.split_at(starting_at(row, left));
+        fitted.push(fit_row(space, gap, first, rows, mine, row))?;
+        left = others;
     }
     Ok(fitted)
 }

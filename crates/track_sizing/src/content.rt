@@ -1,7 +1,8 @@
 //! Intrinsic track sizes (CSS Grid 2, 12.5).
 
-ghost use Rattle.std.specs.Prelude.{◌≡◌, ◌<◌, ◌^◌, IfOk, OnOk, filter, length, map, true};
+ghost use Rattle.std.specs.Prelude.{◌≡◌, ◌<◌, ◌≤◌, ◌^◌, IfOk, OnOk, filter, length, map, pos, true};
 ghost use Rattle.part_rules.specs.Tracks.{close_limit, content_sized, crosses_flexible, group_fitted, of_span, some_fitted, spans_fitted};
+ghost use Rattle.track_sizing.specs.Ordered.{AreFrom, AreRising, IsRun};
 ghost use Rattle.track_sizing.specs.Placed.{AreIn, AreSet, IsIn};
 ghost use Rattle.track_sizing.specs.Spans.{is_of_span};
 
@@ -11,6 +12,7 @@ use crate::group::fit_group;
 use crate::item::{some_flexible, span_length};
 use crate::rest::close_set_limits;
 use crate::row::Row;
+use crate::runs::{Key, by_tracks, run_length};
 use lunit::{Item, Lu, NoMemory, Wide};
 use part_rules::{Share, Space};
 use std::alloc::Global;
@@ -108,6 +110,16 @@ fn fit_some<const AXIS: u8>(
     }
 }
 
+/// How many items stand first that span so many tracks, where none spans fewer.
+fn spanning(tracks: u64, items: &[Item]) -> usize
+    requires rising { AreRising Key.Tracks items.now }
+    requires from { AreFrom Key.Tracks (pos tracks) items.now }
+    ensures fits { result ≤ length items.now }
+    ensures run { IsRun Key.Tracks (pos tracks) items.now result }
+{
+    run_length(&Key::Tracks, Wide::of(i128::from(tracks)), items)
+}
+
 #[tactic(auto, using(crate::proofs::Kept::one_turn, crate::proofs::Kept::no_turn))]
 /// The groups of items of two tracks, of three and so on that cross no flexible track.
 fn fit_spans<const AXIS: u8>(
@@ -126,10 +138,14 @@ fn fit_spans<const AXIS: u8>(
     ensures rows { OnOk result (rows.new ≡ spans_fitted space.now gap items.now (length rows.old) 2 rows.old) }
     ensures set { OnOk result (AreSet first rows.new) }
 {
+    let sorted = by_tracks(alloc, items)?;
+    let (_alone, mut left) = sorted.split_at(spanning(1, &sorted));
     let mut span = 2;
     for _turn in 0..rows.len() {
-        let group = of_span(alloc, first, rows, items, span)?;
+        let (mine, others) = left.split_at(spanning(span, left));
+        let group = of_span(alloc, first, rows, mine, span)?;
         fit_some(space, gap, first, &group, rows, takers);
+        left = others;
         span += 1;
     }
     Ok(())

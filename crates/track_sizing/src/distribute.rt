@@ -1,14 +1,15 @@
 //! Steps of distribution for a group of items (modelled after CSS Grid 2, 12.5.1; own rule as a whole).
 
 ghost use Rattle.std.specs.Prelude.{◌≡◌, ◌<◌, ◌^◌, ◌≤◌, ◌+ℤ◌, ◌≤ℤ◌, length, map, pos};
-ghost use Rattle.std.specs.List.{list_any};
-ghost use Rattle.part_rules.specs.Tracks.{affected_by, base_distributed, base_planned_by, base_planned_by_all, high_limits, limit_planned_by, limit_planned_by_all, low_limits, raise_limit, raised_base, raised_limit_by, spans};
-ghost use Rattle.lunit.specs.declared.item.Item.{Item};
+ghost use Rattle.part_rules.specs.Lists.{zipped};
+ghost use Rattle.part_rules.specs.Tracks.{base_distributed, base_planned_by, base_planned_by_all, high_limits, limit_planned_by, limit_planned_by_all, low_limits, raise_limit, raised_base, raised_limit_by};
 ghost use Rattle.track_sizing.specs.Kinds.{affected_of};
 ghost use Rattle.track_sizing.specs.Placed.{AreIn, AreSet, IsIn, base_step_of, limit_step_in, marked_limit_by};
+ghost use Rattle.track_sizing.specs.Reached.{marked_where, raised_where};
 
 use crate::item::span_length;
-use crate::kinds::{Affected, Kind, affects};
+use crate::kinds::{Affected, Kind};
+use crate::reach::{is_noted, note_reached};
 use crate::row::Row;
 use crate::step::{BaseStep, plan_base, plan_limit};
 use lunit::{Item, Lu, Wide};
@@ -168,30 +169,11 @@ fn plan_limits(
     }
 }
 
-/// Whether an item spans a track.
-fn spans(item: &Item, row: &Row) -> bool
-    ensures { result ≡ spans item.now row.now }
+/// The track with its growth limit raised, where it is noted.
+fn raised_where(row: &Row, note: &Share) -> Row
+    ensures { result ≡ raised_where row.now note.now }
 {
-    i64::from(item.span.start) <= row.at() && row.at() < i64::from(item.span.end)
-}
-
-/// Whether the step affects a track for some item.
-fn is_reached(affected: &Affected, items: &[Item], row: &Row) -> bool
-    ensures { result ≡ list_any (λ (i : Item). affected_by (affected_of affected.now) i row.now) items.now }
-{
-    for item in items {
-        if affects(affected, row) && spans(item, row) {
-            return true;
-        }
-    }
-    false
-}
-
-/// The track with its growth limit raised, where some item reaches it.
-fn raised_limit_by(affected: &Affected, items: &[Item], row: &Row) -> Row
-    ensures { result ≡ raised_limit_by (affected_of affected.now) items.now row.now }
-{
-    if is_reached(affected, items, row) {
+    if is_noted(note) {
         row.raised_limit()
     } else {
         *row
@@ -199,31 +181,71 @@ fn raised_limit_by(affected: &Affected, items: &[Item], row: &Row) -> Row
 }
 
 /// The same, with the mark for the next step: infinitely growable where the growth limit had no end and has one now.
-fn marked_limit_by(affected: &Affected, items: &[Item], row: &Row) -> Row
-    ensures { result ≡ marked_limit_by (affected_of affected.now) items.now row.now }
+fn marked_where(row: &Row, note: &Share) -> Row
+    ensures { result ≡ marked_where row.now note.now }
 {
-    let raised = raised_limit_by(affected, items, row);
+    let raised = raised_where(row, note);
     raised.with_endless(row.limit().is_none() && raised.limit().is_some())
 }
 
-#[tactic(auto, using(crate::proofs::Loops::changing))]
-/// Raises the growth limits that some item reaches, with the marks for the next step.
-fn raise_marked_limits(affected: &Affected, items: &[Item], rows: &mut [Row])
-    ensures { rows.new ≡ map (marked_limit_by (affected_of affected.now) items.now) rows.old }
+/// Raises the growth limits that are noted.
+#[tactic(auto, using(crate::proofs::Loops::zipping))]
+fn raise_noted(rows: &mut [Row], notes: &[Share])
+    requires { length notes.now ≡ length rows.old }
+    ensures { rows.new ≡ zipped raised_where rows.old notes.now }
 {
-    for row in rows.iter_mut() {
-        *row = marked_limit_by(affected, items, row);
+    for (place, row) in rows.iter_mut().enumerate() {
+        *row = raised_where(row, &notes[place]);
     }
 }
 
-#[tactic(auto, using(crate::proofs::Loops::changing))]
+/// Raises the growth limits that are noted, with the marks for the next step.
+#[tactic(auto, using(crate::proofs::Loops::zipping))]
+fn raise_and_mark_noted(rows: &mut [Row], notes: &[Share])
+    requires { length notes.now ≡ length rows.old }
+    ensures { rows.new ≡ zipped marked_where rows.old notes.now }
+{
+    for (place, row) in rows.iter_mut().enumerate() {
+        *row = marked_where(row, &notes[place]);
+    }
+}
+
+/// Raises the growth limits that some item reaches, with the marks for the next step.
+#[tactic(auto, using(crate::proofs::Noted::reaches))]
+fn raise_marked_limits(
+    affected: &Affected,
+    first: Wide,
+    items: &[Item],
+    rows: &mut [Row],
+    notes: &mut [Share],
+)
+    requires few { length rows.old < 2 ^ 32 }
+    requires length { length notes.old ≡ length rows.old }
+    requires set { AreSet first rows.old }
+    requires items { AreIn first (length rows.old) items.now }
+    ensures { rows.new ≡ map (marked_limit_by (affected_of affected.now) items.now) rows.old }
+{
+    note_reached(affected, first, items, rows, notes);
+    raise_and_mark_noted(rows, notes);
+}
+
 /// Raises the growth limits that some item reaches.
-fn raise_limits(affected: &Affected, items: &[Item], rows: &mut [Row])
+#[tactic(auto, using(crate::proofs::Noted::reaches))]
+fn raise_limits(
+    affected: &Affected,
+    first: Wide,
+    items: &[Item],
+    rows: &mut [Row],
+    notes: &mut [Share],
+)
+    requires few { length rows.old < 2 ^ 32 }
+    requires length { length notes.old ≡ length rows.old }
+    requires set { AreSet first rows.old }
+    requires items { AreIn first (length rows.old) items.now }
     ensures { rows.new ≡ map (raised_limit_by (affected_of affected.now) items.now) rows.old }
 {
-    for row in rows.iter_mut() {
-        *row = raised_limit_by(affected, items, row);
-    }
+    note_reached(affected, first, items, rows, notes);
+    raise_noted(rows, notes);
 }
 
 #[tactic(auto, using(crate::proofs::Limits::limits))]
@@ -248,7 +270,7 @@ pub fn distribute_low_limits(
         crossing,
     };
     plan_limits(&affected, false, gap, first, items, rows, takers);
-    raise_marked_limits(&affected, items, rows);
+    raise_marked_limits(&affected, first, items, rows, takers);
 }
 
 #[tactic(auto, using(crate::proofs::Limits::limits))]
@@ -273,5 +295,5 @@ pub fn distribute_high_limits(
         crossing,
     };
     plan_limits(&affected, true, gap, first, items, rows, takers);
-    raise_limits(&affected, items, rows);
+    raise_limits(&affected, first, items, rows, takers);
 }

@@ -1,0 +1,6 @@
+use Rattle.track_sizing.specs.Reached.{raised_where}
+use Rattle.track_sizing.proofs.Loops.{IsZipped}
+use Rattle.track_sizing.proofs.distribute.raise_noted.Given as goal
+
+abbrev pub invariant-loop-place : goal.invariant-loop-place
+invariant-loop-place l = IsZipped raised_where l.fn.rows l.notes l.rows l.place
