@@ -1,11 +1,14 @@
 pub mod Axes
+pub mod Children
 pub mod Insides
+pub mod Keeping
 pub mod Kept
 pub mod Nodes
 pub mod Ranges
 pub mod Seats
 pub mod Walks
 pub use Rattle.layout_cache.specs.Kept as CacheKept
+pub use Rattle.layout_cache.specs.Reach as Reach
 pub use Rattle.line_names.specs.Sides as LineSides
 pub use Rattle.line_names.specs.Tables as LineTables
 pub use Rattle.node_arena.specs.Numbers as ArenaNumbers

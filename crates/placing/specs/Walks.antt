@@ -1,7 +1,9 @@
 -- What a call on a node may change: answers are kept at it and below it, and everything else follows from the list of those (own rule).
-use Rattle.std.specs.Prelude.{◌≡◌, ◌≢◌, ℕ, zero, suc, ◌+◌, ◌*◌, ◌≤◌, List, [], ◌∷◌, ◌++◌, Contains, Option, None, length, if◌then◌else◌}
+use Rattle.std.specs.Prelude.{◌≡◌, ℕ, zero, suc, ◌+◌, ◌*◌, ◌≤◌, ◌⊎◌, List, [], ◌∷◌, ◌++◌, Contains, Option, Some, length, if◌then◌else◌}
+use Rattle.plain_tree.specs.Trees.{leafless}
 use Rattle.node_arena.specs.declared.number.NodeId.{NodeId}
-use Rattle.node_arena.specs.Numbers.{below_at, child_at, part_at, same}
+use Rattle.node_arena.specs.Numbers.{child_at, same}
+use Rattle.node_arena.specs.Plain.{Nodes}
 use Rattle.outside.specs.Faults.{one_more}
 use Rattle.outside.specs.Told.{Adds}
 use Rattle.outside.specs.declared.event.Event.{Event}
@@ -16,8 +18,10 @@ use Rattle.tree_rules.specs.declared.query.Query.{Query}
 use Rattle.tree_rules.specs.Frames.{given_size}
 use Rattle.tree_rules.specs.KeptAnswers.{IsAbsent, last_of, most_kept}
 use Rattle.placing.specs.declared.node.Answer.{Answer}
-use Rattle.placing.specs.Nodes.{BareTrees, NodeTrees, bare, sight_at, uses_at}
+use Rattle.placing.specs.declared.node.Node.{Node}
+use Rattle.placing.specs.Children.{IsOutside}
 use Rattle.placing.specs.Kept.{kept_at}
+use Rattle.placing.specs.Nodes.{BareTrees, bare, sight_at, uses_at}
 
 -- ---- what is kept anew
 
@@ -36,10 +40,10 @@ entries_of n (e ∷ rest) = (if same e.node n then (e.query, e.answer) ∷ [] el
 abbrev pub kept_with : List (Query × Answer) → List (Query × Answer) → List (Query × Answer)
 kept_with old new = last_of most_kept (old ++ new)
 
--- each entry's question was absent where it was put
-abbrev pub AreFresh : (NodeId → List (Query × Answer)) → List Entry → Type 0
-AreFresh kept [] = Unit {0}
-AreFresh kept (e ∷ rest) = IsAbsent e.query (kept e.node) × AreFresh (λ n. kept_with (kept n) (entries_of n (e ∷ []))) rest
+-- each entry's question was absent where it was put, after these other entries
+abbrev pub AreFresh : (NodeId → List (Query × Answer)) → List Entry → List Entry → Type 0
+AreFresh kept done [] = Unit {0}
+AreFresh kept done (e ∷ rest) = IsAbsent e.query (kept_with (kept e.node) (entries_of e.node done)) × AreFresh kept (done ++ e ∷ []) rest
 
 -- ---- what is measured
 
@@ -71,12 +75,12 @@ events_of b (e ∷ rest) = events_at b e.node e.query ++ events_of b rest
 -- The questions that one to a node leads to: itself, and those that the questions to its children lead to.
 pub data Asks (b : BareTrees) : NodeId → Query → NodeId → Query → Type 0 where
   itself : (n : NodeId) (q : Query) → Asks b n q n q
-  through : (n c m : NodeId) (q r s : Query) (index : ℕ) → child_at b n index ≡ Option.Some c → Contains (uses_at b n q) (index, r) → Asks b c r m s → Asks b n q m s
+  through : (n c m : NodeId) (q r s : Query) (index : ℕ) → child_at b n index ≡ Some c → Contains (uses_at b n q) (index, r) → Asks b c r m s → Asks b n q m s
 
--- each entry is one of them
-abbrev pub AreAsked : BareTrees → NodeId → Query → List Entry → Type 0
-AreAsked b n q [] = Unit {0}
-AreAsked b n q (e ∷ rest) = Asks b n q e.node e.query × AreAsked b n q rest
+-- each entry answers a question that may be asked
+abbrev pub AreAsked : (NodeId → Query → Type 0) → List Entry → Type 0
+AreAsked May [] = Unit {0}
+AreAsked May (e ∷ rest) = May e.node e.query × AreAsked May rest
 
 -- ---- what a call changes
 
@@ -85,35 +89,73 @@ abbrev pub rising : ℕ → ℕ → ℕ
 rising n zero = n
 rising n (suc more) = one_more (rising n more)
 
--- a number that is neither a node's nor below it
-pub record IsOutside (b : BareTrees) (n m : NodeId) : Type 0 where
-  pub other : m ≢ n
-  pub below : part_at (below_at b n) m ≡ None
-
--- all that a call changes
+-- all that a call changes: the arena, the two counts, the passes, and the log of the ruler, where it tells it
 pub record State : Type 0 where
-  pub tree : NodeTrees
+  pub arena : Nodes Node
   pub tally : Tally
   pub passes : ℕ
   pub log : Option (List Event)
 
-abbrev pub state : NodeTrees → Tally → ℕ → Option (List Event) → State
-state t tally passes log = record { tree = t; tally = tally; passes = passes; log = log }
+abbrev pub state : Nodes Node → Tally → ℕ → Option (List Event) → State
+state arena tally passes log = record { arena = arena; tally = tally; passes = passes; log = log }
 
--- A question was put to a node: answers were kept at it and below it, each new where it was put, in at most four passes and with its events; nothing else changed.
-pub record Walked (n : NodeId) (q : Query) (old new : State) : Type 0 where
+abbrev pub bare_in : State → BareTrees
+bare_in s = bare s.arena.tree
+
+abbrev pub kept_in : State → NodeId → List (Query × Answer)
+kept_in s n = kept_at s.arena.tree n
+
+-- an arena without its tree
+abbrev pub frame_of_arena : Nodes Node → Nodes Node
+frame_of_arena a = record a { tree = leafless }
+
+-- Answers to questions that may be asked were kept, each new where it was put, in at most four passes and with its events; so many passes and these events
+-- come on top; and nothing else changed.
+pub record Walk (May : NodeId → Query → Type 0) (more : ℕ) (rest : List Event) (old new : State) : Type 0 where
   pub added : List Entry
-  pub bare_same : bare new.tree ≡ bare old.tree
-  pub kept : (m : NodeId) → kept_at new.tree m ≡ kept_with (kept_at old.tree m) (entries_of m added)
-  pub within : (m : NodeId) → IsOutside (bare old.tree) n m → entries_of m added ≡ []
-  pub fresh : AreFresh (kept_at old.tree) added
-  pub asked : AreAsked (bare old.tree) n q added
-  pub ticks : new.passes ≤ old.passes + 4 * length added
+  pub bare_same : bare_in new ≡ bare_in old
+  pub frame : frame_of_arena new.arena ≡ frame_of_arena old.arena
+  pub kept : (m : NodeId) → kept_in new m ≡ kept_with (kept_in old m) (entries_of m added)
+  pub fresh : AreFresh (kept_in old) [] added
+  pub asked : AreAsked May added
+  pub ticks : new.passes ≤ old.passes + 4 * length added + more
   pub counted : new.tally.added ≡ rising old.tally.added (length added)
-  pub measured : new.tally.measured ≡ rising old.tally.measured (length (events_of (bare old.tree) added))
-  pub log : Adds old.log new.log (events_of (bare old.tree) added)
+  pub measured : new.tally.measured ≡ rising old.tally.measured (length (events_of (bare_in old) added ++ rest))
+  pub log : Adds old.log new.log (events_of (bare_in old) added ++ rest)
 
--- the same, and the node's own answers are as before
-pub record WalkedBelow (n : NodeId) (q : Query) (old new : State) : Type 0 where
-  pub walked : Walked n q old new
-  pub own : kept_at new.tree n ≡ kept_at old.tree n
+-- A question was put to a node, and answered: all that was kept answers questions that it leads to, and stands at the node and below it.
+pub record Walked (n : NodeId) (q : Query) (old new : State) : Type 0 where
+  pub walk : Walk (Asks (bare_in old) n q) 0 [] old new
+  pub within : (m : NodeId) → IsOutside (bare_in old) n m → kept_in new m ≡ kept_in old m
+
+-- The same while it is not answered: at most so many passes were made for the answer itself, and the node's own answers are as before.
+pub record WalkedBelow (n : NodeId) (q : Query) (more : ℕ) (old new : State) : Type 0 where
+  pub walk : Walk (Asks (bare_in old) n q) more [] old new
+  pub within : (m : NodeId) → IsOutside (bare_in old) n m → kept_in new m ≡ kept_in old m
+  pub own : kept_in new n ≡ kept_in old n
+
+-- events that begin what is measured for a question of which no answer is kept
+pub record IsCut (b : BareTrees) (n : NodeId) (q : Query) (now : State) (rest : List Event) : Type 0 where
+  pub node : NodeId
+  pub query : Query
+  pub left : List Event
+  pub begun : rest ++ left ≡ events_at b node query
+  pub asked : Asks b n q node query
+  pub absent : IsAbsent query (kept_in now node)
+
+-- A question was put to a node, and memory was wanting: passes were made, and events may have been measured, for answers that are not kept.
+pub record Stopped (n : NodeId) (q : Query) (old new : State) : Type 0 where
+  pub more : ℕ
+  pub rest : List Event
+  pub walk : Walk (Asks (bare_in old) n q) more rest old new
+  pub within : (m : NodeId) → IsOutside (bare_in old) n m → kept_in new m ≡ kept_in old m
+  pub cut : (rest ≡ []) ⊎ IsCut (bare_in old) n q new rest
+
+-- What follows from a walk of the child of this index, to which a question of its parent leads, after one of the parent.
+pub record IsStep (b : BareTrees) (n : NodeId) (index : ℕ) (c : NodeId) : Type 0 where
+  pub below : (q r : Query) (more : ℕ) (old mid new : State) → Contains (uses_at b n q) (index, r) → bare_in mid ≡ b → WalkedBelow n q more old mid → Walked c r mid new → WalkedBelow n q more old new
+  pub stops : (q r : Query) (more : ℕ) (old mid new : State) → Contains (uses_at b n q) (index, r) → bare_in mid ≡ b → WalkedBelow n q more old mid → Stopped c r mid new → Stopped n q old new
+
+-- the same of every child of a tree
+abbrev pub StepsDown : BareTrees → Type 0
+StepsDown b = (n c : NodeId) (index : ℕ) → child_at b n index ≡ Some c → IsStep b n index c

@@ -6,9 +6,13 @@
 #![tactic(auto)]
 
 mod contexts;
+mod keeping;
 mod node;
+mod sight;
 pub mod style;
 
 pub use contexts::{Above, AxisContext, Context, Placed};
+pub use keeping::{find, leaf_height, leaf_sizes, put};
 pub use node::{Answer, Frame, Node};
+pub use sight::{child, count, node_at, parent, root};
 pub use tree_rules::NodeKind;

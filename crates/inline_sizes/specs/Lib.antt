@@ -1,4 +1,0 @@
-pub mod Bounded
-pub mod Lifted
-pub mod Styled
-pub mod Sums

@@ -1,0 +1,9 @@
+pub mod Bares
+pub mod Founds
+pub mod Leaves
+pub mod Loans
+pub mod Mapped
+pub mod Parents
+pub mod Puts
+pub mod Sights
+pub mod Walks

@@ -1,0 +1,174 @@
+-- What the tree shows after an answer was kept.
+use Rattle.std.proofs.Common.{◌≡◌, ℕ, zero, suc, ◌+◌, ◌-◌, ◌≤◌, true, false, List, [], ◌∷◌, ◌++◌, Option, Some, None, cond, length, drop, refl, sym, ap, ◌∙◌, arith, append-nil, subst, inl, inr}
+use Rattle.std.specs.Prelude.{◌⊎◌}
+use Rattle.std.proofs.lemmas.Bool.{cases_Bool}
+use Rattle.plain_tree.specs.Trees.{leafless, tree}
+use Rattle.layout_cache.specs.Kept.{answer_to}
+use Rattle.layout_cache.proofs.Sames.{query_is}
+use Rattle.node_arena.specs.declared.number.NodeId.{NodeId}
+use Rattle.node_arena.specs.Numbers.{EachNode, IsNumbered, replaced, same, value_at}
+use Rattle.node_arena.proofs.Same.{not_same, same_is, same_not, same_refl}
+use Rattle.node_arena.proofs.Standing.{some_is}
+use Rattle.outside.specs.Faults.{one_more}
+use Rattle.outside.specs.Told.{Adds}
+use Rattle.tree_rules.specs.declared.query.Query.{Query}
+use Rattle.tree_rules.specs.KeptAnswers.{AreRight, EachPair, IsAbsent, most_kept}
+use Rattle.tree_rules.specs.Queries.{Fits, answer_of, same_query}
+use Rattle.tree_rules.proofs.KeptLists.{right_put}
+use Rattle.placing.specs.declared.node.Answer.{Answer}
+use Rattle.placing.specs.declared.node.Node.{Node}
+use Rattle.placing.specs.Children.{IsOutside}
+use Rattle.placing.specs.Keeping.{Keeps, with_answer}
+use Rattle.placing.specs.Kept.{IsRight, NamesChildren, kept_at, kept_of, plain_answer}
+use Rattle.placing.specs.Nodes.{NodeTrees, bare, bare_of, children_at, sight_at}
+use Rattle.placing.specs.Walks.{Asks, Entry, State, Walk, Walked, WalkedBelow, bare_in, events_at, events_of, frame_of_arena, itself, kept_in, kept_with, rising}
+use Rattle.placing.proofs.Mapped.{value_by, value_mapped}
+use Rattle.placing.proofs.Walks.{kept_none, walk_then}
+
+-- ---- lists of pairs
+each_put : {A : Type 0} (P : Query → A → Type 0) (xs : List (Query × A)) (q : Query) (a : A) → EachPair P xs → P q a → EachPair P (xs ++ (q, a) ∷ [])
+each_put P [] q a h fact = (fact, tt)
+each_put P (x ∷ xs) q a h fact = (h.0, each_put P xs q a h.1 fact)
+
+each_drop : {A : Type 0} (P : Query → A → Type 0) (n : ℕ) (xs : List (Query × A)) → EachPair P xs → EachPair P (drop n xs)
+each_drop P zero xs h = h
+each_drop P (suc n) [] h = h
+each_drop P (suc n) (x ∷ xs) h = each_drop P n xs h.1
+
+pub each_found : {A : Type 0} (P : Query → A → Type 0) (q : Query) (a : A) (xs : List (Query × A)) → EachPair P xs → answer_to q xs ≡ Some a → P q a
+each_found P q a [] h e = absurd cc
+each_found P q a (x ∷ xs) h e = at (cases_Bool (same_query x.0 q)) e (each_found P q a xs h.1)
+  where
+    at : (same_query x.0 q ≡ true) ⊎ (same_query x.0 q ≡ false) → cond (same_query x.0 q) (Some x.1) (answer_to q xs) ≡ Some a → (answer_to q xs ≡ Some a → P q a) → P q a
+    at (inl s) k rest =
+        let here : x.1 ≡ a = some_is x.1 a (sym (ap (λ b. cond b (Some x.1) (answer_to q xs)) s) ∙ k) in
+        subst (P q) here (subst (λ r. P r x.1) (query_is x.0 q s) h.0)
+    at (inr s) k rest = rest (sym (ap (λ b. cond b (Some x.1) (answer_to q xs)) s) ∙ k)
+
+-- ---- one value replaced
+abbrev swapped : NodeId → Node → NodeId → Node → Node
+swapped n w k v = cond (same k n) w v
+
+kept_swapped : (n m : NodeId) (w : Node) (o : Option Node) → same m n ≡ false → kept_of (value_by (swapped n w) m o) ≡ kept_of o
+kept_swapped n m w None e = refl
+kept_swapped n m w (Some v) e = ap (λ c. (cond c w v).kept) e
+
+pub kept_other : (t : NodeTrees) (n m : NodeId) (w : Node) → same m n ≡ false → kept_at (replaced n w t) m ≡ kept_at t m
+unfolding kept_at
+kept_other t n m w e = ap kept_of (value_mapped (swapped n w) t m) ∙ kept_swapped n m w (value_at t m) e
+
+kept_same : (t : NodeTrees) (n : NodeId) (v w : Node) → Some v ≡ value_at t n → kept_at (replaced n w t) n ≡ w.kept
+unfolding kept_at
+kept_same t n v w e = ap kept_of (value_mapped (swapped n w) t n) ∙ ap (λ o. kept_of (value_by (swapped n w) n o)) (sym e) ∙ ap (λ c. (cond c w v).kept) (same_refl n)
+
+pub kept_there : (t : NodeTrees) (n : NodeId) (v : Node) → Some v ≡ value_at t n → v.kept ≡ kept_at t n
+unfolding kept_at
+kept_there t n v e = ap kept_of e
+
+bare_swapped : (whole : NodeTrees) (n k : NodeId) (v w x : Node) → Some v ≡ value_at whole n → bare_of w ≡ bare_of v → value_at whole k ≡ Some x → bare_of (swapped n w k x) ≡ bare_of x
+bare_swapped whole n k v w x e l h = at (cases_Bool (same k n))
+  where
+    at : (same k n ≡ true) ⊎ (same k n ≡ false) → bare_of (swapped n w k x) ≡ bare_of x
+    at (inl s) =
+        let is : v ≡ x = some_is v x (e ∙ ap (value_at whole) (sym (same_is k n s)) ∙ h) in
+        ap (λ c. bare_of (cond c w x)) s ∙ l ∙ ap bare_of is
+    at (inr s) = ap (λ c. bare_of (cond c w x)) s
+
+bare_each : (whole t : NodeTrees) (n : NodeId) (v w : Node) → Some v ≡ value_at whole n → bare_of w ≡ bare_of v → EachNode (λ x. value_at whole x.0 ≡ Some x.1) t → bare (replaced n w t) ≡ bare t
+unfolding bare
+bare_each whole leafless n v w e l h = refl
+bare_each whole (tree x below after) n v w e l h = λ i. tree (x.0, bare_swapped whole n x.0 v w x.1 e l h.0 i) (bare_each whole below n v w e l h.1.0 i) (bare_each whole after n v w e l h.1.1 i)
+
+-- ---- an answer kept
+module _ (t : NodeTrees) (n : NodeId) (v : Node) (q : Query) (a : Answer) (u : IsNumbered t) (e : Some v ≡ value_at t n) where
+  abbrev put_tree : NodeTrees
+  put_tree = replaced n (with_answer q a v) t
+
+  pub bare_put : bare put_tree ≡ bare t
+  bare_put = bare_each t t n v (with_answer q a v) e refl u.each
+
+  pub own_put : kept_at put_tree n ≡ kept_with (kept_at t n) ((q, a) ∷ [])
+  own_put = kept_same t n v (with_answer q a v) e ∙ ap (λ k. kept_with k ((q, a) ∷ [])) (kept_there t n v e)
+
+  abbrev Named : NodeId → Query → Answer → Type 0
+  Named m p x = NamesChildren (children_at (bare t) m) x
+
+  pub all_right : IsRight t → IsAbsent q (kept_at t n) → Fits (sight_at (bare t) n) q → plain_answer a ≡ answer_of (sight_at (bare t) n) q → NamesChildren (children_at (bare t) n) a → IsRight put_tree
+  all_right r absent fits value names =
+      record {
+        lists = λ m. subst (λ b. AreRight (sight_at b m) plain_answer (kept_at put_tree m)) (sym bare_put) (list m (cases_Bool (same m n)));
+        children = λ m. subst (λ b. EachPair (λ (p : Query) (x : Answer). NamesChildren (children_at b m) x) (kept_at put_tree m)) (sym bare_put) (named m (cases_Bool (same m n)));
+      }
+    where
+      own_list : AreRight (sight_at (bare t) n) plain_answer (kept_at put_tree n)
+      own_list = subst (AreRight (sight_at (bare t) n) plain_answer) (sym own_put) (right_put (sight_at (bare t) n) plain_answer (kept_at t n) q a (r.lists n) absent (record { fits = fits; answer = value }))
+
+      list : (m : NodeId) → (same m n ≡ true) ⊎ (same m n ≡ false) → AreRight (sight_at (bare t) m) plain_answer (kept_at put_tree m)
+      list m (inl s) = subst (λ k. AreRight (sight_at (bare t) k) plain_answer (kept_at put_tree k)) (sym (same_is m n s)) own_list
+      list m (inr s) = subst (AreRight (sight_at (bare t) m) plain_answer) (sym (kept_other t n m (with_answer q a v) s)) (r.lists m)
+
+      own_named : EachPair (Named n) (kept_at put_tree n)
+      own_named = subst (EachPair (Named n)) (sym own_put) (each_drop (Named n) (length (kept_at t n ++ (q, a) ∷ []) - most_kept) (kept_at t n ++ (q, a) ∷ []) (each_put (Named n) (kept_at t n) q a (r.children n) names))
+
+      named : (m : NodeId) → (same m n ≡ true) ⊎ (same m n ≡ false) → EachPair (Named m) (kept_at put_tree m)
+      named m (inl s) = subst (λ k. EachPair (Named k) (kept_at put_tree k)) (sym (same_is m n s)) own_named
+      named m (inr s) = subst (EachPair (Named m)) (sym (kept_other t n m (with_answer q a v) s)) (r.children m)
+
+-- ---- a call that keeps an answer
+module _ (s w : State) (n : NodeId) (q : Query) (a : Answer) (k : Keeps s.arena w.arena n q a) (r : IsRight s.arena.tree) where
+  tree_is : replaced n (with_answer q a k.value) s.arena.tree ≡ w.arena.tree
+  tree_is = ap (λ z. z.tree) (sym k.new_is)
+
+  pub keeps_bare : bare_in w ≡ bare_in s
+  keeps_bare = ap bare (sym tree_is) ∙ bare_put s.arena.tree n k.value q a k.numbered k.there
+
+  pub keeps_own : kept_in w n ≡ kept_with (kept_in s n) ((q, a) ∷ [])
+  keeps_own = ap (λ z. kept_at z n) (sym tree_is) ∙ own_put s.arena.tree n k.value q a k.numbered k.there
+
+  pub keeps_right : IsAbsent q (kept_in s n) → Fits (sight_at (bare_in s) n) q → plain_answer a ≡ answer_of (sight_at (bare_in s) n) q → NamesChildren (children_at (bare_in s) n) a → IsRight w.arena.tree
+  keeps_right absent fits value names = subst IsRight tree_is (all_right s.arena.tree n k.value q a k.numbered k.there r absent fits value names)
+
+  keeps_other : (m : NodeId) → same m n ≡ false → kept_in w m ≡ kept_in s m
+  keeps_other m e = ap (λ z. kept_at z m) (sym tree_is) ∙ kept_other s.arena.tree n m (with_answer q a k.value) e
+
+  -- an answer is kept, with what was measured for it
+  pub keeps_walk : (May : NodeId → Query → Type 0) → May n q → IsAbsent q (kept_in s n) → w.passes ≤ s.passes + 4 → w.tally.added ≡ one_more s.tally.added →
+      w.tally.measured ≡ rising s.tally.measured (length (events_at (bare_in s) n q)) → Adds s.log w.log (events_at (bare_in s) n q) → Walk May 0 [] s w
+  keeps_walk May may absent passes added measured log =
+      let entry : Entry = record { node = n; query = q; answer = a } in
+      let events : events_of (bare_in s) (entry ∷ []) ++ [] ≡ events_at (bare_in s) n q = append-nil (events_at (bare_in s) n q ++ []) ∙ append-nil (events_at (bare_in s) n q) in
+      record {
+        added = entry ∷ [];
+        bare_same = keeps_bare;
+        frame = ap frame_of_arena k.new_is;
+        kept = λ m. kept m (cases_Bool (same n m));
+        fresh = (subst (IsAbsent q) (sym (kept_none (kept_in s n) (r.lists n).few)) absent, tt);
+        asked = (may, tt);
+        ticks = omega (arith, passes);
+        counted = added;
+        measured = measured ∙ ap (λ z. rising s.tally.measured (length z)) (sym events);
+        log = subst (Adds s.log w.log) (sym events) log;
+      }
+    where
+      kept : (m : NodeId) → (same n m ≡ true) ⊎ (same n m ≡ false) → kept_in w m ≡ kept_with (kept_in s m) (cond (same n m) ((q, a) ∷ []) [] ++ [])
+      kept m (inl e) =
+          subst (λ z. kept_in w z ≡ kept_with (kept_in s z) ((q, a) ∷ [])) (same_is n m e) keeps_own
+          ∙ ap (λ c. kept_with (kept_in s m) (cond c ((q, a) ∷ []) [] ++ [])) (sym e)
+      kept m (inr e) =
+          keeps_other m (same_not m n (λ z. not_same n m e (sym z))) ∙ sym (kept_none (kept_in s m) (r.lists m).few)
+          ∙ ap (λ c. kept_with (kept_in s m) (cond c ((q, a) ∷ []) [] ++ [])) (sym e)
+
+  pub keeps_within : (m : NodeId) → IsOutside (bare_in s) n m → kept_in w m ≡ kept_in s m
+  keeps_within m out = keeps_other m (same_not m n out.other)
+
+  -- the question of the answer is answered
+  pub keeps_joins : (old : State) (more : ℕ) → more ≤ 4 → WalkedBelow n q more old s → IsAbsent q (kept_in s n) → w.passes ≤ s.passes → w.tally.added ≡ one_more s.tally.added →
+      w.tally.measured ≡ rising s.tally.measured (length (events_at (bare_in s) n q)) → Adds s.log w.log (events_at (bare_in s) n q) → Walked n q old w
+  unfolding keeps_walk
+  keeps_joins old more few below absent passes added measured log =
+      let one : Walk (Asks (bare_in old) n q) 0 [] s w = keeps_walk (Asks (bare_in old) n q) (itself n q) absent (omega (arith, passes)) added measured log in
+      let count : length one.added ≡ 1 = refl in
+      record {
+        walk = walk_then (Asks (bare_in old) n q) (Asks (bare_in old) n q) more 0 0 [] old s w below.walk one (λ m p x. x) (omega (arith, passes, few, count, below.walk.ticks));
+        within = λ m out. keeps_within m (subst (λ z. IsOutside z n m) (sym below.walk.bare_same) out) ∙ below.within m out;
+      }

@@ -1,0 +1,182 @@
+//! Kept answers: one is looked up before anything else is computed, and what is computed is put last.
+
+ghost use Rattle.std.specs.Prelude.{◌≡◌, ◌∷◌, ◌≤◌, [], ℕ, true, IfOk, IfSome, IfNone, OnOk, OnErr, List, Option};
+ghost use Rattle.std.specs.Option.{option_copied};
+ghost use Rattle.layout_cache.specs.Kept.{answer_to};
+ghost use Rattle.outside.specs.declared.event.Event.{Event};
+ghost use Rattle.outside.specs.declared.event.Event.TheVariants.{Measured};
+ghost use Rattle.outside.specs.declared.event.Width.TheVariants.{Narrowest, Widest, At};
+ghost use Rattle.part_rules.specs.WordLines.{height_at, narrowest, widest};
+ghost use Rattle.tree_rules.specs.declared.query.Ask.TheVariants as ask;
+ghost use Rattle.tree_rules.specs.Frames.{given_size};
+ghost use Rattle.tree_rules.specs.KeptAnswers.{IsAbsent};
+ghost use Rattle.tree_rules.specs.Queries.{answer_of, block_size, inline_sizes, Fits};
+ghost use Rattle.word_leaf.specs.Leaves.{IsMeasurable};
+ghost use Rattle.placing.specs.Kept.{kept_at, plain_answer, IsRight, NamesChildren};
+ghost use Rattle.placing.specs.declared.node.Answer.TheVariants as answer;
+ghost use Rattle.placing.specs.Keeping.{Counts, CountsSome, is_leaf, Keeps};
+ghost use Rattle.placing.specs.Nodes.{bare, children_at, sight_at, IsLive};
+ghost use Rattle.placing.specs.Ranges.{IsKind};
+ghost use Rattle.placing.specs.Walks.{events_at, kept_with, state, State, Stopped, Walked, WalkedBelow};
+
+use crate::node::{Answer, Node};
+use crate::sight::node_at;
+use layout_cache::{Given, Query};
+use lunit::{Lu, Name, NoMemory};
+use node_arena::{Arena, NodeId};
+use outside::{Ruler, Tally, Width};
+use part_rules::Content;
+use tree_rules::NodeKind;
+
+/// The answer that a node keeps for a question; `None` exactly where it keeps none.
+pub fn find<'a>(tree: &'a Arena<Node>, id: NodeId, query: &Query) -> Option<&'a Answer>
+    requires live { IsLive (bare tree.now.tree) id }
+    requires right { IsRight tree.now.tree }
+    ensures kept { option_copied result ≡ answer_to query.now (kept_at tree.now.tree id) }
+    ensures value { IfSome (option_copied result) (λ answer. plain_answer answer ≡ answer_of (sight_at (bare tree.now.tree) id) query.now) }
+    ensures children { IfSome (option_copied result) (λ answer. NamesChildren (children_at (bare tree.now.tree) id) answer) }
+    ensures absent { IfNone result (IsAbsent query.now (kept_at tree.now.tree id)) }
+    ensures start { (s : State) → s.arena ≡ tree.now → WalkedBelow id query.now 0 s s }
+    ensures found { (s : State) → s.arena ≡ tree.now → Walked id query.now s s }
+{
+    node_at(tree, id).kept.find(query)
+}
+
+/// Keeps an answer in a node, and nothing else.
+fn keep(tree: &mut Arena<Node>, id: NodeId, query: Query, answer: Answer)
+    requires live { IsLive (bare tree.old.tree) id }
+    requires absent { IsAbsent query (kept_at tree.old.tree id) }
+    ensures { Keeps tree.old tree.new id query answer }
+{
+    let node = tree.get_mut(id).unwrap();
+    node.kept.put(query, answer);
+}
+
+/// Keeps the answer of a container to a question of which it keeps none; the oldest of sixteen goes.
+pub fn put(tree: &mut Arena<Node>, id: NodeId, query: Query, answer: Answer, tally: &mut Tally)
+    requires live { IsLive (bare tree.old.tree) id }
+    requires right { IsRight tree.old.tree }
+    requires absent { IsAbsent query (kept_at tree.old.tree id) }
+    requires fits { Fits (sight_at (bare tree.old.tree) id) query }
+    requires value { plain_answer answer ≡ answer_of (sight_at (bare tree.old.tree) id) query }
+    requires children { NamesChildren (children_at (bare tree.old.tree) id) answer }
+    requires quiet { events_at (bare tree.old.tree) id query ≡ [] }
+    ensures right { IsRight tree.new.tree }
+    ensures same { bare tree.new.tree ≡ bare tree.old.tree }
+    ensures own { kept_at tree.new.tree id ≡ kept_with (kept_at tree.old.tree id) ((query, answer) ∷ []) }
+    ensures joins { (old : State) (more passes : ℕ) (log : Option (List Event)) → more ≤ 4 → WalkedBelow id query more old (state tree.old tally.old passes log) → Walked id query old (state tree.new tally.new passes log) }
+{
+    tally.count_added();
+    keep(tree, id, query, answer);
+}
+
+/// Asks for both widths of a leaf.
+fn measure_widths<R: Ruler>(
+    name: &Name,
+    content: &Content,
+    ruler: &mut R,
+    tally: &mut Tally,
+) -> Result<(Lu, Lu), NoMemory>
+    requires { IsMeasurable content.now }
+    ensures value { IfOk result (λ sizes. sizes ≡ (narrowest content.now, widest content.now)) }
+    ensures counts { OnOk result (Counts tally.old tally.new (R.log ruler.old) (R.log ruler.new) (Measured name.now Narrowest ∷ Measured name.now Widest ∷ [])) }
+    ensures some { OnErr result (CountsSome tally.old tally.new (R.log ruler.old) (R.log ruler.new) (Measured name.now Narrowest ∷ Measured name.now Widest ∷ [])) }
+{
+    let low = ruler.measure(name, content, Width::Narrowest)?;
+    tally.count_measured();
+    let high = ruler.measure(name, content, Width::Widest)?;
+    tally.count_measured();
+    Ok((low, high))
+}
+
+/// Asks for the height of a leaf at a width.
+fn measure_height<R: Ruler>(
+    name: &Name,
+    content: &Content,
+    width: Lu,
+    ruler: &mut R,
+    tally: &mut Tally,
+) -> Result<Lu, NoMemory>
+    requires { IsMeasurable content.now }
+    ensures value { IfOk result (λ height. height ≡ height_at content.now width) }
+    ensures counts { OnOk result (Counts tally.old tally.new (R.log ruler.old) (R.log ruler.new) (Measured name.now (At width) ∷ [])) }
+    ensures some { OnErr result (CountsSome tally.old tally.new (R.log ruler.old) (R.log ruler.new) (Measured name.now (At width) ∷ [])) }
+{
+    let height = ruler.measure(name, content, Width::At(width))?;
+    tally.count_measured();
+    Ok(height)
+}
+
+/// The inline size that a question gives; 0 where it gives none.
+fn size_of(given: &Given) -> Lu
+    ensures { result ≡ given_size given.now }
+{
+    match given {
+        Given::Size(size) => *size,
+        _ => Lu::default(),
+    }
+}
+
+/// The answer of a leaf to the question for its two inline sizes, of which it keeps none: the ruler is asked for both, and the
+/// answer is kept. `NoMemory` is that of the ruler, and nothing is kept then.
+pub fn leaf_sizes<R: Ruler>(
+    tree: &mut Arena<Node>,
+    id: NodeId,
+    query: Query,
+    ruler: &mut R,
+    tally: &mut Tally,
+) -> Result<(Lu, Lu), NoMemory>
+    requires live { IsLive (bare tree.old.tree) id }
+    requires right { IsRight tree.old.tree }
+    requires leaf { is_leaf (sight_at (bare tree.old.tree) id).label.kind ≡ true }
+    requires measurable { IsKind (sight_at (bare tree.old.tree) id).label.kind }
+    requires ask { query.ask ≡ ask.Inline }
+    requires absent { IsAbsent query (kept_at tree.old.tree id) }
+    requires fits { Fits (sight_at (bare tree.old.tree) id) query }
+    ensures value { IfOk result (λ sizes. inline_sizes sizes ≡ answer_of (sight_at (bare tree.old.tree) id) query) }
+    ensures right { IsRight tree.new.tree }
+    ensures walked { OnOk result ((passes : ℕ) → Walked id query (state tree.old tally.old passes (R.log ruler.old)) (state tree.new tally.new passes (R.log ruler.new))) }
+    ensures stopped { OnErr result ((passes : ℕ) → Stopped id query (state tree.old tally.old passes (R.log ruler.old)) (state tree.new tally.new passes (R.log ruler.new))) }
+    ensures own { IfOk result (λ sizes. kept_at tree.new.tree id ≡ kept_with (kept_at tree.old.tree id) ((query, answer.Sizes sizes.0 sizes.1) ∷ [])) }
+{
+    let leaf = node_at(tree, id);
+    let NodeKind::Leaf(content) = &leaf.kind else {
+        return Err(NoMemory);
+    };
+    let (low, high) = measure_widths(&leaf.name, content, ruler, tally)?;
+    tally.count_added();
+    keep(tree, id, query, Answer::Sizes(low, high));
+    Ok((low, high))
+}
+
+/// The answer of a leaf to the question for its block size, of which it keeps none: the ruler is asked for the height at the
+/// width that the question gives, and the answer is kept. `NoMemory` is that of the ruler, and nothing is kept then.
+pub fn leaf_height<R: Ruler>(
+    tree: &mut Arena<Node>,
+    id: NodeId,
+    query: Query,
+    ruler: &mut R,
+    tally: &mut Tally,
+) -> Result<Lu, NoMemory>
+    requires live { IsLive (bare tree.old.tree) id }
+    requires right { IsRight tree.old.tree }
+    requires leaf { is_leaf (sight_at (bare tree.old.tree) id).label.kind ≡ true }
+    requires measurable { IsKind (sight_at (bare tree.old.tree) id).label.kind }
+    requires ask { query.ask ≡ ask.Block }
+    requires absent { IsAbsent query (kept_at tree.old.tree id) }
+    requires fits { Fits (sight_at (bare tree.old.tree) id) query }
+    ensures value { IfOk result (λ size. block_size size ≡ answer_of (sight_at (bare tree.old.tree) id) query) }
+    ensures right { IsRight tree.new.tree }
+    ensures walked { OnOk result ((passes : ℕ) → Walked id query (state tree.old tally.old passes (R.log ruler.old)) (state tree.new tally.new passes (R.log ruler.new))) }
+    ensures stopped { OnErr result ((passes : ℕ) → Stopped id query (state tree.old tally.old passes (R.log ruler.old)) (state tree.new tally.new passes (R.log ruler.new))) }
+    ensures own { IfOk result (λ size. kept_at tree.new.tree id ≡ kept_with (kept_at tree.old.tree id) ((query, answer.Block size) ∷ [])) }
+{
+    let leaf = node_at(tree, id);
+    let NodeKind::Leaf(content) = &leaf.kind else {
+        return Err(NoMemory);
+    };
+    let height = measure_height(&leaf.name, content, size_of(&query.inline), ruler, tally)?;
+    tally.count_added();
+    keep(tree, id, query, Answer::Block(height));
+    Ok(height)
+}
