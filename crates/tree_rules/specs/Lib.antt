@@ -6,6 +6,7 @@ pub mod Chains
 pub mod Contexts
 pub mod Distribution
 pub mod Documents
+pub mod FarRows
 pub mod FlexRows
 pub mod FlexSizes
 pub mod Frames

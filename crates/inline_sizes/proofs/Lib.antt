@@ -1,0 +1,5 @@
+pub mod Edges
+pub mod InRange
+pub mod Limits
+pub mod Nested
+pub mod Offsets

@@ -1,0 +1,4 @@
+pub mod Bounded
+pub mod Lifted
+pub mod Styled
+pub mod Sums

@@ -1,0 +1,34 @@
+//! The sizes of nodes along one axis, and the items that grids size their tracks by.
+//!
+//! All lengths are in units of one sixty-fourth of a pixel. Axis 0 is the inline axis, along which the columns lie, and axis 1 the
+//! block axis, along which the rows lie.
+#![tactic(auto)]
+
+mod bounds;
+mod contributions;
+mod distribution;
+mod flex_items;
+mod laws;
+mod levels;
+mod numbers;
+mod sides;
+mod sized;
+mod used;
+mod views;
+
+pub use bounds::{Bounds, border_size, resolved};
+pub use contributions::{contribution, floor_of};
+pub use distribution::{
+    area_size, content_size, gap_by, greatest_of, in_a_row, is_safe, mode_of, open_tracks, sum_of,
+    total_of_tracks, tracks_over,
+};
+pub use flex_items::{
+    automatic_minimum, base_size, column_box, cross_box, flex_item, inline_contribution,
+    is_stretched_across, line_align, outer_cross,
+};
+pub use laws::lent_items_stay_inside;
+pub use levels::{empty_item, extra_margins, lifted, offset_of};
+pub use sides::{inner, inner_end, inner_start, margins, outer_end, outer_start};
+pub use sized::{bounds_of, child_item, is_stretched, subgrid_box};
+pub use used::{block_used, content_of_box, inline_used, self_align, stretches};
+pub use views::view_in;
