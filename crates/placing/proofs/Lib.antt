@@ -1,5 +1,6 @@
 pub mod Bares
 pub mod Founds
+pub mod KeptTrees
 pub mod Leaves
 pub mod Loans
 pub mod Mapped

@@ -1,7 +1,7 @@
 -- What a call that keeps one answer does, and one that measures a leaf (own rule).
-use Rattle.std.specs.Prelude.{◌≡◌, Bool, true, false, List, [], ◌∷◌, ◌++◌, Option, Some, length}
+use Rattle.std.specs.Prelude.{◌≡◌, Bool, true, false, List, [], ◌∷◌, ◌++◌, ◌⊎◌, Option, Some, length}
 use Rattle.node_arena.specs.declared.number.NodeId.{NodeId}
-use Rattle.node_arena.specs.Numbers.{IsNumbered, value_at}
+use Rattle.node_arena.specs.Numbers.{EachNode, IsNumbered, value_at}
 use Rattle.node_arena.specs.Plain.{Nodes, with_value}
 use Rattle.outside.specs.Told.{Adds}
 use Rattle.outside.specs.declared.event.Event.{Event}
@@ -11,6 +11,8 @@ use Rattle.tree_rules.specs.declared.kind.NodeKind.TheVariants as kind
 use Rattle.tree_rules.specs.declared.query.Query.{Query}
 use Rattle.placing.specs.declared.node.Answer.{Answer}
 use Rattle.placing.specs.declared.node.Node.{Node}
+use Rattle.placing.specs.Kept.{kept_at}
+use Rattle.placing.specs.Nodes.{NodeTrees, bare, children_at, sight_at}
 use Rattle.placing.specs.Walks.{kept_with, rising}
 
 -- a leaf
@@ -42,3 +44,23 @@ pub record CountsSome (old new : Tally) (before after : Option (List Event)) (ev
   pub left : List Event
   pub whole : done ++ left ≡ events
   pub counts : Counts old new before after done
+
+-- ---- laws
+
+-- a node that keeps nothing
+abbrev pub without_answers : Node → Node
+without_answers v = record v { kept = [] }
+
+-- no node keeps an answer
+abbrev pub KeepsNone : NodeTrees → Type 0
+KeepsNone t = EachNode (λ x. x.1.kept ≡ []) t
+
+-- a node of the new tree keeps what it kept in the old one, in which the rules saw the same of it and it had the same children
+pub record KeepsSame (old new : NodeTrees) (n : NodeId) : Type 0 where
+  pub kept : kept_at new n ≡ kept_at old n
+  pub sight : sight_at (bare new) n ≡ sight_at (bare old) n
+  pub children : children_at (bare new) n ≡ children_at (bare old) n
+
+-- it does, or it keeps nothing
+abbrev pub KeepsOn : NodeTrees → NodeTrees → NodeId → Type 0
+KeepsOn old new n = (kept_at new n ≡ []) ⊎ KeepsSame old new n

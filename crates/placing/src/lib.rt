@@ -7,12 +7,15 @@
 
 mod contexts;
 mod keeping;
+mod laws;
+mod linked;
 mod node;
 mod sight;
 pub mod style;
 
 pub use contexts::{Above, AxisContext, Context, Placed};
 pub use keeping::{find, leaf_height, leaf_sizes, put};
+pub use laws::{forgetting_keeps_the_rest, kept_answers_are_defined, right_where_seen_the_same};
 pub use node::{Answer, Frame, Node};
 pub use sight::{child, count, node_at, parent, root};
 pub use tree_rules::NodeKind;

@@ -1,0 +1,36 @@
+//! What holds of trees that keep answers. Each law is the contract of a function that does nothing.
+
+ghost use Rattle.std.specs.Prelude.{◌≡◌, [], Some, List, if◌then◌else◌};
+ghost use Rattle.layout_cache.specs.Kept.{answer_to};
+ghost use Rattle.layout_cache.specs.Reach.{forgets};
+ghost use Rattle.node_arena.specs.declared.number.NodeId.{NodeId};
+ghost use Rattle.node_arena.specs.Numbers.{is_among};
+ghost use Rattle.tree_rules.specs.Queries.{answer_of};
+ghost use Rattle.tree_rules.specs.declared.query.Query.{Query};
+ghost use Rattle.placing.specs.declared.node.Answer.{Answer};
+ghost use Rattle.placing.specs.Kept.{kept_at, plain_answer, IsRight, NamesChildren};
+ghost use Rattle.placing.specs.Keeping.{without_answers, KeepsOn, KeepsNone};
+ghost use Rattle.placing.specs.Nodes.{bare, children_at, sight_at, NodeTrees};
+
+/// A kept answer is the one of the definitions, and its frames are those of the node's children, in document order.
+#[tactic(auto, using(crate::proofs::KeptTrees::read_value, crate::proofs::KeptTrees::read_children))]
+pub fn kept_answers_are_defined()
+    ensures value { (t : NodeTrees) (n : NodeId) (q : Query) (a : Answer) → IsRight t → answer_to q (kept_at t n) ≡ Some a → plain_answer a ≡ answer_of (sight_at (bare t) n) q }
+    ensures children { (t : NodeTrees) (n : NodeId) (q : Query) (a : Answer) → IsRight t → answer_to q (kept_at t n) ≡ Some a → NamesChildren (children_at (bare t) n) a }
+{}
+
+/// Where nothing is kept all is right. A tree is right where each node keeps nothing, or keeps what it kept in a right tree in which the rules saw the same
+/// of it and it had the same children.
+#[tactic(auto, using(crate::proofs::KeptTrees::none_right, crate::proofs::KeptTrees::still_right))]
+pub fn right_where_seen_the_same()
+    ensures none { (t : NodeTrees) → KeepsNone t → IsRight t }
+    ensures same { (t u : NodeTrees) → IsRight t → ((n : NodeId) → KeepsOn t u n) → IsRight u }
+{}
+
+/// Letting answers go changes nothing but the lists of these nodes, and what is right stays right.
+#[tactic(auto, using(crate::proofs::KeptTrees::forgets_bare, crate::proofs::KeptTrees::forgets_kept, crate::proofs::KeptTrees::forgets_right))]
+pub fn forgetting_keeps_the_rest()
+    ensures same { (ns : List NodeId) (t : NodeTrees) → bare (forgets without_answers ns t) ≡ bare t }
+    ensures kept { (ns : List NodeId) (t : NodeTrees) (n : NodeId) → kept_at (forgets without_answers ns t) n ≡ (if is_among n ns then [] else kept_at t n) }
+    ensures right { (ns : List NodeId) (t : NodeTrees) → IsRight t → IsRight (forgets without_answers ns t) }
+{}
