@@ -1,12 +1,16 @@
+pub mod Along
+pub mod Areas
 pub mod Axes
 pub mod Children
 pub mod Insides
 pub mod Keeping
 pub mod Kept
 pub mod Nodes
+pub mod Order
 pub mod Ranges
 pub mod Seats
 pub mod Walks
+pub mod Wishes
 pub use Rattle.layout_cache.specs.Kept as CacheKept
 pub use Rattle.layout_cache.specs.Reach as Reach
 pub use Rattle.line_names.specs.Sides as LineSides
@@ -20,8 +24,10 @@ pub use Rattle.style_types.specs.Table as StyleTable
 pub use Rattle.tree_rules.specs.AskedQueries as AskedQueries
 pub use Rattle.tree_rules.specs.Chains as Chains
 pub use Rattle.tree_rules.specs.Contexts as Contexts
+pub use Rattle.tree_rules.specs.GridSizes as GridSizes
 pub use Rattle.tree_rules.specs.KeptAnswers as KeptAnswers
 pub use Rattle.tree_rules.specs.Labels as Labels
+pub use Rattle.tree_rules.specs.Orders as Orders
 pub use Rattle.tree_rules.specs.Places as Places
 pub use Rattle.tree_rules.specs.Queries as Queries
 pub use Rattle.tree_rules.specs.Templates as Templates

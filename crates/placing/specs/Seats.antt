@@ -1,9 +1,12 @@
 -- Where a node stands under the grid of which it is a subgrid (CSS Grid 2, section 9). A context depends on what is above the node by this
 -- alone.
-use Rattle.std.specs.Prelude.{◌≡◌, refl, List, [], ◌∷◌, reverse}
+use Rattle.std.specs.Prelude.{◌≡◌, refl, ℕ, List, [], ◌∷◌, reverse, Option, Some, None}
 use Rattle.lunit.specs.declared.geometry.Area.{Area}
 use Rattle.tree_rules.specs.Answers.{Pair}
-use Rattle.tree_rules.specs.Chains.{Link}
+use Rattle.tree_rules.specs.Chains.{Link, link_to}
+use Rattle.node_arena.specs.declared.number.NodeId.{NodeId}
+use Rattle.placing.specs.Nodes.{BareTrees, IsLive, above_at, sight_at}
+use Rattle.placing.specs.Children.{IsNext}
 use Rattle.tree_rules.specs.Contexts as rules
 use Rattle.tree_rules.specs.Labels.{GridStyle}
 use Rattle.tree_rules.specs.Places.{Seen}
@@ -56,6 +59,18 @@ pub record IsSeat (s : Seen) (reps : List Pair) (above : Above) (a : Area) : Typ
 -- These are the contexts of a node by the counts of the grids that it sees and its own, the topmost first.
 abbrev pub context_at : Seen → List Pair → rules.Context
 context_at s reps = rules.context_by s.label.grid s.chain (reverse reps)
+
+-- a node as a subgrid of another
+pub record IsSubgridOf (b : BareTrees) (n parent : NodeId) : Type 0 where
+  pub way : ℕ
+  pub live : IsLive b parent
+  pub next : IsNext b parent way n
+  pub chain : (sight_at b n).chain ≡ link_to (above_at b parent) way ∷ (sight_at b parent).chain
+
+-- the grid of which a node is a subgrid, if there is one
+abbrev pub HasGrid : BareTrees → NodeId → Option NodeId → Type 0
+HasGrid b n None = (sight_at b n).chain ≡ []
+HasGrid b n (Some parent) = IsSubgridOf b n parent
 
 -- The context in the seat is the one by the chain.
 pub context_by_seat : (g : GridStyle) (chain : List Link) (p : Pair) (outer : List Pair) → rules.context_by g chain (p ∷ outer) ≡ context_in (seat_of chain outer) g p

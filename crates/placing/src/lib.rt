@@ -6,16 +6,22 @@
 #![tactic(auto)]
 
 mod contexts;
+mod items;
 mod keeping;
 mod laws;
 mod linked;
 mod node;
+mod order;
+mod placement;
 mod sight;
 pub mod style;
+mod wishes;
 
 pub use contexts::{Above, AxisContext, Context, Placed};
+pub use items::{ChildArea, entry, has_subgrid};
 pub use keeping::{find, leaf_height, leaf_sizes, put};
 pub use laws::{forgetting_keeps_the_rest, kept_answers_are_defined, right_where_seen_the_same};
 pub use node::{Answer, Frame, Node};
+pub use placement::{areas_in, ordered};
 pub use sight::{child, count, node_at, parent, root};
 pub use tree_rules::NodeKind;
