@@ -1,0 +1,34 @@
+-- The names and numbers of a line.
+use Rattle.std.specs.Prelude.{ℕ, ℤ, pos, int_le, unsigned_abs, if◌then◌else◌, Option, Some, None, Result, codes}
+use Rattle.text_scan.specs.declared.line.Fault.{Fault}
+use Rattle.lunit.specs.Decimals.{read_number}
+use Rattle.lunit.specs.Forms.{sizes}
+use Rattle.lunit.specs.Names.{is_name}
+use Rattle.track_text.specs.Words.{bind}
+use Rattle.track_text.specs.Values.{ends_in, before, integer_of}
+use Rattle.doc_text.specs.Texts.{Word, Text, first_word, due}
+
+-- a name of at most 58 bytes
+abbrev pub name_of : Word → Option Word
+name_of word = if is_name word then Some word else None
+
+-- a size of a viewport or a leaf, in units: a number from 0 to 1,048,576 with or without `px` (own rule)
+unfoldable pub size_of_word : Word → Option ℤ
+size_of_word word = if ends_in (codes "px") word then read_number sizes (before (codes "px") word) else read_number sizes word
+
+abbrev pub at_least_zero : ℤ → Option ℕ
+at_least_zero z = if int_le (pos 0) z then Some (unsigned_abs z) else None
+
+-- an index, from 0 to 1,000,000 (own rule)
+abbrev pub index_of : Word → Option ℕ
+index_of word = bind (integer_of word) at_least_zero
+
+-- 5, `bad-name`, where no name comes first; 9, `bad-value`, where no such number does
+abbrev pub name_first : Text → Result (Word × Text) Fault
+name_first text = due 5 text (name_of (first_word text))
+
+abbrev pub size_first : Text → Result (ℤ × Text) Fault
+size_first text = due 9 text (size_of_word (first_word text))
+
+abbrev pub index_first : Text → Result (ℕ × Text) Fault
+index_first text = due 9 text (index_of (first_word text))
