@@ -11,9 +11,12 @@ pub mod Mapped
 pub mod Numbers
 pub mod Parents
 pub mod Puts
+mod Seams
 pub mod Seated
 pub mod Siblings
 pub mod Sights
 pub mod Spans
+mod Tracks
 pub mod Walks
 pub mod Whole
+mod Written

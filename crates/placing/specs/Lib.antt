@@ -2,6 +2,7 @@ pub mod Along
 pub mod Areas
 pub mod Axes
 pub mod Children
+pub mod Covered
 pub mod Insides
 pub mod Keeping
 pub mod Kept
@@ -11,6 +12,7 @@ pub mod Ranges
 pub mod Seats
 pub mod Walks
 pub mod Wishes
+pub mod Written
 pub use Rattle.layout_cache.specs.Kept as CacheKept
 pub use Rattle.layout_cache.specs.Reach as Reach
 pub use Rattle.line_names.specs.Sides as LineSides
@@ -19,6 +21,7 @@ pub use Rattle.node_arena.specs.Numbers as ArenaNumbers
 pub use Rattle.node_arena.specs.Plain as ArenaNodes
 pub use Rattle.outside.specs.Logging as Logging
 pub use Rattle.outside.specs.Told as Told
+pub use Rattle.part_rules.specs.Repetition as TrackRepetition
 pub use Rattle.style_types.specs.Styles as Styles
 pub use Rattle.style_types.specs.Table as StyleTable
 pub use Rattle.tree_rules.specs.AskedQueries as AskedQueries
@@ -30,5 +33,7 @@ pub use Rattle.tree_rules.specs.Labels as Labels
 pub use Rattle.tree_rules.specs.Orders as Orders
 pub use Rattle.tree_rules.specs.Places as Places
 pub use Rattle.tree_rules.specs.Queries as Queries
+pub use Rattle.tree_rules.specs.Repetitions as Repetitions
 pub use Rattle.tree_rules.specs.Templates as Templates
+pub use Rattle.tree_rules.specs.TrackRules as TrackRules
 pub use Rattle.word_leaf.specs.Leaves as Leaves

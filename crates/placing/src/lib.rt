@@ -6,15 +6,19 @@
 #![tactic(auto)]
 
 mod contexts;
+mod covered;
 mod items;
 mod keeping;
 mod laws;
+mod lengths;
 mod linked;
 mod node;
 mod order;
 mod placement;
+pub mod rules;
 mod sight;
 pub mod style;
+pub mod template;
 mod wishes;
 
 pub use contexts::{Above, AxisContext, Context, Placed};
