@@ -6,3 +6,5 @@ pub mod Rows
 pub mod Indents
 pub mod Leaves
 pub mod Naming
+pub mod Skipped
+pub mod Fronts

@@ -18,7 +18,7 @@ no_fault : (fault : Option Fault) → is_none fault ≡ true → fault ≡ None
 no_fault None h = refl
 no_fault (Some fault) h = absurd (false≢true h)
 
-first_of : (a b : Bool) → (a && b) ≡ true → a ≡ true
+pub first_of : (a b : Bool) → (a && b) ≡ true → a ≡ true
 first_of true b h = refl
 first_of false b h = h
 

@@ -1,5 +1,5 @@
 -- Documents of the first form: one grid of fixed tracks, and its leaves.
-use Rattle.std.specs.Prelude.{ℤ, true, Bool, not, ◌&&◌, is_none, List, [], ◌∷◌, map, if◌then◌else◌, Option, Some, None, codes}
+use Rattle.std.specs.Prelude.{◌≡◌, ℤ, true, Bool, not, ◌&&◌, is_none, List, [], ◌∷◌, ◌++◌, map, if◌then◌else◌, Option, Some, None, codes}
 use Rattle.std.specs.Option.{option_map}
 use Rattle.std.specs.List.{list_all, list_any}
 use Rattle.std.specs.Str.{bytes_eq}
@@ -53,6 +53,18 @@ is_sound line = is_none line.fault
 -- the document that lines are, where they are one; no line of it has a fault
 abbrev pub document_of : List Line → Option Doc
 document_of lines = if list_all is_sound lines then document_of_rows (rows_of lines) else None
+
+-- the lines are no document, whatever lines follow them
+abbrev pub BeginsNone : List Line → Type 0
+BeginsNone lines = (more : List Line) → document_of (lines ++ more) ≡ None
+
+-- the rows of the header lines and of the grid are there
+pub record HasHeads (rows : List Row) : Type 0 where
+  pub header : Row
+  pub viewport : Row
+  pub root : Row
+  pub rest : List Row
+  pub are : rows ≡ header ∷ viewport ∷ root ∷ rest
 
 -- the line that ends the text of a document: `---` and nothing else; edits follow it (own rule)
 abbrev pub is_end_of_document : Line → Bool

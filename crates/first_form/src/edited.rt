@@ -5,7 +5,7 @@ ghost use Rattle.first_form.specs.Edits.{target, axis_of, changed, lines_along, 
 
 use crate::document::{Doc, Plain};
 use crate::edit::{Edit, FirstAxis, Named};
-use crate::errors::not_built_at;
+use crate::errors::{UNKNOWN_NAME, not_built_at};
 use crate::forms::is_within;
 use crate::style::{FirstLines, FirstStyle};
 use lunit::Name;
@@ -83,7 +83,7 @@ fn unknown_name(at: Place) -> Fault
     ensures { result ≡ unknown_name at }
 {
     Fault {
-        number: 21,
+        number: UNKNOWN_NAME,
         place: at,
     }
 }

@@ -17,9 +17,15 @@ pub enum ReadError {
     NoMemory,
 }
 
+/// The number of the fault of a name that no node has.
+pub const UNKNOWN_NAME: u8 = 21;
+
+/// The number of the fault of a text of a form that is not built.
+pub const NOT_BUILT: u8 = 90;
+
 /// A document of a form that is not built.
-pub(crate) const NOT_BUILT: ReadError = ReadError::Fault(Fault {
-    number: 90,
+pub(crate) const NO_DOCUMENT: ReadError = ReadError::Fault(Fault {
+    number: NOT_BUILT,
     place: Place { line: 1, column: 1 },
 });
 
@@ -28,7 +34,7 @@ pub(crate) fn not_built_at(line: u32) -> Fault
     ensures { result ≡ not_built_at line }
 {
     Fault {
-        number: 90,
+        number: NOT_BUILT,
         place: Place { line, column: 1 },
     }
 }

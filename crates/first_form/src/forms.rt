@@ -4,7 +4,7 @@ ghost use Rattle.first_form.specs.Gives.{Gives};
 ghost use Rattle.first_form.specs.Forms.{name_first, size_first, lengths_up_to, tracks_up_to, is_track_count, is_ordered, lines_between, line_alone, end_first, lines_from, lines_first, is_header, viewport_of, grid_of, leaf_lines_of, leaf_of, last_line, is_within};
 
 use crate::document::{Children, Plain};
-use crate::errors::{NOT_BUILT, ReadError};
+use crate::errors::{NO_DOCUMENT, ReadError};
 use crate::numbers::{integer_of, length_of, size_of_word};
 use crate::style::{FirstLines, FirstStyle};
 use crate::words::Words;
@@ -47,12 +47,12 @@ fn lengths_up_to<'a>(
     let mut lengths = Sequence::new(alloc);
     let mut words = words;
     loop {
-        let (word, rest) = words.first().ok_or(NOT_BUILT)?;
+        let (word, rest) = words.first().ok_or(NO_DOCUMENT)?;
         words = rest;
         if word == mark {
             return Ok((lengths, words));
         }
-        lengths.push(length_of(word).ok_or(NOT_BUILT)?)?;
+        lengths.push(length_of(word).ok_or(NO_DOCUMENT)?)?;
     }
 }
 
@@ -74,7 +74,7 @@ fn tracks_up_to<'a>(
     if is_track_count(tracks.len()) {
         Ok((tracks, words))
     } else {
-        Err(NOT_BUILT)
+        Err(NO_DOCUMENT)
     }
 }
 
@@ -198,13 +198,15 @@ fn after_two<'a>(words: Words<'a>, first: &[u8], second: &[u8]) -> Option<Words<
 pub(crate) fn grid_of(alloc: Global, words: Words) -> Result<Plain, ReadError>
     ensures { Gives result (grid_of words.entry) }
 {
-    let (name, words) = name_first(words).ok_or(NOT_BUILT)?;
-    let words = after_four(words, b"grid", b"{", b"grid-template-columns", b":").ok_or(NOT_BUILT)?;
+    let (name, words) = name_first(words).ok_or(NO_DOCUMENT)?;
+    let words = after_four(words, b"grid", b"{", b"grid-template-columns", b":").ok_or(
+        NO_DOCUMENT,
+    )?;
     let (columns, words) = tracks_up_to(alloc, b";", words)?;
-    let words = after_two(words, b"grid-template-rows", b":").ok_or(NOT_BUILT)?;
+    let words = after_two(words, b"grid-template-rows", b":").ok_or(NO_DOCUMENT)?;
     let (rows, words) = tracks_up_to(alloc, b"}", words)?;
     if !words.ended() {
-        return Err(NOT_BUILT);
+        return Err(NO_DOCUMENT);
     }
     Ok(Plain {
         name,

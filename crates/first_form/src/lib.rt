@@ -16,6 +16,6 @@ mod words;
 pub use document::{Children, Doc, Plain};
 pub use edit::{Edit, FirstAxis, Named};
 pub use edit_line::read_edit;
-pub use errors::ReadError;
-pub use read::{is_end_of_document, read_doc};
+pub use errors::{NOT_BUILT, ReadError, UNKNOWN_NAME};
+pub use read::{begins_none, is_end_of_document, read_doc};
 pub use style::{FirstLines, FirstStyle};

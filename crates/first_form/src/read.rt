@@ -4,10 +4,10 @@ ghost use Rattle.text_scan.specs.Tokens.{is_space, tokens_of};
 ghost use Rattle.first_form.specs.Words.{words_of, indent_of, row_of, rows_of};
 ghost use Rattle.first_form.specs.Gives.{Gives};
 ghost use Rattle.first_form.specs.Forms.{is_header, viewport_of, root_of, child_of};
-ghost use Rattle.first_form.specs.Documents.{is_sound, is_end_of_document, children_of, document_of, document_of_rows};
+ghost use Rattle.first_form.specs.Documents.{is_sound, is_end_of_document, children_of, document_of, document_of_rows, BeginsNone, HasHeads};
 
 use crate::document::{Children, Doc, Plain};
-use crate::errors::{NOT_BUILT, ReadError};
+use crate::errors::{NO_DOCUMENT, ReadError};
 use crate::forms::{grid_of, is_header, is_within, leaf_of, viewport_of};
 use crate::words::Words;
 use lunit::{Lu, NoMemory};
@@ -93,7 +93,7 @@ fn read_viewport(alloc: Global, line: &Line) -> Result<(Lu, Lu), ReadError>
     ensures { Gives result (viewport_of (words_of line.now.bytes)) }
 {
     let tokens = tokens(alloc, line)?;
-    viewport_of(words_of(line, &tokens)).ok_or(NOT_BUILT)
+    viewport_of(words_of(line, &tokens)).ok_or(NO_DOCUMENT)
 }
 
 /// The root, which is the grid, without its children.
@@ -102,7 +102,7 @@ fn read_root(alloc: Global, line: &Line) -> Result<Plain, ReadError>
     ensures { Gives result (root_of (row_of line.now)) }
 {
     if indent_of(line.bytes.as_slice()) != 0 {
-        return Err(NOT_BUILT);
+        return Err(NO_DOCUMENT);
     }
     let tokens = tokens(alloc, line)?;
     grid_of(alloc, words_of(line, &tokens))
@@ -114,16 +114,16 @@ fn read_child(alloc: Global, line: &Line, grid: &Plain) -> Result<Plain, ReadErr
     ensures { Gives result (child_of grid.now (row_of line.now)) }
 {
     if indent_of(line.bytes.as_slice()) != 2 {
-        return Err(NOT_BUILT);
+        return Err(NO_DOCUMENT);
     }
     let tokens = tokens(alloc, line)?;
-    let leaf = leaf_of(alloc, words_of(line, &tokens)).ok_or(NOT_BUILT)?;
+    let leaf = leaf_of(alloc, words_of(line, &tokens)).ok_or(NO_DOCUMENT)?;
     if is_within(grid.style.columns.len(), leaf.style.column)
         && is_within(grid.style.rows.len(), leaf.style.row)
     {
         Ok(leaf)
     } else {
-        Err(NOT_BUILT)
+        Err(NO_DOCUMENT)
     }
 }
 
@@ -142,7 +142,7 @@ fn read_children(alloc: Global, lines: &[Line], grid: &Plain) -> Result<Children
         }
         let leaf = read_child(alloc, line, grid)?;
         if !names.insert(leaf.name)? {
-            return Err(NOT_BUILT);
+            return Err(NO_DOCUMENT);
         }
         children.push(leaf)?;
     }
@@ -154,11 +154,11 @@ fn read_sound(alloc: Global, lines: &[Line]) -> Result<Doc, ReadError>
     requires { list_all is_sound lines.now ≡ true }
     ensures { Gives result (document_of_rows (rows_of lines.now)) }
 {
-    let (header, lines) = first_row(lines).ok_or(NOT_BUILT)?;
-    let (viewport, lines) = first_row(lines).ok_or(NOT_BUILT)?;
-    let (root, lines) = first_row(lines).ok_or(NOT_BUILT)?;
+    let (header, lines) = first_row(lines).ok_or(NO_DOCUMENT)?;
+    let (viewport, lines) = first_row(lines).ok_or(NO_DOCUMENT)?;
+    let (root, lines) = first_row(lines).ok_or(NO_DOCUMENT)?;
     if !is_header_line(alloc, header)? {
-        return Err(NOT_BUILT);
+        return Err(NO_DOCUMENT);
     }
     let (width, height) = read_viewport(alloc, viewport)?;
     let mut root = read_root(alloc, root)?;
@@ -187,7 +187,41 @@ pub fn read_doc(alloc: Global, lines: &[Line], _end: Place) -> Result<Doc, ReadE
     if all_sound(lines) {
         read_sound(alloc, lines)
     } else {
-        Err(NOT_BUILT)
+        Err(NO_DOCUMENT)
+    }
+}
+
+/// Whether the two header lines and the line of the grid are there.
+#[tactic(auto, using(crate::proofs::Rows::counting, crate::proofs::Fronts::fronts))]
+fn has_heads(lines: &[Line]) -> bool
+    requires { list_all is_sound lines.now ≡ true }
+    ensures { result ≡ true → HasHeads (rows_of lines.now) }
+{
+    match first_row(lines) {
+        Some((_, lines)) => match first_row(lines) {
+            Some((_, lines)) => first_row(lines).is_some(),
+            None => false,
+        },
+        None => false,
+    }
+}
+
+/// Whether the lines are no document whatever lines follow them, as far as these lines tell. A reader of a long text need hold
+/// no more lines then. It looks at all of the lines. Or `NoMemory`.
+#[tactic(auto, using(crate::proofs::Fronts::fronts))]
+pub fn begins_none(alloc: Global, lines: &[Line]) -> Result<bool, NoMemory>
+    ensures { IfOk result (λ none. none ≡ true → BeginsNone lines.now) }
+{
+    if !all_sound(lines) {
+        return Ok(true);
+    }
+    if !has_heads(lines) {
+        return Ok(false);
+    }
+    match read_sound(alloc, lines) {
+        Ok(_) => Ok(false),
+        Err(ReadError::Fault(_)) => Ok(true),
+        Err(ReadError::NoMemory) => Err(NoMemory),
     }
 }
 
@@ -271,7 +305,7 @@ mod tests {
         )?;
         let refused = match read_doc(rt.alloc(), lines.as_slice(), END) {
             Ok(_) => false,
-            Err(error) => error == NOT_BUILT,
+            Err(error) => error == NO_DOCUMENT,
         };
         assert!(rt; refused);
         Ok(())

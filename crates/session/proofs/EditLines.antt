@@ -16,7 +16,8 @@ use Rattle.session.specs.Printing.{print, refusal}
 use Rattle.session.specs.Engine.{Applies, IsAnswered}
 use Rattle.session.specs.declared.engine.ApplyError.{ApplyError}
 use Rattle.session.specs.declared.engine.Engine.{Engine}
-use Rattle.session.specs.Script.{applied, made_of, text_of, events_of, fault_name}
+use Rattle.session.specs.Script.{applied, made_of, text_of, events_of}
+use Rattle.session.specs.FaultNames.{fault_name}
 
 -- ---- reading an edit and applying it
 

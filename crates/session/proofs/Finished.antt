@@ -17,6 +17,7 @@ use Rattle.session.specs.Outcome.{output_of, answer_of, document_in, out, verdic
 use Rattle.session.specs.Runs.{WritesAll, Stands, IsWhole, IsEnded, EndsAll, EndsBad, EndsEarly, Judged, Runs, Permits, PermitsOver, IsComplete, IsOverComplete, IsHeadline}
 use Rattle.session.specs.declared.status.Status.{Status}
 use Rattle.session.specs.declared.status.Status.TheVariants.{Done, BadDocument, SomeRefused, ReadFault, WriteFault, NoMemory, InputLimit, BadWords}
+use Rattle.session.proofs.Due.{prefix_due}
 use Rattle.session.proofs.Scripts.{Made, MadeMore, has_more, before_more, after_more, made_more, texts_more}
 
 -- ---- the first lines of an input and all of them
@@ -114,7 +115,8 @@ module _ (told : List ℕ) (left' w w' : Option (List ℕ)) (l l' : Option (List
   prefix_told BadDocument taken given f p = prefix_all w w' (out told) (bad_out taken given f p)
   prefix_told SomeRefused taken given f p = prefix_all w w' (out told) (all_out taken given p.input p.output)
   prefix_told ReadFault taken given f p = stands_out given f p.2
-  prefix_told WriteFault taken given f p = part_out taken given f p
+  prefix_told WriteFault taken given f (inl p) = prefix_front w w' given (lines_of told) p.ended f (prefix_due w w' l l' p.earlier given p.output).written
+  prefix_told WriteFault taken given f (inr p) = subst (λ (x : List Line). AddsPrefix w w' (output_of x)) (lines_are taken given p.input) p.output.written
   prefix_told NoMemory taken given f (inl p) = prefix_stays w w' (out told) p.written
   prefix_told NoMemory taken given f (inr p) = part_out taken given f p
   prefix_told InputLimit taken given f p = stands_out given f p.2
@@ -160,7 +162,9 @@ module _ (told : List ℕ) (left' w w' : Option (List ℕ)) (l l' : Option (List
   permitted_over ReadFault taken given t f many p = tt
   permitted_over WriteFault taken given t f many p = tt
   permitted_over NoMemory taken given t f many p = tt
-  permitted_over InputLimit taken given t f many p = no_early_fault given (p.1 ∙ early_is told taken left' t p.0) p.2
+  permitted_over InputLimit taken given t f many p =
+      let long : limit < length taken = omega (arith, p.0) in
+      no_early_fault given (p.1 ∙ early_is told taken left' t long) p.2
   permitted_over BadWords taken given t f many p = absurd p
 
 pub prefix_of_out : (left left' w w' : Option (List ℕ)) (l l' : Option (List Event)) (status : Status) → Runs left left' w w' l l' status → IfSome left (λ b. AddsPrefix w w' (out b))

@@ -5,6 +5,7 @@ pub mod Leaves
 pub mod Edited
 pub mod EditLines
 pub mod Scripts
+pub mod Due
 pub mod Texts
 pub mod Serving
 pub mod Progress

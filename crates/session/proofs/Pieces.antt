@@ -80,7 +80,7 @@ module _ (before left left' : Option (List ℕ)) (given : List Line) (stream str
       record {
         bytes = p.bytes ++ piece;
         taken = loses_more before left left' p.bytes piece _ p.taken t refl;
-        many = omega (arith, length-append p.bytes piece, long, s.1);
+        passed = omega (arith, length-append p.bytes piece, long, s.1);
         lines = read_whole p.bytes given stream (or_false (has_line_feed stream.held) none) (p.reads refl) ∙ ap (λ (b : List ℕ). lines_of (whole_lines b)) (sym front);
         first = first_given before left given stream false p;
       }

@@ -5,12 +5,13 @@ use Rattle.text_scan.specs.declared.line.Line.{Line}
 use Rattle.text_scan.specs.Tokens.{is_skipped}
 use Rattle.outside.specs.Told.{Adds}
 use Rattle.outside.specs.declared.event.Event.{Event}
-use Rattle.outside.proofs.Laws.{adds_more, prefix_after}
+use Rattle.outside.proofs.Laws.{adds_more}
 use Rattle.first_form.specs.declared.document.Doc.{Doc}
-use Rattle.session.specs.Runs.{WritesAll, WritesPrefix}
+use Rattle.session.specs.Runs.{WritesAll, WritesFrom}
 use Rattle.session.specs.Script.{before_end, after_end, document_of_lines, made_of, made_in, made_from, next_doc, all_made, texts, text_of, events, events_of, is_refused, some_refused}
 use Rattle.session.specs.Outcome.{output_of, log_of}
 use Rattle.session.specs.Serving.{Answers, AnswersPrefix, last_doc, IsLaid, HasAnswered}
+use Rattle.session.proofs.Due.{from_after, all_due}
 use Rattle.session.proofs.Scripts.{Made, one_made, has_more, before_more, after_more, made_push, texts_more, events_more, refused_push, last_push}
 
 -- ---- what is made of one line more
@@ -109,12 +110,13 @@ module _ (given : List Line) (doc : Doc) (k : ℕ) (bad : Bool) (p : IsLaid give
           log = adds_more l l' l'' (log_of given) (events_of k (made_of doc line)) _ q.log a.log (log_edit e);
         }
 
-    wrote_part : (w'' : Option (List ℕ)) (l'' : Option (List Event)) → is_skipped line ≡ false → WritesAll w w' l l' given → AnswersPrefix w' w'' l' l'' k (made_of doc line) → WritesPrefix w w'' l l'' (given ++ line ∷ [])
+    wrote_part : (w'' : Option (List ℕ)) (l'' : Option (List Event)) → is_skipped line ≡ false → WritesAll w w' l l' given → AnswersPrefix w' w'' l' l'' k (made_of doc line) → WritesFrom w w'' l l'' given (given ++ line ∷ [])
     wrote_part w'' l'' e q a =
-        record {
-          written = prefix_after w w' w'' (output_of given) (text_of k (made_of doc line)) _ q.written a.written (output_edit e);
-          log = prefix_after l l' l'' (log_of given) (events_of k (made_of doc line)) _ q.log a.log (log_edit e);
-        }
+        all_due w w'' l l'' given (given ++ line ∷ []) p.ended
+        (record {
+          written = from_after w w' w'' (output_of given) (text_of k (made_of doc line)) _ q.written a.written (output_edit e);
+          log = from_after l l' l'' (log_of given) (events_of k (made_of doc line)) _ q.log a.log (log_edit e);
+        })
 
 -- ---- how far a run is
 
@@ -132,7 +134,7 @@ module _ (w w' : Option (List ℕ)) (l l' : Option (List Event)) (given : List L
         output = wrote_edit given doc k bad p.laid line w w' l l' w'' l'' e p.output a;
       }
 
-  pub answers_part : (w'' : Option (List ℕ)) (l'' : Option (List Event)) → is_skipped line ≡ false → AnswersPrefix w' w'' l' l'' k (made_of doc line) → WritesPrefix w w'' l l'' (given ++ line ∷ [])
+  pub answers_part : (w'' : Option (List ℕ)) (l'' : Option (List Event)) → is_skipped line ≡ false → AnswersPrefix w' w'' l' l'' k (made_of doc line) → WritesFrom w w'' l l'' given (given ++ line ∷ [])
   answers_part w'' l'' e a = wrote_part given doc k bad p.laid line w w' l l' w'' l'' e p.output a
 
 pub ruleset line_answering = (skips, answers, answers_part)

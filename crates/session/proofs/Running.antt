@@ -12,15 +12,17 @@ use Rattle.outside.specs.declared.event.Event.{Event}
 use Rattle.outside.proofs.Laws.{stays_same, prefix_all}
 use Rattle.first_form.specs.declared.document.Doc.{Doc}
 use Rattle.first_form.specs.Documents.{is_end_of_document}
-use Rattle.session.specs.Input.{limit, IsFront, AreFirst, HasLastPiece, HasGiven, HasGivenAll, Stops}
+use Rattle.session.specs.Input.{limit, IsFront, AreFirst, HasLastPiece, HasGiven, HasGivenLine, HasGivenAll, Stops}
 use Rattle.session.specs.Script.{has_end, before_end, after_end, document_of_lines, made_in, made_from, all_made, texts, text_of, events, events_of, some_refused}
 use Rattle.session.specs.Outcome.{output_of, log_of, answer_of, verdict_of, early_lines}
-use Rattle.session.specs.Runs.{StopsWriting, WritesAll, WritesPrefix, Stands, HasEndInLast, IsWhole, IsEnded, EndsEarly, Judged, Runs}
-use Rattle.session.specs.Serving.{HasText, StopsInText, Answers, AnswersPrefix, EndsFirst, first_made, last_doc, HasAnswered, IsAt, ended}
+use Rattle.session.specs.Runs.{StopsWriting, WritesAll, WritesPrefix, WritesFrom, Stands, HasEndInLast, IsWhole, IsEnded, EndsEarly, Judged, Runs}
+use Rattle.session.specs.Serving.{HasText, HasReadText, StopsInText, Answers, AnswersPrefix, EndsFirst, first_made, last_doc, HasAnswered, IsAt, ended}
 use Rattle.session.specs.declared.status.Status.{Status}
 use Rattle.session.specs.declared.status.Status.TheVariants.{Done, BadDocument, SomeRefused, ReadFault, WriteFault, NoMemory, InputLimit, BadWords}
 use Rattle.session.proofs.Scripts.{Made, has_more, before_none, after_none}
 use Rattle.session.proofs.Pieces.{first_given}
+use Rattle.session.proofs.Due.{none_due, prefix_due}
+use Rattle.session.specs.declared.text.Text.{Text}
 use Rattle.session.proofs.Texts.{given_few}
 use Rattle.session.proofs.Bounded.{none_is_no}
 
@@ -170,39 +172,43 @@ module _ (left left' w w' : Option (List ℕ)) (l l' : Option (List Event)) wher
   stopped given ReadFault s q = record { taken = s.bytes; given = given; took = s.taken; first = s.first; judged = (s.few, s.lines, q) }
   stopped given WriteFault s q = absurd s
   stopped given NoMemory s q = record { taken = s.bytes; given = given; took = s.taken; first = s.first; judged = wanted s.bytes given q }
-  stopped given InputLimit s q = record { taken = s.bytes; given = given; took = s.taken; first = s.first; judged = (s.many, s.lines, q) }
+  stopped given InputLimit s q = record { taken = s.bytes; given = given; took = s.taken; first = s.first; judged = (s.passed, s.lines, q) }
   stopped given BadWords s q = absurd s
 
   -- the document was refused, or its first layout was not written
   ends_first : (taken : List ℕ) (given lines : List Line) (status : Status) → IsJust given lines → Loses left left' taken → AreFirst left given → IsEnded left left' taken given
+      → (WritesPrefix w w' l l' given → Judged left left' w w' l l' taken given WriteFault)
       → EndsFirst w w' l l' (document_of_lines lines) status → Runs left left' w w' l l' status
-  ends_first taken given lines status j t f e p = record { taken = taken; given = given; took = t; first = f; judged = judged_first status p }
+  ends_first taken given lines status j t f e s p = record { taken = taken; given = given; took = t; first = f; judged = judged_first status p }
     where
       judged_first : (status : Status) → EndsFirst w w' l l' (document_of_lines lines) status → Judged left left' w w' l l' taken given status
       judged_first Done p = absurd p
       judged_first BadDocument p = record { input = e; answer = ap document_of_lines j.before ∙ p.0; output = wrote_first given lines j w w' l l' p.1 }
       judged_first SomeRefused p = absurd p
       judged_first ReadFault p = absurd p
-      judged_first WriteFault p = record { input = ended_or_whole left left' taken given e; output = wrote_first_part given lines j w w' l l' p }
+      judged_first WriteFault p = s (wrote_first_part given lines j w w' l l' p)
       judged_first NoMemory p = inr (record { input = ended_or_whole left left' taken given e; output = wrote_first_part given lines j w w' l l' p })
       judged_first InputLimit p = absurd p
       judged_first BadWords p = absurd p
 
   -- writing stopped at a line of the script
-  pub part_written : (given : List Line) (stream : Stream) (ended : Bool) (status : Status) → HasGiven left left' given stream ended → has_end given ≡ true → StopsWriting status → WritesPrefix w w' l l' given
-      → Runs left left' w w' l l' status
-  part_written given stream ended status p e s q =
-      record { taken = p.bytes; given = given; took = p.taken; first = first_given left left' given stream ended p; judged = judged_part status s }
+  pub part_written : (earlier : List Line) (line : Line) (stream : Stream) (ended : Bool) (status : Status) → HasGivenLine left left' earlier line stream ended → has_end earlier ≡ true → StopsWriting status
+      → WritesFrom w w' l l' earlier (earlier ++ line ∷ []) → Runs left left' w w' l l' status
+  part_written earlier line stream ended status p e s q =
+      record { taken = p.all.bytes; given = earlier ++ line ∷ []; took = p.all.taken; first = first_given left left' (earlier ++ line ∷ []) stream ended p.all; judged = judged_part status s }
     where
-      early : EndsEarly left left' w w' l l' p.bytes given
-      early = record { input = inl e; output = q }
+      more : has_end (earlier ++ line ∷ []) ≡ true
+      more = has_more earlier (line ∷ []) e
 
-      judged_part : (status : Status) → StopsWriting status → Judged left left' w w' l l' p.bytes given status
+      early : EndsEarly left left' w w' l l' p.all.bytes (earlier ++ line ∷ [])
+      early = record { input = inl more; output = prefix_due w w' l l' earlier (earlier ++ line ∷ []) q }
+
+      judged_part : (status : Status) → StopsWriting status → Judged left left' w w' l l' p.all.bytes (earlier ++ line ∷ []) status
       judged_part Done s = absurd s
       judged_part BadDocument s = absurd s
       judged_part SomeRefused s = absurd s
       judged_part ReadFault s = absurd s
-      judged_part WriteFault s = early
+      judged_part WriteFault s = inl (record { earlier = earlier; line = line; parts = refl; ended = more; last = p.last; output = q })
       judged_part NoMemory s = inr early
       judged_part InputLimit s = absurd s
       judged_part BadWords s = absurd s
@@ -232,19 +238,21 @@ pub stopped_in_text : (left left' w : Option (List ℕ)) (l : Option (List Event
 stopped_in_text left left' w l status p = stopped left left' w w l l p.given status p.stops (inl (p.unended, record { written = stays_same w; log = stays_same l }))
 
 module _ (left left' w w' : Option (List ℕ)) (l l' : Option (List Event)) (stream : Stream) (ended : Bool) (lines : List Line) (o : has_end lines ≡ false) where
-  pub ended_first : (b : Bool) (status : Status) → HasText left left' stream ended lines b → EndsFirst w w' l l' (document_of_lines lines) status → Runs left left' w w' l l' status
+  ended_first : (b : Bool) (status : Status) → HasText left left' stream ended lines b → EndsFirst w w' l l' (document_of_lines lines) status → Runs left left' w w' l l' status
   ended_first true status t p =
       let all = t.given.all in
       ends_first left left' w w' l l' all.bytes (lines ++ t.last ∷ []) lines status (just_ended lines t.last o t.end) all.taken
       (first_given left left' (lines ++ t.last ∷ []) stream ended all)
-      (inl (has_push lines t.last t.end, early_front left left' (lines ++ t.last ∷ []) stream ended all, end_in_last all.bytes lines o t.given.last)) p
+      (inl (has_push lines t.last t.end, early_front left left' (lines ++ t.last ∷ []) stream ended all, end_in_last all.bytes lines o t.given.last))
+      (λ q. inl (record { earlier = lines; line = t.last; parts = refl; ended = has_push lines t.last t.end; last = t.given.last; output = none_due w w' l l' lines (lines ++ t.last ∷ []) o q })) p
   ended_first false status t p =
-      ends_first left left' w w' l l' t.bytes lines lines status (just_whole lines o) t.taken (whole_first left left' lines t) (inr (is_whole left left' lines t)) p
+      let whole : IsWhole left left' t.bytes lines = is_whole left left' lines t in
+      ends_first left left' w w' l l' t.bytes lines lines status (just_whole lines o) t.taken (whole_first left left' lines t) (inr whole) (λ q. inr (record { unended = o; input = whole; output = q })) p
 
   first_answers : (doc : Doc) → document_of_lines lines ≡ Some doc → Answers w w' l l' 0 (Ok doc) → Answers w w' l l' 0 (first_made (document_of_lines lines))
   first_answers doc f a = subst (λ (form : Option Doc). Answers w w' l l' 0 (first_made form)) (sym f) a
 
-  pub ended_alone : (b : Bool) (doc : Doc) → b ≡ false → HasText left left' stream ended lines b → (document_of_lines lines ≡ Some doc) × Answers w w' l l' 0 (Ok doc) → Runs left left' w w' l l' Done
+  ended_alone : (b : Bool) (doc : Doc) → b ≡ false → HasText left left' stream ended lines b → (document_of_lines lines ≡ Some doc) × Answers w w' l l' 0 (Ok doc) → Runs left left' w w' l l' Done
   ended_alone true doc e t p = absurd (false≢true (sym e))
   ended_alone false doc e t p =
       let just : IsJust lines lines = just_whole lines o in
@@ -252,7 +260,7 @@ module _ (left left' w w' : Option (List ℕ)) (l l' : Option (List Event)) (str
       (ap (λ (l : List Line). answer_of (document_of_lines l) (after_end lines)) just.before ∙ ap (λ (form : Option Doc). answer_of form (after_end lines)) p.0 ∙ ap (answer_of (Some doc)) just.after)
       (wrote_first lines lines just w w' l l' (first_answers doc p.0 p.1))
 
-  pub ended_at : (b : Bool) (doc : Doc) → b ≡ true → HasText left left' stream ended lines b → (document_of_lines lines ≡ Some doc) × Answers w w' l l' 0 (Ok doc)
+  ended_at : (b : Bool) (doc : Doc) → b ≡ true → HasText left left' stream ended lines b → (document_of_lines lines ≡ Some doc) × Answers w w' l l' 0 (Ok doc)
       → IsAt left left' w w' l l' stream ended doc 1 false
   ended_at false doc e t p = absurd (false≢true e)
   ended_at true doc e t p =
@@ -277,7 +285,21 @@ module _ (left left' w w' : Option (List ℕ)) (l l' : Option (List Event)) (str
         };
       }
 
-pub ruleset starting = (stopped_in_text, ended_first, ended_alone, ended_at)
+module _ (left left' w w' : Option (List ℕ)) (l l' : Option (List Event)) (stream : Stream) (ended : Bool) (text : Text) (t : HasReadText left left' stream ended text) where
+  read_some : {engine : Doc} → document_of_lines text.lines ≡ Some engine → document_of_lines t.given ≡ Some engine
+  read_some f = sym t.same ∙ f
+
+  pub text_refused : (status : Status) → EndsFirst w w' l l' (document_of_lines text.lines) status → Runs left left' w w' l l' status
+  text_refused status p =
+      ended_first left left' w w' l l' stream ended t.given t.unended text.has_script status t.input (subst (λ (form : Option Doc). EndsFirst w w' l l' form status) t.same p)
+
+  pub text_alone : (doc : Doc) → text.has_script ≡ false → (document_of_lines text.lines ≡ Some doc) × Answers w w' l l' 0 (Ok doc) → Runs left left' w w' l l' Done
+  text_alone doc e p = ended_alone left left' w w' l l' stream ended t.given t.unended text.has_script doc e t.input (read_some p.0, p.1)
+
+  pub text_at : (doc : Doc) → text.has_script ≡ true → (document_of_lines text.lines ≡ Some doc) × Answers w w' l l' 0 (Ok doc) → IsAt left left' w w' l l' stream ended doc 1 false
+  text_at doc e p = ended_at left left' w w' l l' stream ended t.given t.unended text.has_script doc e t.input (read_some p.0, p.1)
+
+pub ruleset starting = (stopped_in_text, text_refused, text_alone, text_at)
 
 -- ---- between two lines of the script
 

@@ -13,7 +13,8 @@ use Rattle.session.specs.Boxes.{boxes_of}
 use Rattle.session.specs.Printing.{print, refusal}
 use Rattle.session.specs.Engine.{IsAnswered}
 use Rattle.session.specs.Runs.{StopsWriting}
-use Rattle.session.specs.Script.{text_of, events_of, fault_name}
+use Rattle.session.specs.Script.{text_of, events_of}
+use Rattle.session.specs.FaultNames.{fault_name}
 use Rattle.session.specs.Serving.{Answers, AnswersPrefix, EndsFirst, Begins, first_made}
 use Rattle.session.specs.declared.status.Status.{Status}
 use Rattle.session.specs.declared.status.Status.TheVariants.{Done, BadDocument, SomeRefused, ReadFault, WriteFault, NoMemory, InputLimit, BadWords}

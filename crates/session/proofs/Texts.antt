@@ -1,15 +1,18 @@
 -- The lines of the document, one after another.
-use Rattle.std.proofs.Common.{◌≡◌, refl, ap, sym, subst, ◌∙◌, ℕ, suc, ◌+◌, ◌-◌, ◌<◌, ◌≤◌, ◌||◌, Bool, true, false, List, [], ◌∷◌, ◌++◌, length, Option, Some, None, Ok, arith, append-nil, length-append}
+use Rattle.std.proofs.Common.{◌≡◌, refl, ap, sym, subst, ◌∙◌, ℕ, suc, ◌+◌, ◌≤◌, ◌||◌, Bool, true, false, List, [], ◌∷◌, ◌++◌, length, Option, Some, None, Ok, arith, append_assoc, append-nil, length-append}
 use Rattle.std.proofs.lemmas.Bool.{false≢true}
 use Rattle.std.specs.Prelude.{if◌then◌else◌}
 use Rattle.text_scan.specs.declared.line.Line.{Line}
 use Rattle.text_scan.specs.Lines.{lines_of, split_lines, onto_first, is_line_feed, numbered}
 use Rattle.text_scan.specs.Stream.{Stream, empty_stream, lines_ahead}
-use Rattle.first_form.specs.Documents.{is_end_of_document}
-use Rattle.session.specs.Input.{limit, HasGiven, HasGivenLine, HasGivenAll, Stops, GivesNext}
-use Rattle.session.specs.Script.{has_end}
-use Rattle.session.specs.Serving.{HasEnded, StopsInText}
-use Rattle.session.specs.declared.status.Status.{Status}
+use Rattle.text_scan.specs.Tokens.{is_skipped}
+use Rattle.first_form.specs.Documents.{document_of, is_end_of_document, BeginsNone}
+use Rattle.first_form.proofs.Skipped.{skipped_line}
+use Rattle.session.specs.Input.{limit, HasGiven, HasGivenLine, HasGivenAll, GivesNext}
+use Rattle.session.specs.Script.{has_end, document_of_lines}
+use Rattle.session.specs.Serving.{HasEnded, HasText, Holds, HasReadText, StopsInText}
+use Rattle.session.specs.declared.text.Held.{Held}
+use Rattle.session.specs.declared.text.Text.{Text}
 use Rattle.session.specs.declared.status.Status.TheVariants.{NoMemory}
 use Rattle.session.proofs.Pieces.{given_none, no_memory}
 
@@ -40,9 +43,6 @@ given_few before now given stream ended p =
     sym (length-append given (lines_ahead stream [])) ∙ ap (λ (l : List Line). length l) (p.ahead [] (λ _. refl)) ∙ ap (λ (b : List ℕ). length (lines_of b)) (append-nil p.bytes) in
     omega (arith, all, lines_of-length p.bytes, p.within)
 
-pub all_few : (before now : Option (List ℕ)) (given : List Line) → HasGivenAll before now given → length given ≤ 67108864
-all_few before now given p = omega (arith, ap (λ (l : List Line). length l) p.lines, lines_of-length p.bytes, p.few)
-
 -- ---- one line more
 
 pub line_given : (before now : Option (List ℕ)) (given : List Line) (line : Line) (stream : Stream) (ended : Bool) (found : Option Line) → found ≡ Some line → GivesNext before now given stream ended (Ok found)
@@ -56,7 +56,7 @@ or_false : (b c : Bool) → b ≡ false → c ≡ false → (b || c) ≡ false
 or_false true c e f = e
 or_false false c e f = f
 
-pub unended_push : (given : List Line) (line : Line) → has_end given ≡ false → is_end_of_document line ≡ false → has_end (given ++ line ∷ []) ≡ false
+unended_push : (given : List Line) (line : Line) → has_end given ≡ false → is_end_of_document line ≡ false → has_end (given ++ line ∷ []) ≡ false
 unended_push [] line o e = or_false (is_end_of_document line) false e refl
 unended_push (first ∷ given) line o e = by_first (is_end_of_document first) o (λ h. unended_push given line h e)
   where
@@ -64,27 +64,108 @@ unended_push (first ∷ given) line o e = by_first (is_end_of_document first) o 
     by_first true o h = absurd (false≢true (sym o))
     by_first false o h = h o
 
-pub nearer : (before now : Option (List ℕ)) (given : List Line) (line : Line) (stream : Stream) (ended : Bool) → HasGivenLine before now given line stream ended
-    → limit - length (given ++ line ∷ []) < limit - length given
-nearer before now given line stream ended p = omega (arith, given_few before now (given ++ line ∷ []) stream ended p.all, length-append given (line ∷ []))
+ended_text : (before now : Option (List ℕ)) (lines : List Line) (last : Line) (stream : Stream) (ended : Bool) → is_end_of_document last ≡ true → HasGivenLine before now lines last stream ended
+    → HasEnded before now stream ended lines
+ended_text before now lines last stream ended e p = record { last = last; end = e; given = p }
 
-pub shorter : (before now : Option (List ℕ)) (given : List Line) (line : Line) (stream : Stream) (ended : Bool) → HasGivenLine before now given line stream ended → length given ≤ 67108864
-shorter before now given line stream ended p = omega (arith, given_few before now (given ++ line ∷ []) stream ended p.all, length-append given (line ∷ []))
+-- so far in the text of the document: these lines are held, of so many
+pub record IsInText (before now : Option (List ℕ)) (stream : Stream) (ended : Bool) (held : Held) (count : ℕ) : Type 0 where
+  pub given : List Line
+  pub unended : has_end given ≡ false
+  pub input : HasGiven before now given stream ended
+  pub holds : Holds held given
+  pub counted : count ≡ length given
 
-pub stops_in_text : (before now : Option (List ℕ)) (given : List Line) (status : Status) → has_end given ≡ false → Stops before now given status → StopsInText before now status
-stops_in_text before now given status o s = record { given = given; unended = o; stops = s }
+pub in_text_few : (before now : Option (List ℕ)) (stream : Stream) (ended : Bool) (held : Held) (count : ℕ) → IsInText before now stream ended held count → count ≤ 67108864
+in_text_few before now stream ended held count p = omega (arith, p.counted, given_few before now p.given stream ended p.input)
+
+module _ (held : Held) (given : List Line) (line : Line) (p : Holds held given) where
+  pub holds_lost : held.lost ≡ true → Holds held (given ++ line ∷ [])
+  unfolding document_of_lines
+  holds_lost e =
+      record {
+        same = λ more. p.lost e more ∙ sym (ap document_of (append_assoc given (line ∷ []) more) ∙ sym (p.same (line ∷ more)) ∙ p.lost e (line ∷ more));
+        lost = p.lost;
+      }
+
+  pub holds_skipped : is_skipped line ≡ true → Holds held (given ++ line ∷ [])
+  unfolding document_of_lines
+  holds_skipped e =
+      record {
+        same = λ more. p.same more ∙ sym (ap document_of (append_assoc given (line ∷ []) more) ∙ skipped_line given line more e);
+        lost = p.lost;
+      }
+
+  pub holds_more : (next : Held) → next.lines ≡ held.lines ++ line ∷ [] → (next.lost ≡ true → BeginsNone next.lines) → Holds next (given ++ line ∷ [])
+  holds_more next e lost =
+      record {
+        same = λ more. ap (λ (l : List Line). document_of_lines (l ++ more)) e ∙ ap document_of_lines (append_assoc held.lines (line ∷ []) more) ∙ p.same (line ∷ more) ∙ sym (ap document_of_lines (append_assoc given (line ∷ []) more));
+        lost = lost;
+      }
+
+  pub holds_on : (next : Held) → next.lines ≡ held.lines ++ line ∷ [] → next.lost ≡ false → Holds next (given ++ line ∷ [])
+  holds_on next e not_lost = holds_more next e (λ h. absurd (false≢true (sym not_lost ∙ h)))
+
+pub ruleset holding = (holds_lost, holds_skipped, holds_more, holds_on)
+
+same_alone : (held : Held) (given : List Line) → Holds held given → document_of_lines held.lines ≡ document_of_lines given
+same_alone held given p = ap document_of_lines (sym (append-nil held.lines)) ∙ p.same [] ∙ ap document_of_lines (append-nil given)
+
+module _ (before now now' : Option (List ℕ)) (stream stream' : Stream) (ended ended' : Bool) (held : Held) (count : ℕ) (line : Line)
+    (p : IsInText before now stream ended held count) (q : GivesNext before now' p.given stream' ended' (Ok (Some line))) where
+  -- one line more was given
+  pub few_more : count + 1 ≤ 67108864
+  few_more = omega (arith, p.counted, given_few before now' (p.given ++ line ∷ []) stream' ended' q.all, length-append p.given (line ∷ []))
+
+  pub in_text_more : (held' : Held) → is_end_of_document line ≡ false → Holds held' (p.given ++ line ∷ []) → IsInText before now' stream' ended' held' (count + 1)
+  in_text_more held' e h =
+      record {
+        given = p.given ++ line ∷ [];
+        unended = unended_push p.given line p.unended e;
+        input = q.all;
+        holds = h;
+        counted = omega (arith, p.counted, length-append p.given (line ∷ []));
+      }
+
+  pub ended_at_line : (text : Text) → is_end_of_document line ≡ true → text.lines ≡ held.lines → text.end ≡ record { line = count + 1; column = 1 } → text.has_script ≡ true → HasReadText before now' stream' ended' text
+  ended_at_line text e k at b =
+      record {
+        given = p.given;
+        unended = p.unended;
+        same = ap document_of_lines k ∙ same_alone held p.given p.holds;
+        end = at ∙ ap (λ (n : ℕ). record { line = n + 1; column = 1 }) p.counted;
+        input = subst (HasText before now' stream' ended' p.given) (sym b) (ended_text before now' p.given line stream' ended' e q);
+      }
+
+module _ (before now now' : Option (List ℕ)) (stream stream' : Stream) (ended ended' : Bool) (held : Held) (count : ℕ) (p : IsInText before now stream ended held count) where
+  -- no line is left
+  pub ended_with_input : (text : Text) → HasGivenAll before now' p.given → text.lines ≡ held.lines → text.end ≡ record { line = count + 1; column = 1 } → text.has_script ≡ false → HasReadText before now' stream' ended' text
+  ended_with_input text q k at b =
+      record {
+        given = p.given;
+        unended = p.unended;
+        same = ap document_of_lines k ∙ same_alone held p.given p.holds;
+        end = at ∙ ap (λ (n : ℕ). record { line = n + 1; column = 1 }) p.counted;
+        input = subst (HasText before now' stream' ended' p.given) (sym b) q;
+      }
 
 pub wants_in_text : (before now : Option (List ℕ)) (given : List Line) (line : Line) (stream : Stream) (ended : Bool) → HasGivenLine before now given line stream ended
     → has_end given ≡ false → is_end_of_document line ≡ false → StopsInText before now NoMemory
 wants_in_text before now given line stream ended p o e =
     record { given = given ++ line ∷ []; unended = unended_push given line o e; stops = no_memory before now (given ++ line ∷ []) stream ended p.all }
 
-pub fresh : (before : Option (List ℕ)) (stream : Stream) (ended : Bool) → stream ≡ empty_stream → ended ≡ false → HasGiven before before [] stream ended
+fresh : (before : Option (List ℕ)) (stream : Stream) (ended : Bool) → stream ≡ empty_stream → ended ≡ false → HasGiven before before [] stream ended
 fresh before stream ended s e =
     subst (λ (x : Stream). HasGiven before before [] x ended) (sym s) (subst (λ (b : Bool). HasGiven before before [] empty_stream b) (sym e) (given_none before))
 
-pub ended_text : (before now : Option (List ℕ)) (lines : List Line) (last : Line) (stream : Stream) (ended : Bool) → is_end_of_document last ≡ true → HasGivenLine before now lines last stream ended
-    → HasEnded before now stream ended lines
-ended_text before now lines last stream ended e p = record { last = last; end = e; given = p }
+pub fresh_text : (before : Option (List ℕ)) (stream : Stream) (ended : Bool) (held : Held) → stream ≡ empty_stream → ended ≡ false → (held.lines ≡ []) × (held.lost ≡ false) → IsInText before before stream ended held 0
+fresh_text before stream ended held s e h =
+    record {
+      given = [];
+      unended = refl;
+      input = fresh before stream ended s e;
+      holds = record { same = λ more. ap (λ (l : List Line). document_of_lines (l ++ more)) h.0; lost = λ lost. absurd (false≢true (sym h.1 ∙ lost)) };
+      counted = refl;
+    }
 
-pub ruleset text_reading = (fresh, unended_push, nearer, shorter, all_few, stops_in_text, wants_in_text, ended_text)
+pub ruleset text_reading = (fresh_text, in_text_few)

@@ -1,5 +1,5 @@
 -- What is read of the input.
-use Rattle.std.specs.Prelude.{◌≡◌, ℕ, ◌+◌, ◌-◌, ◌≤◌, ◌<◌, Bool, true, false, List, [], ◌∷◌, ◌++◌, length, take, Option, Some, None, Result, Ok, Err, IfSome, ⊤}
+use Rattle.std.specs.Prelude.{◌≡◌, ℕ, ◌+◌, ◌-◌, ◌≤◌, Bool, true, false, List, [], ◌∷◌, ◌++◌, length, take, Option, Some, None, Result, Ok, Err, IfSome, ⊤}
 use Rattle.outside.specs.Told.{Loses, IsSpent}
 use Rattle.text_scan.specs.declared.line.Line.{Line}
 use Rattle.text_scan.specs.Lines.{lines_of, whole_lines}
@@ -68,11 +68,11 @@ pub record HasGivenWhole (before now : Option (List ℕ)) (given : List Line) : 
   pub lines : given ≡ lines_of (whole_lines bytes)
   pub first : AreFirst before given
 
--- too many bytes came: the lines given are those that are whole in the first of them
+-- one byte too many came: the lines given are those that are whole in the bytes before it
 pub record HasPassedLimit (before now : Option (List ℕ)) (given : List Line) : Type 0 where
   pub bytes : List ℕ
   pub taken : Loses before now bytes
-  pub many : limit < length bytes
+  pub passed : length bytes ≡ limit + 1
   pub lines : given ≡ lines_of (whole_lines (take limit bytes))
   pub first : AreFirst before given
 
@@ -120,7 +120,7 @@ pub record TakesPiece (left left' : Option (List ℕ)) (stream stream' : Stream)
 -- reading stopped at a piece
 abbrev pub StopsAtPiece : Option (List ℕ) → Option (List ℕ) → Stream → List ℕ → Status → Type 0
 StopsAtPiece left left' stream piece ReadFault = piece ≡ []
-StopsAtPiece left left' stream piece InputLimit = (stream.fed ≡ limit) × (0 < length piece)
+StopsAtPiece left left' stream piece InputLimit = (stream.fed ≡ limit) × (length piece ≡ 1)
 StopsAtPiece left left' stream piece NoMemory = ⊤
 StopsAtPiece left left' stream piece status = ⊥
 

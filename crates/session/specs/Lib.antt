@@ -9,6 +9,7 @@ pub mod Offsets
 pub mod Printing
 pub mod Boxes
 pub mod Words
+pub mod FaultNames
 pub mod Script
 pub mod ScriptExamples
 pub mod Input

@@ -1,12 +1,12 @@
 -- How a run ends, and what it took, wrote and logged until then.
-use Rattle.std.specs.Prelude.{◌≡◌, ◌≢◌, ℕ, ◌≤◌, ◌<◌, true, false, List, length, ◌++◌, ◌⊎◌, Option, Some, None, IfSome, ⊤}
+use Rattle.std.specs.Prelude.{◌≡◌, ◌≢◌, ℕ, ◌+◌, ◌≤◌, ◌<◌, true, false, if◌then◌else◌, List, [], ◌∷◌, length, ◌++◌, ◌⊎◌, Option, Some, None, IfSome, ⊤}
 use Rattle.outside.specs.Faults.{Rose}
 use Rattle.outside.specs.Told.{Stays, Adds, Loses, AddsPrefix}
 use Rattle.outside.specs.declared.event.Event.{Event}
 use Rattle.text_scan.specs.declared.line.Line.{Line}
 use Rattle.text_scan.specs.Lines.{lines_of, whole_lines}
 use Rattle.first_form.specs.declared.document.Doc.{Doc}
-use Rattle.session.specs.Input.{limit, IsReadToEnd, IsFront, AreFirst}
+use Rattle.session.specs.Input.{limit, IsReadToEnd, IsFront, AreFirst, HasLastPiece}
 use Rattle.session.specs.Boxes.{boxes_of}
 use Rattle.session.specs.Printing.{print}
 use Rattle.session.specs.Script.{has_end, before_end, after_end, document_of_lines, texts, made_in}
@@ -20,6 +20,20 @@ StopsWriting WriteFault = ⊤
 StopsWriting NoMemory = ⊤
 StopsWriting status = ⊥
 
+-- a list grew by all of the least list, and then by a prefix of what the whole one has behind that
+pub record AddsFrom {A : Type 0} (before after : Option (List A)) (least whole : List A) : Type 0 where
+  pub part : List A
+  pub rest : List A
+  pub added : Adds before after (least ++ part)
+  pub parts : (least ++ part) ++ rest ≡ whole
+
+-- what is due for lines while more may come: nothing until one of them ends the document
+abbrev pub due_output : List Line → List ℕ
+due_output lines = if has_end lines then output_of lines else []
+
+abbrev pub due_log : List Line → List Event
+due_log lines = if has_end lines then log_of lines else []
+
 module _ (held held' : Option (List ℕ)) (events events' : Option (List Event)) where
   -- all that is due for the lines was written and logged
   pub record WritesAll (given : List Line) : Type 0 where
@@ -30,6 +44,11 @@ module _ (held held' : Option (List ℕ)) (events events' : Option (List Event))
   pub record WritesPrefix (given : List Line) : Type 0 where
     pub written : AddsPrefix held held' (output_of given)
     pub log : AddsPrefix events events' (log_of given)
+
+  -- all that was due for the earlier lines was, and a prefix of what is due for the lines behind that
+  pub record WritesFrom (earlier given : List Line) : Type 0 where
+    pub written : AddsFrom held held' (due_output earlier) (output_of given)
+    pub log : AddsFrom events events' (due_log earlier) (log_of given)
 
   -- nothing was
   pub record IsSilent : Type 0 where
@@ -75,15 +94,31 @@ module _ (left left' held held' : Option (List ℕ)) (events events' : Option (L
     pub input : (has_end given ≡ true) ⊎ IsWhole left left' taken given
     pub output : WritesPrefix held held' events events' given
 
+  -- writing stopped in the answer that the last of the lines completed. No piece was taken after the one that completed this
+  -- line, and the answers to the lines before it were written
+  pub record StopsAtLine (taken : List ℕ) (given : List Line) : Type 0 where
+    pub earlier : List Line
+    pub line : Line
+    pub parts : earlier ++ line ∷ [] ≡ given
+    pub ended : has_end given ≡ true
+    pub last : HasLastPiece taken earlier
+    pub output : WritesFrom held held' events events' earlier given
+
+  -- writing stopped in the answer to a document that ended with the input, which was read to its end
+  pub record StopsAtEnd (taken : List ℕ) (given : List Line) : Type 0 where
+    pub unended : has_end given ≡ false
+    pub input : IsWhole left left' taken given
+    pub output : WritesPrefix held held' events events' given
+
   -- what is known of the bytes that were taken and of the lines of them that were given, by the status
   abbrev pub Judged : List ℕ → List Line → Status → Type 0
   Judged taken given Done = EndsAll taken given Done
   Judged taken given SomeRefused = EndsAll taken given SomeRefused
   Judged taken given BadDocument = EndsBad taken given
-  Judged taken given WriteFault = EndsEarly taken given
+  Judged taken given WriteFault = StopsAtLine taken given ⊎ StopsAtEnd taken given
   Judged taken given NoMemory = IsSilent held held' events events' ⊎ EndsEarly taken given
   Judged taken given ReadFault = (length taken ≤ limit) × (given ≡ lines_of (whole_lines taken)) × Stands held held' events events' given
-  Judged taken given InputLimit = (limit < length taken) × (given ≡ early_lines taken) × Stands held held' events events' given
+  Judged taken given InputLimit = (length taken ≡ limit + 1) × (given ≡ early_lines taken) × Stands held held' events events' given
   Judged taken given status = ⊥
 
   -- a run under the words `layout` took some bytes, was given some of their lines, which are the first of the input's, and this

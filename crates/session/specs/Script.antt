@@ -1,5 +1,5 @@
 -- The document text and the edit script of an input, and what each edit line makes.
-use Rattle.std.specs.Prelude.{ℕ, ◌+◌, ◌==◌, Bool, true, false, List, [], ◌∷◌, ◌++◌, if◌then◌else◌, Option, Some, None, Result, Ok, Err, codes}
+use Rattle.std.specs.Prelude.{ℕ, ◌+◌, Bool, true, false, List, [], ◌∷◌, ◌++◌, if◌then◌else◌, Option, Some, None, Result, Ok, Err}
 use Rattle.std.specs.List.{list_any}
 use Rattle.text_scan.specs.declared.line.Line.{Line}
 use Rattle.text_scan.specs.declared.line.Fault.{Fault}
@@ -14,6 +14,7 @@ use Rattle.first_form.specs.Edits.{edited}
 use Rattle.first_form.specs.Gives.{not_built, not_built_at}
 use Rattle.session.specs.Boxes.{boxes_of}
 use Rattle.session.specs.Printing.{print, refusal}
+use Rattle.session.specs.FaultNames.{fault_name}
 
 -- ---- the parts of an input
 
@@ -65,10 +66,6 @@ abbrev pub all_made : List Line → List (Result Doc Fault)
 all_made lines = made_from (document_of_lines (before_end lines)) (after_end lines)
 
 -- ---- what is written and logged of it
-
--- the name of a fault (own rule)
-abbrev pub fault_name : ℕ → List ℕ
-fault_name number = if number == 21 then codes "unknown-name" else codes "not-built"
 
 -- the boxes of the document that was made, or the line of the refusal, with the number k
 unfoldable pub text_of : ℕ → Result Doc Fault → List ℕ

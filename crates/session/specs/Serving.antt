@@ -1,14 +1,15 @@
 -- A run while it goes on: the text of the document, its first layout, and the lines of the script one after another.
-use Rattle.std.specs.Prelude.{◌≡◌, ℕ, ◌≤◌, Bool, true, false, List, [], ◌∷◌, length, Option, Some, None, Result, Ok, Err, if◌then◌else◌}
+use Rattle.std.specs.Prelude.{◌≡◌, ℕ, ◌+◌, ◌≤◌, Bool, true, false, List, [], ◌∷◌, ◌++◌, length, Option, Some, None, Result, Ok, Err, if◌then◌else◌}
 use Rattle.text_scan.specs.declared.line.Line.{Line}
 use Rattle.text_scan.specs.declared.line.Fault.{Fault}
 use Rattle.text_scan.specs.Stream.{Stream}
 use Rattle.outside.specs.Told.{Adds, AddsPrefix}
 use Rattle.outside.specs.declared.event.Event.{Event}
 use Rattle.first_form.specs.declared.document.Doc.{Doc}
-use Rattle.first_form.specs.Documents.{is_end_of_document}
+use Rattle.first_form.specs.Documents.{is_end_of_document, BeginsNone}
 use Rattle.first_form.specs.Gives.{not_built}
 use Rattle.session.specs.declared.engine.Engine.{Engine}
+use Rattle.session.specs.declared.text.Held.{Held}
 use Rattle.session.specs.declared.text.Text.{Text}
 use Rattle.session.specs.Input.{HasGiven, HasGivenLine, HasGivenAll, Stops}
 use Rattle.session.specs.Script.{has_end, before_end, after_end, document_of_lines, made_in, next_doc, all_made, some_refused, text_of, events_of}
@@ -30,6 +31,19 @@ abbrev pub HasText : Option (List ℕ) → Option (List ℕ) → Stream → Bool
 HasText before now stream ended lines true = HasEnded before now stream ended lines
 HasText before now stream ended lines false = HasGivenAll before now lines
 
+-- of these lines such are held that make the same document, whatever follows; or none will be one
+pub record Holds (held : Held) (given : List Line) : Type 0 where
+  pub same : (more : List Line) → document_of_lines (held.lines ++ more) ≡ document_of_lines (given ++ more)
+  pub lost : held.lost ≡ true → BeginsNone held.lines
+
+-- the text of the document was read: what is kept of its lines makes the same document, and its end is the place behind them
+pub record HasReadText (before now : Option (List ℕ)) (stream : Stream) (ended : Bool) (text : Text) : Type 0 where
+  pub given : List Line
+  pub unended : has_end given ≡ false
+  pub same : document_of_lines text.lines ≡ document_of_lines given
+  pub end : text.end ≡ record { line = length given + 1; column = 1 }
+  pub input : HasText before now stream ended given text.has_script
+
 -- reading stopped before the document ended
 pub record StopsInText (before now : Option (List ℕ)) (status : Status) : Type 0 where
   pub given : List Line
@@ -37,7 +51,7 @@ pub record StopsInText (before now : Option (List ℕ)) (status : Status) : Type
   pub stops : Stops before now given status
 
 abbrev pub ReadsText : Option (List ℕ) → Option (List ℕ) → Stream → Bool → Result Text Status → Type 0
-ReadsText before now stream ended (Ok text) = (has_end text.lines ≡ false) × HasText before now stream ended text.lines text.has_script
+ReadsText before now stream ended (Ok text) = HasReadText before now stream ended text
 ReadsText before now stream ended (Err status) = StopsInText before now status
 
 -- ---- one answer

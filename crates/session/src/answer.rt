@@ -6,12 +6,12 @@ ghost use Rattle.first_form.specs.Gives.{Gives, not_built};
 ghost use Rattle.text_scan.specs.Tokens.{is_skipped};
 ghost use Rattle.text_scan.specs.declared.line.Line.{Line};
 ghost use Rattle.session.specs.Boxes.{IsBounded};
-ghost use Rattle.session.specs.Runs.{StopsWriting, WritesPrefix};
+ghost use Rattle.session.specs.Runs.{StopsWriting, WritesFrom};
 ghost use Rattle.session.specs.Script.{document_of_lines, made_of, next_doc, is_refused};
 ghost use Rattle.session.specs.Serving.{Answers, AnswersPrefix, EndsFirst, Begins, HasAnswered};
 
 use crate::Status;
-use crate::edits::{answer_edit, lay_out, refuse};
+use crate::edits::{answer_to_edit, layout_text, refusal_text};
 use crate::engine::Engine;
 use first_form::{Doc, ReadError, read_doc};
 use lunit::{NoMemory, Steps};
@@ -43,16 +43,11 @@ fn write<K: Sink>(sink: &mut K, text: &[u8]) -> Result<(), Status>
 }
 
 #[tactic(auto, unfolding(crate::specs::Script::document_of_lines), using(crate::proofs::Bounded::document_bounded))]
-/// Reads the document that the lines are. The place after the last line is its end.
-fn read(alloc: Global, lines: &[Line]) -> Result<Doc, ReadError>
-    requires { length lines.now ≤ 67108864 }
+/// Reads the document that the lines are, whose text ends at this place.
+fn read(alloc: Global, lines: &[Line], end: Place) -> Result<Doc, ReadError>
     ensures document { Gives result (document_of_lines lines.now) }
     ensures bounded { IfOk result (λ doc. IsBounded doc) }
 {
-    let end = Place {
-        line: lines.len() as u32 + 1,
-        column: 1,
-    };
     read_doc(alloc, lines, end)
 }
 
@@ -74,7 +69,7 @@ fn first_layout<K: Sink, R: Ruler, L: Ledger>(
     ensures passes { passes.new ≡ passes.old }
 {
     let mut engine = Engine::new(doc)?;
-    let text = lay_out(alloc, &mut engine, 0, ruler, passes)?;
+    let text = layout_text(alloc, &mut engine, 0, ruler, passes)?;
     write(sink, &text)?;
     Ok(engine)
 }
@@ -86,7 +81,7 @@ fn refuse_document<K: Sink>(alloc: Global, fault: Fault, sink: &mut K) -> Status
     ensures refused { (events : Option (List Event)) → EndsFirst (K.written sink.old) (K.written sink.new) events events None result }
     ensures cause { HasCauseOf (K.faults sink.old) (K.faults sink.new) (result ≡ Status.WriteFault) }
 {
-    match refuse(alloc, 0, fault) {
+    match refusal_text(alloc, 0, fault) {
         Ok(text) => match write(sink, &text) {
             Ok(()) => Status::BadDocument,
             Err(status) => status,
@@ -100,17 +95,17 @@ fn refuse_document<K: Sink>(alloc: Global, fault: Fault, sink: &mut K) -> Status
 pub(crate) fn begin<K: Sink, R: Ruler, L: Ledger>(
     alloc: Global,
     lines: &[Line],
+    end: Place,
     sink: &mut K,
     ruler: &mut R,
     passes: &mut Steps<L>,
 ) -> Result<Engine, Status>
-    requires { length lines.now ≤ 67108864 }
     ensures begins { Begins (K.written sink.old) (K.written sink.new) (R.log ruler.old) (R.log ruler.new) (document_of_lines lines.now) result }
     ensures engine { IfOk result (λ engine. IsBounded engine.doc × (engine.calls ≡ 0)) }
     ensures cause { HasCauseOf (K.faults sink.old) (K.faults sink.new) (result ≡ Err Status.WriteFault) }
     ensures passes { passes.new ≡ passes.old }
 {
-    match read(alloc, lines) {
+    match read(alloc, lines, end) {
         Ok(doc) => first_layout(alloc, doc, sink, ruler, passes),
         Err(ReadError::Fault(fault)) => Err(refuse_document(alloc, fault, sink)),
         Err(ReadError::NoMemory) => Err(Status::NoMemory),
@@ -118,8 +113,8 @@ pub(crate) fn begin<K: Sink, R: Ruler, L: Ledger>(
 }
 
 #[tactic(auto, using(crate::proofs::Serving::edit_answering))]
-/// Answers an edit line with the number k, and says whether the edit was refused.
-fn answer_one<K: Sink, R: Ruler, L: Ledger>(
+/// Writes the answer to the edit line with the number k, and says whether the edit was refused.
+fn write_answer<K: Sink, R: Ruler, L: Ledger>(
     alloc: Global,
     engine: &mut Engine,
     k: u32,
@@ -141,14 +136,14 @@ fn answer_one<K: Sink, R: Ruler, L: Ledger>(
     ensures bounded { IsBounded engine.new.doc }
     ensures passes { passes.new ≡ passes.old }
 {
-    let answer = answer_edit(alloc, engine, k, line, ruler, passes)?;
+    let answer = answer_to_edit(alloc, engine, k, line, ruler, passes)?;
     write(sink, &answer.text)?;
     Ok(answer.refused)
 }
 
 #[tactic(auto, using(crate::proofs::Progress::line_answering))]
-/// Answers the next line of the script: an edit, or a line that is skipped.
-pub(crate) fn answer_line<K: Sink, R: Ruler, L: Ledger>(
+/// Goes on by the next line of the script: writes the answer to an edit, and nothing for a line that is skipped.
+pub(crate) fn handle_line<K: Sink, R: Ruler, L: Ledger>(
     alloc: Global,
     progress: &mut Progress,
     line: &Line,
@@ -161,7 +156,7 @@ pub(crate) fn answer_line<K: Sink, R: Ruler, L: Ledger>(
     requires calls { progress.old.engine.calls < progress.old.number }
     requires short { length line.now.bytes ≤ 65536 }
     ensures ok { (held : Option (List ℕ)) (events : Option (List Event)) (given : List Line) → HasAnswered held (K.written sink.old) events (R.log ruler.old) given progress.old.engine.doc progress.old.number progress.old.refused → OnOk result (HasAnswered held (K.written sink.new) events (R.log ruler.new) (given ++ line.now ∷ []) progress.new.engine.doc progress.new.number progress.new.refused) }
-    ensures err { (held : Option (List ℕ)) (events : Option (List Event)) (given : List Line) → HasAnswered held (K.written sink.old) events (R.log ruler.old) given progress.old.engine.doc progress.old.number progress.old.refused → OnErr result (WritesPrefix held (K.written sink.new) events (R.log ruler.new) (given ++ line.now ∷ [])) }
+    ensures err { (held : Option (List ℕ)) (events : Option (List Event)) (given : List Line) → HasAnswered held (K.written sink.old) events (R.log ruler.old) given progress.old.engine.doc progress.old.number progress.old.refused → OnErr result (WritesFrom held (K.written sink.new) events (R.log ruler.new) given (given ++ line.now ∷ [])) }
     ensures stops { IfErr result StopsWriting }
     ensures cause { HasCauseOf (K.faults sink.old) (K.faults sink.new) (result ≡ Err Status.WriteFault) }
     ensures bounded { IsBounded progress.new.engine.doc }
@@ -172,7 +167,7 @@ pub(crate) fn answer_line<K: Sink, R: Ruler, L: Ledger>(
         return Ok(());
     }
     let number = progress.number;
-    match answer_one(
+    match write_answer(
         alloc,
         &mut progress.engine,
         number,

@@ -5,9 +5,11 @@ ghost use Rattle.outside.specs.declared.event.Event.TheVariants.{Begin};
 ghost use Rattle.session.specs.Boxes.{IsBounded, boxes_of};
 ghost use Rattle.session.specs.Engine.{Applies, IsAnswered};
 ghost use Rattle.session.specs.Printing.{print, refusal};
-ghost use Rattle.session.specs.Script.{applied, made_of, text_of, events_of, fault_name};
+ghost use Rattle.session.specs.Script.{applied, made_of, text_of, events_of};
+ghost use Rattle.session.specs.FaultNames.{fault_name};
 
 use crate::engine::{ApplyError, Engine};
+use crate::faults::fault_name;
 use crate::print::{print_boxes, print_refusal};
 use first_form::{ReadError, read_edit};
 use lunit::{NoMemory, Steps};
@@ -23,26 +25,15 @@ pub(crate) struct Answer {
     pub(crate) refused: bool,
 }
 
-/// The name of a fault.
-fn fault_name(number: u8) -> &'static [u8]
-    ensures { result.now ≡ fault_name number }
-{
-    if number == 21 {
-        b"unknown-name"
-    } else {
-        b"not-built"
-    }
-}
-
 /// The line of the refusal of a fault, with the number k.
-pub(crate) fn refuse(alloc: Global, k: u32, fault: Fault) -> Result<Vec<u8>, NoMemory>
+pub(crate) fn refusal_text(alloc: Global, k: u32, fault: Fault) -> Result<Vec<u8>, NoMemory>
     ensures { IfOk result (λ text. text.items ≡ refusal k fault.place (fault_name fault.number)) }
 {
     print_refusal(alloc, k, fault.place, fault_name(fault.number))
 }
 
 /// The text of the layout of an engine, with the number k.
-pub(crate) fn lay_out<R: Ruler, L: Ledger>(
+pub(crate) fn layout_text<R: Ruler, L: Ledger>(
     alloc: Global,
     engine: &mut Engine,
     k: u32,
@@ -78,8 +69,8 @@ fn apply_line(alloc: Global, engine: &mut Engine, line: &Line) -> Result<(), App
 }
 
 #[tactic(auto, using(crate::proofs::EditLines::answering))]
-/// Answers the edit line with the number k: applies it and lays the document out, or refuses it.
-pub(crate) fn answer_edit<R: Ruler, L: Ledger>(
+/// The answer to the edit line with the number k, which is applied, or refused.
+pub(crate) fn answer_to_edit<R: Ruler, L: Ledger>(
     alloc: Global,
     engine: &mut Engine,
     k: u32,
@@ -100,11 +91,11 @@ pub(crate) fn answer_edit<R: Ruler, L: Ledger>(
 {
     match apply_line(alloc, engine, line) {
         Ok(()) => Ok(Answer {
-            text: lay_out(alloc, engine, k, ruler, passes)?,
+            text: layout_text(alloc, engine, k, ruler, passes)?,
             refused: false,
         }),
         Err(ApplyError::Refused(fault)) => Ok(Answer {
-            text: refuse(alloc, k, fault)?,
+            text: refusal_text(alloc, k, fault)?,
             refused: true,
         }),
         Err(ApplyError::NoMemory) => Err(NoMemory),

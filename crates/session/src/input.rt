@@ -40,15 +40,13 @@ impl Reader {
 /// asked for. Looks first at a fault of reading, then at the limit.
 fn take_piece<S: Source>(
     source: &mut S,
-    room: &mut [u8],
+    room: &mut [u8; PIECE],
     count: usize,
     lines: &mut Lines,
 ) -> Result<usize, Status>
-    requires room { length room.old ≡ 65536 }
     requires count { lines.old.fed ≡ count }
     requires within { count ≤ limit }
     ensures piece { MeetsPiece (S.left source.old) (S.left source.new) lines.old lines.new result }
-    ensures room { length room.new ≡ 65536 }
     ensures cause { HasCauseOf (S.faults source.old) (S.faults source.new) (result ≡ Err Status.ReadFault) }
 {
     let most = PIECE.min((LIMIT - count).max(1));
@@ -63,15 +61,17 @@ fn take_piece<S: Source>(
 
 #[tactic(auto, using(crate::proofs::Pieces::going_on))]
 /// Takes one piece of the input, where no line of it is whole and its end was not seen.
-fn read_on<S: Source>(source: &mut S, room: &mut [u8], reader: &mut Reader) -> Result<(), Status>
-    requires room { length room.old ≡ 65536 }
+fn read_on<S: Source>(
+    source: &mut S,
+    room: &mut [u8; PIECE],
+    reader: &mut Reader,
+) -> Result<(), Status>
     requires count { reader.old.lines.fed ≡ reader.old.count }
     requires within { reader.old.count ≤ limit }
     requires open { reader.old.ended ≡ false }
     requires none { is_line_due false reader.old.lines.held ≡ false }
     ensures on { (before : Option (List ℕ)) (given : List Line) → HasGiven before (S.left source.old) given reader.old.lines false → ReadsOn before (S.left source.new) given reader.new.lines reader.new.ended result }
     ensures nearer { OnOk result (to_go reader.new.count reader.new.ended < to_go reader.old.count reader.old.ended) }
-    ensures room { length room.new ≡ 65536 }
     ensures count { OnOk result (reader.new.lines.fed ≡ reader.new.count) }
     ensures within { OnOk result (reader.new.count ≤ limit) }
     ensures cause { HasCauseOf (S.faults source.old) (S.faults source.new) (result ≡ Err Status.ReadFault) }
@@ -93,14 +93,12 @@ fn read_on<S: Source>(source: &mut S, room: &mut [u8], reader: &mut Reader) -> R
 /// Takes the next line out, and reads on only where none is whole. `None` is the end of the input.
 pub(crate) fn next_line<S: Source>(
     source: &mut S,
-    room: &mut [u8],
+    room: &mut [u8; PIECE],
     reader: &mut Reader,
 ) -> Result<Option<Line>, Status>
-    requires room { length room.old ≡ 65536 }
     requires count { reader.old.lines.fed ≡ reader.old.count }
     requires within { reader.old.count ≤ limit }
     ensures next { (before : Option (List ℕ)) (given : List Line) → HasGiven before (S.left source.old) given reader.old.lines reader.old.ended → GivesNext before (S.left source.new) given reader.new.lines reader.new.ended result }
-    ensures room { length room.new ≡ 65536 }
     ensures count { OnOk result (reader.new.lines.fed ≡ reader.new.count) }
     ensures within { OnOk result (reader.new.count ≤ limit) }
     ensures short { IfOk result (λ found. IfSome found (λ line. length line.bytes ≤ 65536)) }

@@ -5,6 +5,7 @@ mod answer;
 mod boxes;
 mod edits;
 mod engine;
+mod faults;
 mod input;
 mod offsets;
 mod print;

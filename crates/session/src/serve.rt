@@ -1,4 +1,4 @@
-ghost use Rattle.std.specs.Prelude.{◌≡◌, ◌≤◌, ◌<◌, Err, false, length, IfOk, OnOk};
+ghost use Rattle.std.specs.Prelude.{◌≡◌, ◌≤◌, ◌<◌, Err, false, IfOk, OnOk};
 ghost use Rattle.outside.specs.Faults.{HasCauseOf};
 ghost use Rattle.text_scan.specs.Stream.{empty_stream};
 ghost use Rattle.session.specs.Boxes.{IsBounded};
@@ -7,7 +7,7 @@ ghost use Rattle.session.specs.Runs.{Runs};
 ghost use Rattle.session.specs.Serving.{Starts, ended};
 
 use crate::Status;
-use crate::answer::{Progress, answer_line, begin};
+use crate::answer::{Progress, begin, handle_line};
 use crate::input::{PIECE, Reader, next_line};
 use crate::text::read_text;
 use lunit::Steps;
@@ -20,17 +20,15 @@ use std::sync::ledger::Ledger;
 fn start<S: Source, K: Sink, R: Ruler, L: Ledger>(
     alloc: Global,
     source: &mut S,
-    room: &mut [u8],
+    room: &mut [u8; PIECE],
     reader: &mut Reader,
     sink: &mut K,
     ruler: &mut R,
     passes: &mut Steps<L>,
 ) -> Result<Progress, Status>
-    requires room { length room.old ≡ 65536 }
     requires new { (reader.old.lines ≡ empty_stream) × (reader.old.count ≡ 0) × (reader.old.ended ≡ false) }
     ensures starts { Starts (S.left source.old) (S.left source.new) (K.written sink.old) (K.written sink.new) (R.log ruler.old) (R.log ruler.new) reader.new.lines reader.new.ended result }
     ensures engine { IfOk result (λ progress. IsBounded progress.engine.doc × (progress.engine.calls < progress.number)) }
-    ensures room { length room.new ≡ 65536 }
     ensures count { OnOk result (reader.new.lines.fed ≡ reader.new.count) }
     ensures within { OnOk result (reader.new.count ≤ limit) }
     ensures read { HasCauseOf (S.faults source.old) (S.faults source.new) (result ≡ Err Status.ReadFault) }
@@ -41,7 +39,7 @@ fn start<S: Source, K: Sink, R: Ruler, L: Ledger>(
         Ok(text) => text,
         Err(status) => return Err(status),
     };
-    let engine = match begin(alloc, text.lines.as_slice(), sink, ruler, passes) {
+    let engine = match begin(alloc, text.lines.as_slice(), text.end, sink, ruler, passes) {
         Ok(engine) => engine,
         Err(status) => return Err(status),
     };
@@ -78,7 +76,7 @@ pub(crate) fn serve<S: Source, K: Sink, R: Ruler, L: Ledger>(
     loop {
         match next_line(source, &mut room, &mut reader) {
             Ok(Some(line)) => {
-                match answer_line(alloc, &mut progress, &line, sink, ruler, passes) {
+                match handle_line(alloc, &mut progress, &line, sink, ruler, passes) {
                     Ok(()) => (),
                     Err(status) => return status,
                 }

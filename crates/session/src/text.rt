@@ -1,30 +1,87 @@
-ghost use Rattle.std.specs.Prelude.{◌≡◌, ◌≤◌, ◌++◌, ◌∷◌, [], Err, false, length, OnOk, IfOk};
+ghost use Rattle.std.specs.Prelude.{◌≡◌, ◌+◌, ◌≤◌, ◌++◌, ◌∷◌, [], List, Err, false, OnOk};
 ghost use Rattle.outside.specs.Faults.{HasCauseOf};
 ghost use Rattle.text_scan.specs.Stream.{empty_stream};
+ghost use Rattle.text_scan.specs.declared.line.Line.{Line};
 ghost use Rattle.session.specs.Input.{limit};
-ghost use Rattle.session.specs.Serving.{ReadsText};
+ghost use Rattle.session.specs.Serving.{Holds, ReadsText};
 
 use crate::Status;
-use crate::input::{Reader, next_line};
-use first_form::is_end_of_document;
+use crate::input::{PIECE, Reader, next_line};
+use first_form::{begins_none, is_end_of_document};
 use lunit::{NoMemory, Sequence};
 use outside::Source;
 use std::alloc::Global;
-use text_scan::Line;
+use text_scan::{Line, Place};
 
-/// The lines of a document, and whether a line ended it: then a script follows.
+/// The text of a document.
 #[derive(Drop)]
 pub(crate) struct Text {
+    /// Its lines, without those that are skipped; or lines that are no document, where its lines are none.
     pub(crate) lines: Sequence<Line>,
+    /// The place of the line that ended it, or column 1 of the line after the last one.
+    pub(crate) end: Place,
+    /// Whether a line ended it: then a script follows.
     pub(crate) has_script: bool,
 }
 
-/// Keeps one line more.
-fn keep(lines: &mut Sequence<Line>, line: Line) -> Result<(), NoMemory>
-    ensures { OnOk result (lines.new ≡ lines.old ++ line ∷ []) }
+/// The lines of a document as they are held: none that is skipped, and no more once they can begin no document.
+#[derive(Drop)]
+pub(crate) struct Held {
+    lines: Sequence<Line>,
+    // At so many lines it is looked next whether they can begin one.
+    next: usize,
+    // They can't.
+    lost: bool,
+}
+
+impl Held {
+    /// No lines yet. Takes no memory.
+    fn new(alloc: Global) -> Held
+        ensures { (result.lines ≡ []) × (result.lost ≡ false) }
+    {
+        Held {
+            lines: Sequence::new(alloc),
+            next: 1024,
+            lost: false,
+        }
+    }
+
+    #[tactic(auto, using(crate::proofs::Texts::holding))]
+    /// Adds a line. It looks at all lines each time when there are twice as many as before, so the time stays linear.
+    fn add(&mut self, alloc: Global, line: Line) -> Result<(), NoMemory>
+        ensures { (given : List Line) → Holds self.old given → OnOk result (Holds self.new (given ++ line ∷ [])) }
+    {
+        if self.lost {
+            return Ok(());
+        }
+        if line.is_skipped() {
+            return Ok(());
+        }
+        self.lines.push(line)?;
+        if self.lines.len() < self.next {
+            return Ok(());
+        }
+        self.next = self.next.saturating_mul(2);
+        self.lost = begins_none(alloc, self.lines.as_slice())?;
+        Ok(())
+    }
+}
+
+/// The text of the lines that are held, which ends after so many lines.
+fn ended(held: Held, count: u32, has_script: bool) -> Text
+    requires { count ≤ 67108864 }
+    ensures lines { result.lines ≡ held.lines }
+    ensures end { result.end ≡ record { line = count + 1; column = 1 } }
+    ensures script { result.has_script ≡ has_script }
 {
-    lines.push(line)?;
-    Ok(())
+    Text {
+        lines: held.lines,
+        end: Place {
+            line: count + 1,
+            column: 1,
+        },
+        has_script,
+    }
 }
 
 #[tactic(auto, using(crate::proofs::Texts::text_reading))]
@@ -32,39 +89,30 @@ fn keep(lines: &mut Sequence<Line>, line: Line) -> Result<(), NoMemory>
 pub(crate) fn read_text<S: Source>(
     alloc: Global,
     source: &mut S,
-    room: &mut [u8],
+    room: &mut [u8; PIECE],
     reader: &mut Reader,
 ) -> Result<Text, Status>
-    requires room { length room.old ≡ 65536 }
     requires new { (reader.old.lines ≡ empty_stream) × (reader.old.count ≡ 0) × (reader.old.ended ≡ false) }
     ensures text { ReadsText (S.left source.old) (S.left source.new) reader.new.lines reader.new.ended result }
-    ensures few { IfOk result (λ text. length text.lines ≤ 67108864) }
-    ensures room { length room.new ≡ 65536 }
     ensures count { OnOk result (reader.new.lines.fed ≡ reader.new.count) }
     ensures within { OnOk result (reader.new.count ≤ limit) }
     ensures cause { HasCauseOf (S.faults source.old) (S.faults source.new) (result ≡ Err Status.ReadFault) }
 {
-    let mut lines = Sequence::new(alloc);
+    let mut held = Held::new(alloc);
+    let mut count = 0;
     loop {
         match next_line(source, room, reader) {
             Ok(Some(line)) => {
                 if is_end_of_document(&line) {
-                    return Ok(Text {
-                        lines,
-                        has_script: true,
-                    });
+                    return Ok(ended(held, count, true));
                 }
-                match keep(&mut lines, line) {
+                count += 1;
+                match held.add(alloc, line) {
                     Ok(()) => (),
                     Err(NoMemory) => return Err(Status::NoMemory),
                 }
             }
-            Ok(None) => {
-                return Ok(Text {
-                    lines,
-                    has_script: false,
-                });
-            }
+            Ok(None) => return Ok(ended(held, count, false)),
             Err(status) => return Err(status),
         }
     }

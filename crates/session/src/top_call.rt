@@ -14,8 +14,8 @@ use std::alloc::Global;
 use std::sync::ledger::Ledger;
 
 #[tactic(auto, using(crate::proofs::Finished::following))]
-/// Answers an input, with what follows of all its bytes.
-fn lay_out<S: Source, K: Sink, R: Ruler, L: Ledger>(
+/// A run under the word `layout`, with what follows of all bytes of the input.
+fn run_layout<S: Source, K: Sink, R: Ruler, L: Ledger>(
     alloc: Global,
     source: &mut S,
     sink: &mut K,
@@ -89,7 +89,7 @@ pub fn run<S: Source, K: Sink, R: Ruler, L: Ledger>(
     ensures passes { passes.new ≡ passes.old }
 {
     if is_layout(&words) {
-        lay_out(alloc, source, sink, ruler, passes)
+        run_layout(alloc, source, sink, ruler, passes)
     } else {
         Status::BadWords
     }

@@ -1,4 +1,4 @@
-use Rattle.std.proofs.Common.{◌≡◌, ◌≤◌, ℕ, List, Option, length}
+use Rattle.std.proofs.Common.{◌≡◌, ◌≤◌, ℕ, List, Option}
 use Rattle.text_scan.specs.declared.line.Line.{Line}
 use Rattle.session.specs.Input.{HasGiven, to_go, limit}
 use Rattle.session.proofs.input.next_line.Given as goal
@@ -9,7 +9,6 @@ invariant-loop-line g l =
       given : (before : Option (List ℕ)) (given : List Line) → HasGiven before (g.S.Source.left l.fn.source) given l.fn.reader.lines l.fn.reader.ended → HasGiven before (g.S.Source.left l.source) given l.reader.lines l.reader.ended;
       count : l.reader.lines.fed ≡ l.reader.count;
       within : l.reader.count ≤ limit;
-      room : length l.room ≡ 65536;
       later : g.S.Source.faults l.fn.source ≤ g.S.Source.faults l.source;
     }
 

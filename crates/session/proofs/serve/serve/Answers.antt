@@ -1,25 +1,24 @@
 use Rattle.std.proofs.Common.{subst, sym, rules, ◌++◌, ◌∷◌, []}
 use Rattle.session.specs.Runs.{Runs}
 use Rattle.session.specs.declared.status.Status.{Status}
-use Rattle.session.proofs.Scripts.{has_more}
 use Rattle.session.proofs.Texts.{line_given, end_given}
 use Rattle.session.proofs.Running.{part_written, script_stopped, script_ended, few_answers, closer, unwritten_stop}
 use Rattle.session.proofs.serve.serve.Goals as goal
 
-pub answer_line-requires-clause-few : goal.answer_line-requires-clause-few
-answer_line-requires-clause-few g c =
+pub handle_line-requires-clause-few : goal.handle_line-requires-clause-few
+handle_line-requires-clause-few g c =
     let at = c.loop-line.invariant.at in
     few_answers (g.S.Source.left c.args.source.now) (g.S.Source.left c.loop-line.source) at.given c.loop-line.reader.lines c.loop-line.reader.ended c.loop-line.progress.number at.input at.answered.laid.few
 
-pub returns-in-Err-answer_line-clause-runs : goal.returns-in-Err-answer_line-clause-runs
-returns-in-Err-answer_line-clause-runs g c =
+pub returns-in-Err-handle_line-clause-runs : goal.returns-in-Err-handle_line-clause-runs
+returns-in-Err-handle_line-clause-runs g c =
     let left = g.S.Source.left c.args.source.now in
     let now = g.S.Source.left c.next_line.new.source in
     let held = g.K.Sink.written c.args.sink.now in
     let events = g.R.Ruler.log c.args.ruler.now in
     let at = c.loop-line.invariant.at in
     let line = line_given left now at.given c.in-Ok-Some.line c.next_line.new.reader.lines c.next_line.new.reader.ended c.in-Ok-Some.field-0 c.in-Ok-Some.field-0-is (c.in-Ok-Some.ensures.next left at.given at.input) in
-    part_written left now held (g.K.Sink.written c.answer_line.new.sink) events (g.R.Ruler.log c.answer_line.new.ruler) (at.given ++ c.in-Ok-Some.line ∷ []) c.next_line.new.reader.lines c.next_line.new.reader.ended c.in-Err-answer_line.status line.all (has_more at.given (c.in-Ok-Some.line ∷ []) at.answered.laid.ended) c.in-Err-answer_line.ensures.stops (c.in-Err-answer_line.ensures.err held events at.given at.answered)
+    part_written left now held (g.K.Sink.written c.handle_line.new.sink) events (g.R.Ruler.log c.handle_line.new.ruler) at.given c.in-Ok-Some.line c.next_line.new.reader.lines c.next_line.new.reader.ended c.in-Err-handle_line.status line at.answered.laid.ended c.in-Err-handle_line.ensures.stops (c.in-Err-handle_line.ensures.err held events at.given at.answered)
 
 pub loop-line-smaller : goal.loop-line-smaller
 loop-line-smaller g c =
@@ -39,13 +38,12 @@ loop-line-preserved g c =
       at = record {
         given = at.given ++ c.in-Ok-Some.line ∷ [];
         input = line.all;
-        answered = c.in-Ok-answer_line.ensures.ok (g.K.Sink.written c.args.sink.now) (g.R.Ruler.log c.args.ruler.now) at.given at.answered;
+        answered = c.in-Ok-handle_line.ensures.ok (g.K.Sink.written c.args.sink.now) (g.R.Ruler.log c.args.ruler.now) at.given at.answered;
       };
       bounded = search rules;
       calls = search rules;
       count = search rules;
       within = search rules;
-      room = search rules;
       read = search rules;
       written = search rules;
       passes = search rules;

@@ -1,4 +1,4 @@
-use Rattle.std.proofs.Common.{◌≡◌, ◌≤◌, ◌<◌, ◌+◌, ◌-◌, length}
+use Rattle.std.proofs.Common.{◌≡◌, ◌≤◌, ◌<◌, ◌+◌, ◌-◌}
 use Rattle.session.specs.Boxes.{IsBounded}
 use Rattle.session.specs.Input.{limit}
 use Rattle.session.specs.Serving.{IsAt}
@@ -12,7 +12,6 @@ invariant-loop-line g l =
       calls : l.progress.engine.calls < l.progress.number;
       count : l.reader.lines.fed ≡ l.reader.count;
       within : l.reader.count ≤ limit;
-      room : length l.room ≡ 65536;
       read : g.S.Source.faults l.fn.source ≤ g.S.Source.faults l.source;
       written : g.K.Sink.faults l.fn.sink ≤ g.K.Sink.faults l.sink;
       passes : l.passes ≡ l.fn.passes;

@@ -1,5 +1,5 @@
 use Rattle.session.proofs.Finished.{prefix_of_out, all_permitted, over_permitted, all_complete, over_complete, headline}
-use Rattle.session.proofs.top_call.lay_out.Goals as goal
+use Rattle.session.proofs.top_call.run_layout.Goals as goal
 
 pub returns-clause-prefix : goal.returns-clause-prefix
 returns-clause-prefix g c = prefix_of_out (g.S.Source.left c.args.source.now) (g.S.Source.left c.serve.new.source) (g.K.Sink.written c.args.sink.now) (g.K.Sink.written c.serve.new.sink) (g.R.Ruler.log c.args.ruler.now) (g.R.Ruler.log c.serve.new.ruler) c.serve.result c.serve.ensures.runs
