@@ -8,6 +8,7 @@ pub mod KeptTrees
 pub mod Leaves
 pub mod Loans
 pub mod Mapped
+pub mod Named
 pub mod Numbers
 pub mod Parents
 pub mod Puts

@@ -7,6 +7,7 @@
 
 mod contexts;
 mod covered;
+mod grids;
 mod items;
 mod keeping;
 mod laws;
@@ -16,16 +17,19 @@ mod node;
 mod order;
 mod placement;
 pub mod rules;
+mod seats;
 mod sight;
 pub mod style;
 pub mod template;
 mod wishes;
 
 pub use contexts::{Above, AxisContext, Context, Placed};
+pub use grids::context_in;
 pub use items::{ChildArea, entry, has_subgrid};
 pub use keeping::{find, leaf_height, leaf_sizes, put};
 pub use laws::{forgetting_keeps_the_rest, kept_answers_are_defined, right_where_seen_the_same};
 pub use node::{Answer, Frame, Node};
 pub use placement::{areas_in, ordered};
+pub use seats::{areas, context, seat};
 pub use sight::{child, count, node_at, parent, root};
 pub use tree_rules::NodeKind;
