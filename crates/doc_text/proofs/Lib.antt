@@ -5,3 +5,12 @@ pub mod Widths
 pub mod Opening
 pub mod Lines
 pub mod Closing
+pub mod Grown
+pub mod Standing
+pub mod Shapes
+pub mod Grafts
+pub mod Apart
+pub mod Back
+pub mod Told
+pub mod Kept
+pub mod Validity

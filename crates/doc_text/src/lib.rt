@@ -7,6 +7,7 @@ mod edit;
 mod edit_text;
 mod growth;
 mod kind;
+mod laws;
 mod node_text;
 mod read;
 mod text;
@@ -17,6 +18,9 @@ pub use edit::{Edit, Named};
 pub use edit_text::read_edit;
 pub use growth::{MAX_CHILDREN, MAX_LEVELS, node_limit};
 pub use kind::Kind;
+pub use laws::{
+    edits_keep_documents_valid, move_undoes_move, refusals_come_in_order, remove_undoes_insert,
+};
 pub use part_rules::Content;
 pub use read::read_doc;
 pub use track_text::ReadError;

@@ -1,7 +1,8 @@
 //! Whole documents.
 
-ghost use Rattle.std.specs.Prelude.{◌≡◌, ◌∷◌, [], ◌≤◌, MatchOption};
+ghost use Rattle.std.specs.Prelude.{◌≡◌, ◌∷◌, [], ◌≤◌, MatchOption, IfOk};
 ghost use Rattle.plain_tree.specs.Trees.{leafless};
+ghost use Rattle.doc_text.specs.Valid.{IsValid};
 ghost use Rattle.track_text.specs.Gives.{Reads};
 ghost use Rattle.doc_text.specs.Growth.{open_levels};
 ghost use Rattle.doc_text.specs.Documents.{from_counted, version_word, version_in, sizes_in, viewport_in, header, is_indent, node_on, node_in, node_of, nodes_of, rooted, sized, document_of};
@@ -211,6 +212,18 @@ fn read_sized(alloc: Global, version: u8, lines: &[Line], end: Place) -> Result<
     rooted(version, size, end, growth)
 }
 
+/// The document of the lines of a text.
+fn read_headed(alloc: Global, lines: &[Line], end: Place) -> Result<Doc, ReadError>
+    ensures { Reads result (document_of lines.now end) }
+{
+    let Some((line, lines)) = first_counted(lines) else {
+        return Err(fault(BAD_HEADER, end));
+    };
+    let version = read_version(line)?;
+    read_sized(alloc, version, lines, end)
+}
+
+#[tactic(auto, using(crate::proofs::Validity::reads_valid))]
 /// Reads the lines of the text of a document, which ends at the place `end`, that of its line `---` or column 1 of the line
 /// after the last (own rule).
 ///
@@ -226,11 +239,8 @@ fn read_sized(alloc: Global, version: u8, lines: &[Line], end: Place) -> Result<
 /// last byte that counts. Where all lines read, 3 comes at `end` where a header line is missing, and else 16 there where no
 /// node is there. `NoMemory` where memory is wanting.
 pub fn read_doc(alloc: Global, lines: &[Line], end: Place) -> Result<Doc, ReadError>
-    ensures { Reads result (document_of lines.now end) }
+    ensures document { Reads result (document_of lines.now end) }
+    ensures valid { IfOk result (λ doc. IsValid doc) }
 {
-    let Some((line, lines)) = first_counted(lines) else {
-        return Err(fault(BAD_HEADER, end));
-    };
-    let version = read_version(line)?;
-    read_sized(alloc, version, lines, end)
+    read_headed(alloc, lines, end)
 }

@@ -1,0 +1,5 @@
+use Rattle.doc_text.proofs.Back.{move_undone}
+use Rattle.doc_text.proofs.laws.move_undoes_move.Goals as goal
+
+pub returns : goal.returns
+returns c = move_undone

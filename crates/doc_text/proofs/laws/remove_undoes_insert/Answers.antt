@@ -1,0 +1,5 @@
+use Rattle.doc_text.proofs.Back.{insert_undone}
+use Rattle.doc_text.proofs.laws.remove_undoes_insert.Goals as goal
+
+pub returns : goal.returns
+returns c = insert_undone

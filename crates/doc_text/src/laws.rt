@@ -1,0 +1,40 @@
+//! Laws of edits, each as the clause of a function that does nothing.
+
+ghost use Rattle.std.specs.Prelude.{◌≡◌, ℕ, false, true, Ok, Err};
+ghost use Rattle.text_scan.specs.declared.line.Fault.{Fault};
+ghost use Rattle.text_scan.specs.declared.line.Place.{Place};
+ghost use Rattle.plain_tree.specs.Trees.{Trees};
+ghost use Rattle.doc_text.specs.declared.document.Doc.{Doc};
+ghost use Rattle.doc_text.specs.declared.document.Plain.{Plain};
+ghost use Rattle.doc_text.specs.declared.edit.Edit.{Edit};
+ghost use Rattle.doc_text.specs.declared.edit.Edit.TheVariants as edit;
+ghost use Rattle.doc_text.specs.declared.edit.Named.{Named};
+ghost use Rattle.doc_text.specs.Label.{Label};
+ghost use Rattle.doc_text.specs.View.{label_of};
+ghost use Rattle.doc_text.specs.Growth.{holds};
+ghost use Rattle.doc_text.specs.Named.{IsDistinct, StandsAt, removed};
+ghost use Rattle.doc_text.specs.Edits.{tree_of, refusals, edited_trees, edited};
+ghost use Rattle.doc_text.specs.Valid.{IsShaped};
+ghost use Rattle.doc_text.specs.Laws.{IsFirst, NamesItsNode};
+
+/// An edit that is not refused leaves a document valid: its names differ, only containers have children, and levels, nodes
+/// and children of one node are within the limits of its version.
+pub fn edits_keep_documents_valid()
+    ensures { (e : Edit) (doc made : Doc) → IsShaped doc.version (tree_of doc) → NamesItsNode e → edited e doc ≡ Ok made → IsShaped made.version (tree_of made) }
+{}
+
+#[tactic(auto, using(crate::proofs::Kept::refused_first))]
+/// A refused edit has the fault of the first row of its refusals that comes.
+pub fn refusals_come_in_order()
+    ensures { (e : Edit) (doc : Doc) (fault : Fault) → edited e doc ≡ Err fault → IsFirst (refusals doc e) fault }
+{}
+
+/// What was inserted and is removed leaves the tree as it was.
+pub fn remove_undoes_insert()
+    ensures { (parent named : Named) (index : ℕ) (at : Place) (node : Plain) (trees : Trees Label) → node.name ≡ named.name → holds trees named.name ≡ false → edited_trees (edit.Remove named) (edited_trees (edit.Insert parent index at named node) trees) ≡ trees }
+{}
+
+/// A node that was moved and is moved back to the parent and the index that it had leaves the tree as it was.
+pub fn move_undoes_move()
+    ensures { (named parent old : Named) (i index : ℕ) (at back : Place) (trees : Trees Label) → IsDistinct trees → holds (removed named.name trees) parent.name ≡ true → StandsAt named.name old.name index trees → edited_trees (edit.Move named old index back) (edited_trees (edit.Move named parent i at) trees) ≡ trees }
+{}
