@@ -8,3 +8,5 @@ mod arenas;
 mod caches;
 #[cfg(test)]
 mod questions;
+#[cfg(test)]
+mod sizes;
