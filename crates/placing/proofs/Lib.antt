@@ -1,4 +1,5 @@
 pub mod Bares
+mod Counted
 pub mod Each
 pub mod Entries
 pub mod Filled

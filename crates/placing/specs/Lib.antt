@@ -2,6 +2,7 @@ pub mod Along
 pub mod Areas
 pub mod Axes
 pub mod Children
+pub mod Counted
 pub mod Covered
 pub mod Insides
 pub mod Keeping

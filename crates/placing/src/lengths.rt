@@ -1,9 +1,8 @@
-//! Exact numbers of units.
+//! Lengths, and the greater and the lesser of two.
 
 ghost use Rattle.std.specs.Prelude.{◌≡◌, pos};
 ghost use Rattle.std.specs.Int.{int_max, int_min};
-ghost use Rattle.lunit.specs.Units.{IsUnits, clamp};
-ghost use Rattle.part_rules.specs.Lists.{at_most};
+ghost use Rattle.lunit.specs.Units.{IsUnits};
 
 use lunit::{Lu, Wide};
 
@@ -15,20 +14,6 @@ pub(crate) fn zero() -> Lu
     Lu::of(0)
 }
 
-/// The greater of two numbers.
-pub(crate) fn greater(one: Wide, other: Wide) -> Wide
-    ensures { result ≡ int_max one other }
-{
-    if one < other { other } else { one }
-}
-
-/// The lesser of two numbers.
-pub(crate) fn lesser(one: Wide, other: Wide) -> Wide
-    ensures { result ≡ int_min one other }
-{
-    if other < one { other } else { one }
-}
-
 /// The greater of two lengths.
 pub(crate) fn longer(one: Lu, other: Lu) -> Lu
     ensures { result ≡ int_max one other }
@@ -36,14 +21,11 @@ pub(crate) fn longer(one: Lu, other: Lu) -> Lu
     if one < other { other } else { one }
 }
 
-/// The number, but at most a limit, where there is one.
-pub(crate) fn at_most(limit: Option<Wide>, number: Wide) -> Wide
-    ensures { result ≡ at_most limit number }
+/// The lesser of two lengths.
+pub(crate) fn shorter(one: Lu, other: Lu) -> Lu
+    ensures { result ≡ int_min one other }
 {
-    match limit {
-        Some(limit) => lesser(limit, number),
-        None => number,
-    }
+    if other < one { other } else { one }
 }
 
 #[tactic(auto, unfolding(lunit::specs::Units::clamp))]

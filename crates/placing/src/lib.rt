@@ -6,6 +6,7 @@
 #![tactic(auto)]
 
 mod contexts;
+pub mod counts;
 mod covered;
 mod grids;
 mod items;
