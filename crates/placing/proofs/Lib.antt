@@ -13,6 +13,7 @@ pub mod Named
 pub mod Numbers
 pub mod Parents
 pub mod Puts
+pub mod Readable
 mod Seams
 pub mod Seated
 pub mod Siblings

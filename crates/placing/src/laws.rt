@@ -4,13 +4,14 @@ ghost use Rattle.std.specs.Prelude.{◌≡◌, [], Some, List, if◌then◌else�
 ghost use Rattle.layout_cache.specs.Kept.{answer_to};
 ghost use Rattle.layout_cache.specs.Reach.{forgets};
 ghost use Rattle.node_arena.specs.declared.number.NodeId.{NodeId};
-ghost use Rattle.node_arena.specs.Numbers.{is_among};
+ghost use Rattle.node_arena.specs.Numbers.{is_among, EachNode, IsNarrow};
 ghost use Rattle.tree_rules.specs.Queries.{answer_of};
 ghost use Rattle.tree_rules.specs.declared.query.Query.{Query};
 ghost use Rattle.placing.specs.declared.node.Answer.{Answer};
 ghost use Rattle.placing.specs.Kept.{kept_at, plain_answer, IsRight, NamesChildren};
 ghost use Rattle.placing.specs.Keeping.{without_answers, KeepsOn, KeepsNone};
-ghost use Rattle.placing.specs.Nodes.{bare, children_at, sight_at, NodeTrees};
+ghost use Rattle.placing.specs.Nodes.{bare, children_at, label_of_bare, sight_at, BareTrees, NodeTrees};
+ghost use Rattle.placing.specs.Ranges.{AreReadable, IsReadable};
 
 /// A kept answer is the one of the definitions, and its frames are those of the node's children, in document order.
 #[tactic(auto, using(crate::proofs::KeptTrees::read_value, crate::proofs::KeptTrees::read_children))]
@@ -33,4 +34,10 @@ pub fn forgetting_keeps_the_rest()
     ensures same { (ns : List NodeId) (t : NodeTrees) → bare (forgets without_answers ns t) ≡ bare t }
     ensures kept { (ns : List NodeId) (t : NodeTrees) (n : NodeId) → kept_at (forgets without_answers ns t) n ≡ (if is_among n ns then [] else kept_at t n) }
     ensures right { (ns : List NodeId) (t : NodeTrees) → IsRight t → IsRight (forgets without_answers ns t) }
+{}
+
+/// A tree of nodes whose kinds and values a text reads as, none of which has more than 65,536 children, is such a tree by the numbers of its nodes.
+#[tactic(auto, using(crate::proofs::Readable::by_nodes))]
+pub fn readable_node_by_node()
+    ensures { (b : BareTrees) → EachNode (λ x. IsReadable (label_of_bare x.1)) b → IsNarrow 65536 b → AreReadable b }
 {}

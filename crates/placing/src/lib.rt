@@ -28,7 +28,10 @@ pub use contexts::{Above, AxisContext, Context, Placed};
 pub use grids::context_in;
 pub use items::{ChildArea, entry, has_subgrid};
 pub use keeping::{find, leaf_height, leaf_sizes, put};
-pub use laws::{forgetting_keeps_the_rest, kept_answers_are_defined, right_where_seen_the_same};
+pub use laws::{
+    forgetting_keeps_the_rest, kept_answers_are_defined, readable_node_by_node,
+    right_where_seen_the_same,
+};
 pub use node::{Answer, Frame, Node};
 pub use placement::{areas_in, ordered};
 pub use seats::{areas, context, seat};
