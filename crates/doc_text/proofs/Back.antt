@@ -4,12 +4,6 @@ use Rattle.std.specs.Str.{bytes_eq}
 use Rattle.std.proofs.lemmas.Bool.{or_left, or_right}
 use Rattle.plain_tree.specs.Trees.{Trees, leafless, tree, joined}
 use Rattle.plain_tree.proofs.Laws.{joined-leafless}
-use Rattle.text_scan.specs.declared.line.Place.{Place}
-use Rattle.doc_text.specs.declared.document.Plain.{Plain}
-use Rattle.doc_text.specs.declared.edit.Edit.TheVariants as edit
-use Rattle.doc_text.specs.declared.edit.Named.{Named}
-use Rattle.doc_text.specs.View.{label_of}
-use Rattle.doc_text.specs.Edits.{edited_trees}
 use Rattle.doc_text.specs.Label.{Label}
 use Rattle.doc_text.specs.Texts.{Word}
 use Rattle.doc_text.specs.Growth.{holds, alone}
@@ -119,13 +113,3 @@ move_back name parent old i index t d h s =
     let gone = left_less name t d in
     let one = is_tree_at name t d in
     rw (left_graft parent i name (tree_at name t) (removed name t) one gone, tree_graft parent i name (tree_at name t) (removed name t) one (removed_distinct name t d) gone h) (graft_back name old index t d s)
-
-pub insert_undone : (parent named : Named) (index : ℕ) (at : Place) (node : Plain) (trees : Trees Label) → node.name ≡ named.name → holds trees named.name ≡ false
-    → edited_trees (edit.Remove named) (edited_trees (edit.Insert parent index at named node) trees) ≡ trees
-insert_undone parent named index at node trees same h =
-    ap (λ (n : Word). removed n (inserted parent.name index (label_of node) trees)) (sym same)
-    ∙ insert_back parent.name index (label_of node) trees (ap (holds trees) same ∙ h)
-
-pub move_undone : (named parent old : Named) (i index : ℕ) (at back : Place) (trees : Trees Label) → IsDistinct trees → holds (removed named.name trees) parent.name ≡ true → StandsAt named.name old.name index trees
-    → edited_trees (edit.Move named old index back) (edited_trees (edit.Move named parent i at) trees) ≡ trees
-move_undone named parent old i index at back trees d h s = move_back named.name parent.name old.name i index trees d h s

@@ -58,7 +58,7 @@ first_is (row ∷ rows) fault e = by_place row.1 refl e (first_is rows fault)
       told = sym (same_Some (fault_at row.0 at) fault e);
     }
 
-none_comes : (rows : List Row) → first_refusal rows ≡ None → NoneComes rows
+pub none_comes : (rows : List Row) → first_refusal rows ≡ None → NoneComes rows
 none_comes [] e = tt
 none_comes (row ∷ rows) e = by_place row.1 refl e (none_comes rows)
   where
@@ -66,7 +66,7 @@ none_comes (row ∷ rows) e = by_place row.1 refl e (none_comes rows)
     by_place None h e rest = (h, rest e)
     by_place (Some at) h e rest = absurd (none-some (fault_at row.0 at) (sym e))
 
-not_there : (b : Bool) (at : Place) → where_ b at ≡ None → b ≡ false
+pub not_there : (b : Bool) (at : Place) → where_ b at ≡ None → b ≡ false
 not_there true at e = absurd (none-some at (sym e))
 not_there false at e = refl
 

@@ -14,3 +14,4 @@ pub mod Back
 pub mod Told
 pub mod Kept
 pub mod Validity
+pub mod Undone

@@ -1,19 +1,15 @@
 //! Laws of edits, each as the clause of a function that does nothing.
 
-ghost use Rattle.std.specs.Prelude.{◌≡◌, ℕ, false, true, Ok, Err};
+ghost use Rattle.std.specs.Prelude.{◌≡◌, ℕ, Ok, Err};
 ghost use Rattle.text_scan.specs.declared.line.Fault.{Fault};
 ghost use Rattle.text_scan.specs.declared.line.Place.{Place};
-ghost use Rattle.plain_tree.specs.Trees.{Trees};
 ghost use Rattle.doc_text.specs.declared.document.Doc.{Doc};
 ghost use Rattle.doc_text.specs.declared.document.Plain.{Plain};
 ghost use Rattle.doc_text.specs.declared.edit.Edit.{Edit};
 ghost use Rattle.doc_text.specs.declared.edit.Edit.TheVariants as edit;
 ghost use Rattle.doc_text.specs.declared.edit.Named.{Named};
-ghost use Rattle.doc_text.specs.Label.{Label};
-ghost use Rattle.doc_text.specs.View.{label_of};
-ghost use Rattle.doc_text.specs.Growth.{holds};
-ghost use Rattle.doc_text.specs.Named.{IsDistinct, StandsAt, removed};
-ghost use Rattle.doc_text.specs.Edits.{tree_of, refusals, edited_trees, edited};
+ghost use Rattle.doc_text.specs.Named.{IsDistinct, StandsAt};
+ghost use Rattle.doc_text.specs.Edits.{tree_of, refusals, applied, edited};
 ghost use Rattle.doc_text.specs.Valid.{IsShaped};
 ghost use Rattle.doc_text.specs.Laws.{IsFirst, NamesItsNode};
 
@@ -29,12 +25,12 @@ pub fn refusals_come_in_order()
     ensures { (e : Edit) (doc : Doc) (fault : Fault) → edited e doc ≡ Err fault → IsFirst (refusals doc e) fault }
 {}
 
-/// What was inserted and is removed leaves the tree as it was.
+/// What was inserted and is removed leaves the document as it was.
 pub fn remove_undoes_insert()
-    ensures { (parent named : Named) (index : ℕ) (at : Place) (node : Plain) (trees : Trees Label) → node.name ≡ named.name → holds trees named.name ≡ false → edited_trees (edit.Remove named) (edited_trees (edit.Insert parent index at named node) trees) ≡ trees }
+    ensures { (parent named other : Named) (index : ℕ) (at : Place) (node : Plain) (doc made : Doc) → node.name ≡ named.name → other.name ≡ named.name → edited (edit.Insert parent index at named node) doc ≡ Ok made → edited (edit.Remove other) made ≡ Ok doc }
 {}
 
-/// A node that was moved and is moved back to the parent and the index that it had leaves the tree as it was.
+/// A node that was moved and is moved back, under the parent and to the index that it had, leaves the document as it was.
 pub fn move_undoes_move()
-    ensures { (named parent old : Named) (i index : ℕ) (at back : Place) (trees : Trees Label) → IsDistinct trees → holds (removed named.name trees) parent.name ≡ true → StandsAt named.name old.name index trees → edited_trees (edit.Move named old index back) (edited_trees (edit.Move named parent i at) trees) ≡ trees }
+    ensures { (named parent old : Named) (i index : ℕ) (at back : Place) (doc made : Doc) → IsDistinct (tree_of doc) → StandsAt named.name old.name index (tree_of doc) → edited (edit.Move named parent i at) doc ≡ Ok made → applied (edit.Move named old index back) made ≡ doc }
 {}

@@ -1,4 +1,4 @@
-use Rattle.doc_text.proofs.Back.{move_undone}
+use Rattle.doc_text.proofs.Undone.{move_undone}
 use Rattle.doc_text.proofs.laws.move_undoes_move.Goals as goal
 
 pub returns : goal.returns

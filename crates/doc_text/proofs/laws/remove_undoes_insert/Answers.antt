@@ -1,4 +1,4 @@
-use Rattle.doc_text.proofs.Back.{insert_undone}
+use Rattle.doc_text.proofs.Undone.{insert_undone}
 use Rattle.doc_text.proofs.laws.remove_undoes_insert.Goals as goal
 
 pub returns : goal.returns
