@@ -66,7 +66,7 @@ fn is_within(spot: Spot) -> bool
     ensures { result ≡ is_within spot }
 {
     match spot {
-        Spot::At(span) => span.start < span.end && span.end <= 10_000,
+        Spot::At(span) => span.start < span.end && span.end <= 20_000,
         Spot::Free(tracks) => tracks <= 20_000,
     }
 }
@@ -152,7 +152,7 @@ fn lines_decide_where_items_stand(rt: HostRuntime) -> Result<(), Fail> {
         cells(2, 3, 2, 3),
     ];
     agrees(&rt, rt.alloc(), &items, explicit(2, 0), &wants)?;
-    // the last column that can be asked for, without explicit ones
+    // column 9,999, without explicit ones
     let far = [in_columns(9999, 10_000, 1)];
     agrees(
         &rt,
