@@ -5,17 +5,25 @@
 #[cfg(test)]
 mod alignment;
 #[cfg(test)]
+mod cells;
+#[cfg(test)]
+mod declarations;
+#[cfg(test)]
 mod devices;
 #[cfg(test)]
 mod flex;
 #[cfg(test)]
 mod leaves;
 #[cfg(test)]
+mod lines;
+#[cfg(test)]
 mod pieces;
 #[cfg(test)]
 mod places;
 #[cfg(test)]
 mod shares;
+#[cfg(test)]
+mod track_lists;
 #[cfg(test)]
 mod units;
 #[cfg(test)]

@@ -1,0 +1,538 @@
+ghost use Rattle.std.specs.Prelude.{◌≡◌, ◌≤◌, ◌&&◌, pos, neg_ℤ, ◌-ℤ◌, ◌≤ℤ◌, ◌<ℤ◌, int_le, int_lt, IfOk};
+ghost use Rattle.part_rules.specs.Lists.{above_zero};
+ghost use Rattle.line_names.specs.Repeats.{are_counted};
+ghost use Rattle.line_names.specs.Sides.{has_edges};
+ghost use Rattle.line_names.specs.Tables.{are_areas, is_area};
+
+use line_names::{LineTable, RepeatSpace, repetitions};
+use lunit::{LineValue, Lu, Name, NameSet, Sequence, Span, Spot};
+use std::alloc::Global;
+use std::process::Abort;
+use std::test::Fail;
+use style_types::{DeclaredValue, Prop, Value};
+use text_scan::Place;
+use value_text::read_decl;
+
+/// The names of each line: lines end at `|`, and names at spaces.
+fn sets_of(alloc: Global, text: &[u8]) -> Result<Sequence<NameSet>, Fail> {
+    let mut all = Sequence::new(alloc);
+    for line in text.split(|byte| *byte == b'|') {
+        let mut set = NameSet::new(alloc);
+        for name in line.split(|byte| *byte == b' ') {
+            if !name.is_empty() {
+                set.push(Name::read(name)?)?;
+            }
+        }
+        all.push(set)?;
+    }
+    Ok(all)
+}
+
+fn has_edges(value: &LineValue) -> bool
+    ensures { result ≡ has_edges value.now }
+{
+    match value {
+        LineValue::Auto => true,
+        LineValue::Line(_, _) => true,
+        LineValue::Reach(_, _) => true,
+        LineValue::Named(name) => name.bytes().len() <= 58,
+    }
+}
+
+fn begins(span: Span) -> bool
+    ensures { result ≡ int_le (pos 0) span.start }
+{
+    0 <= span.start
+}
+
+fn ends(span: Span, tracks: u32) -> bool
+    requires { tracks ≤ 65536 }
+    ensures { result ≡ (int_lt span.start span.end && int_le span.end (pos tracks)) }
+{
+    span.start < span.end && span.end <= tracks as i32
+}
+
+fn lies_in(span: Span, tracks: u32) -> bool
+    requires { tracks ≤ 65536 }
+    ensures { result ≡ (int_le (pos 0) span.start && (int_lt span.start span.end && int_le span.end (pos tracks))) }
+{
+    begins(span) && ends(span, tracks)
+}
+
+fn is_area(area: &(Name, Span), tracks: u32) -> bool
+    requires { tracks ≤ 65536 }
+    ensures { result ≡ is_area tracks area.now }
+{
+    let (name, span) = area;
+    name.bytes().len() <= 58 && lies_in(*span, tracks)
+}
+
+fn are_areas(areas: &[(Name, Span)], tracks: u32) -> bool
+    requires { tracks ≤ 65536 }
+    ensures { result ≡ are_areas tracks areas.now }
+{
+    areas.iter().all(|area| is_area(area, tracks))
+}
+
+/// The lines of a grid that is no subgrid.
+fn own(
+    alloc: Global,
+    sets: &[NameSet],
+    tracks: u32,
+    areas: &[(Name, Span)],
+) -> Result<LineTable, Fail>
+    requires { tracks ≤ 65536 }
+    ensures low { IfOk result (λ table. table.low ≡ neg_ℤ (pos 10000)) }
+    ensures high { IfOk result (λ table. table.high ≡ pos 10000) }
+{
+    if !are_areas(areas, tracks) {
+        return Err(Fail::new("no such areas"));
+    }
+    Ok(LineTable::new(alloc, sets, tracks, areas)?)
+}
+
+/// The lines of a subgrid over these lines of a parent.
+fn below(
+    alloc: Global,
+    parent: &LineTable,
+    span: Span,
+    sets: &[NameSet],
+    areas: &[(Name, Span)],
+) -> Result<LineTable, Fail>
+    requires low { parent.now.low ≤ℤ span.start }
+    requires some { span.start <ℤ span.end }
+    requires high { span.end ≤ℤ parent.now.high }
+    ensures low { IfOk result (λ table. table.low ≡ pos 0) }
+    ensures high { IfOk result (λ table. table.high ≡ pos (above_zero (span.end -ℤ span.start))) }
+{
+    if !are_areas(areas, 65536) {
+        return Err(Fail::new("no such areas"));
+    }
+    Ok(LineTable::inherit(alloc, parent, span, sets, areas)?)
+}
+
+/// The line value at a place among these declared values.
+fn value_at(all: &[(Prop, DeclaredValue)], at: usize) -> Option<&LineValue> {
+    match all.get(at) {
+        Some((_, declared)) => match &declared.value {
+            Value::Line(line) => Some(line),
+            _ => None,
+        },
+        None => None,
+    }
+}
+
+/// The place of two line values whose names are short, with an automatic span.
+fn place(table: &LineTable, start: &LineValue, end: &LineValue, automatic: u32) -> Option<Spot> {
+    if !has_edges(start) {
+        return None;
+    }
+    if !has_edges(end) {
+        return None;
+    }
+    if automatic == 0 || 20_000 < automatic {
+        return None;
+    }
+    Some(table.resolve(start, end, automatic))
+}
+
+/// The place of an item with these declared values.
+fn placed(table: &LineTable, all: &[(Prop, DeclaredValue)], automatic: u32) -> Option<Spot> {
+    match value_at(all, 0) {
+        Some(start) => match value_at(all, 1) {
+            Some(end) => place(table, start, end, automatic),
+            None => None,
+        },
+        None => None,
+    }
+}
+
+/// The place of an item with this declaration and this automatic span.
+fn spot(
+    alloc: Global,
+    table: &LineTable,
+    automatic: u32,
+    text: &[u8],
+) -> Result<Option<Spot>, Fail> {
+    let all = read_decl(alloc, text, Place { line: 1, column: 1 }, 1)?;
+    Ok(placed(table, all.as_slice(), automatic))
+}
+
+/// With these declarations items lie between these lines.
+fn lie(
+    rt: &impl Abort,
+    alloc: Global,
+    table: &LineTable,
+    automatic: u32,
+    rows: &[(&[u8], i32, i32)],
+) -> Result<(), Fail> {
+    for (text, start, end) in rows {
+        let due = Spot::At(Span {
+            start: *start,
+            end: *end,
+        });
+        assert_eq!(rt;
+            spot(alloc, table, automatic, text)?,
+            Some(due),
+            "place of {text:?}"
+        );
+    }
+    Ok(())
+}
+
+/// With these declarations items are free, over so many tracks.
+fn are_free(
+    rt: &impl Abort,
+    alloc: Global,
+    table: &LineTable,
+    automatic: u32,
+    rows: &[(&[u8], u32)],
+) -> Result<(), Fail> {
+    for (text, tracks) in rows {
+        assert_eq!(rt;
+            spot(alloc, table, automatic, text)?,
+            Some(Spot::Free(*tracks)),
+            "place of {text:?}"
+        );
+    }
+    Ok(())
+}
+
+/// Three tracks, whose lines are named `a`, `a`, `a` and `z`.
+fn three(alloc: Global) -> Result<LineTable, Fail> {
+    let sets = sets_of(alloc, b"a|a|a|z")?;
+    own(alloc, sets.as_slice(), 3, &[])
+}
+
+#[test]
+fn numbers_and_names_stand_for_lines(rt: HostRuntime) -> Result<(), Fail> {
+    let alloc = rt.alloc();
+    let table = three(alloc)?;
+    lie(
+        &rt,
+        alloc,
+        &table,
+        1,
+        &[
+            // above 0 the line one less, below 0 so many from line 3 + 1
+            (b"grid-column: 1 / auto", 0, 1),
+            (b"grid-column: -1 / auto", 3, 4),
+            (b"grid-column: -4 / auto", 0, 1),
+            (b"grid-column: -5 / auto", -1, 0),
+            // of the three lines `a` the last is 2; past them lines are counted from 3, and back from 0
+            (b"grid-column: 3 a / auto", 2, 3),
+            (b"grid-column: -1 a / auto", 2, 3),
+            (b"grid-column: -3 a / auto", 0, 1),
+            (b"grid-column: 5 a / auto", 5, 6),
+            (b"grid-column: -5 a / auto", -2, -1),
+            (b"grid-column: 2 z / auto", 4, 5),
+            // a bare name is the first of the name, here for both sides; line 4 where there is none
+            (b"grid-column: z / z", 3, 4),
+            (b"grid-column: q / q", 4, 5),
+            (b"grid-column: a / -1 z", 0, 3),
+        ],
+    )?;
+    Ok(())
+}
+
+#[test]
+fn spans_reach_lines(rt: HostRuntime) -> Result<(), Fail> {
+    let alloc = rt.alloc();
+    let table = three(alloc)?;
+    lie(
+        &rt,
+        alloc,
+        &table,
+        1,
+        &[
+            (b"grid-column: 2 / span 3", 1, 4),
+            (b"grid-column: span 3 / 4", 0, 3),
+            // `a` after line 0 stands on 1 and 2; after line 4 nowhere, which counts on from 4; after line -1 on 0
+            (b"grid-column: 1 / span 2 a", 0, 2),
+            (b"grid-column: 1 / span 4 a", 0, 5),
+            (b"grid-column: 5 / span 1 a", 4, 5),
+            (b"grid-column: -5 / span 1 a", -1, 0),
+            // before line 3 it stands on 2, 1 and 0; `z` before line 1 nowhere, which counts back from 0, or from -5
+            (b"grid-column: span 1 a / 4", 2, 3),
+            (b"grid-column: span 3 a / 4", 0, 3),
+            (b"grid-column: span 2 z / 2", -2, 1),
+            (b"grid-column: span 2 a / -9", -7, -5),
+        ],
+    )?;
+    // `auto` beside a line is the automatic span, back from an end
+    lie(
+        &rt,
+        alloc,
+        &table,
+        3,
+        &[
+            (b"grid-column: 2 / auto", 1, 4),
+            (b"grid-column: auto / 4", 0, 3),
+        ],
+    )?;
+    Ok(())
+}
+
+#[test]
+fn conflicts_are_settled(rt: HostRuntime) -> Result<(), Fail> {
+    let alloc = rt.alloc();
+    let table = three(alloc)?;
+    lie(
+        &rt,
+        alloc,
+        &table,
+        1,
+        &[
+            // two lines are put in order, and of equal ones the end is dropped
+            (b"grid-column: 3 / 1", 0, 2),
+            (b"grid-column: 2 / 2", 1, 2),
+            // the limit is from -10,000 to 10,000
+            (b"grid-column: 1 / 20000", 0, 10000),
+            (b"grid-column: 20000 / auto", 9999, 10000),
+            (b"grid-column: -20000 / auto", -10000, -9999),
+            (b"grid-column: -20000 / 1", -10000, 0),
+        ],
+    )?;
+    lie(&rt, alloc, &table, 3, &[(b"grid-column: 2 / 2", 1, 4)])?;
+    Ok(())
+}
+
+#[test]
+fn without_a_line_items_are_free(rt: HostRuntime) -> Result<(), Fail> {
+    let alloc = rt.alloc();
+    let table = three(alloc)?;
+    are_free(
+        &rt,
+        alloc,
+        &table,
+        4,
+        &[
+            // of two spans the end's is dropped, and one with a name counts as 1
+            (b"grid-column: span 2 / span 3", 2),
+            (b"grid-column: span 2 / auto", 2),
+            (b"grid-column: auto / span 2", 2),
+            (b"grid-column: span 3 a / auto", 1),
+            (b"grid-column: auto / span 3 a", 1),
+            (b"grid-column: span 3 a / span 7", 1),
+            (b"grid-column: auto / auto", 4),
+            // the limit has 20,000 tracks
+            (b"grid-column: span 30000 / auto", 20000),
+        ],
+    )?;
+    Ok(())
+}
+
+/// Two tracks with the area `h` over both and `m` over the second, and these names of lines.
+fn with_areas(alloc: Global, names: &[u8]) -> Result<LineTable, Fail> {
+    let areas = [
+        (Name::read(b"h")?, Span { start: 0, end: 2 }),
+        (Name::read(b"m")?, Span { start: 1, end: 2 }),
+    ];
+    let sets = sets_of(alloc, names)?;
+    own(alloc, sets.as_slice(), 2, &areas)
+}
+
+#[test]
+fn areas_name_lines(rt: HostRuntime) -> Result<(), Fail> {
+    let alloc = rt.alloc();
+    let table = with_areas(alloc, b"")?;
+    lie(
+        &rt,
+        alloc,
+        &table,
+        1,
+        &[
+            (b"grid-column: h / h", 0, 2),
+            (b"grid-column: m / m", 1, 2),
+            (b"grid-column: m / h", 1, 2),
+            // there is one line `m-start`, so the second is 2 + 1
+            (b"grid-column: 2 m-start / auto", 3, 4),
+        ],
+    )?;
+    let named = with_areas(alloc, b"m-start k k")?;
+    lie(
+        &rt,
+        alloc,
+        &named,
+        1,
+        &[
+            // now `m-start` stands on 0 and 1
+            (b"grid-column: m / m", 0, 2),
+            (b"grid-column: 2 m-start / auto", 1, 2),
+            // a name that stands twice on a line makes it one line: the second `k` is 2 + 1
+            (b"grid-column: 2 k / auto", 3, 4),
+        ],
+    )?;
+    Ok(())
+}
+
+/// Four tracks with the area `b` over lines 0 to 3 and `c` over 3 to 4, and the lines `x`, `x`, none, `y`, none.
+fn parent(alloc: Global) -> Result<LineTable, Fail>
+    ensures low { IfOk result (λ table. table.low ≡ neg_ℤ (pos 10000)) }
+    ensures high { IfOk result (λ table. table.high ≡ pos 10000) }
+{
+    let areas = [
+        (Name::read(b"b")?, Span { start: 0, end: 3 }),
+        (Name::read(b"c")?, Span { start: 3, end: 4 }),
+    ];
+    let sets = sets_of(alloc, b"x|x||y|")?;
+    own(alloc, sets.as_slice(), 4, &areas)
+}
+
+/// A subgrid over the lines 1 to 3: its lines are `p` and `x`; none; `p`, `y`, `b-end` and `c-start`, and `b` is over all of it.
+fn over_two(alloc: Global) -> Result<LineTable, Fail>
+    ensures low { IfOk result (λ table. table.low ≡ pos 0) }
+    ensures high { IfOk result (λ table. table.high ≡ pos 2) }
+{
+    let sets = sets_of(alloc, b"p||p|p")?;
+    let parent = parent(alloc)?;
+    below(
+        alloc,
+        &parent,
+        Span { start: 1, end: 3 },
+        sets.as_slice(),
+        &[],
+    )
+}
+
+#[test]
+fn subgrids_take_names_over(rt: HostRuntime) -> Result<(), Fail> {
+    let alloc = rt.alloc();
+    let table = over_two(alloc)?;
+    lie(
+        &rt,
+        alloc,
+        &table,
+        1,
+        &[
+            (b"grid-column: b / b", 0, 2),
+            (b"grid-column: 1 x / auto", 0, 1),
+            (b"grid-column: 1 p / 2 p", 0, 2),
+            // the last `p` is on line 2, since the fourth set is spare; from there all is past the limit, which is 0 to 2
+            (b"grid-column: -1 p / auto", 1, 2),
+            (b"grid-column: 1 y / auto", 1, 2),
+            (b"grid-column: auto / 1 y", 1, 2),
+            // `c` shares no track, but its `c-start` is a name of line 2
+            (b"grid-column: auto / 1 c-start", 1, 2),
+            (b"grid-column: 5 / auto", 1, 2),
+            (b"grid-column: -9 / auto", 0, 1),
+        ],
+    )?;
+    are_free(
+        &rt,
+        alloc,
+        &table,
+        2,
+        &[
+            (b"grid-column: span 7 / auto", 2),
+            (b"grid-column: auto / auto", 2),
+        ],
+    )?;
+    Ok(())
+}
+
+#[test]
+/// One level more, over the first track, has `b` again, and an area of its own that reaches past it.
+fn subgrids_of_subgrids_take_over_what_is_left(rt: HostRuntime) -> Result<(), Fail> {
+    let alloc = rt.alloc();
+    let table = over_two(alloc)?;
+    let own_area = [(Name::read(b"y")?, Span { start: 0, end: 9 })];
+    let inner = below(alloc, &table, Span { start: 0, end: 1 }, &[], &own_area)?;
+    lie(
+        &rt,
+        alloc,
+        &inner,
+        1,
+        &[(b"grid-column: b / b", 0, 1), (b"grid-column: y / y", 0, 1)],
+    )?;
+    Ok(())
+}
+
+#[test]
+/// Over the lines -2 to 1 the parent's lines 0 and 1 are the lines 2 and 3, and `b` is cut to the track between them.
+fn subgrids_lie_before_the_first_line_too(rt: HostRuntime) -> Result<(), Fail> {
+    let alloc = rt.alloc();
+    let parent = parent(alloc)?;
+    let table = below(alloc, &parent, Span { start: -2, end: 1 }, &[], &[])?;
+    lie(
+        &rt,
+        alloc,
+        &table,
+        1,
+        &[
+            (b"grid-column: b / b", 2, 3),
+            (b"grid-column: 1 x / -1 x", 2, 3),
+        ],
+    )?;
+    Ok(())
+}
+
+fn are_counted(lengths: &[Lu]) -> bool
+    ensures { result ≡ are_counted lengths.now }
+{
+    lengths.iter().all(|length| 64 <= length.units())
+}
+
+/// How often these lengths of tracks repeat, if they are counted lengths.
+fn times(fixed: &[Lu], repeated: &[Lu], gap: Lu, space: RepeatSpace) -> Option<u32> {
+    if !are_counted(fixed) || !are_counted(repeated) || repeated.is_empty() || gap.units() < 0 {
+        return None;
+    }
+    Some(repetitions(fixed, repeated, gap, space))
+}
+
+/// Tracks of 6400 repeat so often beside such gaps: up to a size, or to fill one.
+fn repeat(rt: &impl Abort, rows: &[(i64, bool, i64, u32)]) {
+    for (gap, fits, units, expected) in rows {
+        let size = Lu::of(*units);
+        let space = if *fits {
+            RepeatSpace::Fits(size)
+        } else {
+            RepeatSpace::Fills(size)
+        };
+        assert!(rt; times(&[], &[Lu::of(6400)], Lu::of(*gap), space) == Some(*expected));
+    }
+}
+
+#[test]
+fn repetitions_are_counted(rt: HostRuntime) {
+    repeat(
+        &rt,
+        &[
+            // three tracks of 6400 and two gutters of 640 are 20480, four are 27520
+            (640, true, 22400, 3),
+            (640, true, 20480, 3),
+            (640, true, 20479, 2),
+            (640, true, 100, 1),
+            (0, true, 12800, 2),
+            (0, true, 12799, 1),
+            // two tracks and a gutter are 13440
+            (640, false, 13440, 2),
+            (640, false, 13441, 3),
+            (640, false, 20480, 3),
+            (640, false, 0, 1),
+            (640, false, -1, 1),
+        ],
+    );
+}
+
+#[test]
+fn pairs_of_tracks_repeat(rt: HostRuntime) {
+    // one repetition is 100 + 128 + 20 = 248, and each further one 128 + 20 = 148
+    let pair = [Lu::of(64), Lu::of(64)];
+    let fixed = [Lu::of(100)];
+    let gap = Lu::of(10);
+    assert!(rt; times(&fixed, &pair, gap, RepeatSpace::Fits(Lu::of(395))) == Some(1));
+    assert!(rt; times(&fixed, &pair, gap, RepeatSpace::Fits(Lu::of(396))) == Some(2));
+    assert!(rt; times(&fixed, &pair, gap, RepeatSpace::Fills(Lu::of(249))) == Some(2));
+    assert!(rt; times(&fixed, &pair, gap, RepeatSpace::Endless) == Some(1));
+}
+
+#[test]
+fn repetitions_end_at_10_000(rt: HostRuntime) {
+    // 2^30 over tracks of 64 would be 16,777,216
+    let track = [Lu::of(64)];
+    let size = Lu::of(1 << 30);
+    assert!(rt; times(&[], &track, Lu::of(0), RepeatSpace::Fits(size)) == Some(10_000));
+    assert!(rt; times(&[], &track, Lu::of(0), RepeatSpace::Fills(size)) == Some(10_000));
+}

@@ -1,0 +1,122 @@
+//! Values of the two templates, worked by hand.
+
+use lunit::{Lu, NameSet, NoMemory};
+use std::alloc::Global;
+use std::process::Abort;
+use std::test::Fail;
+use style_types::{Breadth, Template, TrackFn};
+use text_scan::{Fault, Place};
+use track_text::{ReadError, read_tracks};
+
+const AT: Place = Place {
+    line: 3,
+    column: 14,
+};
+
+/// Writes the names with a space after each.
+fn spell_set(out: &mut Vec<u8>, set: &NameSet) -> Result<(), NoMemory> {
+    for name in set.as_slice() {
+        out.extend_from_slice(name.bytes())?;
+        out.push(b' ')?;
+    }
+    Ok(())
+}
+
+/// Writes the names of each line with a bar after the line.
+fn spelled(alloc: Global, sets: &[NameSet]) -> Result<Vec<u8>, NoMemory> {
+    let mut out = Vec::new(alloc);
+    for set in sets {
+        spell_set(&mut out, set)?;
+        out.push(b'|')?;
+    }
+    Ok(out)
+}
+
+/// The value is a list of these tracks, whose lines have these names.
+fn lists(
+    rt: &impl Abort,
+    alloc: Global,
+    text: &[u8],
+    tracks: &[TrackFn],
+    names: &[u8],
+) -> Result<(), Fail> {
+    let (template, _) = read_tracks(alloc, text, AT, 1)?;
+    let list = match template {
+        Template::Tracks(list) => Some(list),
+        _ => None,
+    };
+    let list = list.ok_or("no track list")?;
+    assert_eq!(rt; list.sizes.as_slice(), tracks, "tracks of {text:?}");
+    assert_eq!(rt;
+        spelled(alloc, list.names.as_slice())?.as_slice(),
+        names,
+        "names of {text:?}"
+    );
+    Ok(())
+}
+
+/// Values with a fault of this number each, at their first byte.
+fn are_refused(rt: &impl Abort, alloc: Global, number: u8, rows: &[&[u8]]) {
+    for text in rows {
+        let fault = Fault { number, place: AT };
+        let is_due = match read_tracks(alloc, text, AT, 1) {
+            Ok(_) => false,
+            Err(error) => error == ReadError::Fault(fault),
+        };
+        assert!(rt; is_due, "fault {number} of {text:?}");
+    }
+}
+
+fn fixed(units: i64) -> TrackFn {
+    TrackFn {
+        least: Breadth::Length(Lu::of(units)),
+        most: Breadth::Length(Lu::of(units)),
+        fit: None,
+    }
+}
+
+fn flexible(thousandths: u32) -> TrackFn {
+    TrackFn {
+        least: Breadth::Auto,
+        most: Breadth::Flex(thousandths),
+        fit: None,
+    }
+}
+
+#[test]
+fn repeats_are_written_out(rt: HostRuntime) -> Result<(), Fail> {
+    let text = b"[a] 10px repeat(2, 1fr [b]) [c]";
+    let tracks = [fixed(640), flexible(1000), flexible(1000)];
+    lists(&rt, rt.alloc(), text, &tracks, b"a ||b |b c |")?;
+    Ok(())
+}
+
+#[test]
+fn both_sides_of_a_track(rt: HostRuntime) -> Result<(), Fail> {
+    let between = TrackFn {
+        least: Breadth::MinContent,
+        most: Breadth::Percent(50_000),
+        fit: None,
+    };
+    let capped = TrackFn {
+        least: Breadth::Auto,
+        most: Breadth::MaxContent,
+        fit: Some(Breadth::Length(Lu::of(64))),
+    };
+    let text = b"minmax(min-content, 50%) fit-content(1px)";
+    lists(&rt, rt.alloc(), text, &[between, capped], b"|||")?;
+    Ok(())
+}
+
+#[test]
+fn values_that_are_refused(rt: HostRuntime) {
+    let rows = [
+        &b"10"[..],
+        b"1fr,",
+        b"minmax(1fr, 1px)",
+        b"[a]",
+        b"none 1px",
+    ];
+    are_refused(&rt, rt.alloc(), 9, &rows);
+    are_refused(&rt, rt.alloc(), 11, &[b"masonry", b"1em"]);
+}
