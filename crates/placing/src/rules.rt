@@ -212,6 +212,9 @@ fn autos_of<const AXIS: u8>(style: &Style) -> &[TrackFn]
 
 // ---- all tracks
 
+/// The most tracks of a template that are kept (own rule).
+const MOST_REPEATED: u64 = 10_000;
+
 /// The same of a list.
 fn fit_of_list(list: &TrackList, count: u32) -> Option<(u64, u64)>
     requires { IsTrackList list.now }
@@ -221,7 +224,8 @@ fn fit_of_list(list: &TrackList, count: u32) -> Option<(u64, u64)>
     match &list.repeat {
         Some(repeat) if repeat.auto_fit => {
             let first = repeat.before as u64;
-            Some((first, first + count as u64 * repeat.sizes.len() as u64))
+            let after = first + count as u64 * repeat.sizes.len() as u64;
+            Some((first.min(MOST_REPEATED), after.min(MOST_REPEATED)))
         }
         _ => None,
     }

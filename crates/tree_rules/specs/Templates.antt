@@ -1,5 +1,5 @@
 -- The template of an axis with its automatic repeat written out (CSS Grid 2, 7.2.3).
-use Rattle.std.specs.Prelude.{◌≡◌, refl, ℕ, zero, suc, ◌+◌, ◌*◌, pos, true, false, List, [], ◌∷◌, ◌++◌, take, drop, length, codes, Option, Some, None}
+use Rattle.std.specs.Prelude.{◌≡◌, refl, ℕ, zero, suc, ◌+◌, ◌*◌, pos, true, false, List, [], ◌∷◌, ◌++◌, take, drop, length, min, codes, Option, Some, None}
 use Rattle.style_types.specs.declared.track.Breadth.TheVariants as breadth
 use Rattle.style_types.specs.declared.track.Repeat.{Repeat}
 use Rattle.style_types.specs.declared.track.Template.{Template}
@@ -45,10 +45,15 @@ written_repeat l (Some r) count = record {
   fit = elim r.auto_fit [ true ↦ Some (r.before, r.before + count * length r.sizes) | false ↦ None ];
 }
 
+-- the repeated tracks of `auto-fit` among so many
+abbrev pub fit_within : ℕ → Option (ℕ × ℕ) → Option (ℕ × ℕ)
+fit_within most None = None
+fit_within most (Some fit) = Some (min fit.0 most, min fit.1 most)
+
 -- at most so many tracks (own rule): those after them go, and the lines after them with their names; the last line that is left keeps all its
 -- names (it could also lose those that come from what goes)
 abbrev pub cut_at : ℕ → Written → Written
-cut_at most w = record { sizes = take most w.sizes; names = take (most + 1) w.names; fit = w.fit }
+cut_at most w = record { sizes = take most w.sizes; names = take (most + 1) w.names; fit = fit_within most w.fit }
 
 -- A template in which the automatic repeat stands so often. `subgrid` has no tracks of its own, and is `none` where there is no grid to be
 -- a subgrid of.
@@ -93,6 +98,13 @@ seams = refl
 
 fit_tracks : twice.fit ≡ Some (1, 3)
 fit_tracks = refl
+
+-- of three tracks, the last two of which are repeated, two are kept: one repeated track may collapse; of one, none
+fit_of_kept : fit_within 2 (Some (1, 3)) ≡ Some (1, 2)
+fit_of_kept = refl
+
+fit_of_none : fit_within 1 (Some (1, 3)) ≡ Some (1, 1)
+fit_of_none = refl
 
 around_repeat : twice.sizes ≡ auto_track ∷ px_track 64 ∷ px_track 64 ∷ px_track 128 ∷ []
 around_repeat = refl
