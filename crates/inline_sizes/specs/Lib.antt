@@ -2,3 +2,4 @@ pub mod Bounded
 pub mod Lifted
 pub mod Styled
 pub mod Sums
+pub mod TrackAxes
