@@ -1,7 +1,10 @@
 pub mod Edges
+pub mod FineContexts
+pub mod FineSights
 pub mod Fixing
 pub mod InRange
 pub mod Lengths
+pub mod LentInside
 pub mod Limits
 pub mod Nested
 pub mod Offsets

@@ -1,4 +1,5 @@
 pub mod Bounded
+pub mod GridsSeen
 pub mod Lifted
 pub mod Styled
 pub mod Sums

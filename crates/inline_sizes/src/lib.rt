@@ -27,7 +27,7 @@ pub use flex_items::{
     automatic_minimum, base_size, column_box, cross_box, flex_item, inline_contribution,
     is_stretched_across, line_align, outer_cross,
 };
-pub use laws::lent_items_stay_inside;
+pub use laws::{items_lie_in_their_tracks, lent_items_stay_inside};
 pub use levels::{empty_item, extra_margins, lifted, offset_of};
 pub use sides::{inner, inner_end, inner_start, margins, outer_end, outer_start};
 pub use sized::{bounds_of, child_item, is_stretched, subgrid_box};
