@@ -1,16 +1,18 @@
 -- What the tracks of one axis of a grid are sized by, and what comes of it, as the code holds them (CSS Grid 2, section 12).
 use Rattle.std.specs.Prelude.{◌≡◌, ℕ, ℤ, pos, ◌-ℤ◌, ◌≤ℤ◌, Bool, List, Option, Some, None, length, option_map}
+use Rattle.std.specs.Int.{int_max}
 use Rattle.lunit.specs.declared.geometry.Span.{Span}
 use Rattle.lunit.specs.declared.item.Item.{Item}
 use Rattle.part_rules.specs.declared.track.Fit.{Fit}
 use Rattle.part_rules.specs.declared.track.Space.{Space}
+use Rattle.part_rules.specs.declared.track.Space.TheVariants.{MinContent, MaxContent}
 use Rattle.part_rules.specs.Lists.{above_zero}
 use Rattle.placing.specs.Covered.{IsNear}
 use Rattle.placing.specs.Ranges.{IsGridAxis}
 use Rattle.style_types.specs.Styles.{StyleMap}
 use Rattle.track_sizing.specs.Placed.{AreIn}
 use Rattle.tree_rules.specs.Distribution as rules
-use Rattle.tree_rules.specs.GridSizes.{TrackAxis}
+use Rattle.tree_rules.specs.GridSizes.{TrackAxis, total_for}
 use Rattle.tree_rules.specs.Labels.{ContentAxis, GridAxis, content_of}
 use Rattle.tree_rules.specs.NodeSizes.{bounds_of, stretches}
 use Rattle.tree_rules.specs.Templates.{written}
@@ -48,6 +50,14 @@ pub record CanSize (axis : ℕ) (style : StyleMap) (tracks : Span) (items : List
   pub grid : IsGridAxis (grid_at axis style)
   pub near : IsNear tracks
   pub inside : AreIn tracks.start (track_count tracks) items
+
+-- the totals for a min-content and a max-content space, the second at least the first
+abbrev pub intrinsic_totals : TrackAxis → ℤ × ℤ
+intrinsic_totals a =
+    let low_space : Space 0 = MinContent in
+    let high_space : Space 0 = MaxContent in
+    let low = total_for a low_space in
+    (low, int_max low (total_for a high_space))
 
 -- a size that percentages are of is not below 0
 abbrev pub IsBase : Option ℤ → Type 0

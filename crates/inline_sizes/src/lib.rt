@@ -31,6 +31,6 @@ pub use laws::{items_lie_in_their_tracks, lent_items_stay_inside};
 pub use levels::{empty_item, extra_margins, lifted, offset_of};
 pub use sides::{inner, inner_end, inner_start, margins, outer_end, outer_start};
 pub use sized::{bounds_of, child_item, is_stretched, subgrid_box};
-pub use tracks::{SizedTracks, TrackInput, sized_for, total_for};
+pub use tracks::{SizedTracks, TrackInput, intrinsic_totals, sized_for, total_for};
 pub use used::{block_used, content_of_box, inline_used, self_align, stretches};
 pub use views::view_in;

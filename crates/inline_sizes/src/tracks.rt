@@ -13,7 +13,7 @@ ghost use Rattle.tree_rules.specs.NodeSizes.{bounds_of, stretches};
 ghost use Rattle.placing.specs.Covered.{IsNear};
 ghost use Rattle.placing.specs.Ranges.{IsGridAxis};
 ghost use Rattle.inline_sizes.specs.Styled.{content_at, grid_at};
-ghost use Rattle.inline_sizes.specs.TrackAxes.{CanSize, IsBase, IsCounted, fit_in, sized_of, track_axis, track_count};
+ghost use Rattle.inline_sizes.specs.TrackAxes.{CanSize, IsBase, IsCounted, fit_in, intrinsic_totals, sized_of, track_axis, track_count};
 
 use crate::distribution::{gap_by, total_of_tracks};
 use crate::sized::bounds_of;
@@ -169,4 +169,21 @@ pub fn total_for<const AXIS: u8, L: Ledger>(
 {
     let sized = sized_for::<AXIS, L>(alloc, input, space, None, passes)?;
     Ok(total_of_tracks(sized.rules.as_slice(), sized.sizes.as_slice(), sized.gap).clamp())
+}
+
+/// The totals of the columns of a grid under a min-content and a max-content space, the second at least the first (CSS Grid 2,
+/// 5.2). It makes two steps. `NoMemory` where memory is wanting.
+pub fn intrinsic_totals<L: Ledger>(
+    alloc: Global,
+    input: &TrackInput<'_>,
+    passes: &mut Steps<L>,
+) -> Result<(Lu, Lu), NoMemory>
+    requires { CanSize 0 input.now.style.now input.now.tracks input.now.items.now }
+    ensures value { IfOk result (λ sizes. sizes ≡ intrinsic_totals (track_axis 0 input.now.style.now input.now.count input.now.spans.now input.now.tracks input.now.items.now)) }
+    ensures step { OnOk result (passes.new ≡ passes.old + 2) }
+    ensures stopped { OnErr result ((passes.old ≤ passes.new) × (passes.new ≤ passes.old + 2)) }
+{
+    let low = total_for::<0, L>(alloc, input, Space::MinContent, passes)?;
+    let high = total_for::<0, L>(alloc, input, Space::MaxContent, passes)?;
+    Ok((low, low.max(high)))
 }
