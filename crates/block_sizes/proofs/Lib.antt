@@ -1,0 +1,7 @@
+mod Laid
+pub mod Mains
+mod Open
+mod Outers
+mod Same
+mod Seams
+pub mod Seen

@@ -1,0 +1,20 @@
+//! The sizes of nodes along the block axis, and what the children of a container are given along both axes.
+//!
+//! All lengths are in units of one sixty-fourth of a pixel. Axis 0 is the inline axis, along which the columns lie, and axis 1 the
+//! block axis, along which the rows lie.
+#![tactic(auto)]
+
+mod children;
+mod edges;
+mod flexes;
+mod laws;
+mod views;
+
+pub use children::{
+    child_block, child_inline, first_start, from_first, given_box, given_view, own_block,
+    own_inline,
+};
+pub use edges::edges_in;
+pub use flexes::{Lines, column_block, crosses_of, lines_by, row_block, row_lines};
+pub use laws::{children_of_grids_are_as_defined, lines_are_as_defined};
+pub use views::{view_by, view_for};
