@@ -14,8 +14,8 @@ use Rattle.node_arena.specs.Numbers.{EachNode, IsNumbered, Part, mapped, part_at
 use Rattle.tree_rules.specs.declared.query.Given.{Given}
 use Rattle.tree_rules.specs.Answers.{Pair}
 use Rattle.tree_rules.specs.Chains.{Above, Link, above_of, chain_of, is_subgrid, siblings_of}
-use Rattle.tree_rules.specs.Contexts.{AxisContext, Context, area_of, column_cells, context_by, context_under, first_pair, named_columns, named_rows, outer_pairs, own_context, placed_children, row_cells, shared_context}
-use Rattle.tree_rules.specs.GridSizes.{Grid, grid_by, rows_of_grid, wide_children}
+use Rattle.tree_rules.specs.Contexts.{AxisContext, Context, area_of, column_cells, context_by, context_under, first_pair, named_columns, named_rows, outer_pairs, own_context, placed_children, row_cells, shared_context, with_area}
+use Rattle.tree_rules.specs.GridSizes.{Entry, Grid, grid_by, rows_of_grid, wide_children}
 use Rattle.tree_rules.specs.Labels.{GridAxis, Label, plain_grid}
 use Rattle.tree_rules.specs.LentItems.{lifted}
 use Rattle.tree_rules.specs.Places.{Seen, above_root, first_of_two, seen_below}
@@ -30,9 +30,9 @@ use Rattle.placing.specs.Nodes.{Bare, BareTrees, NodeTrees, bare, bare_of, label
 use Rattle.placing.specs.Ranges.{AreReadable, IsEdge, IsGridAxis, IsGridStyle}
 use Rattle.placing.specs.Seats.{context_at}
 use Rattle.track_sizing.specs.Placed.{AreIn}
-use Rattle.inline_sizes.proofs.FineContexts.{HasGridStyle, IsFine, IsFineChain, areas_cut, context_fine, each_weaker, few_in_range, in_range, near_range, within_lifted, within_own}
-use Rattle.inline_sizes.proofs.LentInside.{AreStyled, IsFineAbove, IsLender, IsOver, all_lenders, chain_made, column_items, fine_after, fine_below, grid_of_kids, its_areas, its_context, row_items, siblings, siblings_counted, siblings_styled}
-use Rattle.inline_sizes.specs.GridsSeen.{HasItemsInTracks, HasLines, IsInTracks, grid_seen}
+use Rattle.inline_sizes.proofs.FineContexts.{HasGridStyle, IsFine, IsFineChain, areas_cut, context_fine, each_weaker, few_in_range, in_range, near_range, ordered, within_lifted, within_own}
+use Rattle.inline_sizes.proofs.LentInside.{AreStyled, IsEntryOf, IsFineAbove, IsLender, IsOver, all_lenders, chain_made, column_items, entries_of, fine_after, fine_below, grid_of_kids, its_areas, its_context, right_zipped, row_items, siblings, siblings_counted, siblings_styled}
+use Rattle.inline_sizes.specs.GridsSeen.{AreAreasIn, AreEntriesIn, HasItemsInTracks, HasLines, IsAreaIn, IsInTracks, grid_seen}
 use Rattle.inline_sizes.specs.TrackAxes.{track_count}
 
 -- ---- a node of a tree of such values
@@ -176,19 +176,40 @@ module _ (s : Seen) (fine : IsFineSeen s) (outer : List Pair) (width : Given) wh
   in_rows : Each (λ (a : Area). IsWithin g.context.rows.table.low g.context.rows.table.high a.rows) areas
   in_rows = each_weaker (IsInside g.context) (λ (a : Area). IsWithin g.context.rows.table.low g.context.rows.table.high a.rows) areas (λ a i. i.rows) inside
 
+  across : Each (λ (a : Area). IsWithin g.placed.columns.start g.placed.columns.end a.columns) areas
+  across = in_range (λ (a : Area). a.columns) g.context.columns.table.tracks g.context.columns.table.low g.context.columns.table.high areas in_columns
+
+  down : Each (λ (a : Area). IsWithin g.placed.rows.start g.placed.rows.end a.rows) areas
+  down = in_range (λ (a : Area). a.rows) g.context.rows.table.tracks g.context.rows.table.low g.context.rows.table.high areas in_rows
+
+  in_both : (xs : List Area) → Each (λ (a : Area). IsWithin g.placed.columns.start g.placed.columns.end a.columns) xs → Each (λ (a : Area). IsWithin g.placed.rows.start g.placed.rows.end a.rows) xs → Each (IsAreaIn g.placed.columns g.placed.rows) xs
+  in_both [] h k = tt
+  in_both (a ∷ rest) h k = (record { columns = h.0; rows = k.0 }, in_both rest h.1 k.1)
+
+  all_areas : Each (IsAreaIn g.placed.columns g.placed.rows) areas
+  all_areas = in_both areas across down
+
+  areas_in : (xs : List (ℕ × Area)) → Each (λ (a : ℕ × Area). IsAreaIn g.placed.columns g.placed.rows a.1) xs → AreAreasIn g.placed.columns g.placed.rows xs
+  areas_in [] h = tt
+  areas_in (a ∷ rest) h = (h.0, areas_in rest h.1)
+
+  entries_in : (xs : List Entry) → Each (IsEntryOf s.label s.chain s.below fine.grid fine.links children lenders (IsAreaIn g.placed.columns g.placed.rows)) xs → AreEntriesIn g.placed.columns g.placed.rows xs
+  entries_in [] h = tt
+  entries_in (e ∷ rest) h = (h.0.area, entries_in rest h.1)
+
   column_tracks : g.context.columns.subgrid ≡ false → Each (IsOver g.placed.columns) g.columns.items
   column_tracks e =
       column_items s.label s.chain s.below fine.grid fine.links children lenders g.placed.columns outer width
       (each_weaker (λ (a : Area). IsWithin g.placed.columns.start g.placed.columns.end a.columns) (λ (a : Area). IsWithin g.placed.columns.start g.placed.columns.end (lifted g.context.columns.levels a.columns)) areas
       (λ a w. within_own g.context.columns g.placed.columns.start g.placed.columns.end a.columns (c.columns.own e) w)
-      (in_range (λ (a : Area). a.columns) g.context.columns.table.tracks g.context.columns.table.low g.context.columns.table.high areas in_columns))
+      across)
 
   row_tracks : (columns : View 0) → g.context.rows.subgrid ≡ false → Each (IsOver g.placed.rows) (rows_of_grid g (wide_children g columns)).items
   row_tracks columns e =
       row_items s.label s.chain s.below fine.grid fine.links children lenders g.placed.rows outer width columns
       (each_weaker (λ (a : Area). IsWithin g.placed.rows.start g.placed.rows.end a.rows) (λ (a : Area). IsWithin g.placed.rows.start g.placed.rows.end (lifted g.context.rows.levels a.rows)) areas
       (λ a w. within_own g.context.rows g.placed.rows.start g.placed.rows.end a.rows (c.rows.own e) w)
-      (in_range (λ (a : Area). a.rows) g.context.rows.table.tracks g.context.rows.table.low g.context.rows.table.high areas in_rows))
+      down)
 
   in_tracks : IsInTracks g
   in_tracks = record {
@@ -196,6 +217,8 @@ module _ (s : Seen) (fine : IsFineSeen s) (outer : List Pair) (width : Given) wh
     near_rows = near_range (λ (a : Area). a.rows) g.context.rows.table.tracks g.context.rows.table areas c.rows.few c.rows.limit in_rows;
     few_columns = few_in_range (λ (a : Area). a.columns) g.context.columns.table.tracks g.context.columns.table areas c.columns.few c.columns.limit in_columns;
     few_rows = few_in_range (λ (a : Area). a.rows) g.context.rows.table.tracks g.context.rows.table areas c.rows.few c.rows.limit in_rows;
+    areas = areas_in g.placed.areas (right_zipped (λ (a : ℕ × Area). IsAreaIn g.placed.columns g.placed.rows a.1) (IsAreaIn g.placed.columns g.placed.rows) with_area (ordered (siblings s.label s.chain s.below fine.grid fine.links children lenders)) areas (λ x a h. h) all_areas);
+    entries = entries_in g.entries (entries_of s.label s.chain s.below fine.grid fine.links children lenders (IsAreaIn g.placed.columns g.placed.rows) (outer ++ own_pair s.label width ∷ []) all_areas);
     columns = λ e. are_in g.placed.columns g.columns.items (column_tracks e);
     rows = λ columns e. are_in g.placed.rows (rows_of_grid g (wide_children g columns)).items (row_tracks columns e);
   }

@@ -107,7 +107,7 @@ both_zipped P Q R f [] ys g h k = tt
 both_zipped P Q R f (x ∷ xs) [] g h k = tt
 both_zipped P Q R f (x ∷ xs) (y ∷ ys) g h k = (g x y h.0 k.0, both_zipped P Q R f xs ys g h.1 k.1)
 
-right_zipped : {A B C : Type 0} → (P : C → Type 0) (R : B → Type 0) (f : A → B → C) (xs : List A) (ys : List B) → ((x : A) (y : B) → R y → P (f x y)) → Each R ys → Each P (zipped f xs ys)
+pub right_zipped : {A B C : Type 0} → (P : C → Type 0) (R : B → Type 0) (f : A → B → C) (xs : List A) (ys : List B) → ((x : A) (y : B) → R y → P (f x y)) → Each R ys → Each P (zipped f xs ys)
 right_zipped P R f [] ys g k = tt
 right_zipped P R f (x ∷ xs) [] g k = tt
 right_zipped P R f (x ∷ xs) (y ∷ ys) g k = (g x y k.0, right_zipped P R f xs ys g k.1)
@@ -154,11 +154,11 @@ module _ (x : Label) (chain : List Link) (below : Trees Label) (style : IsGridSt
   its_areas pairs = areas_inside (context pairs) x.grid siblings (its_context pairs) styled
 
   -- what is known of an entry, where each area has a property
-  record IsEntryOf (P : Area → Type 0) (e : Entry) : Type 0 where
-    lender : IsLender above_it e.kid
-    area : P e.area
+  pub record IsEntryOf (P : Area → Type 0) (e : Entry) : Type 0 where
+    pub lender : IsLender above_it e.kid
+    pub area : P e.area
 
-  entries_of : (P : Area → Type 0) (pairs : List Pair) → Each P (areas_cut (context pairs) x.grid siblings)
+  pub entries_of : (P : Area → Type 0) (pairs : List Pair) → Each P (areas_cut (context pairs) x.grid siblings)
       → Each (IsEntryOf P) (zipped entry_of (in_order (λ (k : Kid). k.label.grid.order) kids) (placed_children (context pairs) x.grid siblings).areas)
   entries_of P pairs h =
       both_zipped (IsEntryOf P) (λ (e : ℕ × Kid). IsLender above_it e.1) (λ (a : ℕ × Area). P a.1) entry_of (in_order (λ (k : Kid). k.label.grid.order) kids) (placed_children (context pairs) x.grid siblings).areas

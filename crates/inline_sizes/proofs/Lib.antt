@@ -1,3 +1,4 @@
+pub mod AreasIn
 pub mod Edges
 pub mod FineContexts
 pub mod FineSights
