@@ -1,8 +1,14 @@
+pub mod Anew
 pub mod AreasIn
+pub mod Asked
+pub mod ColumnAxes
 pub mod Edges
 pub mod FineContexts
 pub mod FineSights
 pub mod Fixing
+pub mod FlexMembers
+pub mod FlexWalks
+pub mod Grids
 pub mod InRange
 pub mod Lengths
 pub mod LentInside

@@ -1,4 +1,7 @@
 pub mod Bounded
+pub mod Calls
+pub mod Flexes
+pub mod Grids
 pub mod GridsSeen
 pub mod Lifted
 pub mod Styled

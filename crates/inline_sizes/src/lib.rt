@@ -5,17 +5,23 @@
 #![tactic(auto)]
 
 mod bounds;
+mod columns;
 mod contributions;
 mod distribution;
+mod flex;
 mod flex_items;
+mod grid;
+mod inline;
 mod laws;
 mod levels;
 mod numbers;
+mod queries;
 mod sides;
 mod sized;
 mod tracks;
 mod used;
 mod views;
+mod walk;
 
 pub use bounds::{Bounds, border_size, resolved};
 pub use contributions::{contribution, floor_of};
@@ -23,14 +29,19 @@ pub use distribution::{
     area_size, content_size, gap_by, greatest_of, in_a_row, is_safe, mode_of, open_tracks, sum_of,
     total_of_tracks, tracks_over,
 };
+pub use flex::{FlexParts, Member};
 pub use flex_items::{
     automatic_minimum, base_size, column_box, cross_box, flex_item, inline_contribution,
     is_stretched_across, line_align, outer_cross,
 };
+pub use grid::{GridBase, GridParts, base_at};
+pub use inline::{inline_of, lend_columns};
 pub use laws::{items_lie_in_their_tracks, lent_items_stay_inside};
 pub use levels::{empty_item, extra_margins, lifted, offset_of};
+pub use queries::inline_query;
 pub use sides::{inner, inner_end, inner_start, margins, outer_end, outer_start};
 pub use sized::{bounds_of, child_item, is_stretched, subgrid_box};
 pub use tracks::{SizedTracks, TrackInput, intrinsic_totals, sized_for, total_for};
 pub use used::{block_used, content_of_box, inline_used, self_align, stretches};
 pub use views::view_in;
+pub use walk::{flex_at, grid_at, inline_at, lend_columns_at};

@@ -1,0 +1,188 @@
+-- The grid of the code is that of the definitions, and its questions lead to its children.
+use Rattle.std.proofs.Common.{◌≡◌, ℕ, zero, suc, ◌+◌, ◌∷◌, ◌++◌, [], List, length, map, drop, refl, sym, ap, ◌∙◌, subst, arith, ◌≤◌, length-append, append_assoc, append-nil, Contains, ℤ, Some}
+use Rattle.std.proofs.lemmas.List.{drop_all}
+use Rattle.std.proofs.lemmas.List.Elements.{Contains-append_left, Contains-append_right, Contains-push}
+use Rattle.lunit.specs.declared.item.Item.{Item}
+use Rattle.node_arena.specs.declared.number.NodeId.{NodeId}
+use Rattle.part_rules.specs.Lists.{zipped}
+use Rattle.node_arena.specs.Numbers.{child_at}
+use Rattle.placing.specs.Areas.{IsPlaced, entries_at, entry_by, numbered_area, placed_at, placed_of}
+use Rattle.placing.specs.Nodes.{BareTrees, kids_at, sight_at, uses_at}
+use Rattle.placing.specs.Seats.{context_at, context_of}
+use Rattle.placing.specs.Walks.{IsStep, State, StepsDown, Stopped, Walked, WalkedBelow, bare_in}
+use Rattle.placing.specs.declared.items.ChildArea.{ChildArea}
+use Rattle.placing.specs.declared.contexts.Above.TheVariants as above
+use Rattle.placing.specs.declared.contexts.Context.{Context}
+use Rattle.placing.specs.declared.contexts.Placed.{Placed}
+use Rattle.tree_rules.specs.Answers.{Kid, Pair}
+use Rattle.tree_rules.specs.AskedQueries.{ToChild, grid_asks_inline, inline_query, uses_by}
+use Rattle.tree_rules.specs.Contexts as rules
+use Rattle.tree_rules.specs.GridSizes.{Entry, column_items_of, entry_of, inline_of_entry, pairs_for, shares_columns}
+use Rattle.tree_rules.specs.Labels.{Label}
+use Rattle.tree_rules.specs.Orders.{in_order}
+use Rattle.tree_rules.specs.Repetitions.{own_pair}
+use Rattle.tree_rules.specs.declared.kind.NodeKind.{NodeKind}
+use Rattle.tree_rules.specs.declared.kind.NodeKind.TheVariants as kind
+use Rattle.tree_rules.specs.declared.query.Given.{Given}
+use Rattle.tree_rules.specs.declared.query.Given.TheVariants as given
+use Rattle.tree_rules.specs.declared.query.Query.{Query}
+use Rattle.inline_sizes.specs.Grids.{AreAnswers, IsAbove, IsBase, IsGrid, LeadsOn, asked_of, items_from, items_seen, sizes_seen}
+use Rattle.inline_sizes.specs.GridsSeen.{grid_seen}
+use Rattle.inline_sizes.specs.declared.grid.GridBase.{GridBase}
+
+-- ---- lists
+
+-- what stands at the front of the rest of a list is in it
+pub contains_drop : {A : Type 0} (xs rest : List A) (i : ℕ) (x : A) → drop i xs ≡ x ∷ rest → Contains xs x
+contains_drop [] rest zero x e = absurd cc
+contains_drop [] rest (suc i) x e = absurd cc
+contains_drop (u ∷ us) rest zero x e = let same : x ≡ u = cc in subst (λ z. Contains (z ∷ us) x) same (Contains-append_left (x ∷ []) us x (Contains-push [] x))
+contains_drop (u ∷ us) rest (suc i) x e = Contains-append_right (u ∷ []) us x (contains_drop us rest i x e)
+
+pub map_drop : {A B : Type 0} (f : A → B) (xs rest : List A) (i : ℕ) (x : A) → drop i xs ≡ x ∷ rest → drop i (map f xs) ≡ f x ∷ map f rest
+map_drop f [] rest zero x e = absurd cc
+map_drop f [] rest (suc i) x e = absurd cc
+map_drop f (u ∷ us) rest zero x e =
+    let a : u ≡ x = cc in
+    let b : us ≡ rest = cc in
+    λ j. f (a j) ∷ map f (b j)
+map_drop f (u ∷ us) rest (suc i) x e = map_drop f us rest i x e
+
+-- ---- before its children are asked
+
+own_pair_same : (x y : Label) (width : Given) → x.grid ≡ y.grid → x.content ≡ y.content → own_pair x width ≡ own_pair y width
+own_pair_same x y (given.Size v) g h = λ i. own_pair (record { name = []; kind = kind.Grid; grid = g i; content = h i }) (given.Size v)
+own_pair_same x y (given.Tracks edges gap) g h = λ i. own_pair (record { name = []; kind = kind.Grid; grid = g i; content = h i }) (given.Tracks edges gap)
+own_pair_same x y given.None g h = λ i. own_pair (record { name = []; kind = kind.Grid; grid = g i; content = h i }) given.None
+
+pub based : (b : BareTrees) (n : NodeId) (outer : List Pair) (width : Given) (c : Context) (p : Placed) (pair : Pair) (pairs : List Pair) (x : Label) →
+    length outer ≡ length (sight_at b n).chain → pairs ≡ outer ++ pair ∷ [] → pair ≡ own_pair x width → x.grid ≡ (sight_at b n).label.grid → x.content ≡ (sight_at b n).label.content →
+    context_of c ≡ context_at (sight_at b n) (outer ++ pair ∷ []) → IsPlaced b n (context_of c) p →
+    IsBase b n outer width (record { pair = pair; pairs = pairs; above = above.Grid c; placed = p })
+based b n outer width c p pair pairs x l e o g h k q =
+    let ck : context_of c ≡ context_at (sight_at b n) pairs = k ∙ ap (context_at (sight_at b n)) (sym e) in
+    record {
+      laid = record {
+        counts = ap length e ∙ length-append outer (pair ∷ []) ∙ ap (λ m. m + 1) l;
+        context = ck;
+        placed = subst (λ z. IsPlaced b n z p) ck q;
+      };
+      pair = o ∙ own_pair_same x (sight_at b n).label width g h;
+      pairs = e;
+    }
+
+-- ---- the grid of the definitions
+
+module _ (b : BareTrees) (n : NodeId) (outer : List Pair) (width : Given) (base : GridBase) (h : IsBase b n outer width base) where
+  -- its counts
+  pub seen_pairs : base.pairs ≡ (grid_seen b n outer width).pairs
+  unfolding grid_seen
+  seen_pairs = h.pairs ∙ ap (λ p. outer ++ p ∷ []) h.pair
+
+  -- its context
+  pub seen_context : context_at (sight_at b n) base.pairs ≡ (grid_seen b n outer width).context
+  unfolding grid_seen
+  seen_context = ap (context_at (sight_at b n)) (h.pairs ∙ ap (λ p. outer ++ p ∷ []) h.pair)
+
+  -- the areas of its children
+  pub seen_placed : placed_of base.placed ≡ (grid_seen b n outer width).placed
+  unfolding grid_seen
+  seen_placed = h.laid.placed.placed ∙ ap (placed_at b n) (ap (context_at (sight_at b n)) (h.pairs ∙ ap (λ p. outer ++ p ∷ []) h.pair))
+
+  pub seen_entries : entries_at b n base.placed ≡ (grid_seen b n outer width).entries
+  unfolding grid_seen
+  seen_entries = ap (λ (z : rules.Placed). zipped entry_of (in_order (λ (k : Kid). k.label.grid.order) (kids_at b n)) z.areas) (h.laid.placed.placed ∙ ap (placed_at b n) (ap (context_at (sight_at b n)) (h.pairs ∙ ap (λ p. outer ++ p ∷ []) h.pair)))
+
+  seen_inlines : map (inline_of_entry (grid_seen b n outer width).pairs) (grid_seen b n outer width).entries ≡ (grid_seen b n outer width).inlines
+  unfolding grid_seen
+  seen_inlines = refl
+
+  seen_items : items_from (grid_seen b n outer width).context.columns (grid_seen b n outer width).pairs (grid_seen b n outer width).entries ≡ (grid_seen b n outer width).columns.items
+  unfolding grid_seen
+  seen_items = refl
+
+  -- with what its children answer
+  pub grid_made : (sizes : List (ℤ × ℤ)) (made : List Item) → AreAnswers b n base sizes made → IsGrid b n outer width (record { base = base; inlines = sizes; items = made })
+  grid_made sizes made a =
+      record {
+        base = h;
+        pairs = seen_pairs;
+        context = subst (λ z. IsAbove z base.above) seen_context h.laid.context;
+        placed = subst (λ z. IsPlaced b n z base.placed) seen_context h.laid.placed;
+        entries = seen_entries;
+        inlines = a.inlines ∙ (λ i. map (inline_of_entry (seen_pairs i)) (seen_entries i)) ∙ seen_inlines;
+        items = a.items ∙ (λ i. items_from (seen_context i).columns (seen_pairs i) (seen_entries i)) ∙ seen_items;
+      }
+
+  asks_next : (k : ℕ) (e : Entry) → drop k (entries_at b n base.placed) ≡ e ∷ drop (k + 1) (entries_at b n base.placed) → (rest : List ToChild) →
+      Contains (map (grid_asks_inline (grid_seen b n outer width)) (grid_seen b n outer width).entries ++ rest) (e.number, inline_query (shares_columns e.kid) (pairs_for e.kid base.pairs))
+  asks_next k e next rest =
+      let there : drop k (grid_seen b n outer width).entries ≡ e ∷ drop (k + 1) (grid_seen b n outer width).entries = subst (λ (l : List Entry). drop k l ≡ e ∷ drop (k + 1) l) seen_entries next in
+      let asked = contains_drop _ _ k (grid_asks_inline (grid_seen b n outer width) e) (map_drop (grid_asks_inline (grid_seen b n outer width)) (grid_seen b n outer width).entries (drop (k + 1) (grid_seen b n outer width).entries) k e there) in
+      let here : grid_asks_inline (grid_seen b n outer width) e ≡ (e.number, inline_query (shares_columns e.kid) (pairs_for e.kid base.pairs)) = ap (λ (ps : List Pair). (e.number, inline_query (shares_columns e.kid) (pairs_for e.kid ps))) (sym seen_pairs) in
+      Contains-append_left _ rest _ (subst (Contains (map (grid_asks_inline (grid_seen b n outer width)) (grid_seen b n outer width).entries)) here asked)
+
+-- A question with its counts and its width leads to its children.
+leads_by : (b : BareTrees) (n : NodeId) (base : GridBase) (q : Query) → IsBase b n q.reps q.inline base → (k : NodeKind) → k ≡ kind.Grid → (i : ℕ) (e : Entry) → drop i (entries_at b n base.placed) ≡ e ∷ drop (i + 1) (entries_at b n base.placed) →
+    Contains (uses_by k (sight_at b n).label (sight_at b n).chain (kids_at b n) q) (e.number, inline_query (shares_columns e.kid) (pairs_for e.kid base.pairs))
+unfolding grid_seen
+leads_by b n base q h k is i e next =
+    subst (λ (z : NodeKind). Contains (uses_by z (sight_at b n).label (sight_at b n).chain (kids_at b n) q) (e.number, inline_query (shares_columns e.kid) (pairs_for e.kid base.pairs))) (sym is)
+    (asks_next b n q.reps q.inline base h i e next _)
+
+pub leads_on : (b : BareTrees) (n : NodeId) (outer : List Pair) (width : Given) (base : GridBase) → (sight_at b n).label.kind ≡ kind.Grid → IsBase b n outer width base → (q : Query) → q.reps ≡ outer → q.inline ≡ width → LeadsOn b n base q
+leads_on b n outer width base is h q r w = λ k e next. leads_by b n base q (subst (λ (o : List Pair). IsBase b n o q.inline base) (sym r) (subst (λ (g : Given). IsBase b n outer g base) (sym w) h)) (sight_at b n).label.kind is k e next
+
+-- ---- what its children answer, one after the other
+
+pub inlines_next : (pairs : List Pair) (entries : List Entry) (k : ℕ) (e : Entry) (old new : List (ℤ × ℤ)) (sizes : ℤ × ℤ) (all : List (ℤ × ℤ)) → drop k entries ≡ e ∷ drop (k + 1) entries → new ≡ old ++ sizes ∷ [] → sizes ≡ inline_of_entry pairs e →
+    old ++ map (inline_of_entry pairs) (drop k entries) ≡ all → new ++ map (inline_of_entry pairs) (drop (k + 1) entries) ≡ all
+inlines_next pairs entries k e old new sizes all next grown is so_far =
+    (λ j. (grown ∙ ap (λ z. old ++ z ∷ []) is) j ++ map (inline_of_entry pairs) (drop (k + 1) entries))
+    ∙ append_assoc old (inline_of_entry pairs e ∷ []) (map (inline_of_entry pairs) (drop (k + 1) entries))
+    ∙ ap (λ l. old ++ map (inline_of_entry pairs) l) (sym next) ∙ so_far
+
+pub items_next : (c : rules.AxisContext) (pairs : List Pair) (entries : List Entry) (k : ℕ) (e : Entry) (old new all : List Item) → drop k entries ≡ e ∷ drop (k + 1) entries → new ≡ old ++ column_items_of c pairs e (inline_of_entry pairs e) →
+    old ++ items_from c pairs (drop k entries) ≡ all → new ++ items_from c pairs (drop (k + 1) entries) ≡ all
+items_next c pairs entries k e old new all next grown so_far =
+    ap (λ z. z ++ items_from c pairs (drop (k + 1) entries)) grown
+    ∙ append_assoc old (column_items_of c pairs e (inline_of_entry pairs e)) (items_from c pairs (drop (k + 1) entries))
+    ∙ ap (λ l. old ++ items_from c pairs l) (sym next) ∙ so_far
+
+-- all of them
+pub all_there : {A B : Type 0} (f : List A → List B) (xs : List A) (k : ℕ) (done all : List B) → f [] ≡ [] → length xs ≤ k → done ++ f (drop k xs) ≡ all → done ≡ all
+all_there f xs k done all none end so_far = sym (ap (λ l. done ++ f l) (drop_all k xs end) ∙ ap (λ l. done ++ l) none ∙ append-nil done) ∙ so_far
+
+-- ---- a walk of its children
+
+zipped_few : {A B C : Type 0} (f : A → B → C) (xs : List A) (ys : List B) → length (zipped f xs ys) ≤ length ys
+zipped_few f [] ys = omega arith
+zipped_few f (x ∷ xs) [] = omega arith
+zipped_few f (x ∷ xs) (y ∷ ys) = omega (arith, zipped_few f xs ys)
+
+pub entries_few : (b : BareTrees) (n : NodeId) (p : Placed) → length (entries_at b n p) ≤ length p.areas
+entries_few b n p = omega (arith, zipped_few entry_of (in_order (λ (k : Kid). k.label.grid.order) (kids_at b n)) (placed_of p).areas, zipped_few numbered_area p.numbers p.areas)
+
+-- of a grid of the same tree, as it is called in the middle of a walk
+module _ (b d : BareTrees) (is : d ≡ b) (n : NodeId) (base : GridBase) (e : ChildArea) (k : ℕ) (next : drop k (entries_at d n base.placed) ≡ entry_by d e ∷ drop (k + 1) (entries_at d n base.placed)) where
+  next_first : drop k (entries_at b n base.placed) ≡ entry_by b e ∷ drop (k + 1) (entries_at b n base.placed)
+  next_first = subst (λ z. drop k (entries_at z n base.placed) ≡ entry_by z e ∷ drop (k + 1) (entries_at z n base.placed)) is next
+
+  pub inlines_then : (old new : List (ℤ × ℤ)) (sizes : ℤ × ℤ) (all : List (ℤ × ℤ)) → new ≡ old ++ sizes ∷ [] → sizes ≡ sizes_seen d base e → old ++ map (inline_of_entry base.pairs) (drop k (entries_at b n base.placed)) ≡ all → new ++ map (inline_of_entry base.pairs) (drop (k + 1) (entries_at b n base.placed)) ≡ all
+  inlines_then old new sizes all grown value so_far = inlines_next base.pairs (entries_at b n base.placed) k (entry_by b e) old new sizes all next_first grown (value ∙ ap (λ z. sizes_seen z base e) is) so_far
+
+  pub items_then : (old new all : List Item) → new ≡ old ++ items_seen d n base e → old ++ items_from (context_at (sight_at b n) base.pairs).columns base.pairs (drop k (entries_at b n base.placed)) ≡ all → new ++ items_from (context_at (sight_at b n) base.pairs).columns base.pairs (drop (k + 1) (entries_at b n base.placed)) ≡ all
+  items_then old new all grown so_far = items_next (context_at (sight_at b n) base.pairs).columns base.pairs (entries_at b n base.placed) k (entry_by b e) old new all next_first (grown ∙ ap (λ z. old ++ items_seen z n base e) is) so_far
+
+  module _ (steps : StepsDown b) (number : child_at d n e.number ≡ Some e.child) (q : Query) (leads : LeadsOn b n base q) (old mid new : State) (here : bare_in mid ≡ d) (w : WalkedBelow n q 0 old mid) where
+    step_here : IsStep d n e.number e.child
+    step_here = subst StepsDown (sym is) steps n e.child e.number number
+
+    asks_here : Contains (uses_at d n q) (e.number, asked_of d base e)
+    asks_here = subst (λ z. LeadsOn z n base q) (sym is) leads k (entry_by d e) next
+
+    pub below_then : Walked e.child (asked_of d base e) mid new → WalkedBelow n q 0 old new
+    below_then x = step_here.below q (asked_of d base e) 0 old mid new asks_here here w x
+
+    pub stops_then : Stopped e.child (asked_of d base e) mid new → Stopped n q old new
+    stops_then x = step_here.stops q (asked_of d base e) 0 old mid new asks_here here w x

@@ -1,0 +1,390 @@
+use Rattle.std.proofs.Common.{rules, arith, refl, sym, ap, subst, ◌≡◌, ◌∙◌, ◌+◌, ◌*◌, ◌<◌, ◌∷◌, ◌++◌, [], List, ℕ, true, false, length, map, pos, ◌≤◌, ◌&&◌, Bool}
+use Rattle.std.specs.Prelude.{All, Contains, get_or}
+use Rattle.std.proofs.lemmas.List.Elements.{All-push}
+use Rattle.placing.specs.Areas.{HasChildren, entries_at}
+use Rattle.placing.specs.Children.{IsNext, IsTree}
+use Rattle.placing.specs.Nodes.{BareTrees, IsLive, bare, kid_at, kids_at, sight_at, size_at, uses_at}
+use Rattle.placing.specs.Ranges.{AreReadable}
+use Rattle.placing.specs.Seats.{IsSeat, context_at}
+use Rattle.placing.specs.Counted.{IsGivenSize}
+use Rattle.placing.specs.Walks.{Stopped, Walked, kept_with, state}
+use Rattle.placing.specs.declared.contexts.Above.TheVariants as above
+use Rattle.placing.specs.declared.node.Answer.TheVariants as answer
+use Rattle.placing.proofs.Entries.{alone_there}
+use Rattle.placing.proofs.Leaves.{on_err}
+use Rattle.placing.proofs.Walks.{found_walked, stopped, ticked, walked_none}
+use Rattle.tree_rules.specs.Answers.{Pair}
+use Rattle.tree_rules.specs.AskedQueries.{inline_query}
+use Rattle.tree_rules.specs.Chains.{has_chain, has_subgrid, is_grid_kind}
+use Rattle.tree_rules.specs.Labels.{GridStyle}
+use Rattle.tree_rules.specs.GridSizes.{inline_of_entry}
+use Rattle.tree_rules.specs.KeptAnswers.{IsAbsent}
+use Rattle.tree_rules.specs.Queries.{Fits, answer_of, inline_sizes, lent_items, sees_columns}
+use Rattle.tree_rules.specs.declared.kind.NodeKind.TheVariants as kind
+use Rattle.tree_rules.specs.declared.kind.NodeKind.{NodeKind}
+use Rattle.tree_rules.specs.declared.query.Given.TheVariants as given
+use Rattle.tree_rules.specs.declared.query.Given.{Given}
+use Rattle.tree_rules.specs.declared.query.Query.{Query}
+use Rattle.inline_sizes.proofs.Anew.{flex_answer, flex_quiet, grid_answer, grid_quiet, lent_answer}
+use Rattle.inline_sizes.proofs.Asked.{chain_in_flex, entry_here, fits_no_chain, lent_fit, levels_above, on_ok, rows_fits, shared_asked, shared_chain, shared_fits, sizes_are, sizes_fit, walked_stopped}
+use Rattle.inline_sizes.proofs.FlexWalks.{flex_uses_next, members_all, members_first, members_next}
+use Rattle.inline_sizes.proofs.Grids.{all_there, below_then, entries_few, grid_made, inlines_then, items_then, leads_on, stops_then}
+use Rattle.inline_sizes.specs.Flexes.{AreMembers, IsChild, member_of, members_from}
+use Rattle.inline_sizes.specs.Grids.{IsEntry, IsGrid, IsLaid, LeadsOn, items_from}
+use Rattle.inline_sizes.specs.GridsSeen.{HasLines}
+use Rattle.inline_sizes.specs.Lifted.{IsSelfLifted}
+use Rattle.inline_sizes.proofs.walk.+walk.Goals as goal
+
+abbrev has_kind : NodeKind → GridStyle → Bool
+has_kind k s = is_grid_kind k && has_subgrid s
+
+pub ask_children-loop-index-init : goal.ask_children-loop-index-init
+ask_children-loop-index-init g t c =
+    record {
+      right = c.requires.right;
+      same = refl;
+      walked = λ q leads. walked_none c.args.id q (state c.args.tree.now c.args.tally.now c.args.passes.now (g.R.Ruler.log c.args.ruler.now)) c.requires.right;
+      inlines = ap (λ l. l ++ map (inline_of_entry c.args.base.now.pairs) (entries_at (bare c.args.tree.now.tree) c.args.id c.args.base.now.placed)) c.new-inlines.ensures;
+      items = ap (λ l. l ++ items_from (context_at (sight_at (bare c.args.tree.now.tree) c.args.id) c.args.base.now.pairs).columns c.args.base.now.pairs (entries_at (bare c.args.tree.now.tree) c.args.id c.args.base.now.placed)) c.new-items.ensures;
+    }
+
+pub ask_children-entry-entry-requires-clause-live : goal.ask_children-entry-entry-requires-clause-live
+ask_children-entry-entry-requires-clause-live g t c = subst (λ (z : BareTrees). IsLive z c.args.id) (sym c.loop-index.invariant.same) c.requires.live
+
+pub ask_children-entry-entry-requires-clause-children : goal.ask_children-entry-entry-requires-clause-children
+ask_children-entry-entry-requires-clause-children g t c = subst (λ (z : BareTrees). HasChildren z c.args.id c.args.base.now.placed) (sym c.loop-index.invariant.same) c.requires.laid.placed.children
+
+pub ask_children-ask_child-requires : goal.ask_children-ask_child-requires
+ask_children-ask_child-requires g t c =
+    let back = sym c.loop-index.invariant.same in
+    let tree : IsTree (bare c.loop-index.tree.tree) = subst IsTree back c.root.ensures.tree in
+    let live : IsLive (bare c.loop-index.tree.tree) c.args.id = subst (λ (z : BareTrees). IsLive z c.args.id) back c.requires.live in
+    let readable : AreReadable (bare c.loop-index.tree.tree) = subst AreReadable back c.requires.readable in
+    let grid : (sight_at (bare c.loop-index.tree.tree) c.args.id).label.kind ≡ kind.Grid = subst (λ (z : BareTrees). (sight_at z c.args.id).label.kind ≡ kind.Grid) back c.requires.grid in
+    let laid : IsLaid (bare c.loop-index.tree.tree) c.args.id c.args.base.now = subst (λ (z : BareTrees). IsLaid z c.args.id c.args.base.now) back c.requires.laid in
+    let lines : HasLines (context_at (sight_at (bare c.loop-index.tree.tree) c.args.id) c.args.base.now.pairs) = subst (λ (z : BareTrees). HasLines (context_at (sight_at z c.args.id) c.args.base.now.pairs)) back (c.items_lie_in_their_tracks.ensures.lines c.args.base.now.pairs) in
+    let entry : IsEntry (bare c.loop-index.tree.tree) c.args.id c.args.base.now c.entry-entry.result =
+    entry_here (bare c.loop-index.tree.tree) c.args.id c.args.base.now c.entry-entry.result tree grid laid c.entry-entry.ensures.live c.entry-entry.ensures.child c.entry-entry.ensures.inside c.entry-entry.ensures.seat c.entry-entry.ensures.alone lines in
+    let small : 8 * size_at (bare c.loop-index.tree.tree) c.entry-entry.result.child + 6 < 8 * size_at (bare c.args.tree.now.tree) c.args.id = omega (arith, entry.smaller, ap (λ (z : BareTrees). size_at z c.args.id) c.loop-index.invariant.same) in
+    search rules
+
+pub ask_children-returns-in_err-sizes-clause-stopped : goal.ask_children-returns-in_err-sizes-clause-stopped
+ask_children-returns-in_err-sizes-clause-stopped g t c =
+    let all : (q : Query) → LeadsOn (bare c.args.tree.now.tree) c.args.id c.args.base.now q → Stopped c.args.id q (state c.args.tree.now c.args.tally.now c.args.passes.now (g.R.Ruler.log c.args.ruler.now)) (state c.ask_child.new.tree c.ask_child.new.tally c.ask_child.new.passes (g.R.Ruler.log c.ask_child.new.ruler)) =
+    λ q leads. stops_then (bare c.args.tree.now.tree) (bare c.loop-index.tree.tree) c.loop-index.invariant.same c.args.id c.args.base.now c.entry-entry.result c.loop-index.index c.entry-entry.ensures.next
+    c.root.ensures.steps c.entry-entry.ensures.child q leads _ _ _ refl (c.loop-index.invariant.walked q leads) c.in_err-sizes.ensures.stopped in
+    on_err _ _ all
+
+pub ask_children-returns-in_err-push-clause-stopped : goal.ask_children-returns-in_err-push-clause-stopped
+ask_children-returns-in_err-push-clause-stopped g t c =
+    let all : (q : Query) → LeadsOn (bare c.args.tree.now.tree) c.args.id c.args.base.now q → Stopped c.args.id q (state c.args.tree.now c.args.tally.now c.args.passes.now (g.R.Ruler.log c.args.ruler.now)) (state c.ask_child.new.tree c.ask_child.new.tally c.ask_child.new.passes (g.R.Ruler.log c.ask_child.new.ruler)) =
+    λ q leads. stopped c.args.id q 0 _ _ (below_then (bare c.args.tree.now.tree) (bare c.loop-index.tree.tree) c.loop-index.invariant.same c.args.id c.args.base.now c.entry-entry.result c.loop-index.index c.entry-entry.ensures.next
+    c.root.ensures.steps c.entry-entry.ensures.child q leads _ _ _ refl (c.loop-index.invariant.walked q leads) c.in_ok-sizes.ensures.walked) in
+    on_err _ _ all
+
+pub ask_children-loop-index-preserved : goal.ask_children-loop-index-preserved
+ask_children-loop-index-preserved g t c =
+    record {
+      right = c.ask_child.ensures.right;
+      same = c.in_ok-sizes.ensures.walked.walk.bare_same ∙ c.loop-index.invariant.same;
+      walked = λ q leads. below_then (bare c.args.tree.now.tree) (bare c.loop-index.tree.tree) c.loop-index.invariant.same c.args.id c.args.base.now c.entry-entry.result c.loop-index.index c.entry-entry.ensures.next
+          c.root.ensures.steps c.entry-entry.ensures.child q leads _ _ _ refl (c.loop-index.invariant.walked q leads) c.in_ok-sizes.ensures.walked;
+      inlines = inlines_then (bare c.args.tree.now.tree) (bare c.loop-index.tree.tree) c.loop-index.invariant.same c.args.id c.args.base.now c.entry-entry.result c.loop-index.index c.entry-entry.ensures.next _ _ c.in_ok-sizes.sizes _ c.in_ok-push.ensures.ok c.in_ok-sizes.ensures.sizes c.loop-index.invariant.inlines;
+      items = items_then (bare c.args.tree.now.tree) (bare c.loop-index.tree.tree) c.loop-index.invariant.same c.args.id c.args.base.now c.entry-entry.result c.loop-index.index c.entry-entry.ensures.next _ _ _ c.in_ok-sizes.ensures.items c.loop-index.invariant.items;
+    }
+
+pub ask_children-returns-clause-answers : goal.ask_children-returns-clause-answers
+ask_children-returns-clause-answers g t c =
+    let few : length (entries_at (bare c.args.tree.now.tree) c.args.id c.args.base.now.placed) ≤ c.loop-index.index = omega (arith, entries_few (bare c.args.tree.now.tree) c.args.id c.args.base.now.placed, c.len-index-end.ensures) in
+    record {
+      inlines = all_there (map (inline_of_entry c.args.base.now.pairs)) (entries_at (bare c.args.tree.now.tree) c.args.id c.args.base.now.placed) c.loop-index.index c.loop-index.inlines (map (inline_of_entry c.args.base.now.pairs) (entries_at (bare c.args.tree.now.tree) c.args.id c.args.base.now.placed)) refl few c.loop-index.invariant.inlines;
+      items = all_there (items_from (context_at (sight_at (bare c.args.tree.now.tree) c.args.id) c.args.base.now.pairs).columns c.args.base.now.pairs) (entries_at (bare c.args.tree.now.tree) c.args.id c.args.base.now.placed) c.loop-index.index _ _ refl few c.loop-index.invariant.items;
+    }
+
+pub ask_children-returns-clause-right : goal.ask_children-returns-clause-right
+ask_children-returns-clause-right g t c = c.loop-index.invariant.right
+
+pub ask_children-returns-clause-below : goal.ask_children-returns-clause-below
+ask_children-returns-clause-below g t c = c.loop-index.invariant.walked
+
+pub ask_shared-lend_columns_at-requires : goal.ask_shared-lend_columns_at-requires
+ask_shared-lend_columns_at-requires g t c =
+    let b = bare c.args.tree.now.tree in
+    let live : IsLive (bare c.args.tree.now.tree) c.args.entry.child = c.requires.entry.live in
+    let fits : Fits (sight_at (bare c.args.tree.now.tree) c.args.entry.child) (inline_query true c.as_slice-reps.result.now) = subst (λ (r : List Pair). Fits (sight_at (bare c.args.tree.now.tree) c.args.entry.child) (inline_query true r)) (sym c.as_slice-reps.ensures) (shared_fits b c.args.id c.args.base.now c.args.entry c.requires.entry c.requires.shared) in
+    let seat : IsSeat (sight_at (bare c.args.tree.now.tree) c.args.entry.child) c.as_slice-reps.result.now c.args.base.now.above c.args.entry.area = subst (λ (r : List Pair). IsSeat (sight_at (bare c.args.tree.now.tree) c.args.entry.child) r c.args.base.now.above c.args.entry.area) (sym c.as_slice-reps.ensures) (c.requires.entry.seat (shared_chain b c.args.id c.args.base.now c.args.entry c.requires.entry c.requires.shared)) in
+    let small : 8 * size_at (bare c.args.tree.now.tree) c.args.entry.child + 4 < 8 * size_at (bare c.args.tree.now.tree) c.args.entry.child + 5 = omega arith in
+    search rules
+
+pub ask_shared-returns-clause-stopped : goal.ask_shared-returns-clause-stopped
+ask_shared-returns-clause-stopped g t c =
+    let as_asked = sym (shared_asked (bare c.args.tree.now.tree) c.args.id c.args.base.now c.args.entry c.requires.entry c.requires.shared ∙ ap (inline_query true) (sym c.as_slice-reps.ensures)) in
+    on_err _ _ (walked_stopped _ _ _ _ (subst (λ (q : Query). Walked c.args.entry.child q (state c.args.tree.now c.args.tally.now c.args.passes.now (g.R.Ruler.log c.args.ruler.now)) (state c.lend_columns_at.new.tree c.lend_columns_at.new.tally c.lend_columns_at.new.passes (g.R.Ruler.log c.lend_columns_at.new.ruler))) as_asked c.in_ok-lent.ensures.walked))
+
+pub ask_sizes-inline_at-requires : goal.ask_sizes-inline_at-requires
+ask_sizes-inline_at-requires g t c =
+    let b = bare c.args.tree.now.tree in
+    let some : has_chain (sight_at (bare c.args.tree.now.tree) c.args.entry.child).chain ≡ true =
+    c.requires.entry.chain ∙ (λ i. has_kind (sym c.node_at.ensures.kind i) (sym c.node_at.ensures.grid i)) ∙ sym c.has_subgrid.ensures ∙ c.if-has_subgrid.true in
+    let live : IsLive (bare c.args.tree.now.tree) c.args.entry.child = c.requires.entry.live in
+    let fits : Fits (sight_at (bare c.args.tree.now.tree) c.args.entry.child) (inline_query false c.as_slice-reps.result.now) = subst (λ (r : List Pair). Fits (sight_at (bare c.args.tree.now.tree) c.args.entry.child) (inline_query false r)) (sym c.as_slice-reps.ensures) (rows_fits b c.args.id c.args.base.now c.args.entry c.requires.entry c.requires.own some) in
+    let seat : IsSeat (sight_at (bare c.args.tree.now.tree) c.args.entry.child) c.as_slice-reps.result.now c.args.base.now.above c.args.entry.area = subst (λ (r : List Pair). IsSeat (sight_at (bare c.args.tree.now.tree) c.args.entry.child) r c.args.base.now.above c.args.entry.area) (sym c.as_slice-reps.ensures) (c.requires.entry.seat some) in
+    let small : 8 * size_at (bare c.args.tree.now.tree) c.args.entry.child + 4 < 8 * size_at (bare c.args.tree.now.tree) c.args.entry.child + 5 = omega arith in
+    search rules
+
+pub columns_anew-grid_at-requires : goal.columns_anew-grid_at-requires
+columns_anew-grid_at-requires g t c =
+    let grid : (sight_at (bare c.args.tree.now.tree) c.args.id).label.kind ≡ kind.Grid = c.subgrids_are_grids.ensures (lent_fit (sight_at (bare c.args.tree.now.tree) c.args.id) c.args.query (ap (λ (q : Query). q.ask) c.requires.query) c.requires.fits) in
+    let counts : length c.as_slice-reps.result.now ≡ length (sight_at (bare c.args.tree.now.tree) c.args.id).chain = ap length c.as_slice-reps.ensures ∙ c.requires.fits.reps in
+    let seat : IsSeat (sight_at (bare c.args.tree.now.tree) c.args.id) c.as_slice-reps.result.now c.args.above.now c.args.area = subst (λ (r : List Pair). IsSeat (sight_at (bare c.args.tree.now.tree) c.args.id) r c.args.above.now c.args.area) (sym c.as_slice-reps.ensures) c.requires.seat in
+    let width : IsGivenSize c.args.query.inline = subst IsGivenSize (sym (ap (λ (q : Query). q.inline) c.requires.query)) tt in
+    search rules
+
+pub grid_anew-grid_at-requires : goal.grid_anew-grid_at-requires
+grid_anew-grid_at-requires g t c =
+    let grid : (sight_at (bare c.args.tree.now.tree) c.args.id).label.kind ≡ kind.Grid = c.requires.grid in
+    let counts : length c.as_slice-reps.result.now ≡ length (sight_at (bare c.args.tree.now.tree) c.args.id).chain = ap length c.as_slice-reps.ensures ∙ c.requires.fits.reps in
+    let seat : IsSeat (sight_at (bare c.args.tree.now.tree) c.args.id) c.as_slice-reps.result.now c.args.above.now c.args.area = subst (λ (r : List Pair). IsSeat (sight_at (bare c.args.tree.now.tree) c.args.id) r c.args.above.now c.args.area) (sym c.as_slice-reps.ensures) c.requires.seat in
+    let width : IsGivenSize c.args.query.inline = subst IsGivenSize (sym (ap (λ (q : Query). q.inline) c.requires.query)) tt in
+    search rules
+
+pub columns_anew-grid_lends-requires : goal.columns_anew-grid_lends-requires
+columns_anew-grid_lends-requires g t c =
+    record {
+      lifted = subst IsSelfLifted (sym (levels_above (context_at (sight_at (bare c.args.tree.now.tree) c.args.id) c.in_ok-parts.parts.base.pairs) c.in_ok-parts.parts.base.above c.in_ok-parts.ensures.value.base.laid.context))
+          (c.items_lie_in_their_tracks.ensures.lines c.in_ok-parts.parts.base.pairs).column_self;
+    }
+
+pub columns_anew-returns-in_err-items-clause-stopped : goal.columns_anew-returns-in_err-items-clause-stopped
+columns_anew-returns-in_err-items-clause-stopped g t c = on_err _ _ (stopped c.args.id c.args.query 0 _ _ (c.in_ok-parts.ensures.below c.args.query (sym c.as_slice-reps.ensures) refl))
+
+pub columns_anew-returns-in_err-lent-clause-stopped : goal.columns_anew-returns-in_err-lent-clause-stopped
+columns_anew-returns-in_err-lent-clause-stopped g t c = on_err _ _ (stopped c.args.id c.args.query 0 _ _ (c.in_ok-parts.ensures.below c.args.query (sym c.as_slice-reps.ensures) refl))
+
+pub columns_anew-put-requires-clause-live : goal.columns_anew-put-requires-clause-live
+columns_anew-put-requires-clause-live g t c = subst (λ (z : BareTrees). IsLive z c.args.id) (sym (c.in_ok-parts.ensures.below c.args.query (sym c.as_slice-reps.ensures) refl).walk.bare_same) c.requires.live
+
+pub columns_anew-put-requires-clause-absent : goal.columns_anew-put-requires-clause-absent
+columns_anew-put-requires-clause-absent g t c = subst (IsAbsent c.args.query) (sym (c.in_ok-parts.ensures.below c.args.query (sym c.as_slice-reps.ensures) refl).own) c.requires.absent
+
+pub columns_anew-put-requires-clause-fits : goal.columns_anew-put-requires-clause-fits
+columns_anew-put-requires-clause-fits g t c = subst (λ (z : BareTrees). Fits (sight_at z c.args.id) c.args.query) (sym (c.in_ok-parts.ensures.below c.args.query (sym c.as_slice-reps.ensures) refl).walk.bare_same) c.requires.fits
+
+pub grid_anew-put-requires-clause-live : goal.grid_anew-put-requires-clause-live
+grid_anew-put-requires-clause-live g t c = subst (λ (z : BareTrees). IsLive z c.args.id) (sym (c.in_ok-parts.ensures.below c.args.query (sym c.as_slice-reps.ensures) refl).walk.bare_same) c.requires.live
+
+pub grid_anew-put-requires-clause-absent : goal.grid_anew-put-requires-clause-absent
+grid_anew-put-requires-clause-absent g t c = subst (IsAbsent c.args.query) (sym (c.in_ok-parts.ensures.below c.args.query (sym c.as_slice-reps.ensures) refl).own) c.requires.absent
+
+pub grid_anew-put-requires-clause-fits : goal.grid_anew-put-requires-clause-fits
+grid_anew-put-requires-clause-fits g t c = subst (λ (z : BareTrees). Fits (sight_at z c.args.id) c.args.query) (sym (c.in_ok-parts.ensures.below c.args.query (sym c.as_slice-reps.ensures) refl).walk.bare_same) c.requires.fits
+
+pub flex_anew-put-requires-clause-live : goal.flex_anew-put-requires-clause-live
+flex_anew-put-requires-clause-live g t c = subst (λ (z : BareTrees). IsLive z c.args.id) (sym (c.in_ok-parts.ensures.below c.args.query).walk.bare_same) c.requires.live
+
+pub flex_anew-put-requires-clause-absent : goal.flex_anew-put-requires-clause-absent
+flex_anew-put-requires-clause-absent g t c = subst (IsAbsent c.args.query) (sym (c.in_ok-parts.ensures.below c.args.query).own) c.requires.absent
+
+pub flex_anew-put-requires-clause-fits : goal.flex_anew-put-requires-clause-fits
+flex_anew-put-requires-clause-fits g t c = subst (λ (z : BareTrees). Fits (sight_at z c.args.id) c.args.query) (sym (c.in_ok-parts.ensures.below c.args.query).walk.bare_same) c.requires.fits
+
+pub columns_anew-put-requires-clause-value : goal.columns_anew-put-requires-clause-value
+columns_anew-put-requires-clause-value g t c =
+    ap lent_items (c.in_ok-items.ensures (bare c.args.tree.now.tree) c.args.id c.args.query.reps given.None (subst (λ (o : List Pair). IsGrid (bare c.args.tree.now.tree) c.args.id o given.None c.in_ok-parts.parts) c.as_slice-reps.ensures
+    (subst (λ (w : Given). IsGrid (bare c.args.tree.now.tree) c.args.id c.as_slice-reps.result.now w c.in_ok-parts.parts) (ap (λ (q : Query). q.inline) c.requires.query) c.in_ok-parts.ensures.value))) ∙ lent_answer (bare c.args.tree.now.tree) c.args.id c.args.query (c.subgrids_are_grids.ensures (lent_fit (sight_at (bare c.args.tree.now.tree) c.args.id) c.args.query (ap (λ (q : Query). q.ask) c.requires.query) c.requires.fits)) (ap (λ (q : Query). q.ask) c.requires.query)
+    ∙ ap (λ (z : BareTrees). answer_of (sight_at z c.args.id) c.args.query) (sym (c.in_ok-parts.ensures.below c.args.query (sym c.as_slice-reps.ensures) refl).walk.bare_same)
+
+pub columns_anew-returns-clause-value : goal.columns_anew-returns-clause-value
+columns_anew-returns-clause-value g t c =
+    ap lent_items (c.in_ok-lent.ensures ∙ c.as_slice.ensures) ∙ ap lent_items (c.in_ok-items.ensures (bare c.args.tree.now.tree) c.args.id c.args.query.reps given.None (subst (λ (o : List Pair). IsGrid (bare c.args.tree.now.tree) c.args.id o given.None c.in_ok-parts.parts) c.as_slice-reps.ensures
+    (subst (λ (w : Given). IsGrid (bare c.args.tree.now.tree) c.args.id c.as_slice-reps.result.now w c.in_ok-parts.parts) (ap (λ (q : Query). q.inline) c.requires.query) c.in_ok-parts.ensures.value))) ∙ lent_answer (bare c.args.tree.now.tree) c.args.id c.args.query (c.subgrids_are_grids.ensures (lent_fit (sight_at (bare c.args.tree.now.tree) c.args.id) c.args.query (ap (λ (q : Query). q.ask) c.requires.query) c.requires.fits)) (ap (λ (q : Query). q.ask) c.requires.query)
+
+pub columns_anew-returns-clause-walked : goal.columns_anew-returns-clause-walked
+columns_anew-returns-clause-walked g t c = c.put.ensures.joins _ 0 _ _ (omega arith) (c.in_ok-parts.ensures.below c.args.query (sym c.as_slice-reps.ensures) refl)
+
+pub columns_anew-returns-clause-own : goal.columns_anew-returns-clause-own
+columns_anew-returns-clause-own g t c =
+    c.put.ensures.own ∙ (λ i. kept_with ((c.in_ok-parts.ensures.below c.args.query (sym c.as_slice-reps.ensures) refl).own i) ((c.args.query, answer.Lent (sym (c.in_ok-lent.ensures ∙ c.as_slice.ensures) i)) ∷ []))
+
+pub flex_anew-flex_inline-requires-clause-live : goal.flex_anew-flex_inline-requires-clause-live
+flex_anew-flex_inline-requires-clause-live g t c = subst (λ (z : BareTrees). IsLive z c.args.id) (sym (c.in_ok-parts.ensures.below c.args.query).walk.bare_same) c.requires.live
+
+pub flex_anew-flex_inline-requires-clause-readable : goal.flex_anew-flex_inline-requires-clause-readable
+flex_anew-flex_inline-requires-clause-readable g t c = subst AreReadable (sym (c.in_ok-parts.ensures.below c.args.query).walk.bare_same) c.requires.readable
+
+pub flex_anew-flex_inline-requires-clause-members : goal.flex_anew-flex_inline-requires-clause-members
+flex_anew-flex_inline-requires-clause-members g t c = subst (λ (z : BareTrees). AreMembers z c.args.id c.in_ok-parts.parts.members) (sym (c.in_ok-parts.ensures.below c.args.query).walk.bare_same) c.in_ok-parts.ensures.value
+
+pub flex_anew-returns-in_err-low-clause-stopped : goal.flex_anew-returns-in_err-low-clause-stopped
+flex_anew-returns-in_err-low-clause-stopped g t c = on_err _ _ (stopped c.args.id c.args.query 0 _ _ (c.in_ok-parts.ensures.below c.args.query))
+
+pub flex_anew-put-requires-clause-value : goal.flex_anew-put-requires-clause-value
+flex_anew-put-requires-clause-value g t c =
+    ap inline_sizes c.in_ok-low.ensures ∙ flex_answer (bare c.flex_at.new.tree.tree) c.args.id c.args.query (subst (λ (z : BareTrees). (sight_at z c.args.id).label.kind ≡ kind.Flex) (sym (c.in_ok-parts.ensures.below c.args.query).walk.bare_same) c.requires.flex) (ap (λ (q : Query). q.ask) c.requires.query)
+
+pub flex_anew-put-requires-clause-quiet : goal.flex_anew-put-requires-clause-quiet
+flex_anew-put-requires-clause-quiet g t c = flex_quiet (bare c.flex_at.new.tree.tree) c.args.id c.args.query (subst (λ (z : BareTrees). (sight_at z c.args.id).label.kind ≡ kind.Flex) (sym (c.in_ok-parts.ensures.below c.args.query).walk.bare_same) c.requires.flex)
+
+pub flex_anew-returns-clause-value : goal.flex_anew-returns-clause-value
+flex_anew-returns-clause-value g t c =
+    ap inline_sizes c.in_ok-low.ensures ∙ flex_answer (bare c.flex_at.new.tree.tree) c.args.id c.args.query (subst (λ (z : BareTrees). (sight_at z c.args.id).label.kind ≡ kind.Flex) (sym (c.in_ok-parts.ensures.below c.args.query).walk.bare_same) c.requires.flex) (ap (λ (q : Query). q.ask) c.requires.query)
+    ∙ ap (λ (z : BareTrees). answer_of (sight_at z c.args.id) c.args.query) (c.in_ok-parts.ensures.below c.args.query).walk.bare_same
+
+pub flex_anew-returns-clause-walked : goal.flex_anew-returns-clause-walked
+flex_anew-returns-clause-walked g t c = c.put.ensures.joins _ 0 _ _ (omega arith) (c.in_ok-parts.ensures.below c.args.query)
+
+pub flex_anew-returns-clause-own : goal.flex_anew-returns-clause-own
+flex_anew-returns-clause-own g t c = c.put.ensures.own ∙ ap (λ l. kept_with l ((c.args.query, answer.Sizes c.in_ok-low.low c.in_ok-low.high) ∷ [])) (c.in_ok-parts.ensures.below c.args.query).own
+
+pub flex_at-returns-in_err-numbers-clause-stopped : goal.flex_at-returns-in_err-numbers-clause-stopped
+flex_at-returns-in_err-numbers-clause-stopped g t c =
+    let all : (q : Query) → Stopped c.args.id q (state c.args.tree.now c.args.tally.now c.args.passes.now (g.R.Ruler.log c.args.ruler.now)) (state c.args.tree.now c.args.tally.now c.args.passes.now (g.R.Ruler.log c.args.ruler.now)) =
+    λ q. stopped c.args.id q 0 _ _ (walked_none c.args.id q (state c.args.tree.now c.args.tally.now c.args.passes.now (g.R.Ruler.log c.args.ruler.now)) c.requires.right) in
+    on_err _ _ all
+
+pub flex_at-loop-number-init : goal.flex_at-loop-number-init
+flex_at-loop-number-init g t c =
+    record {
+      right = c.requires.right;
+      same = refl;
+      walked = λ q. walked_none c.args.id q (state c.args.tree.now c.args.tally.now c.args.passes.now (g.R.Ruler.log c.args.ruler.now)) c.requires.right;
+      members = ap (λ l. map (member_of (bare c.args.tree.now.tree)) l ++ members_from (bare c.args.tree.now.tree) c.args.id 0) c.new-members.ensures ∙ members_first (bare c.args.tree.now.tree) c.args.id;
+      children = λ k d h. absurd (omega (arith, ap length c.new-members.ensures));
+    }
+
+pub flex_at-child-child-requires : goal.flex_at-child-child-requires
+flex_at-child-child-requires g t c =
+    let there : c.loop-number.number-index < length c.in_ok-numbers.numbers = omega (arith, ap length c.as_slice-number-items.ensures, c.loop-number-test.true) in
+    subst (λ (l : List ℕ). get_or l c.loop-number.number-index 0 < length (kids_at (bare c.loop-number.tree.tree) c.args.id)) (sym c.as_slice-number-items.ensures)
+    (subst (λ (z : BareTrees). get_or c.in_ok-numbers.numbers c.loop-number.number-index 0 < length (kids_at z c.args.id)) (sym c.loop-number.invariant.same) (c.in_ok-numbers.ensures.within c.loop-number.number-index 0 there))
+
+pub flex_at-inline_at-requires : goal.flex_at-inline_at-requires
+flex_at-inline_at-requires g t c =
+    let none = (chain_in_flex (bare c.loop-number.tree.tree) c.args.id c.child-child.result _ c.child-child.ensures.next (subst (λ (z : BareTrees). (sight_at z c.args.id).label.kind ≡ kind.Flex) (sym c.loop-number.invariant.same) c.requires.flex)) in
+    let live : IsLive (bare c.loop-number.tree.tree) c.child-child.result = c.child-child.ensures.next.live in
+    let readable : AreReadable (bare c.loop-number.tree.tree) = subst AreReadable (sym c.loop-number.invariant.same) c.requires.readable in
+    let fits : Fits (sight_at (bare c.loop-number.tree.tree) c.child-child.result) (inline_query false []) = fits_no_chain (sight_at (bare c.loop-number.tree.tree) c.child-child.result) none in
+    let seat : IsSeat (sight_at (bare c.loop-number.tree.tree) c.child-child.result) [] above.Nothing (record { columns = record { start = pos 0; end = pos 0 }; rows = record { start = pos 0; end = pos 0 } }) = alone_there (bare c.loop-number.tree.tree) c.child-child.result _ (ap has_chain none) in
+    let small : 8 * size_at (bare c.loop-number.tree.tree) c.child-child.result + 4 < 8 * size_at (bare c.args.tree.now.tree) c.args.id + 1 = omega (arith, c.child-child.ensures.next.smaller, ap (λ (z : BareTrees). size_at z c.args.id) c.loop-number.invariant.same) in
+    search rules
+
+pub flex_at-returns-in_err-inline-clause-stopped : goal.flex_at-returns-in_err-inline-clause-stopped
+flex_at-returns-in_err-inline-clause-stopped g t c =
+    let all : (q : Query) → Stopped c.args.id q (state c.args.tree.now c.args.tally.now c.args.passes.now (g.R.Ruler.log c.args.ruler.now)) (state c.inline_at.new.tree c.inline_at.new.tally c.inline_at.new.passes (g.R.Ruler.log c.inline_at.new.ruler)) =
+    λ q. c.child-child.ensures.step.stops q (inline_query false []) 0 _ _ _
+    (subst (λ (z : BareTrees). Contains (uses_at z c.args.id q) (get_or c.as_slice-number-items.result.now c.loop-number.number-index 0, inline_query false [])) (sym c.loop-number.invariant.same) (flex_uses_next (bare c.args.tree.now.tree) c.args.id c.as_slice-number-items.result.now (c.as_slice-number-items.ensures ∙ c.in_ok-numbers.ensures.value) c.loop-number.number-index (omega (arith, c.loop-number-test.true)) c.child-child.result (subst (λ (z : BareTrees). IsNext z c.args.id (get_or c.as_slice-number-items.result.now c.loop-number.number-index 0) c.child-child.result) c.loop-number.invariant.same c.child-child.ensures.next) q c.requires.flex))
+    refl (c.loop-number.invariant.walked q) c.in_err-inline.ensures.stopped in
+    on_err _ _ all
+
+pub flex_at-returns-in_err-push-clause-stopped : goal.flex_at-returns-in_err-push-clause-stopped
+flex_at-returns-in_err-push-clause-stopped g t c =
+    let all : (q : Query) → Stopped c.args.id q (state c.args.tree.now c.args.tally.now c.args.passes.now (g.R.Ruler.log c.args.ruler.now)) (state c.inline_at.new.tree c.inline_at.new.tally c.inline_at.new.passes (g.R.Ruler.log c.inline_at.new.ruler)) =
+    λ q. stopped c.args.id q 0 _ _ (c.child-child.ensures.step.below q (inline_query false []) 0 _ _ _
+    (subst (λ (z : BareTrees). Contains (uses_at z c.args.id q) (get_or c.as_slice-number-items.result.now c.loop-number.number-index 0, inline_query false [])) (sym c.loop-number.invariant.same) (flex_uses_next (bare c.args.tree.now.tree) c.args.id c.as_slice-number-items.result.now (c.as_slice-number-items.ensures ∙ c.in_ok-numbers.ensures.value) c.loop-number.number-index (omega (arith, c.loop-number-test.true)) c.child-child.result (subst (λ (z : BareTrees). IsNext z c.args.id (get_or c.as_slice-number-items.result.now c.loop-number.number-index 0) c.child-child.result) c.loop-number.invariant.same c.child-child.ensures.next) q c.requires.flex))
+    refl (c.loop-number.invariant.walked q) c.in_ok-inline.ensures.walked) in
+    on_err _ _ all
+
+pub flex_at-loop-number-preserved : goal.flex_at-loop-number-preserved
+flex_at-loop-number-preserved g t c =
+    record {
+      right = c.inline_at.ensures.right;
+      same = c.in_ok-inline.ensures.walked.walk.bare_same ∙ c.loop-number.invariant.same;
+      walked = λ q. c.child-child.ensures.step.below q (inline_query false []) 0 _ _ _
+          (subst (λ (z : BareTrees). Contains (uses_at z c.args.id q) (get_or c.as_slice-number-items.result.now c.loop-number.number-index 0, inline_query false [])) (sym c.loop-number.invariant.same) (flex_uses_next (bare c.args.tree.now.tree) c.args.id c.as_slice-number-items.result.now (c.as_slice-number-items.ensures ∙ c.in_ok-numbers.ensures.value) c.loop-number.number-index (omega (arith, c.loop-number-test.true)) c.child-child.result (subst (λ (z : BareTrees). IsNext z c.args.id (get_or c.as_slice-number-items.result.now c.loop-number.number-index 0) c.child-child.result) c.loop-number.invariant.same c.child-child.ensures.next) q c.requires.flex))
+          refl (c.loop-number.invariant.walked q) c.in_ok-inline.ensures.walked;
+      members = members_next (bare c.args.tree.now.tree) c.args.id c.as_slice-number-items.result.now (c.as_slice-number-items.ensures ∙ c.in_ok-numbers.ensures.value) c.loop-number.number-index (omega (arith, c.loop-number-test.true)) c.child-child.result (subst (λ (z : BareTrees). IsNext z c.args.id (get_or c.as_slice-number-items.result.now c.loop-number.number-index 0) c.child-child.result) c.loop-number.invariant.same c.child-child.ensures.next) _ _ c.in_ok-inline.inline
+          (sizes_are _ _ c.in_ok-inline.ensures.value ∙ ap (λ (z : BareTrees). (kid_at z c.child-child.result).answers.inline []) c.loop-number.invariant.same)
+          c.in_ok-push.ensures.ok c.loop-number.invariant.members;
+      children = subst (All (IsChild (bare c.args.tree.now.tree) c.args.id)) (sym c.in_ok-push.ensures.ok)
+          (All-push (IsChild (bare c.args.tree.now.tree) c.args.id) _ _ c.loop-number.invariant.children (record { number = (subst (λ (z : BareTrees). IsNext z c.args.id (get_or c.as_slice-number-items.result.now c.loop-number.number-index 0) c.child-child.result) c.loop-number.invariant.same c.child-child.ensures.next).number; live = (subst (λ (z : BareTrees). IsNext z c.args.id (get_or c.as_slice-number-items.result.now c.loop-number.number-index 0) c.child-child.result) c.loop-number.invariant.same c.child-child.ensures.next).live }));
+    }
+
+pub flex_at-returns-clause-value : goal.flex_at-returns-clause-value
+flex_at-returns-clause-value g t c =
+    record {
+      same = members_all (bare c.args.tree.now.tree) c.args.id c.as_slice-number-items.result.now (c.as_slice-number-items.ensures ∙ c.in_ok-numbers.ensures.value) c.loop-number.number-index c.loop-number.members (omega arith) c.loop-number.invariant.members;
+      children = c.loop-number.invariant.children;
+    }
+
+pub flex_at-returns-clause-right : goal.flex_at-returns-clause-right
+flex_at-returns-clause-right g t c = c.loop-number.invariant.right
+
+pub flex_at-returns-clause-below : goal.flex_at-returns-clause-below
+flex_at-returns-clause-below g t c = c.loop-number.invariant.walked
+
+pub grid_anew-grid_inline-requires-clause-live : goal.grid_anew-grid_inline-requires-clause-live
+grid_anew-grid_inline-requires-clause-live g t c = subst (λ (z : BareTrees). IsLive z c.args.id) (sym (c.in_ok-parts.ensures.below c.args.query (sym c.as_slice-reps.ensures) refl).walk.bare_same) c.requires.live
+
+pub grid_anew-grid_inline-requires-clause-readable : goal.grid_anew-grid_inline-requires-clause-readable
+grid_anew-grid_inline-requires-clause-readable g t c = subst AreReadable (sym (c.in_ok-parts.ensures.below c.args.query (sym c.as_slice-reps.ensures) refl).walk.bare_same) c.requires.readable
+
+pub grid_anew-grid_inline-requires-clause-own : goal.grid_anew-grid_inline-requires-clause-own
+grid_anew-grid_inline-requires-clause-own g t c = subst (λ (z : BareTrees). sees_columns (sight_at z c.args.id) ≡ false) (sym (c.in_ok-parts.ensures.below c.args.query (sym c.as_slice-reps.ensures) refl).walk.bare_same) (sizes_fit (sight_at (bare c.args.tree.now.tree) c.args.id) c.args.query (ap (λ (q : Query). q.ask) c.requires.query) c.requires.fits)
+
+pub grid_anew-grid_inline-requires-clause-grid : goal.grid_anew-grid_inline-requires-clause-grid
+grid_anew-grid_inline-requires-clause-grid g t c =
+    record {
+      outer = c.args.query.reps;
+      width = given.None;
+      grid = subst (λ (z : BareTrees). IsGrid z c.args.id c.args.query.reps given.None c.in_ok-parts.parts) (sym (c.in_ok-parts.ensures.below c.args.query (sym c.as_slice-reps.ensures) refl).walk.bare_same) (subst (λ (o : List Pair). IsGrid (bare c.args.tree.now.tree) c.args.id o given.None c.in_ok-parts.parts) c.as_slice-reps.ensures
+          (subst (λ (w : Given). IsGrid (bare c.args.tree.now.tree) c.args.id c.as_slice-reps.result.now w c.in_ok-parts.parts) (ap (λ (q : Query). q.inline) c.requires.query) c.in_ok-parts.ensures.value));
+    }
+
+pub grid_anew-returns-in_err-low-clause-stopped : goal.grid_anew-returns-in_err-low-clause-stopped
+grid_anew-returns-in_err-low-clause-stopped g t c = on_err _ _ (stopped c.args.id c.args.query 2 _ _ (ticked c.args.id c.args.query 0 2 _ _ c.grid_inline.new.passes c.in_err-low.ensures.stopped.1 (c.in_ok-parts.ensures.below c.args.query (sym c.as_slice-reps.ensures) refl)))
+
+pub grid_anew-put-requires-clause-value : goal.grid_anew-put-requires-clause-value
+grid_anew-put-requires-clause-value g t c =
+    ap inline_sizes (c.in_ok-low.ensures.value c.args.query.reps given.None (subst (λ (z : BareTrees). IsGrid z c.args.id c.args.query.reps given.None c.in_ok-parts.parts) (sym (c.in_ok-parts.ensures.below c.args.query (sym c.as_slice-reps.ensures) refl).walk.bare_same) (subst (λ (o : List Pair). IsGrid (bare c.args.tree.now.tree) c.args.id o given.None c.in_ok-parts.parts) c.as_slice-reps.ensures
+    (subst (λ (w : Given). IsGrid (bare c.args.tree.now.tree) c.args.id c.as_slice-reps.result.now w c.in_ok-parts.parts) (ap (λ (q : Query). q.inline) c.requires.query) c.in_ok-parts.ensures.value)))) ∙ grid_answer (bare c.grid_at.new.tree.tree) c.args.id c.args.query (subst (λ (z : BareTrees). (sight_at z c.args.id).label.kind ≡ kind.Grid) (sym (c.in_ok-parts.ensures.below c.args.query (sym c.as_slice-reps.ensures) refl).walk.bare_same) c.requires.grid) (ap (λ (q : Query). q.ask) c.requires.query)
+
+pub grid_anew-put-requires-clause-quiet : goal.grid_anew-put-requires-clause-quiet
+grid_anew-put-requires-clause-quiet g t c = grid_quiet (bare c.grid_at.new.tree.tree) c.args.id c.args.query (subst (λ (z : BareTrees). (sight_at z c.args.id).label.kind ≡ kind.Grid) (sym (c.in_ok-parts.ensures.below c.args.query (sym c.as_slice-reps.ensures) refl).walk.bare_same) c.requires.grid)
+
+pub columns_anew-put-requires-clause-quiet : goal.columns_anew-put-requires-clause-quiet
+columns_anew-put-requires-clause-quiet g t c = grid_quiet (bare c.grid_at.new.tree.tree) c.args.id c.args.query (subst (λ (z : BareTrees). (sight_at z c.args.id).label.kind ≡ kind.Grid) (sym (c.in_ok-parts.ensures.below c.args.query (sym c.as_slice-reps.ensures) refl).walk.bare_same) (c.subgrids_are_grids.ensures (lent_fit (sight_at (bare c.args.tree.now.tree) c.args.id) c.args.query (ap (λ (q : Query). q.ask) c.requires.query) c.requires.fits)))
+
+pub grid_anew-returns-clause-value : goal.grid_anew-returns-clause-value
+grid_anew-returns-clause-value g t c =
+    ap inline_sizes (c.in_ok-low.ensures.value c.args.query.reps given.None (subst (λ (z : BareTrees). IsGrid z c.args.id c.args.query.reps given.None c.in_ok-parts.parts) (sym (c.in_ok-parts.ensures.below c.args.query (sym c.as_slice-reps.ensures) refl).walk.bare_same) (subst (λ (o : List Pair). IsGrid (bare c.args.tree.now.tree) c.args.id o given.None c.in_ok-parts.parts) c.as_slice-reps.ensures
+    (subst (λ (w : Given). IsGrid (bare c.args.tree.now.tree) c.args.id c.as_slice-reps.result.now w c.in_ok-parts.parts) (ap (λ (q : Query). q.inline) c.requires.query) c.in_ok-parts.ensures.value)))) ∙ grid_answer (bare c.grid_at.new.tree.tree) c.args.id c.args.query (subst (λ (z : BareTrees). (sight_at z c.args.id).label.kind ≡ kind.Grid) (sym (c.in_ok-parts.ensures.below c.args.query (sym c.as_slice-reps.ensures) refl).walk.bare_same) c.requires.grid) (ap (λ (q : Query). q.ask) c.requires.query)
+    ∙ ap (λ (z : BareTrees). answer_of (sight_at z c.args.id) c.args.query) (c.in_ok-parts.ensures.below c.args.query (sym c.as_slice-reps.ensures) refl).walk.bare_same
+
+pub grid_anew-returns-clause-walked : goal.grid_anew-returns-clause-walked
+grid_anew-returns-clause-walked g t c = c.put.ensures.joins _ 2 _ _ (omega arith) (ticked c.args.id c.args.query 0 2 _ _ c.grid_inline.new.passes (omega (arith, c.in_ok-low.ensures.step)) (c.in_ok-parts.ensures.below c.args.query (sym c.as_slice-reps.ensures) refl))
+
+pub grid_anew-returns-clause-own : goal.grid_anew-returns-clause-own
+grid_anew-returns-clause-own g t c = c.put.ensures.own ∙ ap (λ l. kept_with l ((c.args.query, answer.Sizes c.in_ok-low.low c.in_ok-low.high) ∷ [])) (c.in_ok-parts.ensures.below c.args.query (sym c.as_slice-reps.ensures) refl).own
+
+pub grid_at-returns-in_err-base-clause-stopped : goal.grid_at-returns-in_err-base-clause-stopped
+grid_at-returns-in_err-base-clause-stopped g t c =
+    let all : (q : Query) → q.reps ≡ c.args.reps.now → q.inline ≡ c.args.width.now → Stopped c.args.id q (state c.args.tree.now c.args.tally.now c.args.passes.now (g.R.Ruler.log c.args.ruler.now)) (state c.args.tree.now c.args.tally.now c.args.passes.now (g.R.Ruler.log c.args.ruler.now)) =
+    λ q r w. stopped c.args.id q 0 _ _ (walked_none c.args.id q (state c.args.tree.now c.args.tally.now c.args.passes.now (g.R.Ruler.log c.args.ruler.now)) c.requires.right) in
+    on_err _ _ all
+
+pub grid_at-returns-in_err-inlines-clause-stopped : goal.grid_at-returns-in_err-inlines-clause-stopped
+grid_at-returns-in_err-inlines-clause-stopped g t c =
+    let all : (q : Query) → q.reps ≡ c.args.reps.now → q.inline ≡ c.args.width.now → Stopped c.args.id q (state c.args.tree.now c.args.tally.now c.args.passes.now (g.R.Ruler.log c.args.ruler.now)) (state c.ask_children.new.tree c.ask_children.new.tally c.ask_children.new.passes (g.R.Ruler.log c.ask_children.new.ruler)) =
+    λ q r w. c.in_err-inlines.ensures.stopped q (leads_on (bare c.args.tree.now.tree) c.args.id c.args.reps.now c.args.width.now c.in_ok-base.base c.requires.grid c.in_ok-base.ensures q r w) in
+    on_err _ _ all
+
+pub grid_at-returns-clause-value : goal.grid_at-returns-clause-value
+grid_at-returns-clause-value g t c = grid_made (bare c.args.tree.now.tree) c.args.id c.args.reps.now c.args.width.now c.in_ok-base.base c.in_ok-base.ensures _ _ c.in_ok-inlines.ensures.answers
+
+pub grid_at-returns-clause-below : goal.grid_at-returns-clause-below
+grid_at-returns-clause-below g t c = λ q r w. c.in_ok-inlines.ensures.below q (leads_on (bare c.args.tree.now.tree) c.args.id c.args.reps.now c.args.width.now c.in_ok-base.base c.requires.grid c.in_ok-base.ensures q r w)
+
+pub inline_at-returns-in_err-query-clause-stopped : goal.inline_at-returns-in_err-query-clause-stopped
+inline_at-returns-in_err-query-clause-stopped g t c = on_err _ _ (stopped c.args.id _ 0 _ _ (walked_none c.args.id (inline_query false c.args.reps.now) (state c.args.tree.now c.args.tally.now c.args.passes.now (g.R.Ruler.log c.args.ruler.now)) c.requires.right))
+
+pub inline_at-returns-in-Some-clause-walked : goal.inline_at-returns-in-Some-clause-walked
+inline_at-returns-in-Some-clause-walked g t c = found_walked c.args.id (inline_query false c.args.reps.now) (state c.args.tree.now c.args.tally.now c.args.passes.now (g.R.Ruler.log c.args.ruler.now)) c.requires.right
+
+pub lend_columns_at-returns-in_err-query-clause-stopped : goal.lend_columns_at-returns-in_err-query-clause-stopped
+lend_columns_at-returns-in_err-query-clause-stopped g t c = on_err _ _ (stopped c.args.id _ 0 _ _ (walked_none c.args.id (inline_query true c.args.reps.now) (state c.args.tree.now c.args.tally.now c.args.passes.now (g.R.Ruler.log c.args.ruler.now)) c.requires.right))
+
+pub lend_columns_at-returns-in-Some-clause-walked : goal.lend_columns_at-returns-in-Some-clause-walked
+lend_columns_at-returns-in-Some-clause-walked g t c = on_ok _ _ (found_walked c.args.id (inline_query true c.args.reps.now) (state c.args.tree.now c.args.tally.now c.args.passes.now (g.R.Ruler.log c.args.ruler.now)) c.requires.right)
+
+pub lend_columns_at-returns-in-Some-clause-stopped : goal.lend_columns_at-returns-in-Some-clause-stopped
+lend_columns_at-returns-in-Some-clause-stopped g t c = on_err _ _ (stopped c.args.id _ 0 _ _ (walked_none c.args.id (inline_query true c.args.reps.now) (state c.args.tree.now c.args.tally.now c.args.passes.now (g.R.Ruler.log c.args.ruler.now)) c.requires.right))
