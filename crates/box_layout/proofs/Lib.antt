@@ -1,0 +1,7 @@
+pub mod Alike
+pub mod Compared
+pub mod Reaches
+pub mod Rooms
+pub mod Rows
+pub mod Steps
+pub mod Sums

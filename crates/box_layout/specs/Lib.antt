@@ -1,0 +1,7 @@
+pub mod BothMargins
+pub mod Places
+pub mod Ranges
+pub mod Roots
+pub mod Seats
+pub mod Shares
+pub mod Sittings

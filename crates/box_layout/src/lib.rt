@@ -1,0 +1,22 @@
+//! The rectangles of nodes: items in their areas, the children of a flex container in their lines, and the root in the viewport.
+//!
+//! All lengths are in units of one sixty-fourth of a pixel. Axis 0 is the inline axis, along which the columns lie, and axis 1 the
+//! block axis, along which the rows lie.
+#![tactic(auto)]
+
+mod aligned;
+mod frames;
+mod items;
+mod line;
+mod lines;
+mod root;
+mod seats;
+mod sitting;
+
+pub use aligned::{Margins, aligned_at, margins_of};
+pub use frames::{frame_in, moved_by};
+pub use items::{box_size, place_in_area};
+pub use lines::flex_frames;
+pub use root::{given_box, root_height, root_rect, root_width};
+pub use seats::Seat;
+pub use sitting::{Container, Sitting, container_of, sitting_of};
