@@ -1,1 +1,2 @@
+mod LeafQueries
 mod Unset
