@@ -1,5 +1,6 @@
 pub mod Alike
 pub mod Compared
+pub mod Near
 pub mod Reaches
 pub mod Rooms
 pub mod Rows

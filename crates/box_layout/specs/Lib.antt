@@ -1,4 +1,5 @@
 pub mod BothMargins
+pub mod Near
 pub mod Places
 pub mod Ranges
 pub mod Roots

@@ -7,6 +7,7 @@
 mod aligned;
 mod frames;
 mod items;
+mod laws;
 mod line;
 mod lines;
 mod root;
@@ -16,6 +17,7 @@ mod sitting;
 pub use aligned::{Margins, aligned_at, margins_of};
 pub use frames::{frame_in, moved_by};
 pub use items::{box_size, place_in_area};
+pub use laws::flex_children_stand_near;
 pub use lines::flex_frames;
 pub use root::{given_box, root_height, root_rect, root_width};
 pub use seats::Seat;
