@@ -1,5 +1,5 @@
-//! Tests of the parts of the layout and of the readers, as tables of cases worked by hand. They stand above the crates that
-//! they test, so that none of these is proved twice.
+//! Tests of the parts of the layout, as tables of cases worked by hand. They stand above the crates that they test, so that
+//! none of these is proved twice.
 #![tactic(auto)]
 
 #[cfg(test)]
@@ -7,23 +7,19 @@ mod alignment;
 #[cfg(test)]
 mod cells;
 #[cfg(test)]
-mod declarations;
-#[cfg(test)]
 mod devices;
 #[cfg(test)]
 mod flex;
 #[cfg(test)]
+mod fractions;
+#[cfg(test)]
 mod leaves;
-#[cfg(test)]
-mod lines;
-#[cfg(test)]
-mod pieces;
 #[cfg(test)]
 mod places;
 #[cfg(test)]
 mod shares;
 #[cfg(test)]
-mod track_lists;
+mod tracks;
 #[cfg(test)]
 mod units;
 #[cfg(test)]

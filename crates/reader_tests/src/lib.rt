@@ -1,0 +1,12 @@
+//! Tests of the readers of text, as tables of cases worked by hand. They stand above the crates that they test, so that none
+//! of these is proved twice.
+#![tactic(auto)]
+
+#[cfg(test)]
+mod declarations;
+#[cfg(test)]
+mod lines;
+#[cfg(test)]
+mod pieces;
+#[cfg(test)]
+mod track_lists;
