@@ -1,7 +1,20 @@
+mod Answered
+pub mod AskMembers
+mod Blocks
+mod Fitting
+pub mod FlexLeading
+mod FlexMade
+mod Joined
 mod Laid
+pub mod Leading
 pub mod Mains
 mod Open
 mod Outers
+mod OwnColumns
+pub mod RowAxes
 mod Same
 mod Seams
 pub mod Seen
+pub mod Settled
+mod SharedTracks
+mod Widths

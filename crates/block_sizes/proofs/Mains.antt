@@ -182,3 +182,41 @@ mains_cover main gap wrap items u =
     let lines : List (List FlexItem) = lines_of main gap wrap items in
     let same : joined lines ≡ items = lines_joined main gap wrap items in
     subst (λ (xs : List FlexItem). AreCovering xs (main_sizes main gap xs (ranges_from 0 lines))) same (lines_cover main gap [] lines 0 refl (subst HaveInner (sym same) u))
+
+-- ---- there are as many as items
+
+turn_counted : (grow : Bool) (main gap initial : ℤ) (line : List Piece) → length (turn grow main gap initial line) ≡ length line
+turn_counted grow main gap initial line =
+    let parts : List ℤ = given_parts grow (given_space grow main gap initial line) line in
+    let sizes : List ℤ = zipped (tried grow) line parts in
+    zipped_counted (frozen_by (sum_of (zipped violation line sizes))) line sizes (zipped_counted (tried grow) line parts (given_counted grow (given_space grow main gap initial line) line))
+
+turns_counted : (turns : ℕ) (grow : Bool) (main gap initial : ℤ) (line : List Piece) → length (resolved turns grow main gap initial line) ≡ length line
+unfolding resolved
+turns_counted zero grow main gap initial line = refl
+turns_counted (suc turns) grow main gap initial line = turns_counted turns grow main gap initial (turn grow main gap initial line) ∙ turn_counted grow main gap initial line
+
+line_counted : (main gap : ℤ) (items : List FlexItem) → length (line_sizes main gap items) ≡ length items
+line_counted main gap items =
+    let grow : Bool = grows main gap items in
+    let begun : List Piece = map (begin grow) items in
+    let initial : ℤ = free_space grow main gap begun in
+    mapped_counted size_of (resolved (length items) grow main gap initial begun) ∙ turns_counted (length items) grow main gap initial begun ∙ mapped_counted (begin grow) items
+
+lines_counted : (main gap : ℤ) (before : List FlexItem) (lines : List (List FlexItem)) (n : ℕ) → n ≡ length before → length (main_sizes main gap (before ++ joined lines) (ranges_from n lines)) ≡ length (joined lines)
+lines_counted main gap before [] n e = refl
+lines_counted main gap before (line ∷ lines) n e =
+    let rest : List FlexItem = joined lines in
+    let here : length (line_sizes main gap (slice_range (before ++ (line ++ rest)) n (n + length line))) ≡ length line =
+    line_counted main gap (slice_range (before ++ (line ++ rest)) n (n + length line)) ∙ ap length (ap (λ (m : ℕ). slice_range (before ++ (line ++ rest)) m (m + length line)) e ∙ its_items before line rest) in
+    let count : n + length line ≡ length (before ++ line) = omega (arith, e, length-append before line) in
+    let others : length (main_sizes main gap (before ++ (line ++ rest)) (ranges_from (n + length line) lines)) ≡ length rest =
+    sym (ap (λ (items : List FlexItem). length (main_sizes main gap items (ranges_from (n + length line) lines))) (append_assoc before line rest)) ∙ lines_counted main gap (before ++ line) lines (n + length line) count in
+    length-append (line_sizes main gap (slice_range (before ++ (line ++ rest)) n (n + length line))) (main_sizes main gap (before ++ (line ++ rest)) (ranges_from (n + length line) lines))
+    ∙ (λ i. here i + others i) ∙ sym (length-append line rest)
+
+pub mains_counted : (main gap : ℤ) (wrap : Bool) (items : List FlexItem) → length (main_sizes main gap items (line_ranges main gap wrap items)) ≡ length items
+mains_counted main gap wrap items =
+    let lines : List (List FlexItem) = lines_of main gap wrap items in
+    let same : joined lines ≡ items = lines_joined main gap wrap items in
+    subst (λ (xs : List FlexItem). length (main_sizes main gap xs (ranges_from 0 lines)) ≡ length xs) same (lines_counted main gap [] lines 0 refl)

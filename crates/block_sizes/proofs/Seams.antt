@@ -66,7 +66,7 @@ between_more low high [] e h k = (k, tt)
 between_more low high (x ∷ made) e h k = (h.0, between_more low high made e h.1 k)
 
 -- tracks between the first place and the last one are no further from each other than these
-pub spread_places : (edges : Edges) → AreBetween first_place last_place edges → AreSpread (2 ^ 51) edges
+pub spread_places : (edges : Edges) → AreBetween first_place last_place edges → AreSpread (2 ^ 50 + 2 ^ 34) edges
 spread_places edges h = record { low = first_place; high = last_place; below = omega (arith, ints); above = omega (arith, ints); width = omega (arith, ints); between = h }
 
 -- the tracks by how they are moved

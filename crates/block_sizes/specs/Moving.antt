@@ -1,5 +1,5 @@
 -- Tracks that the content distribution moves (CSS Box Alignment 3, section 5), and the ranges of numbers on the way.
-use Rattle.std.specs.Prelude.{ℕ, ℤ, pos, neg_ℤ, ◌^◌, ◌≤ℤ◌}
+use Rattle.std.specs.Prelude.{◌+◌, ℕ, ℤ, pos, neg_ℤ, ◌^◌, ◌≤ℤ◌}
 use Rattle.part_rules.specs.Alignment.{content_moved}
 use Rattle.block_sizes.specs.declared.edges.Moving.{Moving}
 
@@ -9,7 +9,7 @@ moved_by m k = content_moved m.mode m.safe m.free k m.count
 
 -- what tracks leave of their container
 abbrev pub IsFree : ℤ → Type 0
-IsFree z = (neg_ℤ (pos (2 ^ 49)) ≤ℤ z) × (z ≤ℤ pos (2 ^ 49))
+IsFree z = (neg_ℤ (pos (2 ^ 48 + 2 ^ 31)) ≤ℤ z) × (z ≤ℤ pos (2 ^ 48 + 2 ^ 31))
 
 -- the sizes of tracks and the gutters between them, added up
 abbrev pub IsPlace : ℤ → Type 0
@@ -17,7 +17,7 @@ IsPlace z = (neg_ℤ (pos (2 ^ 48)) ≤ℤ z) × (z ≤ℤ pos (2 ^ 48))
 
 -- an edge is no further from 0 than this
 abbrev pub last_place : ℤ
-last_place = pos (2 ^ 50)
+last_place = pos (2 ^ 49 + 2 ^ 33)
 
 abbrev pub first_place : ℤ
-first_place = neg_ℤ (pos (2 ^ 50))
+first_place = neg_ℤ (pos (2 ^ 49 + 2 ^ 33))

@@ -1,6 +1,6 @@
 //! Where the tracks of a grid lie in its content box (CSS Box Alignment 3, section 5).
 
-ghost use Rattle.std.specs.Prelude.{◌≡◌, ◌+ℤ◌, ◌-ℤ◌, ◌-◌, ◌*◌, ◌*ℤ◌, ◌^◌, ◌≤◌, ◌<◌, ◌≤ℤ◌, length, neg_ℤ, pos, IfOk};
+ghost use Rattle.std.specs.Prelude.{◌≡◌, ◌+◌, ◌+ℤ◌, ◌-ℤ◌, ◌-◌, ◌*◌, ◌*ℤ◌, ◌^◌, ◌≤◌, ◌<◌, ◌≤ℤ◌, length, neg_ℤ, pos, IfOk};
 ghost use Rattle.part_rules.specs.Alignment.{content_moved};
 ghost use Rattle.part_rules.specs.Lists.{sum_of};
 ghost use Rattle.tree_rules.specs.Distribution.{edges_from, edges_in, open_tracks, total_of_tracks};
@@ -176,7 +176,7 @@ pub fn edges_in(
     requires sizes { length sizes.now ≡ length rules.now }
     ensures value { IfOk result (λ edges. edges ≡ edges_in align.now size (record { rules = rules.now; sizes = sizes.now; gap = gap })) }
     ensures counted { IfOk result (λ edges. length edges ≡ length rules.now) }
-    ensures spread { IfOk result (AreSpread (2 ^ 51)) }
+    ensures spread { IfOk result (AreSpread (2 ^ 50 + 2 ^ 34)) }
 {
     let count = count_open(rules);
     let moving = Moving {

@@ -4,17 +4,27 @@
 //! block axis, along which the rows lie.
 #![tactic(auto)]
 
+mod block;
 mod children;
 mod edges;
+mod flex;
 mod flexes;
 mod laws;
+mod queries;
 mod views;
+mod walk;
+mod wide;
 
+pub use block::{block_of, lend_rows};
 pub use children::{
     child_block, child_inline, first_start, from_first, given_box, given_view, own_block,
     own_inline,
 };
 pub use edges::edges_in;
+pub use flex::{ColumnParts, RowParts};
 pub use flexes::{Lines, column_block, crosses_of, lines_by, row_block, row_lines};
 pub use laws::{children_of_grids_are_as_defined, lines_are_as_defined};
+pub use queries::block_query;
 pub use views::{view_by, view_for};
+pub use walk::{block_at, column_at, lend_rows_at, row_at, wide_at};
+pub use wide::{GridWide, WideChild};

@@ -8,6 +8,7 @@ ghost use Rattle.track_sizing.specs.Fits.{IsKnownSpace};
 ghost use Rattle.tree_rules.specs.GridSizes.{view_by, view_for};
 ghost use Rattle.tree_rules.specs.Queries.{IsGivenFor};
 ghost use Rattle.inline_sizes.specs.TrackAxes.{CanSize, track_axis, track_count};
+ghost use Rattle.block_sizes.specs.Fitting.{CanSizeFor};
 ghost use Rattle.block_sizes.specs.Spread.{AreSpread, IsSpread};
 
 use crate::edges::edges_in;
@@ -54,7 +55,7 @@ pub fn view_for<const AXIS: u8, L: Ledger>(
     ensures counted { IfOk result (λ view. length view.edges ≡ track_count input.now.tracks) }
     ensures gap { IfOk result (λ view. pos 0 ≤ℤ view.gap) }
     ensures range { IfOk result (λ view. IsUnits view.gap) }
-    ensures spread { IfOk result (λ view. AreSpread (2 ^ 51) view.edges) }
+    ensures spread { IfOk result (λ view. AreSpread (2 ^ 50 + 2 ^ 34) view.edges) }
     ensures kept { passes.old ≤ passes.new }
     ensures ticks { passes.new ≤ passes.old + 1 }
 {
@@ -82,7 +83,7 @@ pub fn view_by<const AXIS: u8, L: Ledger>(
     given: &Given,
     passes: &mut Steps<L>,
 ) -> Result<View<AXIS>, NoMemory>
-    requires input { CanSize AXIS input.now.style.now input.now.tracks input.now.items.now }
+    requires input { CanSizeFor given.now AXIS input.now.style.now input.now.tracks input.now.items.now }
     requires few { track_count input.now.tracks ≤ 131072 }
     requires given { IsGivenSize given.now }
     ensures value { IfOk result (λ view. view ≡ view_by {axis = AXIS} (track_axis AXIS input.now.style.now input.now.count input.now.spans.now input.now.tracks input.now.items.now) given.now) }

@@ -1,0 +1,101 @@
+-- The axis of the rows of a grid, as the code holds it.
+use Rattle.std.proofs.Common.{arith, ap, subst, sym, ◌∙◌, ◌≡◌, refl, ℕ, ℤ, Bool, false, if◌then◌else◌, pos, List, [], ◌∷◌, length, map}
+use Rattle.lunit.specs.declared.geometry.Area.{Area}
+use Rattle.lunit.specs.declared.geometry.Span.{Span}
+use Rattle.lunit.specs.declared.item.Item.{Item}
+use Rattle.node_arena.specs.declared.number.NodeId.{NodeId}
+use Rattle.part_rules.specs.declared.track.Space.{Space}
+use Rattle.part_rules.specs.declared.track.Space.TheVariants.{MaxContent}
+use Rattle.part_rules.specs.Lists.{zipped}
+use Rattle.placing.proofs.Entries.{counts}
+use Rattle.placing.specs.Areas.{numbered_area, placed_of}
+use Rattle.placing.specs.Covered.{IsNear}
+use Rattle.placing.specs.Nodes.{BareTrees, IsLive, sight_at}
+use Rattle.placing.specs.Ranges.{AreReadable, IsGridAxis}
+use Rattle.placing.specs.declared.contexts.Above.{Above}
+use Rattle.placing.specs.declared.contexts.Above.TheVariants as above
+use Rattle.style_types.specs.Styles.{StyleMap}
+use Rattle.track_sizing.specs.Placed.{AreIn}
+use Rattle.tree_rules.specs.Answers.{Pair}
+use Rattle.tree_rules.specs.Contexts as rules
+use Rattle.tree_rules.specs.GridSizes.{TrackAxis, grid_block, total_for}
+use Rattle.tree_rules.specs.Labels.{GridStyle, content_of, grid_of}
+use Rattle.tree_rules.specs.Queries.{sees_rows}
+use Rattle.tree_rules.specs.Repetitions.{own_pair}
+use Rattle.tree_rules.specs.Templates.{written}
+use Rattle.tree_rules.specs.declared.kind.NodeKind.TheVariants as kind
+use Rattle.tree_rules.specs.declared.query.Given.{Given}
+use Rattle.tree_rules.specs.declared.query.Given.TheVariants as given
+use Rattle.inline_sizes.specs.Grids.{IsAbove}
+use Rattle.inline_sizes.specs.GridsSeen.{HasItemsInTracks, grid_seen}
+use Rattle.inline_sizes.specs.TrackAxes.{CanSize, track_axis, track_count}
+use Rattle.block_sizes.specs.Wides.{IsWide, columns_seen, row_levels, rows_seen, wides_seen}
+use Rattle.block_sizes.specs.declared.wide.GridWide.{GridWide}
+
+spans_zipped : (numbers : List ℕ) (areas : List (NodeId × Area)) → length numbers ≡ length areas → map (λ (a : ℕ × Area). a.1.rows) (zipped numbered_area numbers areas) ≡ map (λ (e : NodeId × Area). e.1.rows) areas
+spans_zipped [] [] h = refl
+spans_zipped [] (e ∷ es) h = absurd (omega (arith, h))
+spans_zipped (n ∷ ns) [] h = absurd (omega (arith, h))
+spans_zipped (n ∷ ns) (e ∷ es) h = ap (λ (l : List Span). e.1.rows ∷ l) (spans_zipped ns es (omega (arith, h)))
+
+-- the levels of the rows of a grid with this context
+pub levels_of : (c : rules.Context) (made : Above) → IsAbove c made → row_levels made ≡ c.rows.levels
+levels_of c above.Nothing h = absurd h
+levels_of c (above.Grid made) h = ap (λ (d : rules.Context). d.rows.levels) h
+
+module _ (b : BareTrees) (n : NodeId) (outer : List Pair) (width : Given) (w : GridWide) (wide : IsWide b n outer width w) where
+  placed_is : placed_of w.parts.base.placed ≡ (grid_seen b n outer width).placed
+  unfolding grid_seen
+  placed_is = wide.grid.placed.placed
+
+  tracks_are : w.parts.base.placed.rows ≡ (grid_seen b n outer width).placed.rows
+  tracks_are = ap (λ (p : rules.Placed). p.rows) placed_is
+
+  spans_are : map (λ (e : NodeId × Area). e.1.rows) w.parts.base.placed.areas ≡ map (λ (a : ℕ × Area). a.1.rows) (grid_seen b n outer width).placed.areas
+  spans_are = sym (spans_zipped w.parts.base.placed.numbers w.parts.base.placed.areas (counts b n w.parts.base.placed wide.grid.placed.children)) ∙ ap (λ (p : rules.Placed). map (λ (a : ℕ × Area). a.1.rows) p.areas) placed_is
+
+  -- the counts of its repetitions, which in the rows depend on no width
+  count_is : (style : StyleMap) (pair : Pair) → grid_of style ≡ (sight_at b n).label.grid → content_of style ≡ (sight_at b n).label.content → pair ≡ own_pair (record { name = []; kind = kind.Grid; grid = grid_of style; content = content_of style }) given.None → pair.1 ≡ (own_pair (sight_at b n).label given.None).1
+  count_is style pair g c p = ap (λ (q : Pair). q.1) p ∙ (λ i. (own_pair (record { name = []; kind = kind.Grid; grid = g i; content = c i }) given.None).1)
+
+  axis_is : (style : StyleMap) (pair : Pair) (spans : List Span) → grid_of style ≡ (sight_at b n).label.grid → content_of style ≡ (sight_at b n).label.content → pair ≡ own_pair (record { name = []; kind = kind.Grid; grid = grid_of style; content = content_of style }) given.None → spans ≡ map (λ (e : NodeId × Area). e.1.rows) w.parts.base.placed.areas
+      → track_axis 1 style pair.1 spans w.parts.base.placed.rows w.items ≡ rows_seen b n outer width
+  unfolding grid_seen rows_seen
+  axis_is style pair spans g c p s =
+      λ i. record {
+        border_box = (c i).border_box;
+        grid = (g i).rows;
+        content = (c i).block;
+        written = written (g i).rows.template (count_is style pair g c p i);
+        spans = (s ∙ spans_are) i;
+        tracks = tracks_are i;
+        items = wide.items i;
+      }
+
+  -- the rows can be sized
+  pub rows_can_size : (style : StyleMap) → AreReadable b → IsLive b n → grid_of style ≡ (sight_at b n).label.grid → sees_rows (sight_at b n) ≡ false → HasItemsInTracks (sight_at b n) (grid_seen b n outer width) → CanSize 1 style w.parts.base.placed.rows w.items
+  unfolding rows_seen wides_seen
+  rows_can_size style readable live g own h =
+      record {
+        grid = subst (λ (x : GridStyle). IsGridAxis x.rows) (sym g) (readable.nodes n live).grid.rows;
+        near = subst IsNear (sym tracks_are) h.inside.near_rows;
+        inside = subst (λ (items : List Item). AreIn w.parts.base.placed.rows.start (track_count w.parts.base.placed.rows) items) (sym wide.items)
+            (subst (λ (s : Span). AreIn s.start (track_count s) (rows_seen b n outer width).items) (sym tracks_are) (h.inside.rows (columns_seen b n outer width) (h.rows ∙ own)));
+      }
+
+  -- and their total is the block size of the grid
+  pub rows_total_is : (style : StyleMap) (pair : Pair) (spans : List Span) (items : List Item) (total : ℤ) → grid_of style ≡ (sight_at b n).label.grid → content_of style ≡ (sight_at b n).label.content → pair ≡ own_pair (record { name = []; kind = kind.Grid; grid = grid_of style; content = content_of style }) given.None → spans ≡ map (λ (e : NodeId × Area). e.1.rows) w.parts.base.placed.areas
+      → items ≡ w.items → sees_rows (sight_at b n) ≡ false → HasItemsInTracks (sight_at b n) (grid_seen b n outer width)
+      → total ≡ total_for {axis = 1} (track_axis 1 style pair.1 spans w.parts.base.placed.rows items) MaxContent
+      → total ≡ grid_block (grid_seen b n outer width) (rows_seen b n outer width)
+  rows_total_is style pair spans items total g c p s same own h e =
+      let space : Space 1 = MaxContent in
+      let all : TrackAxis → ℤ = λ a. total_for {axis = 1} a space in
+      e
+      ∙ ap (λ (is : List Item). all (track_axis 1 style pair.1 spans w.parts.base.placed.rows is)) same
+      ∙ ap all (axis_is style pair spans g c p s)
+      ∙ ap (λ (t : Bool). if t then pos 0 else all (rows_seen b n outer width)) (sym (h.rows ∙ own))
+
+  -- what it lends stands for itself and its children
+  pub levels_are : row_levels w.parts.base.above ≡ (grid_seen b n outer width).context.rows.levels
+  levels_are = levels_of (grid_seen b n outer width).context w.parts.base.above wide.grid.context

@@ -1,0 +1,44 @@
+use Rattle.std.proofs.Common.{arith, ap, sym, ◌≡◌, ◌∙◌, ◌<◌, ◌+ℤ◌, ℤ, List, length, get_or, pos, false, None}
+use Rattle.lunit.specs.Units.{clamp}
+use Rattle.placing.specs.Nodes.{bare}
+use Rattle.tree_rules.specs.FlexSizes as rules
+use Rattle.tree_rules.specs.Labels.{grid_of}
+use Rattle.tree_rules.specs.NodeSizes.{margins}
+use Rattle.inline_sizes.specs.Flexes.{member_of}
+use Rattle.inline_sizes.specs.declared.flex.Member.{Member}
+use Rattle.block_sizes.specs.Settling.{block_of, settled_seen}
+use Rattle.block_sizes.proofs.Settled.{map_all, map_length, map_step, outer_by, outer_settled, settled_block, settled_length, settled_member}
+use Rattle.block_sizes.proofs.flex.outers_in_row.Goals as goal
+
+pub bounds-as_slice-index : goal.bounds-as_slice-index
+bounds-as_slice-index c =
+    let settled = settled_seen (bare c.args.tree.now.tree) c.args.id c.args.parts.now.lines.mains in
+    omega (arith, c.loop-index-test.true, ap length c.as_slice-members.ensures, ap length c.as_slice.ensures, ap length c.requires.blocks, map_length block_of settled, settled_length (bare c.args.tree.now.tree) c.args.id c.args.parts.now.members c.args.parts.now.lines.mains c.requires.members.same c.requires.counted)
+
+pub loop-index-preserved : goal.loop-index-preserved
+loop-index-preserved c =
+    let b = bare c.args.tree.now.tree in
+    let members = c.args.parts.now.members in
+    let boxes = c.args.parts.now.lines.mains in
+    let settled = settled_seen b c.args.id boxes in
+    let k = c.loop-index.index in
+    let x = c.index-members-index.result in
+    let block = c.index-as_slice-index.result in
+    let d : rules.Settled = rules.settled_at (member_of b x) (pos 0) in
+    let h : k < length members = omega (arith, c.loop-index-test.true, ap length c.as_slice-members.ensures) in
+    let z : Member = get_or c.as_slice-members.result.now k x in
+    let few : k < length settled = omega (arith, h, settled_length b c.args.id members boxes c.requires.members.same c.requires.counted) in
+    let member : (get_or settled k d).member ≡ member_of b z = settled_member b c.args.id members boxes k x d c.requires.members.same c.requires.counted h ∙ ap (λ (ms : List Member). member_of b (get_or ms k x)) (sym c.as_slice-members.ensures) in
+    let its_block : block ≡ (get_or settled k d).down.block =
+    settled_block settled c.args.parts.now.blocks k block d c.requires.blocks few (c.index-as_slice-index.is ∙ ap (λ (zs : List ℤ). get_or zs k block) c.as_slice.ensures) in
+    map_step (rules.outer_cross false None) settled k d c.loop-index.sizes.items _ c.outer_cross.result few c.loop-index.invariant c.in_ok-push.ensures.items
+    (outer_settled (get_or settled k d) (member_of b z) block c.outer_cross.result member its_block
+    (c.outer_cross.ensures ∙ ap (λ z. clamp (z +ℤ margins (grid_of c.node_at.result.now.style).rows)) c.cross_box-size.ensures
+    ∙ (λ i. outer_by (c.node_at.ensures.grid i) (c.node_at.ensures.content i) block)))
+
+pub returns : goal.returns
+returns c =
+    let settled = settled_seen (bare c.args.tree.now.tree) c.args.id c.args.parts.now.lines.mains in
+    map_all (rules.outer_cross false None) settled c.loop-index.index c.loop-index.sizes.items
+    (omega (arith, c.loop-index-test.false, ap length c.as_slice-members.ensures, settled_length (bare c.args.tree.now.tree) c.args.id c.args.parts.now.members c.args.parts.now.lines.mains c.requires.members.same c.requires.counted))
+    c.loop-index.invariant

@@ -1,0 +1,710 @@
+use Rattle.std.proofs.Common.{rules, arith, refl, sym, ap, subst, ◌≡◌, ◌∙◌, ◌+◌, ◌*◌, ◌<◌, ◌∷◌, ◌++◌, [], List, ℕ, ℤ, true, false, length, map, pos, ◌≤◌, ◌&&◌, Bool}
+use Rattle.std.specs.Prelude.{Contains}
+use Rattle.lunit.specs.declared.item.Item.{Item}
+use Rattle.placing.specs.Counted.{IsGivenSize}
+use Rattle.placing.specs.Nodes.{BareTrees, IsLive, bare, kid_at, level_at, sight_at, size_at, uses_at}
+use Rattle.placing.specs.Ranges.{AreReadable}
+use Rattle.placing.specs.Seats.{IsSeat}
+use Rattle.placing.specs.Walks.{Stopped, Walked, kept_with, state}
+use Rattle.placing.specs.declared.contexts.Above.TheVariants as above
+use Rattle.placing.specs.declared.node.Answer.TheVariants as answer
+use Rattle.placing.proofs.Leaves.{on_err}
+use Rattle.placing.proofs.Walks.{found_walked, stopped, ticked, walked_none}
+use Rattle.tree_rules.specs.Answers.{Pair}
+use Rattle.tree_rules.specs.AskedQueries.{block_query}
+use Rattle.tree_rules.specs.Chains.{has_chain, has_subgrid, is_grid_kind}
+use Rattle.tree_rules.specs.Labels.{GridStyle}
+use Rattle.tree_rules.specs.GridSizes.{shares_rows}
+use Rattle.tree_rules.specs.KeptAnswers.{IsAbsent}
+use Rattle.tree_rules.specs.Queries.{Fits, IsGivenFor, answer_of, block_size, lent_items, needs_inline, outer_context, sees_columns, sees_rows}
+use Rattle.tree_rules.specs.declared.kind.NodeKind.TheVariants as kind
+use Rattle.tree_rules.specs.declared.kind.NodeKind.{NodeKind}
+use Rattle.tree_rules.specs.declared.query.Given.{Given}
+use Rattle.tree_rules.specs.declared.query.Query.{Query}
+use Rattle.inline_sizes.proofs.Asked.{walked_stopped}
+use Rattle.inline_sizes.specs.Grids.{IsGrid, pairs_seen}
+use Rattle.block_sizes.proofs.Answered.{column_answer, flex_quiet, grid_answer, grid_quiet, items_are, lent_answer, row_answer, size_is}
+use Rattle.block_sizes.proofs.Fitting.{given_some, asked_as, block_fit, block_own, lent_fit, pairs_all, rows_told, shared_chain}
+use Rattle.block_sizes.proofs.Joined.{joined_below, joined_stopped}
+use Rattle.block_sizes.proofs.Leading.{leads_down}
+use Rattle.block_sizes.proofs.Widths.{all_there, below_then, child_more, entries_least, items_more, rows_items, sizes_there, stops_then, turn, IsTurn}
+use Rattle.block_sizes.specs.Spread.{AreSpread, IsSpread}
+use Rattle.block_sizes.specs.Wides.{AreWide, IsWide, LeadsDown, asked_of, block_seen, child_of, columns_seen, farthest, items_from, items_seen, wides_seen}
+use Rattle.block_sizes.specs.declared.wide.WideChild.{WideChild}
+use Rattle.std.specs.Prelude.{Some, ◌≤ℤ◌}
+use Rattle.part_rules.specs.declared.flex.FlexItem.{FlexItem}
+use Rattle.flex_lines.specs.Lines.{AreRanges}
+use Rattle.placing.proofs.Entries.{alone_there}
+use Rattle.placing.specs.Ranges.{IsGridAxis}
+use Rattle.tree_rules.specs.AskedQueries.{inline_query}
+use Rattle.tree_rules.specs.FlexSizes as rules
+use Rattle.tree_rules.specs.FlexSizes.{settled_at}
+use Rattle.tree_rules.specs.Frames.{given_size}
+use Rattle.tree_rules.specs.GridSizes.{grid_block, grid_lends_rows}
+use Rattle.tree_rules.specs.Labels.{grid_of}
+use Rattle.tree_rules.specs.NodeSizes.{inner}
+use Rattle.inline_sizes.proofs.Asked.{on_ok}
+use Rattle.inline_sizes.specs.Flexes.{AreMembers, flex_seen, member_of}
+use Rattle.inline_sizes.specs.GridsSeen.{grid_seen}
+use Rattle.block_sizes.proofs.AskMembers.{asked_turn, block_is, blocks_more, boxes_counted, fits_block, member_live, spread_none, width_is, IsAsked}
+use Rattle.block_sizes.proofs.FlexLeading.{column_leads, row_leads}
+use Rattle.block_sizes.proofs.FlexMade.{items_few, lines_made}
+use Rattle.block_sizes.proofs.Settled.{covering_roomy, map_length, seen_length, settled_length}
+use Rattle.block_sizes.specs.Flexes.{AreCovering, HaveInner}
+use Rattle.block_sizes.specs.Settling.{AreRoomy, IsColumn, IsRow, LeadsTo, block_of, column_boxes_seen, settled_seen}
+use Rattle.block_sizes.specs.Wides.{rows_seen}
+use Rattle.block_sizes.proofs.walk.+walk.Goals as goal
+
+abbrev has_kind : NodeKind → GridStyle → Bool
+has_kind k s = is_grid_kind k && has_subgrid s
+
+pub ask_lent-lend_rows_at-requires : goal.ask_lent-lend_rows_at-requires
+ask_lent-lend_rows_at-requires g t c =
+    let live : IsLive (bare c.args.tree.now.tree) c.args.entry.child = c.requires.entry.entry.live in
+    let fits : Fits (sight_at (bare c.args.tree.now.tree) c.args.entry.child) (block_query true c.as_slice-reps.result.now c.args.width.now) = subst (λ (r : List Pair). Fits (sight_at (bare c.args.tree.now.tree) c.args.entry.child) (block_query true r c.args.width.now)) ((pairs_all (bare c.args.tree.now.tree) c.args.id c.args.base.now c.args.entry c.requires.entry (shared_chain (bare c.args.tree.now.tree) c.args.id c.args.base.now c.args.entry c.requires.entry c.requires.shared)) ∙ sym c.as_slice-reps.ensures) c.requires.fits in
+    let seat : IsSeat (sight_at (bare c.args.tree.now.tree) c.args.entry.child) c.as_slice-reps.result.now c.args.base.now.above c.args.entry.area = subst (λ (r : List Pair). IsSeat (sight_at (bare c.args.tree.now.tree) c.args.entry.child) r c.args.base.now.above c.args.entry.area) (sym c.as_slice-reps.ensures) (c.requires.entry.entry.seat (shared_chain (bare c.args.tree.now.tree) c.args.id c.args.base.now c.args.entry c.requires.entry c.requires.shared)) in
+    let small : 8 * size_at (bare c.args.tree.now.tree) c.args.entry.child + 4 < 8 * size_at (bare c.args.tree.now.tree) c.args.entry.child + 5 = omega arith in
+    search rules
+
+pub ask_lent-returns-in_err-lent-clause-stopped : goal.ask_lent-returns-in_err-lent-clause-stopped
+ask_lent-returns-in_err-lent-clause-stopped g t c =
+    on_err _ _ (subst (λ (q : Query). Stopped c.args.entry.child q (state c.args.tree.now c.args.tally.now c.args.passes.now (g.R.Ruler.log c.args.ruler.now)) (state c.lend_rows_at.new.tree c.lend_rows_at.new.tally c.lend_rows_at.new.passes (g.R.Ruler.log c.lend_rows_at.new.ruler))) (ap (λ (r : List Pair). block_query true r c.args.width.now) (c.as_slice-reps.ensures ∙ sym (pairs_all (bare c.args.tree.now.tree) c.args.id c.args.base.now c.args.entry c.requires.entry (shared_chain (bare c.args.tree.now.tree) c.args.id c.args.base.now c.args.entry c.requires.entry c.requires.shared)))) c.in_err-lent.ensures.stopped)
+
+pub ask_lent-returns-in_err-append-clause-stopped : goal.ask_lent-returns-in_err-append-clause-stopped
+ask_lent-returns-in_err-append-clause-stopped g t c =
+    on_err _ _ (walked_stopped _ _ _ _ (subst (λ (q : Query). Walked c.args.entry.child q (state c.args.tree.now c.args.tally.now c.args.passes.now (g.R.Ruler.log c.args.ruler.now)) (state c.lend_rows_at.new.tree c.lend_rows_at.new.tally c.lend_rows_at.new.passes (g.R.Ruler.log c.lend_rows_at.new.ruler))) (ap (λ (r : List Pair). block_query true r c.args.width.now) (c.as_slice-reps.ensures ∙ sym (pairs_all (bare c.args.tree.now.tree) c.args.id c.args.base.now c.args.entry c.requires.entry (shared_chain (bare c.args.tree.now.tree) c.args.id c.args.base.now c.args.entry c.requires.entry c.requires.shared)))) c.in_ok-lent.ensures.walked))
+
+pub ask_lent-returns-clause-walked : goal.ask_lent-returns-clause-walked
+ask_lent-returns-clause-walked g t c =
+    (subst (λ (q : Query). Walked c.args.entry.child q (state c.args.tree.now c.args.tally.now c.args.passes.now (g.R.Ruler.log c.args.ruler.now)) (state c.lend_rows_at.new.tree c.lend_rows_at.new.tally c.lend_rows_at.new.passes (g.R.Ruler.log c.lend_rows_at.new.ruler))) (ap (λ (r : List Pair). block_query true r c.args.width.now) (c.as_slice-reps.ensures ∙ sym (pairs_all (bare c.args.tree.now.tree) c.args.id c.args.base.now c.args.entry c.requires.entry (shared_chain (bare c.args.tree.now.tree) c.args.id c.args.base.now c.args.entry c.requires.entry c.requires.shared)))) c.in_ok-lent.ensures.walked)
+
+pub ask_lent-returns-clause-items : goal.ask_lent-returns-clause-items
+ask_lent-returns-clause-items g t c =
+    c.in_ok-append.ensures ∙ ap (λ (l : List Item). c.args.items.now ++ l) (c.as_slice.ensures ∙ items_are _ _ c.in_ok-lent.ensures.value ∙ ap (λ (r : List Pair). ((kid_at (bare c.args.tree.now.tree) c.args.entry.child).answers.down r c.args.width.now).lend_rows) (c.as_slice-reps.ensures ∙ sym (pairs_all (bare c.args.tree.now.tree) c.args.id c.args.base.now c.args.entry c.requires.entry (shared_chain (bare c.args.tree.now.tree) c.args.id c.args.base.now c.args.entry c.requires.entry c.requires.shared))))
+
+pub ask_block-block_at-requires : goal.ask_block-block_at-requires
+ask_block-block_at-requires g t c =
+    let live : IsLive (bare c.args.tree.now.tree) c.args.entry.child = c.requires.entry.entry.live in
+    let fits : Fits (sight_at (bare c.args.tree.now.tree) c.args.entry.child) (block_query false c.as_slice-reps.result.now c.args.width.now) = subst (λ (r : List Pair). Fits (sight_at (bare c.args.tree.now.tree) c.args.entry.child) (block_query false r c.args.width.now)) ((pairs_all (bare c.args.tree.now.tree) c.args.id c.args.base.now c.args.entry c.requires.entry (c.requires.entry.entry.chain ∙ (λ i. has_kind (sym c.node_at.ensures.kind i) (sym c.node_at.ensures.grid i)) ∙ sym c.has_subgrid.ensures ∙ c.if-has_subgrid.true)) ∙ sym c.as_slice-reps.ensures) c.requires.fits in
+    let seat : IsSeat (sight_at (bare c.args.tree.now.tree) c.args.entry.child) c.as_slice-reps.result.now c.args.base.now.above c.args.entry.area = subst (λ (r : List Pair). IsSeat (sight_at (bare c.args.tree.now.tree) c.args.entry.child) r c.args.base.now.above c.args.entry.area) (sym c.as_slice-reps.ensures) (c.requires.entry.entry.seat (c.requires.entry.entry.chain ∙ (λ i. has_kind (sym c.node_at.ensures.kind i) (sym c.node_at.ensures.grid i)) ∙ sym c.has_subgrid.ensures ∙ c.if-has_subgrid.true)) in
+    let small : 8 * size_at (bare c.args.tree.now.tree) c.args.entry.child + 4 < 8 * size_at (bare c.args.tree.now.tree) c.args.entry.child + 5 = omega arith in
+    search rules
+
+pub ask_rows-ask_lent-requires : goal.ask_rows-ask_lent-requires
+ask_rows-ask_lent-requires g t c =
+    let shared : shares_rows (kid_at (bare c.args.tree.now.tree) c.args.entry.child) ≡ true = (rows_told (bare c.args.tree.now.tree) c.args.id c.args.base.now c.args.entry c.requires.entry ∙ sym c.shares.ensures ∙ c.if-shares.true) in
+    let fits : Fits (sight_at (bare c.args.tree.now.tree) c.args.entry.child) (block_query true (pairs_seen (bare c.args.tree.now.tree) c.args.base.now c.args.entry) c.args.width.now) = subst (Fits (sight_at (bare c.args.tree.now.tree) c.args.entry.child)) (sym (asked_as (bare c.args.tree.now.tree) c.args.id c.args.base.now c.args.entry c.requires.entry true c.args.width.now (rows_told (bare c.args.tree.now.tree) c.args.id c.args.base.now c.args.entry c.requires.entry ∙ sym c.shares.ensures ∙ c.if-shares.true))) c.requires.fits in
+    let small : 8 * size_at (bare c.args.tree.now.tree) c.args.entry.child + 5 < 8 * size_at (bare c.args.tree.now.tree) c.args.entry.child + 6 = omega arith in
+    search rules
+
+pub ask_rows-ask_block-requires : goal.ask_rows-ask_block-requires
+ask_rows-ask_block-requires g t c =
+    let own : shares_rows (kid_at (bare c.args.tree.now.tree) c.args.entry.child) ≡ false = (rows_told (bare c.args.tree.now.tree) c.args.id c.args.base.now c.args.entry c.requires.entry ∙ sym c.shares.ensures ∙ c.if-shares.false) in
+    let fits : Fits (sight_at (bare c.args.tree.now.tree) c.args.entry.child) (block_query false (pairs_seen (bare c.args.tree.now.tree) c.args.base.now c.args.entry) c.args.width.now) = subst (Fits (sight_at (bare c.args.tree.now.tree) c.args.entry.child)) (sym (asked_as (bare c.args.tree.now.tree) c.args.id c.args.base.now c.args.entry c.requires.entry false c.args.width.now (rows_told (bare c.args.tree.now.tree) c.args.id c.args.base.now c.args.entry c.requires.entry ∙ sym c.shares.ensures ∙ c.if-shares.false))) c.requires.fits in
+    let small : 8 * size_at (bare c.args.tree.now.tree) c.args.entry.child + 5 < 8 * size_at (bare c.args.tree.now.tree) c.args.entry.child + 6 = omega arith in
+    search rules
+
+pub ask_rows-returns-in_err-ask_lent-clause-stopped : goal.ask_rows-returns-in_err-ask_lent-clause-stopped
+ask_rows-returns-in_err-ask_lent-clause-stopped g t c =
+    on_err _ _ (subst (λ (q : Query). Stopped c.args.entry.child q (state c.args.tree.now c.args.tally.now c.args.passes.now (g.R.Ruler.log c.args.ruler.now)) (state c.ask_lent.new.tree c.ask_lent.new.tally c.ask_lent.new.passes (g.R.Ruler.log c.ask_lent.new.ruler))) (asked_as (bare c.args.tree.now.tree) c.args.id c.args.base.now c.args.entry c.requires.entry true c.args.width.now (rows_told (bare c.args.tree.now.tree) c.args.id c.args.base.now c.args.entry c.requires.entry ∙ sym c.shares.ensures ∙ c.if-shares.true)) c.in_err-ask_lent.ensures.stopped)
+
+pub ask_rows-returns-in_err-block-clause-stopped : goal.ask_rows-returns-in_err-block-clause-stopped
+ask_rows-returns-in_err-block-clause-stopped g t c =
+    on_err _ _ (subst (λ (q : Query). Stopped c.args.entry.child q (state c.args.tree.now c.args.tally.now c.args.passes.now (g.R.Ruler.log c.args.ruler.now)) (state c.ask_block.new.tree c.ask_block.new.tally c.ask_block.new.passes (g.R.Ruler.log c.ask_block.new.ruler))) (asked_as (bare c.args.tree.now.tree) c.args.id c.args.base.now c.args.entry c.requires.entry false c.args.width.now (rows_told (bare c.args.tree.now.tree) c.args.id c.args.base.now c.args.entry c.requires.entry ∙ sym c.shares.ensures ∙ c.if-shares.false)) c.in_err-block.ensures.stopped)
+
+pub ask_rows-returns-in_err-push-clause-stopped : goal.ask_rows-returns-in_err-push-clause-stopped
+ask_rows-returns-in_err-push-clause-stopped g t c =
+    on_err _ _ (walked_stopped _ _ _ _ (subst (λ (q : Query). Walked c.args.entry.child q (state c.args.tree.now c.args.tally.now c.args.passes.now (g.R.Ruler.log c.args.ruler.now)) (state c.ask_block.new.tree c.ask_block.new.tally c.ask_block.new.passes (g.R.Ruler.log c.ask_block.new.ruler))) (asked_as (bare c.args.tree.now.tree) c.args.id c.args.base.now c.args.entry c.requires.entry false c.args.width.now (rows_told (bare c.args.tree.now.tree) c.args.id c.args.base.now c.args.entry c.requires.entry ∙ sym c.shares.ensures ∙ c.if-shares.false)) c.in_ok-block.ensures.walked))
+
+pub ask_rows-returns-clause-walked : goal.ask_rows-returns-clause-walked
+ask_rows-returns-clause-walked g t c =
+    (subst (λ (q : Query). Walked c.args.entry.child q (state c.args.tree.now c.args.tally.now c.args.passes.now (g.R.Ruler.log c.args.ruler.now)) (state c.ask_block.new.tree c.ask_block.new.tally c.ask_block.new.passes (g.R.Ruler.log c.ask_block.new.ruler))) (asked_as (bare c.args.tree.now.tree) c.args.id c.args.base.now c.args.entry c.requires.entry false c.args.width.now (rows_told (bare c.args.tree.now.tree) c.args.id c.args.base.now c.args.entry c.requires.entry ∙ sym c.shares.ensures ∙ c.if-shares.false)) c.in_ok-block.ensures.walked)
+
+pub ask_rows-returns-clause-value : goal.ask_rows-returns-clause-value
+ask_rows-returns-clause-value g t c =
+    block_own (bare c.args.tree.now.tree) c.args.id c.args.base.now c.args.entry c.requires.entry c.args.width.now c.in_ok-block.block (rows_told (bare c.args.tree.now.tree) c.args.id c.args.base.now c.args.entry c.requires.entry ∙ sym c.shares.ensures ∙ c.if-shares.false) c.in_ok-block.ensures.value
+
+pub ask_child-returns-in_err-size-clause-stopped : goal.ask_child-returns-in_err-size-clause-stopped
+ask_child-returns-in_err-size-clause-stopped g t c =
+    on_err _ _ (stopped c.args.entry.child _ 0 _ _ (walked_none c.args.entry.child _ (state c.args.tree.now c.args.tally.now c.args.passes.now (g.R.Ruler.log c.args.ruler.now)) c.requires.right))
+
+pub ask_child-returns-in_err-block-clause-stopped : goal.ask_child-returns-in_err-block-clause-stopped
+ask_child-returns-in_err-block-clause-stopped g t c =
+    on_err _ _ (subst (λ (q : Query). Stopped c.args.entry.child q (state c.args.tree.now c.args.tally.now c.args.passes.now (g.R.Ruler.log c.args.ruler.now)) (state c.ask_rows.new.tree c.ask_rows.new.tally c.ask_rows.new.passes (g.R.Ruler.log c.ask_rows.new.ruler))) (ap (λ (p : ℤ × Given). asked_of (bare c.args.tree.now.tree) c.args.base.now c.args.entry p.1) c.in_ok-size.ensures.value) c.in_err-block.ensures.stopped)
+
+pub ask_child-returns-clause-walked : goal.ask_child-returns-clause-walked
+ask_child-returns-clause-walked g t c =
+    subst (λ (q : Query). Walked c.args.entry.child q (state c.args.tree.now c.args.tally.now c.args.passes.now (g.R.Ruler.log c.args.ruler.now)) (state c.ask_rows.new.tree c.ask_rows.new.tally c.ask_rows.new.passes (g.R.Ruler.log c.ask_rows.new.ruler))) (ap (λ (p : ℤ × Given). asked_of (bare c.args.tree.now.tree) c.args.base.now c.args.entry p.1) c.in_ok-size.ensures.value) c.in_ok-block.ensures.walked
+
+pub ask_child-returns-clause-items : goal.ask_child-returns-clause-items
+ask_child-returns-clause-items g t c =
+    c.in_ok-block.ensures.items ∙ ap (λ (p : ℤ × Given). c.args.items.now ++ items_seen (bare c.args.tree.now.tree) c.args.id c.args.base.now c.args.entry p.1) c.in_ok-size.ensures.value
+
+pub ask_child-returns-clause-value : goal.ask_child-returns-clause-value
+ask_child-returns-clause-value g t c =
+    let child : WideChild = record { box_ = c.in_ok-size.size; inline = c.in_ok-size.inline; block = c.in_ok-block.block } in
+    ap (λ (k : ℤ). record child { block = k }) c.in_ok-block.ensures.value ∙ ap (λ (p : ℤ × Given). record child { box_ = p.0; inline = p.1; block = block_seen (bare c.args.tree.now.tree) c.args.base.now c.args.entry p.1 }) c.in_ok-size.ensures.value
+
+pub ask_children-loop-index-init : goal.ask_children-loop-index-init
+ask_children-loop-index-init g t c =
+    record {
+      right = c.requires.right;
+      same = refl;
+      walked = λ q leads. walked_none c.args.id q (state c.args.tree.now c.args.tally.now c.args.passes.now (g.R.Ruler.log c.args.ruler.now)) c.requires.right;
+      children = ap (λ (l : List WideChild). l ++ map child_of (wides_seen (bare c.args.tree.now.tree) c.args.id c.args.reps.now c.args.width.now)) c.new-children.ensures;
+      items = ap (λ (l : List Item). l ++ items_from (bare c.args.tree.now.tree) c.args.id c.args.reps.now c.args.width.now (wides_seen (bare c.args.tree.now.tree) c.args.id c.args.reps.now c.args.width.now)) c.new-items.ensures;
+    }
+
+pub ask_children-child_in-entry-requires : goal.ask_children-child_in-entry-requires
+ask_children-child_in-entry-requires g t c =
+    let back = sym c.loop-index.invariant.same in
+    let live : IsLive (bare c.loop-index.tree.tree) c.args.id = subst (λ (z : BareTrees). IsLive z c.args.id) back c.requires.live in
+    let readable : AreReadable (bare c.loop-index.tree.tree) = subst AreReadable back c.requires.readable in
+    let grid : (sight_at (bare c.loop-index.tree.tree) c.args.id).label.kind ≡ kind.Grid = subst (λ (z : BareTrees). (sight_at z c.args.id).label.kind ≡ kind.Grid) back c.requires.kind in
+    let made : IsGrid (bare c.loop-index.tree.tree) c.args.id c.args.reps.now c.args.width.now c.args.parts.now = (subst (λ (z : BareTrees). IsGrid z c.args.id c.args.reps.now c.args.width.now c.args.parts.now) (sym c.loop-index.invariant.same) c.requires.grid) in
+    search rules
+
+pub ask_children-ask_child-requires : goal.ask_children-ask_child-requires
+ask_children-ask_child-requires g t c =
+    let back = sym c.loop-index.invariant.same in
+    let live : IsLive (bare c.loop-index.tree.tree) c.args.id = subst (λ (z : BareTrees). IsLive z c.args.id) back c.requires.live in
+    let readable : AreReadable (bare c.loop-index.tree.tree) = subst AreReadable back c.requires.readable in
+    let made : IsGrid (bare c.loop-index.tree.tree) c.args.id c.args.reps.now c.args.width.now c.args.parts.now = (subst (λ (z : BareTrees). IsGrid z c.args.id c.args.reps.now c.args.width.now c.args.parts.now) (sym c.loop-index.invariant.same) c.requires.grid) in
+    let apart : AreSpread (farthest (level_at (bare c.loop-index.tree.tree) c.args.id)) c.args.columns.now.edges = subst (λ (z : BareTrees). AreSpread (farthest (level_at z c.args.id)) c.args.columns.now.edges) back c.requires.spread in
+    let small : 8 * size_at (bare c.loop-index.tree.tree) c.child_in-entry.result.child + 7 < 8 * size_at (bare c.args.tree.now.tree) c.args.id = omega (arith, c.child_in-entry.ensures.child.entry.smaller, ap (λ (z : BareTrees). size_at z c.args.id) c.loop-index.invariant.same) in
+    search rules
+
+pub ask_children-sizes_at-sizes-requires : goal.ask_children-sizes_at-sizes-requires
+ask_children-sizes_at-sizes-requires g t c =
+    sizes_there (bare c.loop-index.tree.tree) c.args.id c.args.reps.now c.args.width.now c.args.parts.now c.loop-index.index _ _ (subst (λ (z : BareTrees). IsGrid z c.args.id c.args.reps.now c.args.width.now c.args.parts.now) (sym c.loop-index.invariant.same) c.requires.grid) c.child_in-entry.ensures.next
+
+pub ask_children-returns-in_err-child-clause-stopped : goal.ask_children-returns-in_err-child-clause-stopped
+ask_children-returns-in_err-child-clause-stopped g t c =
+    let turn_now : IsTurn (bare c.args.tree.now.tree) (bare c.loop-index.tree.tree) c.args.id c.args.reps.now c.args.width.now c.args.parts.now c.args.columns.now c.child_in-entry.result c.sizes_at-sizes.result c.loop-index.index =
+    turn (bare c.args.tree.now.tree) (bare c.loop-index.tree.tree) c.loop-index.invariant.same c.args.id c.args.reps.now c.args.width.now c.args.parts.now c.args.columns.now c.child_in-entry.result c.sizes_at-sizes.result c.loop-index.index c.requires.grid c.requires.columns c.child_in-entry.ensures.next c.sizes_at-sizes.ensures c.child_in-entry.ensures.child.entry.number in
+    let all : (q : Query) → LeadsDown (bare c.args.tree.now.tree) c.args.id c.args.reps.now c.args.width.now q → Stopped c.args.id q (state c.args.tree.now c.args.tally.now c.args.passes.now (g.R.Ruler.log c.args.ruler.now)) (state c.ask_child.new.tree c.ask_child.new.tally c.ask_child.new.passes (g.R.Ruler.log c.ask_child.new.ruler)) =
+    λ q leads. stops_then (bare c.args.tree.now.tree) (bare c.loop-index.tree.tree) c.loop-index.invariant.same c.args.id c.args.reps.now c.args.width.now turn_now.wide c.child_in-entry.result.child _ c.loop-index.index turn_now.next turn_now.asked c.root.ensures.steps turn_now.number q leads _ _ _ refl (c.loop-index.invariant.walked q leads) c.in_err-child.ensures.stopped in
+    on_err _ _ all
+
+pub ask_children-returns-in_err-push-clause-stopped : goal.ask_children-returns-in_err-push-clause-stopped
+ask_children-returns-in_err-push-clause-stopped g t c =
+    let turn_now : IsTurn (bare c.args.tree.now.tree) (bare c.loop-index.tree.tree) c.args.id c.args.reps.now c.args.width.now c.args.parts.now c.args.columns.now c.child_in-entry.result c.sizes_at-sizes.result c.loop-index.index =
+    turn (bare c.args.tree.now.tree) (bare c.loop-index.tree.tree) c.loop-index.invariant.same c.args.id c.args.reps.now c.args.width.now c.args.parts.now c.args.columns.now c.child_in-entry.result c.sizes_at-sizes.result c.loop-index.index c.requires.grid c.requires.columns c.child_in-entry.ensures.next c.sizes_at-sizes.ensures c.child_in-entry.ensures.child.entry.number in
+    let all : (q : Query) → LeadsDown (bare c.args.tree.now.tree) c.args.id c.args.reps.now c.args.width.now q → Stopped c.args.id q (state c.args.tree.now c.args.tally.now c.args.passes.now (g.R.Ruler.log c.args.ruler.now)) (state c.ask_child.new.tree c.ask_child.new.tally c.ask_child.new.passes (g.R.Ruler.log c.ask_child.new.ruler)) =
+    λ q leads. stopped c.args.id q 0 _ _ (below_then (bare c.args.tree.now.tree) (bare c.loop-index.tree.tree) c.loop-index.invariant.same c.args.id c.args.reps.now c.args.width.now turn_now.wide c.child_in-entry.result.child _ c.loop-index.index turn_now.next turn_now.asked c.root.ensures.steps turn_now.number q leads _ _ _ refl (c.loop-index.invariant.walked q leads) c.in_ok-child.ensures.walked) in
+    on_err _ _ all
+
+pub ask_children-loop-index-preserved : goal.ask_children-loop-index-preserved
+ask_children-loop-index-preserved g t c =
+    let turn_now : IsTurn (bare c.args.tree.now.tree) (bare c.loop-index.tree.tree) c.args.id c.args.reps.now c.args.width.now c.args.parts.now c.args.columns.now c.child_in-entry.result c.sizes_at-sizes.result c.loop-index.index =
+    turn (bare c.args.tree.now.tree) (bare c.loop-index.tree.tree) c.loop-index.invariant.same c.args.id c.args.reps.now c.args.width.now c.args.parts.now c.args.columns.now c.child_in-entry.result c.sizes_at-sizes.result c.loop-index.index c.requires.grid c.requires.columns c.child_in-entry.ensures.next c.sizes_at-sizes.ensures c.child_in-entry.ensures.child.entry.number in
+    record {
+      right = c.ask_child.ensures.right;
+      same = c.in_ok-child.ensures.walked.walk.bare_same ∙ c.loop-index.invariant.same;
+      walked = λ q leads. below_then (bare c.args.tree.now.tree) (bare c.loop-index.tree.tree) c.loop-index.invariant.same c.args.id c.args.reps.now c.args.width.now turn_now.wide c.child_in-entry.result.child _ c.loop-index.index turn_now.next turn_now.asked c.root.ensures.steps turn_now.number q leads _ _ _ refl (c.loop-index.invariant.walked q leads) c.in_ok-child.ensures.walked;
+      children = child_more (wides_seen (bare c.args.tree.now.tree) c.args.id c.args.reps.now c.args.width.now) c.loop-index.index turn_now.wide c.loop-index.children _ _ turn_now.next (c.in_ok-push.ensures.ok ∙ ap (λ (k : WideChild). c.loop-index.children ++ k ∷ []) (c.in_ok-child.ensures.value ∙ turn_now.child)) c.loop-index.invariant.children;
+      items = items_more (bare c.args.tree.now.tree) c.args.id c.args.reps.now c.args.width.now (wides_seen (bare c.args.tree.now.tree) c.args.id c.args.reps.now c.args.width.now) c.loop-index.index turn_now.wide c.loop-index.items _ _ turn_now.next (c.in_ok-child.ensures.items ∙ ap (λ (l : List Item). c.loop-index.items ++ l) turn_now.items) c.loop-index.invariant.items;
+    }
+
+pub ask_children-returns-clause-value : goal.ask_children-returns-clause-value
+ask_children-returns-clause-value g t c =
+    let few : length (wides_seen (bare c.args.tree.now.tree) c.args.id c.args.reps.now c.args.width.now) ≤ c.loop-index.index = omega (arith, entries_least (bare c.args.tree.now.tree) c.args.id c.args.reps.now c.args.width.now c.args.parts.now c.requires.grid, c.len-index-end.ensures) in
+    record {
+      children = all_there (map child_of) (wides_seen (bare c.args.tree.now.tree) c.args.id c.args.reps.now c.args.width.now) c.loop-index.index c.loop-index.children (map child_of (wides_seen (bare c.args.tree.now.tree) c.args.id c.args.reps.now c.args.width.now)) refl few c.loop-index.invariant.children;
+      items = all_there (items_from (bare c.args.tree.now.tree) c.args.id c.args.reps.now c.args.width.now) (wides_seen (bare c.args.tree.now.tree) c.args.id c.args.reps.now c.args.width.now) c.loop-index.index c.loop-index.items (items_from (bare c.args.tree.now.tree) c.args.id c.args.reps.now c.args.width.now (wides_seen (bare c.args.tree.now.tree) c.args.id c.args.reps.now c.args.width.now)) refl few c.loop-index.invariant.items;
+    }
+
+pub ask_children-returns-clause-right : goal.ask_children-returns-clause-right
+ask_children-returns-clause-right g t c =
+    c.loop-index.invariant.right
+
+pub ask_children-returns-clause-below : goal.ask_children-returns-clause-below
+ask_children-returns-clause-below g t c =
+    c.loop-index.invariant.walked
+
+pub wide_at-grid_at-requires : goal.wide_at-grid_at-requires
+wide_at-grid_at-requires g t c =
+    let width : IsGivenSize c.args.width.now = given_some (sees_columns (sight_at (bare c.args.tree.now.tree) c.args.id)) _ c.args.width.now c.requires.inline in
+    search rules
+
+pub wide_at-columns_of-requires : goal.wide_at-columns_of-requires
+wide_at-columns_of-requires g t c =
+    let back = sym (c.in_ok-parts.ensures.below (block_query false c.args.reps.now c.args.width.now) refl refl).walk.bare_same in
+    let live : IsLive (bare c.grid_at.new.tree.tree) c.args.id = subst (λ (z : BareTrees). IsLive z c.args.id) back c.requires.live in
+    let readable : AreReadable (bare c.grid_at.new.tree.tree) = subst AreReadable back c.requires.readable in
+    let grid : (sight_at (bare c.grid_at.new.tree.tree) c.args.id).label.kind ≡ kind.Grid = subst (λ (z : BareTrees). (sight_at z c.args.id).label.kind ≡ kind.Grid) back c.requires.grid in
+    let made : IsGrid (bare c.grid_at.new.tree.tree) c.args.id c.args.reps.now c.args.width.now c.in_ok-parts.parts = subst (λ (z : BareTrees). IsGrid z c.args.id c.args.reps.now c.args.width.now c.in_ok-parts.parts) back c.in_ok-parts.ensures.value in
+    let inline : IsGivenFor true (sees_columns (sight_at (bare c.grid_at.new.tree.tree) c.args.id)) (outer_context (sight_at (bare c.grid_at.new.tree.tree) c.args.id) c.args.reps.now).columns.table.tracks c.args.width.now = subst (λ (z : BareTrees). IsGivenFor true (sees_columns (sight_at z c.args.id)) (outer_context (sight_at z c.args.id) c.args.reps.now).columns.table.tracks c.args.width.now) back c.requires.inline in
+    let apart : IsSpread (farthest (level_at (bare c.grid_at.new.tree.tree) c.args.id)) c.args.width.now = subst (λ (z : BareTrees). IsSpread (farthest (level_at z c.args.id)) c.args.width.now) back c.requires.spread in
+    search rules
+
+pub wide_at-ask_children-requires : goal.wide_at-ask_children-requires
+wide_at-ask_children-requires g t c =
+    let back = sym (c.in_ok-parts.ensures.below (block_query false c.args.reps.now c.args.width.now) refl refl).walk.bare_same in
+    let live : IsLive (bare c.grid_at.new.tree.tree) c.args.id = subst (λ (z : BareTrees). IsLive z c.args.id) back c.requires.live in
+    let readable : AreReadable (bare c.grid_at.new.tree.tree) = subst AreReadable back c.requires.readable in
+    let grid : (sight_at (bare c.grid_at.new.tree.tree) c.args.id).label.kind ≡ kind.Grid = subst (λ (z : BareTrees). (sight_at z c.args.id).label.kind ≡ kind.Grid) back c.requires.grid in
+    let made : IsGrid (bare c.grid_at.new.tree.tree) c.args.id c.args.reps.now c.args.width.now c.in_ok-parts.parts = subst (λ (z : BareTrees). IsGrid z c.args.id c.args.reps.now c.args.width.now c.in_ok-parts.parts) back c.in_ok-parts.ensures.value in
+    let small : 8 * size_at (bare c.grid_at.new.tree.tree) c.args.id + 0 < 8 * size_at (bare c.args.tree.now.tree) c.args.id + 1 = omega (arith, ap (λ (z : BareTrees). size_at z c.args.id) (c.in_ok-parts.ensures.below (block_query false c.args.reps.now c.args.width.now) refl refl).walk.bare_same) in
+    search rules
+
+pub wide_at-returns-in_err-parts-clause-stopped : goal.wide_at-returns-in_err-parts-clause-stopped
+wide_at-returns-in_err-parts-clause-stopped g t c =
+    let all : (q : Query) → q.reps ≡ c.args.reps.now → q.inline ≡ c.args.width.now → needs_inline q.ask ≡ true → Stopped c.args.id q (state c.args.tree.now c.args.tally.now c.args.passes.now (g.R.Ruler.log c.args.ruler.now)) (state c.grid_at.new.tree c.grid_at.new.tally c.grid_at.new.passes (g.R.Ruler.log c.grid_at.new.ruler)) = λ q r w needs. c.in_err-parts.ensures.stopped q r w in
+    on_err _ _ all
+
+pub wide_at-returns-in_err-columns-clause-stopped : goal.wide_at-returns-in_err-columns-clause-stopped
+wide_at-returns-in_err-columns-clause-stopped g t c =
+    let all : (q : Query) → q.reps ≡ c.args.reps.now → q.inline ≡ c.args.width.now → needs_inline q.ask ≡ true → Stopped c.args.id q (state c.args.tree.now c.args.tally.now c.args.passes.now (g.R.Ruler.log c.args.ruler.now)) (state c.grid_at.new.tree c.grid_at.new.tally c.columns_of.new.passes (g.R.Ruler.log c.grid_at.new.ruler)) = λ q r w needs. stopped c.args.id q 1 _ _ (ticked c.args.id q 0 1 _ _ c.columns_of.new.passes c.columns_of.ensures.ticks (c.in_ok-parts.ensures.below q r w)) in
+    on_err _ _ all
+
+pub wide_at-returns-in_err-children-clause-stopped : goal.wide_at-returns-in_err-children-clause-stopped
+wide_at-returns-in_err-children-clause-stopped g t c =
+    let all : (q : Query) → q.reps ≡ c.args.reps.now → q.inline ≡ c.args.width.now → needs_inline q.ask ≡ true → Stopped c.args.id q (state c.args.tree.now c.args.tally.now c.args.passes.now (g.R.Ruler.log c.args.ruler.now)) (state c.ask_children.new.tree c.ask_children.new.tally c.ask_children.new.passes (g.R.Ruler.log c.ask_children.new.ruler)) = λ q r w needs. joined_stopped c.args.id q 1 (state c.args.tree.now c.args.tally.now c.args.passes.now (g.R.Ruler.log c.args.ruler.now)) (state c.grid_at.new.tree c.grid_at.new.tally c.columns_of.new.passes (g.R.Ruler.log c.grid_at.new.ruler)) _ (ticked c.args.id q 0 1 _ _ c.columns_of.new.passes c.columns_of.ensures.ticks (c.in_ok-parts.ensures.below q r w)) (c.in_err-children.ensures.stopped q (leads_down (bare c.grid_at.new.tree.tree) c.args.id c.args.reps.now c.args.width.now q (subst (λ (z : BareTrees). (sight_at z c.args.id).label.kind ≡ kind.Grid) (sym (c.in_ok-parts.ensures.below (block_query false c.args.reps.now c.args.width.now) refl refl).walk.bare_same) c.requires.grid) r w needs)) in
+    on_err _ _ all
+
+pub wide_at-returns-clause-below : goal.wide_at-returns-clause-below
+wide_at-returns-clause-below g t c =
+    λ q r w needs. joined_below c.args.id q 1 (state c.args.tree.now c.args.tally.now c.args.passes.now (g.R.Ruler.log c.args.ruler.now)) (state c.grid_at.new.tree c.grid_at.new.tally c.columns_of.new.passes (g.R.Ruler.log c.grid_at.new.ruler)) _ (ticked c.args.id q 0 1 _ _ c.columns_of.new.passes c.columns_of.ensures.ticks (c.in_ok-parts.ensures.below q r w)) (c.in_ok-children.ensures.below q (leads_down (bare c.grid_at.new.tree.tree) c.args.id c.args.reps.now c.args.width.now q (subst (λ (z : BareTrees). (sight_at z c.args.id).label.kind ≡ kind.Grid) (sym (c.in_ok-parts.ensures.below (block_query false c.args.reps.now c.args.width.now) refl refl).walk.bare_same) c.requires.grid) r w needs))
+
+pub wide_at-returns-clause-value : goal.wide_at-returns-clause-value
+wide_at-returns-clause-value g t c =
+    record {
+      grid = c.in_ok-parts.ensures.value;
+      columns = c.in_ok-columns.ensures.value ∙ ap (λ (z : BareTrees). columns_seen z c.args.id c.args.reps.now c.args.width.now) (c.in_ok-parts.ensures.below (block_query false c.args.reps.now c.args.width.now) refl refl).walk.bare_same;
+      wide = subst (λ (z : BareTrees). AreWide z c.args.id c.args.reps.now c.args.width.now c.in_ok-children.children c.in_ok-children.items) (c.in_ok-parts.ensures.below (block_query false c.args.reps.now c.args.width.now) refl refl).walk.bare_same c.in_ok-children.ensures.value;
+      items = (subst (λ (z : BareTrees). AreWide z c.args.id c.args.reps.now c.args.width.now c.in_ok-children.children c.in_ok-children.items) (c.in_ok-parts.ensures.below (block_query false c.args.reps.now c.args.width.now) refl refl).walk.bare_same c.in_ok-children.ensures.value).items ∙ rows_items (bare c.args.tree.now.tree) c.args.id c.args.reps.now c.args.width.now;
+      counted = c.in_ok-columns.ensures.counted;
+      gap = c.in_ok-columns.ensures.gap;
+      range = c.in_ok-columns.ensures.range;
+      spread = subst (λ (z : BareTrees). AreSpread (farthest (level_at z c.args.id)) c.in_ok-columns.columns.edges) (c.in_ok-parts.ensures.below (block_query false c.args.reps.now c.args.width.now) refl refl).walk.bare_same c.in_ok-columns.ensures.spread;
+    }
+
+pub grid_anew-wide_at-requires : goal.grid_anew-wide_at-requires
+grid_anew-wide_at-requires g t c =
+    let grid : (sight_at (bare c.args.tree.now.tree) c.args.id).label.kind ≡ kind.Grid = c.requires.grid in
+    let counts : length c.as_slice-reps.result.now ≡ length (sight_at (bare c.args.tree.now.tree) c.args.id).chain = ap length c.as_slice-reps.ensures ∙ c.requires.fits.reps in
+    let seat : IsSeat (sight_at (bare c.args.tree.now.tree) c.args.id) c.as_slice-reps.result.now c.args.above.now c.args.area = subst (λ (r : List Pair). IsSeat (sight_at (bare c.args.tree.now.tree) c.args.id) r c.args.above.now c.args.area) (sym c.as_slice-reps.ensures) c.requires.seat in
+    let inline : IsGivenFor true (sees_columns (sight_at (bare c.args.tree.now.tree) c.args.id)) (outer_context (sight_at (bare c.args.tree.now.tree) c.args.id) c.as_slice-reps.result.now).columns.table.tracks c.args.query.inline =
+    subst (λ (r : List Pair). IsGivenFor true (sees_columns (sight_at (bare c.args.tree.now.tree) c.args.id)) (outer_context (sight_at (bare c.args.tree.now.tree) c.args.id) r).columns.table.tracks c.args.query.inline) (sym c.as_slice-reps.ensures)
+    (subst (λ (t : Bool). IsGivenFor t (sees_columns (sight_at (bare c.args.tree.now.tree) c.args.id)) (outer_context (sight_at (bare c.args.tree.now.tree) c.args.id) c.args.query.reps).columns.table.tracks c.args.query.inline) (ap (λ (q : Query). needs_inline q.ask) c.requires.query) c.requires.fits.inline) in
+    let spread : IsSpread (farthest (level_at (bare c.args.tree.now.tree) c.args.id)) c.args.query.inline = c.requires.spread in
+    let small : 8 * size_at (bare c.args.tree.now.tree) c.args.id + 1 < 8 * size_at (bare c.args.tree.now.tree) c.args.id + 2 = omega arith in
+    search rules
+
+pub grid_anew-rows_total-requires-clause-live : goal.grid_anew-rows_total-requires-clause-live
+grid_anew-rows_total-requires-clause-live g t c = subst (λ (z : BareTrees). IsLive z c.args.id) (sym (c.in_ok-wide.ensures.below c.args.query (sym c.as_slice-reps.ensures) refl (ap (λ (q : Query). needs_inline q.ask) c.requires.query)).walk.bare_same) c.requires.live
+
+pub grid_anew-rows_total-requires-clause-readable : goal.grid_anew-rows_total-requires-clause-readable
+grid_anew-rows_total-requires-clause-readable g t c = subst AreReadable (sym (c.in_ok-wide.ensures.below c.args.query (sym c.as_slice-reps.ensures) refl (ap (λ (q : Query). needs_inline q.ask) c.requires.query)).walk.bare_same) c.requires.readable
+
+pub grid_anew-rows_total-requires-clause-kind : goal.grid_anew-rows_total-requires-clause-kind
+grid_anew-rows_total-requires-clause-kind g t c = subst (λ (z : BareTrees). (sight_at z c.args.id).label.kind ≡ kind.Grid) (sym (c.in_ok-wide.ensures.below c.args.query (sym c.as_slice-reps.ensures) refl (ap (λ (q : Query). needs_inline q.ask) c.requires.query)).walk.bare_same) c.requires.grid
+
+pub grid_anew-rows_total-requires-clause-wide : goal.grid_anew-rows_total-requires-clause-wide
+grid_anew-rows_total-requires-clause-wide g t c = subst (λ (z : BareTrees). IsWide z c.args.id c.as_slice-reps.result.now c.args.query.inline c.in_ok-wide.wide) (sym (c.in_ok-wide.ensures.below c.args.query (sym c.as_slice-reps.ensures) refl (ap (λ (q : Query). needs_inline q.ask) c.requires.query)).walk.bare_same) c.in_ok-wide.ensures.value
+
+pub grid_anew-put-requires-clause-quiet : goal.grid_anew-put-requires-clause-quiet
+grid_anew-put-requires-clause-quiet g t c = grid_quiet (bare c.wide_at.new.tree.tree) c.args.id c.args.query (subst (λ (z : BareTrees). (sight_at z c.args.id).label.kind ≡ kind.Grid) (sym (c.in_ok-wide.ensures.below c.args.query (sym c.as_slice-reps.ensures) refl (ap (λ (q : Query). needs_inline q.ask) c.requires.query)).walk.bare_same) c.requires.grid)
+
+pub grid_anew-put-requires-clause-live : goal.grid_anew-put-requires-clause-live
+grid_anew-put-requires-clause-live g t c = subst (λ (z : BareTrees). IsLive z c.args.id) (sym (c.in_ok-wide.ensures.below c.args.query (sym c.as_slice-reps.ensures) refl (ap (λ (q : Query). needs_inline q.ask) c.requires.query)).walk.bare_same) c.requires.live
+
+pub grid_anew-put-requires-clause-absent : goal.grid_anew-put-requires-clause-absent
+grid_anew-put-requires-clause-absent g t c = subst (IsAbsent c.args.query) (sym (c.in_ok-wide.ensures.below c.args.query (sym c.as_slice-reps.ensures) refl (ap (λ (q : Query). needs_inline q.ask) c.requires.query)).own) c.requires.absent
+
+pub grid_anew-put-requires-clause-fits : goal.grid_anew-put-requires-clause-fits
+grid_anew-put-requires-clause-fits g t c = subst (λ (z : BareTrees). Fits (sight_at z c.args.id) c.args.query) (sym (c.in_ok-wide.ensures.below c.args.query (sym c.as_slice-reps.ensures) refl (ap (λ (q : Query). needs_inline q.ask) c.requires.query)).walk.bare_same) c.requires.fits
+
+pub grid_anew-rows_total-requires-clause-own : goal.grid_anew-rows_total-requires-clause-own
+grid_anew-rows_total-requires-clause-own g t c = subst (λ (z : BareTrees). sees_rows (sight_at z c.args.id) ≡ false) (sym (c.in_ok-wide.ensures.below c.args.query (sym c.as_slice-reps.ensures) refl (ap (λ (q : Query). needs_inline q.ask) c.requires.query)).walk.bare_same) (block_fit (sight_at (bare c.args.tree.now.tree) c.args.id) c.args.query (ap (λ (q : Query). q.ask) c.requires.query) c.requires.fits)
+
+pub grid_anew-put-requires-clause-value : goal.grid_anew-put-requires-clause-value
+grid_anew-put-requires-clause-value g t c =
+    ap block_size (c.in_ok-size.ensures.value ∙ ap (λ (r : List Pair). grid_block (grid_seen (bare c.wide_at.new.tree.tree) c.args.id r c.args.query.inline) (rows_seen (bare c.wide_at.new.tree.tree) c.args.id r c.args.query.inline)) c.as_slice-reps.ensures)
+    ∙ grid_answer (bare c.wide_at.new.tree.tree) c.args.id c.args.query (subst (λ (z : BareTrees). (sight_at z c.args.id).label.kind ≡ kind.Grid) (sym (c.in_ok-wide.ensures.below c.args.query (sym c.as_slice-reps.ensures) refl (ap (λ (q : Query). needs_inline q.ask) c.requires.query)).walk.bare_same) c.requires.grid) (ap (λ (q : Query). q.ask) c.requires.query)
+
+pub grid_anew-returns-clause-value : goal.grid_anew-returns-clause-value
+grid_anew-returns-clause-value g t c =
+    ap block_size (c.in_ok-size.ensures.value ∙ ap (λ (r : List Pair). grid_block (grid_seen (bare c.wide_at.new.tree.tree) c.args.id r c.args.query.inline) (rows_seen (bare c.wide_at.new.tree.tree) c.args.id r c.args.query.inline)) c.as_slice-reps.ensures)
+    ∙ grid_answer (bare c.wide_at.new.tree.tree) c.args.id c.args.query (subst (λ (z : BareTrees). (sight_at z c.args.id).label.kind ≡ kind.Grid) (sym (c.in_ok-wide.ensures.below c.args.query (sym c.as_slice-reps.ensures) refl (ap (λ (q : Query). needs_inline q.ask) c.requires.query)).walk.bare_same) c.requires.grid) (ap (λ (q : Query). q.ask) c.requires.query)
+    ∙ ap (λ (z : BareTrees). answer_of (sight_at z c.args.id) c.args.query) (c.in_ok-wide.ensures.below c.args.query (sym c.as_slice-reps.ensures) refl (ap (λ (q : Query). needs_inline q.ask) c.requires.query)).walk.bare_same
+
+pub grid_anew-returns-in_err-wide-clause-stopped : goal.grid_anew-returns-in_err-wide-clause-stopped
+grid_anew-returns-in_err-wide-clause-stopped g t c = on_err _ _ (c.in_err-wide.ensures.stopped c.args.query (sym c.as_slice-reps.ensures) refl (ap (λ (q : Query). needs_inline q.ask) c.requires.query))
+
+pub grid_anew-returns-in_err-size-clause-stopped : goal.grid_anew-returns-in_err-size-clause-stopped
+grid_anew-returns-in_err-size-clause-stopped g t c = on_err _ _ (stopped c.args.id c.args.query 2 _ _ (ticked c.args.id c.args.query 1 1 _ _ c.rows_total.new.passes c.rows_total.ensures.ticks (c.in_ok-wide.ensures.below c.args.query (sym c.as_slice-reps.ensures) refl (ap (λ (q : Query). needs_inline q.ask) c.requires.query))))
+
+pub grid_anew-returns-clause-walked : goal.grid_anew-returns-clause-walked
+grid_anew-returns-clause-walked g t c = c.put.ensures.joins _ 2 _ _ (omega arith) (ticked c.args.id c.args.query 1 1 _ _ c.rows_total.new.passes c.rows_total.ensures.ticks (c.in_ok-wide.ensures.below c.args.query (sym c.as_slice-reps.ensures) refl (ap (λ (q : Query). needs_inline q.ask) c.requires.query)))
+
+pub grid_anew-returns-clause-own : goal.grid_anew-returns-clause-own
+grid_anew-returns-clause-own g t c = c.put.ensures.own ∙ ap (λ l. kept_with l ((c.args.query, answer.Block c.in_ok-size.size) ∷ [])) (c.in_ok-wide.ensures.below c.args.query (sym c.as_slice-reps.ensures) refl (ap (λ (q : Query). needs_inline q.ask) c.requires.query)).own
+
+pub rows_anew-wide_at-requires : goal.rows_anew-wide_at-requires
+rows_anew-wide_at-requires g t c =
+    let grid : (sight_at (bare c.args.tree.now.tree) c.args.id).label.kind ≡ kind.Grid = c.subgrids_are_grids.ensures (lent_fit (sight_at (bare c.args.tree.now.tree) c.args.id) c.args.query (ap (λ (q : Query). q.ask) c.requires.query) c.requires.fits) in
+    let counts : length c.as_slice-reps.result.now ≡ length (sight_at (bare c.args.tree.now.tree) c.args.id).chain = ap length c.as_slice-reps.ensures ∙ c.requires.fits.reps in
+    let seat : IsSeat (sight_at (bare c.args.tree.now.tree) c.args.id) c.as_slice-reps.result.now c.args.above.now c.args.area = subst (λ (r : List Pair). IsSeat (sight_at (bare c.args.tree.now.tree) c.args.id) r c.args.above.now c.args.area) (sym c.as_slice-reps.ensures) c.requires.seat in
+    let inline : IsGivenFor true (sees_columns (sight_at (bare c.args.tree.now.tree) c.args.id)) (outer_context (sight_at (bare c.args.tree.now.tree) c.args.id) c.as_slice-reps.result.now).columns.table.tracks c.args.query.inline =
+    subst (λ (r : List Pair). IsGivenFor true (sees_columns (sight_at (bare c.args.tree.now.tree) c.args.id)) (outer_context (sight_at (bare c.args.tree.now.tree) c.args.id) r).columns.table.tracks c.args.query.inline) (sym c.as_slice-reps.ensures)
+    (subst (λ (t : Bool). IsGivenFor t (sees_columns (sight_at (bare c.args.tree.now.tree) c.args.id)) (outer_context (sight_at (bare c.args.tree.now.tree) c.args.id) c.args.query.reps).columns.table.tracks c.args.query.inline) (ap (λ (q : Query). needs_inline q.ask) c.requires.query) c.requires.fits.inline) in
+    let spread : IsSpread (farthest (level_at (bare c.args.tree.now.tree) c.args.id)) c.args.query.inline = c.requires.spread in
+    let small : 8 * size_at (bare c.args.tree.now.tree) c.args.id + 1 < 8 * size_at (bare c.args.tree.now.tree) c.args.id + 2 = omega arith in
+    search rules
+
+pub rows_anew-lent_rows-requires-clause-live : goal.rows_anew-lent_rows-requires-clause-live
+rows_anew-lent_rows-requires-clause-live g t c = subst (λ (z : BareTrees). IsLive z c.args.id) (sym (c.in_ok-wide.ensures.below c.args.query (sym c.as_slice-reps.ensures) refl (ap (λ (q : Query). needs_inline q.ask) c.requires.query)).walk.bare_same) c.requires.live
+
+pub rows_anew-lent_rows-requires-clause-readable : goal.rows_anew-lent_rows-requires-clause-readable
+rows_anew-lent_rows-requires-clause-readable g t c = subst AreReadable (sym (c.in_ok-wide.ensures.below c.args.query (sym c.as_slice-reps.ensures) refl (ap (λ (q : Query). needs_inline q.ask) c.requires.query)).walk.bare_same) c.requires.readable
+
+pub rows_anew-lent_rows-requires-clause-kind : goal.rows_anew-lent_rows-requires-clause-kind
+rows_anew-lent_rows-requires-clause-kind g t c = subst (λ (z : BareTrees). (sight_at z c.args.id).label.kind ≡ kind.Grid) (sym (c.in_ok-wide.ensures.below c.args.query (sym c.as_slice-reps.ensures) refl (ap (λ (q : Query). needs_inline q.ask) c.requires.query)).walk.bare_same) (c.subgrids_are_grids.ensures (lent_fit (sight_at (bare c.args.tree.now.tree) c.args.id) c.args.query (ap (λ (q : Query). q.ask) c.requires.query) c.requires.fits))
+
+pub rows_anew-lent_rows-requires-clause-wide : goal.rows_anew-lent_rows-requires-clause-wide
+rows_anew-lent_rows-requires-clause-wide g t c = subst (λ (z : BareTrees). IsWide z c.args.id c.as_slice-reps.result.now c.args.query.inline c.in_ok-wide.wide) (sym (c.in_ok-wide.ensures.below c.args.query (sym c.as_slice-reps.ensures) refl (ap (λ (q : Query). needs_inline q.ask) c.requires.query)).walk.bare_same) c.in_ok-wide.ensures.value
+
+pub rows_anew-put-requires-clause-quiet : goal.rows_anew-put-requires-clause-quiet
+rows_anew-put-requires-clause-quiet g t c = grid_quiet (bare c.wide_at.new.tree.tree) c.args.id c.args.query (subst (λ (z : BareTrees). (sight_at z c.args.id).label.kind ≡ kind.Grid) (sym (c.in_ok-wide.ensures.below c.args.query (sym c.as_slice-reps.ensures) refl (ap (λ (q : Query). needs_inline q.ask) c.requires.query)).walk.bare_same) (c.subgrids_are_grids.ensures (lent_fit (sight_at (bare c.args.tree.now.tree) c.args.id) c.args.query (ap (λ (q : Query). q.ask) c.requires.query) c.requires.fits)))
+
+pub rows_anew-put-requires-clause-live : goal.rows_anew-put-requires-clause-live
+rows_anew-put-requires-clause-live g t c = subst (λ (z : BareTrees). IsLive z c.args.id) (sym (c.in_ok-wide.ensures.below c.args.query (sym c.as_slice-reps.ensures) refl (ap (λ (q : Query). needs_inline q.ask) c.requires.query)).walk.bare_same) c.requires.live
+
+pub rows_anew-put-requires-clause-absent : goal.rows_anew-put-requires-clause-absent
+rows_anew-put-requires-clause-absent g t c = subst (IsAbsent c.args.query) (sym (c.in_ok-wide.ensures.below c.args.query (sym c.as_slice-reps.ensures) refl (ap (λ (q : Query). needs_inline q.ask) c.requires.query)).own) c.requires.absent
+
+pub rows_anew-put-requires-clause-fits : goal.rows_anew-put-requires-clause-fits
+rows_anew-put-requires-clause-fits g t c = subst (λ (z : BareTrees). Fits (sight_at z c.args.id) c.args.query) (sym (c.in_ok-wide.ensures.below c.args.query (sym c.as_slice-reps.ensures) refl (ap (λ (q : Query). needs_inline q.ask) c.requires.query)).walk.bare_same) c.requires.fits
+
+pub rows_anew-put-requires-clause-value : goal.rows_anew-put-requires-clause-value
+rows_anew-put-requires-clause-value g t c =
+    ap lent_items (c.in_ok-items.ensures ∙ ap (λ (r : List Pair). grid_lends_rows (grid_seen (bare c.wide_at.new.tree.tree) c.args.id r c.args.query.inline) (rows_seen (bare c.wide_at.new.tree.tree) c.args.id r c.args.query.inline)) c.as_slice-reps.ensures)
+    ∙ lent_answer (bare c.wide_at.new.tree.tree) c.args.id c.args.query (subst (λ (z : BareTrees). (sight_at z c.args.id).label.kind ≡ kind.Grid) (sym (c.in_ok-wide.ensures.below c.args.query (sym c.as_slice-reps.ensures) refl (ap (λ (q : Query). needs_inline q.ask) c.requires.query)).walk.bare_same) (c.subgrids_are_grids.ensures (lent_fit (sight_at (bare c.args.tree.now.tree) c.args.id) c.args.query (ap (λ (q : Query). q.ask) c.requires.query) c.requires.fits))) (ap (λ (q : Query). q.ask) c.requires.query)
+
+pub rows_anew-returns-clause-value : goal.rows_anew-returns-clause-value
+rows_anew-returns-clause-value g t c =
+    ap lent_items (c.in_ok-lent.ensures ∙ c.as_slice.ensures) ∙ ap lent_items (c.in_ok-items.ensures ∙ ap (λ (r : List Pair). grid_lends_rows (grid_seen (bare c.wide_at.new.tree.tree) c.args.id r c.args.query.inline) (rows_seen (bare c.wide_at.new.tree.tree) c.args.id r c.args.query.inline)) c.as_slice-reps.ensures)
+    ∙ lent_answer (bare c.wide_at.new.tree.tree) c.args.id c.args.query (subst (λ (z : BareTrees). (sight_at z c.args.id).label.kind ≡ kind.Grid) (sym (c.in_ok-wide.ensures.below c.args.query (sym c.as_slice-reps.ensures) refl (ap (λ (q : Query). needs_inline q.ask) c.requires.query)).walk.bare_same) (c.subgrids_are_grids.ensures (lent_fit (sight_at (bare c.args.tree.now.tree) c.args.id) c.args.query (ap (λ (q : Query). q.ask) c.requires.query) c.requires.fits))) (ap (λ (q : Query). q.ask) c.requires.query)
+    ∙ ap (λ (z : BareTrees). answer_of (sight_at z c.args.id) c.args.query) (c.in_ok-wide.ensures.below c.args.query (sym c.as_slice-reps.ensures) refl (ap (λ (q : Query). needs_inline q.ask) c.requires.query)).walk.bare_same
+
+pub rows_anew-returns-in_err-wide-clause-stopped : goal.rows_anew-returns-in_err-wide-clause-stopped
+rows_anew-returns-in_err-wide-clause-stopped g t c = on_err _ _ (c.in_err-wide.ensures.stopped c.args.query (sym c.as_slice-reps.ensures) refl (ap (λ (q : Query). needs_inline q.ask) c.requires.query))
+
+pub rows_anew-returns-in_err-items-clause-stopped : goal.rows_anew-returns-in_err-items-clause-stopped
+rows_anew-returns-in_err-items-clause-stopped g t c = on_err _ _ (stopped c.args.id c.args.query 1 _ _ (c.in_ok-wide.ensures.below c.args.query (sym c.as_slice-reps.ensures) refl (ap (λ (q : Query). needs_inline q.ask) c.requires.query)))
+
+pub rows_anew-returns-in_err-lent-clause-stopped : goal.rows_anew-returns-in_err-lent-clause-stopped
+rows_anew-returns-in_err-lent-clause-stopped g t c = on_err _ _ (stopped c.args.id c.args.query 1 _ _ (c.in_ok-wide.ensures.below c.args.query (sym c.as_slice-reps.ensures) refl (ap (λ (q : Query). needs_inline q.ask) c.requires.query)))
+
+pub rows_anew-returns-clause-walked : goal.rows_anew-returns-clause-walked
+rows_anew-returns-clause-walked g t c = c.put.ensures.joins _ 1 _ _ (omega arith) (c.in_ok-wide.ensures.below c.args.query (sym c.as_slice-reps.ensures) refl (ap (λ (q : Query). needs_inline q.ask) c.requires.query))
+
+pub rows_anew-returns-clause-own : goal.rows_anew-returns-clause-own
+rows_anew-returns-clause-own g t c =
+    c.put.ensures.own ∙ (λ i. kept_with ((c.in_ok-wide.ensures.below c.args.query (sym c.as_slice-reps.ensures) refl (ap (λ (q : Query). needs_inline q.ask) c.requires.query)).own i) ((c.args.query, answer.Lent (sym (c.in_ok-lent.ensures ∙ c.as_slice.ensures) i)) ∷ []))
+
+pub row_anew-row_size-requires-clause-live : goal.row_anew-row_size-requires-clause-live
+row_anew-row_size-requires-clause-live g t c = subst (λ (z : BareTrees). IsLive z c.args.id) (sym (c.in_ok-parts.ensures.below c.args.query (sym c.size_of-width.ensures) (ap (λ (q : Query). needs_inline q.ask) c.requires.query)).walk.bare_same) c.requires.live
+
+pub row_anew-row_size-requires-clause-readable : goal.row_anew-row_size-requires-clause-readable
+row_anew-row_size-requires-clause-readable g t c = subst AreReadable (sym (c.in_ok-parts.ensures.below c.args.query (sym c.size_of-width.ensures) (ap (λ (q : Query). needs_inline q.ask) c.requires.query)).walk.bare_same) c.requires.readable
+
+pub row_anew-row_size-requires-clause-row : goal.row_anew-row_size-requires-clause-row
+row_anew-row_size-requires-clause-row g t c = subst (λ (z : BareTrees). IsRow z c.args.id c.size_of-width.result c.in_ok-parts.parts) (sym (c.in_ok-parts.ensures.below c.args.query (sym c.size_of-width.ensures) (ap (λ (q : Query). needs_inline q.ask) c.requires.query)).walk.bare_same) c.in_ok-parts.ensures.value
+
+pub row_anew-put-requires-clause-value : goal.row_anew-put-requires-clause-value
+row_anew-put-requires-clause-value g t c =
+    ap block_size (c.in_ok-size.ensures ∙ ap (λ (w : ℤ). rules.row_block (flex_seen (bare c.row_at.new.tree.tree) c.args.id) (rules.row_lines (flex_seen (bare c.row_at.new.tree.tree) c.args.id) w) (rules.row_settled (flex_seen (bare c.row_at.new.tree.tree) c.args.id) (rules.row_lines (flex_seen (bare c.row_at.new.tree.tree) c.args.id) w))) c.size_of-width.ensures)
+    ∙ row_answer (bare c.row_at.new.tree.tree) c.args.id c.args.query (subst (λ (z : BareTrees). (sight_at z c.args.id).label.kind ≡ kind.Flex) (sym (c.in_ok-parts.ensures.below c.args.query (sym c.size_of-width.ensures) (ap (λ (q : Query). needs_inline q.ask) c.requires.query)).walk.bare_same) c.requires.flex) (subst (λ (z : BareTrees). (sight_at z c.args.id).label.content.column ≡ false) (sym (c.in_ok-parts.ensures.below c.args.query (sym c.size_of-width.ensures) (ap (λ (q : Query). needs_inline q.ask) c.requires.query)).walk.bare_same) c.requires.direction) (ap (λ (q : Query). q.ask) c.requires.query)
+
+pub row_anew-put-requires-clause-quiet : goal.row_anew-put-requires-clause-quiet
+row_anew-put-requires-clause-quiet g t c = flex_quiet (bare c.row_at.new.tree.tree) c.args.id c.args.query (subst (λ (z : BareTrees). (sight_at z c.args.id).label.kind ≡ kind.Flex) (sym (c.in_ok-parts.ensures.below c.args.query (sym c.size_of-width.ensures) (ap (λ (q : Query). needs_inline q.ask) c.requires.query)).walk.bare_same) c.requires.flex)
+
+pub row_anew-put-requires-clause-live : goal.row_anew-put-requires-clause-live
+row_anew-put-requires-clause-live g t c = subst (λ (z : BareTrees). IsLive z c.args.id) (sym (c.in_ok-parts.ensures.below c.args.query (sym c.size_of-width.ensures) (ap (λ (q : Query). needs_inline q.ask) c.requires.query)).walk.bare_same) c.requires.live
+
+pub row_anew-put-requires-clause-absent : goal.row_anew-put-requires-clause-absent
+row_anew-put-requires-clause-absent g t c = subst (IsAbsent c.args.query) (sym (c.in_ok-parts.ensures.below c.args.query (sym c.size_of-width.ensures) (ap (λ (q : Query). needs_inline q.ask) c.requires.query)).own) c.requires.absent
+
+pub row_anew-put-requires-clause-fits : goal.row_anew-put-requires-clause-fits
+row_anew-put-requires-clause-fits g t c = subst (λ (z : BareTrees). Fits (sight_at z c.args.id) c.args.query) (sym (c.in_ok-parts.ensures.below c.args.query (sym c.size_of-width.ensures) (ap (λ (q : Query). needs_inline q.ask) c.requires.query)).walk.bare_same) c.requires.fits
+
+pub row_anew-returns-clause-value : goal.row_anew-returns-clause-value
+row_anew-returns-clause-value g t c =
+    ap block_size (c.in_ok-size.ensures ∙ ap (λ (w : ℤ). rules.row_block (flex_seen (bare c.row_at.new.tree.tree) c.args.id) (rules.row_lines (flex_seen (bare c.row_at.new.tree.tree) c.args.id) w) (rules.row_settled (flex_seen (bare c.row_at.new.tree.tree) c.args.id) (rules.row_lines (flex_seen (bare c.row_at.new.tree.tree) c.args.id) w))) c.size_of-width.ensures)
+    ∙ row_answer (bare c.row_at.new.tree.tree) c.args.id c.args.query (subst (λ (z : BareTrees). (sight_at z c.args.id).label.kind ≡ kind.Flex) (sym (c.in_ok-parts.ensures.below c.args.query (sym c.size_of-width.ensures) (ap (λ (q : Query). needs_inline q.ask) c.requires.query)).walk.bare_same) c.requires.flex) (subst (λ (z : BareTrees). (sight_at z c.args.id).label.content.column ≡ false) (sym (c.in_ok-parts.ensures.below c.args.query (sym c.size_of-width.ensures) (ap (λ (q : Query). needs_inline q.ask) c.requires.query)).walk.bare_same) c.requires.direction) (ap (λ (q : Query). q.ask) c.requires.query)
+    ∙ ap (λ (z : BareTrees). answer_of (sight_at z c.args.id) c.args.query) (c.in_ok-parts.ensures.below c.args.query (sym c.size_of-width.ensures) (ap (λ (q : Query). needs_inline q.ask) c.requires.query)).walk.bare_same
+
+pub row_anew-returns-in_err-parts-clause-stopped : goal.row_anew-returns-in_err-parts-clause-stopped
+row_anew-returns-in_err-parts-clause-stopped g t c = on_err _ _ (c.in_err-parts.ensures.stopped c.args.query (sym c.size_of-width.ensures) (ap (λ (q : Query). needs_inline q.ask) c.requires.query))
+
+pub row_anew-returns-in_err-size-clause-stopped : goal.row_anew-returns-in_err-size-clause-stopped
+row_anew-returns-in_err-size-clause-stopped g t c = on_err _ _ (stopped c.args.id c.args.query 1 _ _ (c.in_ok-parts.ensures.below c.args.query (sym c.size_of-width.ensures) (ap (λ (q : Query). needs_inline q.ask) c.requires.query)))
+
+pub row_anew-returns-clause-walked : goal.row_anew-returns-clause-walked
+row_anew-returns-clause-walked g t c = c.put.ensures.joins _ 1 _ _ (omega arith) (c.in_ok-parts.ensures.below c.args.query (sym c.size_of-width.ensures) (ap (λ (q : Query). needs_inline q.ask) c.requires.query))
+
+pub row_anew-returns-clause-own : goal.row_anew-returns-clause-own
+row_anew-returns-clause-own g t c = c.put.ensures.own ∙ ap (λ l. kept_with l ((c.args.query, answer.Block c.in_ok-size.size) ∷ [])) (c.in_ok-parts.ensures.below c.args.query (sym c.size_of-width.ensures) (ap (λ (q : Query). needs_inline q.ask) c.requires.query)).own
+
+pub column_anew-column_size-requires-clause-live : goal.column_anew-column_size-requires-clause-live
+column_anew-column_size-requires-clause-live g t c = subst (λ (z : BareTrees). IsLive z c.args.id) (sym (c.in_ok-parts.ensures.below c.args.query (sym c.size_of-width.ensures) (ap (λ (q : Query). needs_inline q.ask) c.requires.query)).walk.bare_same) c.requires.live
+
+pub column_anew-column_size-requires-clause-readable : goal.column_anew-column_size-requires-clause-readable
+column_anew-column_size-requires-clause-readable g t c = subst AreReadable (sym (c.in_ok-parts.ensures.below c.args.query (sym c.size_of-width.ensures) (ap (λ (q : Query). needs_inline q.ask) c.requires.query)).walk.bare_same) c.requires.readable
+
+pub column_anew-column_size-requires-clause-column : goal.column_anew-column_size-requires-clause-column
+column_anew-column_size-requires-clause-column g t c = subst (λ (z : BareTrees). IsColumn z c.args.id c.size_of-width.result c.in_ok-parts.parts) (sym (c.in_ok-parts.ensures.below c.args.query (sym c.size_of-width.ensures) (ap (λ (q : Query). needs_inline q.ask) c.requires.query)).walk.bare_same) c.in_ok-parts.ensures.value
+
+pub column_anew-put-requires-clause-value : goal.column_anew-put-requires-clause-value
+column_anew-put-requires-clause-value g t c =
+    ap block_size (c.in_ok-size.ensures ∙ ap (λ (w : ℤ). rules.column_block (flex_seen (bare c.column_at.new.tree.tree) c.args.id) (rules.column_settled (flex_seen (bare c.column_at.new.tree.tree) c.args.id) w)) c.size_of-width.ensures)
+    ∙ column_answer (bare c.column_at.new.tree.tree) c.args.id c.args.query (subst (λ (z : BareTrees). (sight_at z c.args.id).label.kind ≡ kind.Flex) (sym (c.in_ok-parts.ensures.below c.args.query (sym c.size_of-width.ensures) (ap (λ (q : Query). needs_inline q.ask) c.requires.query)).walk.bare_same) c.requires.flex) (subst (λ (z : BareTrees). (sight_at z c.args.id).label.content.column ≡ true) (sym (c.in_ok-parts.ensures.below c.args.query (sym c.size_of-width.ensures) (ap (λ (q : Query). needs_inline q.ask) c.requires.query)).walk.bare_same) c.requires.direction) (ap (λ (q : Query). q.ask) c.requires.query)
+
+pub column_anew-put-requires-clause-quiet : goal.column_anew-put-requires-clause-quiet
+column_anew-put-requires-clause-quiet g t c = flex_quiet (bare c.column_at.new.tree.tree) c.args.id c.args.query (subst (λ (z : BareTrees). (sight_at z c.args.id).label.kind ≡ kind.Flex) (sym (c.in_ok-parts.ensures.below c.args.query (sym c.size_of-width.ensures) (ap (λ (q : Query). needs_inline q.ask) c.requires.query)).walk.bare_same) c.requires.flex)
+
+pub column_anew-put-requires-clause-live : goal.column_anew-put-requires-clause-live
+column_anew-put-requires-clause-live g t c = subst (λ (z : BareTrees). IsLive z c.args.id) (sym (c.in_ok-parts.ensures.below c.args.query (sym c.size_of-width.ensures) (ap (λ (q : Query). needs_inline q.ask) c.requires.query)).walk.bare_same) c.requires.live
+
+pub column_anew-put-requires-clause-absent : goal.column_anew-put-requires-clause-absent
+column_anew-put-requires-clause-absent g t c = subst (IsAbsent c.args.query) (sym (c.in_ok-parts.ensures.below c.args.query (sym c.size_of-width.ensures) (ap (λ (q : Query). needs_inline q.ask) c.requires.query)).own) c.requires.absent
+
+pub column_anew-put-requires-clause-fits : goal.column_anew-put-requires-clause-fits
+column_anew-put-requires-clause-fits g t c = subst (λ (z : BareTrees). Fits (sight_at z c.args.id) c.args.query) (sym (c.in_ok-parts.ensures.below c.args.query (sym c.size_of-width.ensures) (ap (λ (q : Query). needs_inline q.ask) c.requires.query)).walk.bare_same) c.requires.fits
+
+pub column_anew-returns-clause-value : goal.column_anew-returns-clause-value
+column_anew-returns-clause-value g t c =
+    ap block_size (c.in_ok-size.ensures ∙ ap (λ (w : ℤ). rules.column_block (flex_seen (bare c.column_at.new.tree.tree) c.args.id) (rules.column_settled (flex_seen (bare c.column_at.new.tree.tree) c.args.id) w)) c.size_of-width.ensures)
+    ∙ column_answer (bare c.column_at.new.tree.tree) c.args.id c.args.query (subst (λ (z : BareTrees). (sight_at z c.args.id).label.kind ≡ kind.Flex) (sym (c.in_ok-parts.ensures.below c.args.query (sym c.size_of-width.ensures) (ap (λ (q : Query). needs_inline q.ask) c.requires.query)).walk.bare_same) c.requires.flex) (subst (λ (z : BareTrees). (sight_at z c.args.id).label.content.column ≡ true) (sym (c.in_ok-parts.ensures.below c.args.query (sym c.size_of-width.ensures) (ap (λ (q : Query). needs_inline q.ask) c.requires.query)).walk.bare_same) c.requires.direction) (ap (λ (q : Query). q.ask) c.requires.query)
+    ∙ ap (λ (z : BareTrees). answer_of (sight_at z c.args.id) c.args.query) (c.in_ok-parts.ensures.below c.args.query (sym c.size_of-width.ensures) (ap (λ (q : Query). needs_inline q.ask) c.requires.query)).walk.bare_same
+
+pub column_anew-returns-in_err-parts-clause-stopped : goal.column_anew-returns-in_err-parts-clause-stopped
+column_anew-returns-in_err-parts-clause-stopped g t c = on_err _ _ (c.in_err-parts.ensures.stopped c.args.query (sym c.size_of-width.ensures) (ap (λ (q : Query). needs_inline q.ask) c.requires.query))
+
+pub column_anew-returns-in_err-size-clause-stopped : goal.column_anew-returns-in_err-size-clause-stopped
+column_anew-returns-in_err-size-clause-stopped g t c = on_err _ _ (stopped c.args.id c.args.query 0 _ _ (c.in_ok-parts.ensures.below c.args.query (sym c.size_of-width.ensures) (ap (λ (q : Query). needs_inline q.ask) c.requires.query)))
+
+pub column_anew-returns-clause-walked : goal.column_anew-returns-clause-walked
+column_anew-returns-clause-walked g t c = c.put.ensures.joins _ 0 _ _ (omega arith) (c.in_ok-parts.ensures.below c.args.query (sym c.size_of-width.ensures) (ap (λ (q : Query). needs_inline q.ask) c.requires.query))
+
+pub column_anew-returns-clause-own : goal.column_anew-returns-clause-own
+column_anew-returns-clause-own g t c = c.put.ensures.own ∙ ap (λ l. kept_with l ((c.args.query, answer.Block c.in_ok-size.size) ∷ [])) (c.in_ok-parts.ensures.below c.args.query (sym c.size_of-width.ensures) (ap (λ (q : Query). needs_inline q.ask) c.requires.query)).own
+
+pub row_at-items_in_row-requires-clause-live : goal.row_at-items_in_row-requires-clause-live
+row_at-items_in_row-requires-clause-live g t c = subst (λ (z : BareTrees). IsLive z c.args.id) (sym (c.in_ok-parts.ensures.below (inline_query false [])).walk.bare_same) c.requires.live
+
+pub row_at-items_in_row-requires-clause-readable : goal.row_at-items_in_row-requires-clause-readable
+row_at-items_in_row-requires-clause-readable g t c = subst AreReadable (sym (c.in_ok-parts.ensures.below (inline_query false [])).walk.bare_same) c.requires.readable
+
+pub row_at-items_in_row-requires-clause-members : goal.row_at-items_in_row-requires-clause-members
+row_at-items_in_row-requires-clause-members g t c = subst (AreMembers (bare c.flex_at.new.tree.tree) c.args.id) (sym c.as_slice.ensures) (subst (λ (z : BareTrees). AreMembers z c.args.id c.in_ok-parts.parts.members) (sym (c.in_ok-parts.ensures.below (inline_query false [])).walk.bare_same) c.in_ok-parts.ensures.value)
+
+pub row_at-returns-in_err-parts-clause-stopped : goal.row_at-returns-in_err-parts-clause-stopped
+row_at-returns-in_err-parts-clause-stopped g t c =
+    let all : (q : Query) → given_size q.inline ≡ c.args.width → needs_inline q.ask ≡ true → Stopped c.args.id q (state c.args.tree.now c.args.tally.now c.args.passes.now (g.R.Ruler.log c.args.ruler.now)) (state c.flex_at.new.tree c.flex_at.new.tally c.flex_at.new.passes (g.R.Ruler.log c.flex_at.new.ruler)) = λ q w n. c.in_err-parts.ensures.stopped q in
+    on_err _ _ all
+
+pub column_at-boxes_in_column-requires-clause-live : goal.column_at-boxes_in_column-requires-clause-live
+column_at-boxes_in_column-requires-clause-live g t c = subst (λ (z : BareTrees). IsLive z c.args.id) (sym (c.in_ok-parts.ensures.below (inline_query false [])).walk.bare_same) c.requires.live
+
+pub column_at-boxes_in_column-requires-clause-readable : goal.column_at-boxes_in_column-requires-clause-readable
+column_at-boxes_in_column-requires-clause-readable g t c = subst AreReadable (sym (c.in_ok-parts.ensures.below (inline_query false [])).walk.bare_same) c.requires.readable
+
+pub column_at-boxes_in_column-requires-clause-members : goal.column_at-boxes_in_column-requires-clause-members
+column_at-boxes_in_column-requires-clause-members g t c = subst (AreMembers (bare c.flex_at.new.tree.tree) c.args.id) (sym c.as_slice.ensures) (subst (λ (z : BareTrees). AreMembers z c.args.id c.in_ok-parts.parts.members) (sym (c.in_ok-parts.ensures.below (inline_query false [])).walk.bare_same) c.in_ok-parts.ensures.value)
+
+pub column_at-returns-in_err-parts-clause-stopped : goal.column_at-returns-in_err-parts-clause-stopped
+column_at-returns-in_err-parts-clause-stopped g t c =
+    let all : (q : Query) → given_size q.inline ≡ c.args.width → needs_inline q.ask ≡ true → Stopped c.args.id q (state c.args.tree.now c.args.tally.now c.args.passes.now (g.R.Ruler.log c.args.ruler.now)) (state c.flex_at.new.tree c.flex_at.new.tally c.flex_at.new.passes (g.R.Ruler.log c.flex_at.new.ruler)) = λ q w n. c.in_err-parts.ensures.stopped q in
+    on_err _ _ all
+
+pub row_at-row_lines-requires : goal.row_at-row_lines-requires
+row_at-row_lines-requires g t c = record { few = items_few (bare c.flex_at.new.tree.tree) c.args.id c.args.width c.deref.result.now (subst AreReadable (sym (c.in_ok-parts.ensures.below (inline_query false [])).walk.bare_same) c.requires.readable) (c.deref.ensures.value ∙ c.in_ok-items.ensures.value) }
+
+pub row_at-ask_members-requires : goal.row_at-ask_members-requires
+row_at-ask_members-requires g t c =
+    let back = sym (c.in_ok-parts.ensures.below (inline_query false [])).walk.bare_same in
+    let live : IsLive (bare c.flex_at.new.tree.tree) c.args.id = subst (λ (z : BareTrees). IsLive z c.args.id) back c.requires.live in
+    let readable : AreReadable (bare c.flex_at.new.tree.tree) = subst AreReadable back c.requires.readable in
+    let flex : (sight_at (bare c.flex_at.new.tree.tree) c.args.id).label.kind ≡ kind.Flex = subst (λ (z : BareTrees). (sight_at z c.args.id).label.kind ≡ kind.Flex) back c.requires.flex in
+    let members : AreMembers (bare c.flex_at.new.tree.tree) c.args.id c.as_slice-2.result.now = subst (AreMembers (bare c.flex_at.new.tree.tree) c.args.id) (sym c.as_slice-2.ensures) (subst (λ (z : BareTrees). AreMembers z c.args.id c.in_ok-parts.parts.members) back c.in_ok-parts.ensures.value) in
+    let roomy : AreRoomy (flex_seen (bare c.flex_at.new.tree.tree) c.args.id).members c.as_slice-3.result.now = subst (AreRoomy (flex_seen (bare c.flex_at.new.tree.tree) c.args.id).members) (sym c.as_slice-3.ensures) (covering_roomy c.args.width (flex_seen (bare c.flex_at.new.tree.tree) c.args.id).members c.in_ok-lines.lines.mains (subst (λ (l : List FlexItem). AreCovering l c.in_ok-lines.lines.mains) (c.deref.ensures.value ∙ c.in_ok-items.ensures.value) (c.in_ok-lines.ensures.cover (subst HaveInner (sym c.deref.ensures.value) c.in_ok-items.ensures.inner)))) in
+    let small : 8 * size_at (bare c.flex_at.new.tree.tree) c.args.id + 0 < 8 * size_at (bare c.args.tree.now.tree) c.args.id + 1 = omega (arith, ap (λ (z : BareTrees). size_at z c.args.id) (c.in_ok-parts.ensures.below (inline_query false [])).walk.bare_same) in
+    search rules
+
+pub row_at-returns-in_err-items-clause-stopped : goal.row_at-returns-in_err-items-clause-stopped
+row_at-returns-in_err-items-clause-stopped g t c =
+    let all : (q : Query) → given_size q.inline ≡ c.args.width → needs_inline q.ask ≡ true → Stopped c.args.id q (state c.args.tree.now c.args.tally.now c.args.passes.now (g.R.Ruler.log c.args.ruler.now)) (state c.flex_at.new.tree c.flex_at.new.tally c.flex_at.new.passes (g.R.Ruler.log c.flex_at.new.ruler)) = λ q w n. stopped c.args.id q 0 (state c.args.tree.now c.args.tally.now c.args.passes.now (g.R.Ruler.log c.args.ruler.now)) (state c.flex_at.new.tree c.flex_at.new.tally c.flex_at.new.passes (g.R.Ruler.log c.flex_at.new.ruler)) (c.in_ok-parts.ensures.below q) in
+    on_err _ _ all
+
+pub row_at-returns-in_err-lines-clause-stopped : goal.row_at-returns-in_err-lines-clause-stopped
+row_at-returns-in_err-lines-clause-stopped g t c =
+    let all : (q : Query) → given_size q.inline ≡ c.args.width → needs_inline q.ask ≡ true → Stopped c.args.id q (state c.args.tree.now c.args.tally.now c.args.passes.now (g.R.Ruler.log c.args.ruler.now)) (state c.flex_at.new.tree c.flex_at.new.tally c.row_lines.new.passes (g.R.Ruler.log c.flex_at.new.ruler)) = λ q w n. stopped c.args.id q 1 (state c.args.tree.now c.args.tally.now c.args.passes.now (g.R.Ruler.log c.args.ruler.now)) (state c.flex_at.new.tree c.flex_at.new.tally c.row_lines.new.passes (g.R.Ruler.log c.flex_at.new.ruler)) (ticked c.args.id q 0 1 (state c.args.tree.now c.args.tally.now c.args.passes.now (g.R.Ruler.log c.args.ruler.now)) (state c.flex_at.new.tree c.flex_at.new.tally c.flex_at.new.passes (g.R.Ruler.log c.flex_at.new.ruler)) c.row_lines.new.passes c.row_lines.ensures.ticks (c.in_ok-parts.ensures.below q)) in
+    on_err _ _ all
+
+pub row_at-returns-in_err-blocks-clause-stopped : goal.row_at-returns-in_err-blocks-clause-stopped
+row_at-returns-in_err-blocks-clause-stopped g t c =
+    let all : (q : Query) → given_size q.inline ≡ c.args.width → needs_inline q.ask ≡ true → Stopped c.args.id q (state c.args.tree.now c.args.tally.now c.args.passes.now (g.R.Ruler.log c.args.ruler.now)) (state c.ask_members.new.tree c.ask_members.new.tally c.ask_members.new.passes (g.R.Ruler.log c.ask_members.new.ruler)) = λ q w n. joined_stopped c.args.id q 1 (state c.args.tree.now c.args.tally.now c.args.passes.now (g.R.Ruler.log c.args.ruler.now)) (state c.flex_at.new.tree c.flex_at.new.tally c.row_lines.new.passes (g.R.Ruler.log c.flex_at.new.ruler)) (state c.ask_members.new.tree c.ask_members.new.tally c.ask_members.new.passes (g.R.Ruler.log c.ask_members.new.ruler)) (ticked c.args.id q 0 1 (state c.args.tree.now c.args.tally.now c.args.passes.now (g.R.Ruler.log c.args.ruler.now)) (state c.flex_at.new.tree c.flex_at.new.tally c.flex_at.new.passes (g.R.Ruler.log c.flex_at.new.ruler)) c.row_lines.new.passes c.row_lines.ensures.ticks (c.in_ok-parts.ensures.below q)) (c.in_err-blocks.ensures.stopped q (row_leads (bare c.flex_at.new.tree.tree) c.args.id c.args.width q c.as_slice-3.result.now (subst (λ (z : BareTrees). (sight_at z c.args.id).label.kind ≡ kind.Flex) (sym (c.in_ok-parts.ensures.below (inline_query false [])).walk.bare_same) c.requires.flex) (subst (λ (z : BareTrees). (sight_at z c.args.id).label.content.column ≡ false) (sym (c.in_ok-parts.ensures.below (inline_query false [])).walk.bare_same) c.requires.direction) w n (c.as_slice-3.ensures ∙ ap (λ (l : rules.Lines). l.mains) (lines_made (bare c.flex_at.new.tree.tree) c.args.id c.args.width c.node_at.result.now.style c.deref.result.now c.in_ok-lines.lines c.node_at.ensures.grid c.node_at.ensures.content (c.deref.ensures.value ∙ c.in_ok-items.ensures.value) c.in_ok-lines.ensures.value)))) in
+    on_err _ _ all
+
+pub row_at-returns-clause-below : goal.row_at-returns-clause-below
+row_at-returns-clause-below g t c =
+    λ q w n. joined_below c.args.id q 1 (state c.args.tree.now c.args.tally.now c.args.passes.now (g.R.Ruler.log c.args.ruler.now)) (state c.flex_at.new.tree c.flex_at.new.tally c.row_lines.new.passes (g.R.Ruler.log c.flex_at.new.ruler)) (state c.ask_members.new.tree c.ask_members.new.tally c.ask_members.new.passes (g.R.Ruler.log c.ask_members.new.ruler)) (ticked c.args.id q 0 1 (state c.args.tree.now c.args.tally.now c.args.passes.now (g.R.Ruler.log c.args.ruler.now)) (state c.flex_at.new.tree c.flex_at.new.tally c.flex_at.new.passes (g.R.Ruler.log c.flex_at.new.ruler)) c.row_lines.new.passes c.row_lines.ensures.ticks (c.in_ok-parts.ensures.below q)) (c.in_ok-blocks.ensures.below q (row_leads (bare c.flex_at.new.tree.tree) c.args.id c.args.width q c.as_slice-3.result.now (subst (λ (z : BareTrees). (sight_at z c.args.id).label.kind ≡ kind.Flex) (sym (c.in_ok-parts.ensures.below (inline_query false [])).walk.bare_same) c.requires.flex) (subst (λ (z : BareTrees). (sight_at z c.args.id).label.content.column ≡ false) (sym (c.in_ok-parts.ensures.below (inline_query false [])).walk.bare_same) c.requires.direction) w n (c.as_slice-3.ensures ∙ ap (λ (l : rules.Lines). l.mains) (lines_made (bare c.flex_at.new.tree.tree) c.args.id c.args.width c.node_at.result.now.style c.deref.result.now c.in_ok-lines.lines c.node_at.ensures.grid c.node_at.ensures.content (c.deref.ensures.value ∙ c.in_ok-items.ensures.value) c.in_ok-lines.ensures.value))))
+
+pub row_at-returns-clause-value : goal.row_at-returns-clause-value
+row_at-returns-clause-value g t c =
+    record {
+      children = c.in_ok-parts.ensures.value;
+      along = (lines_made (bare c.flex_at.new.tree.tree) c.args.id c.args.width c.node_at.result.now.style c.deref.result.now c.in_ok-lines.lines c.node_at.ensures.grid c.node_at.ensures.content (c.deref.ensures.value ∙ c.in_ok-items.ensures.value) c.in_ok-lines.ensures.value) ∙ ap (λ (z : BareTrees). rules.row_lines (flex_seen z c.args.id) c.args.width) (c.in_ok-parts.ensures.below (inline_query false [])).walk.bare_same;
+      ranges = subst (λ (k : ℕ). AreRanges k c.in_ok-lines.lines.ranges) (ap length (c.deref.ensures.value ∙ c.in_ok-items.ensures.value) ∙ map_length (λ (m : rules.Member). rules.flex_item false (Some c.args.width) m.kid.label m.inline) (flex_seen (bare c.flex_at.new.tree.tree) c.args.id).members
+          ∙ ap (λ (z : BareTrees). length (flex_seen z c.args.id).members) (c.in_ok-parts.ensures.below (inline_query false [])).walk.bare_same ∙ seen_length (bare c.args.tree.now.tree) c.args.id c.in_ok-parts.parts.members c.in_ok-parts.ensures.value.same) c.in_ok-lines.ensures.ranges;
+      across = c.in_ok-blocks.ensures.value ∙ (λ i. map block_of (settled_seen ((c.in_ok-parts.ensures.below (inline_query false [])).walk.bare_same i) c.args.id (c.as_slice-3.ensures i)));
+    }
+
+pub column_at-ask_members-requires : goal.column_at-ask_members-requires
+column_at-ask_members-requires g t c =
+    let back = sym (c.in_ok-parts.ensures.below (inline_query false [])).walk.bare_same in
+    let live : IsLive (bare c.flex_at.new.tree.tree) c.args.id = subst (λ (z : BareTrees). IsLive z c.args.id) back c.requires.live in
+    let readable : AreReadable (bare c.flex_at.new.tree.tree) = subst AreReadable back c.requires.readable in
+    let flex : (sight_at (bare c.flex_at.new.tree.tree) c.args.id).label.kind ≡ kind.Flex = subst (λ (z : BareTrees). (sight_at z c.args.id).label.kind ≡ kind.Flex) back c.requires.flex in
+    let members : AreMembers (bare c.flex_at.new.tree.tree) c.args.id c.as_slice-2.result.now = subst (AreMembers (bare c.flex_at.new.tree.tree) c.args.id) (sym c.as_slice-2.ensures) (subst (λ (z : BareTrees). AreMembers z c.args.id c.in_ok-parts.parts.members) back c.in_ok-parts.ensures.value) in
+    let roomy : AreRoomy (flex_seen (bare c.flex_at.new.tree.tree) c.args.id).members c.as_slice-3.result.now = subst (AreRoomy (flex_seen (bare c.flex_at.new.tree.tree) c.args.id).members) (sym c.as_slice-3.ensures) c.in_ok-boxes.ensures.roomy in
+    let small : 8 * size_at (bare c.flex_at.new.tree.tree) c.args.id + 0 < 8 * size_at (bare c.args.tree.now.tree) c.args.id + 1 = omega (arith, ap (λ (z : BareTrees). size_at z c.args.id) (c.in_ok-parts.ensures.below (inline_query false [])).walk.bare_same) in
+    search rules
+
+pub column_at-returns-in_err-boxes-clause-stopped : goal.column_at-returns-in_err-boxes-clause-stopped
+column_at-returns-in_err-boxes-clause-stopped g t c =
+    let all : (q : Query) → given_size q.inline ≡ c.args.width → needs_inline q.ask ≡ true → Stopped c.args.id q (state c.args.tree.now c.args.tally.now c.args.passes.now (g.R.Ruler.log c.args.ruler.now)) (state c.flex_at.new.tree c.flex_at.new.tally c.flex_at.new.passes (g.R.Ruler.log c.flex_at.new.ruler)) = λ q w n. stopped c.args.id q 0 (state c.args.tree.now c.args.tally.now c.args.passes.now (g.R.Ruler.log c.args.ruler.now)) (state c.flex_at.new.tree c.flex_at.new.tally c.flex_at.new.passes (g.R.Ruler.log c.flex_at.new.ruler)) (c.in_ok-parts.ensures.below q) in
+    on_err _ _ all
+
+pub column_at-returns-in_err-blocks-clause-stopped : goal.column_at-returns-in_err-blocks-clause-stopped
+column_at-returns-in_err-blocks-clause-stopped g t c =
+    let all : (q : Query) → given_size q.inline ≡ c.args.width → needs_inline q.ask ≡ true → Stopped c.args.id q (state c.args.tree.now c.args.tally.now c.args.passes.now (g.R.Ruler.log c.args.ruler.now)) (state c.ask_members.new.tree c.ask_members.new.tally c.ask_members.new.passes (g.R.Ruler.log c.ask_members.new.ruler)) = λ q w n. joined_stopped c.args.id q 0 (state c.args.tree.now c.args.tally.now c.args.passes.now (g.R.Ruler.log c.args.ruler.now)) (state c.flex_at.new.tree c.flex_at.new.tally c.flex_at.new.passes (g.R.Ruler.log c.flex_at.new.ruler)) (state c.ask_members.new.tree c.ask_members.new.tally c.ask_members.new.passes (g.R.Ruler.log c.ask_members.new.ruler)) (c.in_ok-parts.ensures.below q) (c.in_err-blocks.ensures.stopped q (column_leads (bare c.flex_at.new.tree.tree) c.args.id c.args.width q c.as_slice-3.result.now (subst (λ (z : BareTrees). (sight_at z c.args.id).label.kind ≡ kind.Flex) (sym (c.in_ok-parts.ensures.below (inline_query false [])).walk.bare_same) c.requires.flex) (subst (λ (z : BareTrees). (sight_at z c.args.id).label.content.column ≡ true) (sym (c.in_ok-parts.ensures.below (inline_query false [])).walk.bare_same) c.requires.direction) w n (c.as_slice-3.ensures ∙ c.in_ok-boxes.ensures.value))) in
+    on_err _ _ all
+
+pub column_at-returns-clause-below : goal.column_at-returns-clause-below
+column_at-returns-clause-below g t c =
+    λ q w n. joined_below c.args.id q 0 (state c.args.tree.now c.args.tally.now c.args.passes.now (g.R.Ruler.log c.args.ruler.now)) (state c.flex_at.new.tree c.flex_at.new.tally c.flex_at.new.passes (g.R.Ruler.log c.flex_at.new.ruler)) (state c.ask_members.new.tree c.ask_members.new.tally c.ask_members.new.passes (g.R.Ruler.log c.ask_members.new.ruler)) (c.in_ok-parts.ensures.below q) (c.in_ok-blocks.ensures.below q (column_leads (bare c.flex_at.new.tree.tree) c.args.id c.args.width q c.as_slice-3.result.now (subst (λ (z : BareTrees). (sight_at z c.args.id).label.kind ≡ kind.Flex) (sym (c.in_ok-parts.ensures.below (inline_query false [])).walk.bare_same) c.requires.flex) (subst (λ (z : BareTrees). (sight_at z c.args.id).label.content.column ≡ true) (sym (c.in_ok-parts.ensures.below (inline_query false [])).walk.bare_same) c.requires.direction) w n (c.as_slice-3.ensures ∙ c.in_ok-boxes.ensures.value)))
+
+pub column_at-returns-clause-value : goal.column_at-returns-clause-value
+column_at-returns-clause-value g t c =
+    record {
+      children = c.in_ok-parts.ensures.value;
+      across = c.in_ok-boxes.ensures.value ∙ ap (λ (z : BareTrees). column_boxes_seen z c.args.id c.args.width) (c.in_ok-parts.ensures.below (inline_query false [])).walk.bare_same;
+      along = c.in_ok-blocks.ensures.value ∙ (λ i. map block_of (settled_seen ((c.in_ok-parts.ensures.below (inline_query false [])).walk.bare_same i) c.args.id (c.as_slice-3.ensures i)));
+    }
+
+pub block_at-returns-in_err-query-clause-stopped : goal.block_at-returns-in_err-query-clause-stopped
+block_at-returns-in_err-query-clause-stopped g t c = on_err _ _ (stopped c.args.id _ 0 _ _ (walked_none c.args.id (block_query false c.args.reps.now c.args.width.now) (state c.args.tree.now c.args.tally.now c.args.passes.now (g.R.Ruler.log c.args.ruler.now)) c.requires.right))
+
+pub block_at-returns-in-Some-clause-walked : goal.block_at-returns-in-Some-clause-walked
+block_at-returns-in-Some-clause-walked g t c = found_walked c.args.id (block_query false c.args.reps.now c.args.width.now) (state c.args.tree.now c.args.tally.now c.args.passes.now (g.R.Ruler.log c.args.ruler.now)) c.requires.right
+
+pub lend_rows_at-returns-in_err-query-clause-stopped : goal.lend_rows_at-returns-in_err-query-clause-stopped
+lend_rows_at-returns-in_err-query-clause-stopped g t c = on_err _ _ (stopped c.args.id _ 0 _ _ (walked_none c.args.id (block_query true c.args.reps.now c.args.width.now) (state c.args.tree.now c.args.tally.now c.args.passes.now (g.R.Ruler.log c.args.ruler.now)) c.requires.right))
+
+pub lend_rows_at-returns-in-Some-clause-walked : goal.lend_rows_at-returns-in-Some-clause-walked
+lend_rows_at-returns-in-Some-clause-walked g t c = on_ok _ _ (found_walked c.args.id (block_query true c.args.reps.now c.args.width.now) (state c.args.tree.now c.args.tally.now c.args.passes.now (g.R.Ruler.log c.args.ruler.now)) c.requires.right)
+
+pub lend_rows_at-returns-in-Some-clause-stopped : goal.lend_rows_at-returns-in-Some-clause-stopped
+lend_rows_at-returns-in-Some-clause-stopped g t c = on_err _ _ (stopped c.args.id _ 0 _ _ (walked_none c.args.id (block_query true c.args.reps.now c.args.width.now) (state c.args.tree.now c.args.tally.now c.args.passes.now (g.R.Ruler.log c.args.ruler.now)) c.requires.right))
+
+pub ask_members-loop-index-init : goal.ask_members-loop-index-init
+ask_members-loop-index-init g t c =
+    record {
+      right = c.requires.right;
+      same = refl;
+      walked = λ q leads. walked_none c.args.id q (state c.args.tree.now c.args.tally.now c.args.passes.now (g.R.Ruler.log c.args.ruler.now)) c.requires.right;
+      blocks = ap (λ (l : List ℤ). l ++ map block_of (settled_seen (bare c.args.tree.now.tree) c.args.id c.args.boxes.now)) c.new-blocks.ensures;
+    }
+
+pub ask_members-member_at-member-requires : goal.ask_members-member_at-member-requires
+ask_members-member_at-member-requires g t c = omega (arith, c.loop-index-test.true)
+
+pub ask_members-box_at-requires : goal.ask_members-box_at-requires
+ask_members-box_at-requires g t c = omega (arith, c.loop-index-test.true, boxes_counted (bare c.args.tree.now.tree) c.args.id c.args.members.now c.args.boxes.now c.requires.members c.requires.roomy)
+
+pub ask_members-node_at-requires : goal.ask_members-node_at-requires
+ask_members-node_at-requires g t c =
+    let live_now : IsLive (bare c.loop-index.tree.tree) c.member_at-member.result.child =
+    member_live (bare c.args.tree.now.tree) (bare c.loop-index.tree.tree) c.args.id c.args.members.now c.loop-index.index c.member_at-member.result c.loop-index.invariant.same c.requires.members (omega (arith, c.loop-index-test.true)) c.member_at-member.ensures in
+    live_now
+
+pub ask_members-given_box-width-requires : goal.ask_members-given_box-width-requires
+ask_members-given_box-width-requires g t c =
+    let live_now : IsLive (bare c.loop-index.tree.tree) c.member_at-member.result.child =
+    member_live (bare c.args.tree.now.tree) (bare c.loop-index.tree.tree) c.args.id c.args.members.now c.loop-index.index c.member_at-member.result c.loop-index.invariant.same c.requires.members (omega (arith, c.loop-index-test.true)) c.member_at-member.ensures in
+    let readable : AreReadable (bare c.loop-index.tree.tree) = subst AreReadable (sym c.loop-index.invariant.same) c.requires.readable in
+    subst (λ (s : GridStyle). IsGridAxis s.columns) (sym c.node_at.ensures.grid) (readable.nodes c.member_at-member.result.child live_now).grid.columns
+
+pub ask_members-block_at-requires : goal.ask_members-block_at-requires
+ask_members-block_at-requires g t c =
+    let turn_now : IsAsked (bare c.args.tree.now.tree) (bare c.loop-index.tree.tree) c.args.id c.args.boxes.now c.loop-index.index c.member_at-member.result c.box_at.result =
+    asked_turn (bare c.args.tree.now.tree) (bare c.loop-index.tree.tree) c.args.id c.args.members.now c.args.boxes.now c.loop-index.index c.member_at-member.result c.box_at.result c.loop-index.invariant.same c.root.ensures.tree c.requires.members c.requires.roomy c.requires.flex (omega (arith, c.loop-index-test.true)) c.member_at-member.ensures c.box_at.ensures in
+    let given : IsGivenFor true false 0 c.given_box-width.result =
+    c.given_box-width.ensures.fits (subst (λ (s : GridStyle). inner s.columns ≤ℤ c.box_at.result) (sym c.node_at.ensures.grid) turn_now.room) in
+    let live : IsLive (bare c.loop-index.tree.tree) c.member_at-member.result.child = turn_now.live in
+    let readable : AreReadable (bare c.loop-index.tree.tree) = subst AreReadable (sym c.loop-index.invariant.same) c.requires.readable in
+    let fits : Fits (sight_at (bare c.loop-index.tree.tree) c.member_at-member.result.child) (block_query false [] c.given_box-width.result) = fits_block (sight_at (bare c.loop-index.tree.tree) c.member_at-member.result.child) c.given_box-width.result turn_now.none given in
+    let seat : IsSeat (sight_at (bare c.loop-index.tree.tree) c.member_at-member.result.child) [] above.Nothing (record { columns = record { start = pos 0; end = pos 0 }; rows = record { start = pos 0; end = pos 0 } }) = alone_there (bare c.loop-index.tree.tree) c.member_at-member.result.child _ (ap has_chain turn_now.none) in
+    let apart : IsSpread (farthest (level_at (bare c.loop-index.tree.tree) c.member_at-member.result.child)) c.given_box-width.result = spread_none (farthest (level_at (bare c.loop-index.tree.tree) c.member_at-member.result.child)) c.given_box-width.result given in
+    let small : 8 * size_at (bare c.loop-index.tree.tree) c.member_at-member.result.child + 4 < 8 * size_at (bare c.args.tree.now.tree) c.args.id + 0 = omega (arith, turn_now.small) in
+    search rules
+
+pub ask_members-returns-in_err-block-clause-stopped : goal.ask_members-returns-in_err-block-clause-stopped
+ask_members-returns-in_err-block-clause-stopped g t c =
+    let turn_now : IsAsked (bare c.args.tree.now.tree) (bare c.loop-index.tree.tree) c.args.id c.args.boxes.now c.loop-index.index c.member_at-member.result c.box_at.result =
+    asked_turn (bare c.args.tree.now.tree) (bare c.loop-index.tree.tree) c.args.id c.args.members.now c.args.boxes.now c.loop-index.index c.member_at-member.result c.box_at.result c.loop-index.invariant.same c.root.ensures.tree c.requires.members c.requires.roomy c.requires.flex (omega (arith, c.loop-index-test.true)) c.member_at-member.ensures c.box_at.ensures in
+    let width_now : c.given_box-width.result ≡ (settled_at (member_of (bare c.args.tree.now.tree) c.member_at-member.result) c.box_at.result).inline =
+    width_is (bare c.args.tree.now.tree) (bare c.loop-index.tree.tree) c.member_at-member.result c.box_at.result (grid_of c.node_at.result.now.style) c.given_box-width.result c.loop-index.invariant.same c.node_at.ensures.grid c.given_box-width.ensures.value in
+    let all : (q : Query) → LeadsTo (bare c.args.tree.now.tree) c.args.id c.args.boxes.now q → Stopped c.args.id q (state c.args.tree.now c.args.tally.now c.args.passes.now (g.R.Ruler.log c.args.ruler.now)) (state c.block_at.new.tree c.block_at.new.tally c.block_at.new.passes (g.R.Ruler.log c.block_at.new.ruler)) =
+    λ q leads. (c.root.ensures.steps c.args.id c.member_at-member.result.child c.member_at-member.result.number turn_now.number).stops q (block_query false [] c.given_box-width.result) 0 _ _ _
+    (subst (λ (w : Given). Contains (uses_at (bare c.args.tree.now.tree) c.args.id q) (c.member_at-member.result.number, block_query false [] w)) (sym width_now) (leads c.loop-index.index (settled_at (member_of (bare c.args.tree.now.tree) c.member_at-member.result) c.box_at.result) turn_now.next))
+    c.loop-index.invariant.same (c.loop-index.invariant.walked q leads) c.in_err-block.ensures.stopped in
+    on_err _ _ all
+
+pub ask_members-returns-in_err-push-clause-stopped : goal.ask_members-returns-in_err-push-clause-stopped
+ask_members-returns-in_err-push-clause-stopped g t c =
+    let turn_now : IsAsked (bare c.args.tree.now.tree) (bare c.loop-index.tree.tree) c.args.id c.args.boxes.now c.loop-index.index c.member_at-member.result c.box_at.result =
+    asked_turn (bare c.args.tree.now.tree) (bare c.loop-index.tree.tree) c.args.id c.args.members.now c.args.boxes.now c.loop-index.index c.member_at-member.result c.box_at.result c.loop-index.invariant.same c.root.ensures.tree c.requires.members c.requires.roomy c.requires.flex (omega (arith, c.loop-index-test.true)) c.member_at-member.ensures c.box_at.ensures in
+    let width_now : c.given_box-width.result ≡ (settled_at (member_of (bare c.args.tree.now.tree) c.member_at-member.result) c.box_at.result).inline =
+    width_is (bare c.args.tree.now.tree) (bare c.loop-index.tree.tree) c.member_at-member.result c.box_at.result (grid_of c.node_at.result.now.style) c.given_box-width.result c.loop-index.invariant.same c.node_at.ensures.grid c.given_box-width.ensures.value in
+    let all : (q : Query) → LeadsTo (bare c.args.tree.now.tree) c.args.id c.args.boxes.now q → Stopped c.args.id q (state c.args.tree.now c.args.tally.now c.args.passes.now (g.R.Ruler.log c.args.ruler.now)) (state c.block_at.new.tree c.block_at.new.tally c.block_at.new.passes (g.R.Ruler.log c.block_at.new.ruler)) =
+    λ q leads. stopped c.args.id q 0 _ _ ((c.root.ensures.steps c.args.id c.member_at-member.result.child c.member_at-member.result.number turn_now.number).below q (block_query false [] c.given_box-width.result) 0 _ _ _
+    (subst (λ (w : Given). Contains (uses_at (bare c.args.tree.now.tree) c.args.id q) (c.member_at-member.result.number, block_query false [] w)) (sym width_now) (leads c.loop-index.index (settled_at (member_of (bare c.args.tree.now.tree) c.member_at-member.result) c.box_at.result) turn_now.next))
+    c.loop-index.invariant.same (c.loop-index.invariant.walked q leads) c.in_ok-block.ensures.walked) in
+    on_err _ _ all
+
+pub ask_members-loop-index-preserved : goal.ask_members-loop-index-preserved
+ask_members-loop-index-preserved g t c =
+    let turn_now : IsAsked (bare c.args.tree.now.tree) (bare c.loop-index.tree.tree) c.args.id c.args.boxes.now c.loop-index.index c.member_at-member.result c.box_at.result =
+    asked_turn (bare c.args.tree.now.tree) (bare c.loop-index.tree.tree) c.args.id c.args.members.now c.args.boxes.now c.loop-index.index c.member_at-member.result c.box_at.result c.loop-index.invariant.same c.root.ensures.tree c.requires.members c.requires.roomy c.requires.flex (omega (arith, c.loop-index-test.true)) c.member_at-member.ensures c.box_at.ensures in
+    let width_now : c.given_box-width.result ≡ (settled_at (member_of (bare c.args.tree.now.tree) c.member_at-member.result) c.box_at.result).inline =
+    width_is (bare c.args.tree.now.tree) (bare c.loop-index.tree.tree) c.member_at-member.result c.box_at.result (grid_of c.node_at.result.now.style) c.given_box-width.result c.loop-index.invariant.same c.node_at.ensures.grid c.given_box-width.ensures.value in
+    record {
+      right = c.block_at.ensures.right;
+      same = c.in_ok-block.ensures.walked.walk.bare_same ∙ c.loop-index.invariant.same;
+      walked = λ q leads. (c.root.ensures.steps c.args.id c.member_at-member.result.child c.member_at-member.result.number turn_now.number).below q (block_query false [] c.given_box-width.result) 0 _ _ _
+          (subst (λ (w : Given). Contains (uses_at (bare c.args.tree.now.tree) c.args.id q) (c.member_at-member.result.number, block_query false [] w)) (sym width_now) (leads c.loop-index.index (settled_at (member_of (bare c.args.tree.now.tree) c.member_at-member.result) c.box_at.result) turn_now.next))
+          c.loop-index.invariant.same (c.loop-index.invariant.walked q leads) c.in_ok-block.ensures.walked;
+      blocks = blocks_more (settled_seen (bare c.args.tree.now.tree) c.args.id c.args.boxes.now) c.loop-index.index (settled_at (member_of (bare c.args.tree.now.tree) c.member_at-member.result) c.box_at.result) c.loop-index.blocks _ _ c.in_ok-block.block turn_now.next c.in_ok-push.ensures.ok
+          (block_is (bare c.args.tree.now.tree) (bare c.loop-index.tree.tree) c.member_at-member.result c.box_at.result c.in_ok-block.block c.given_box-width.result c.loop-index.invariant.same width_now (size_is _ _ c.in_ok-block.ensures.value)) c.loop-index.invariant.blocks;
+    }
+
+pub ask_members-returns-clause-value : goal.ask_members-returns-clause-value
+ask_members-returns-clause-value g t c =
+    let settled = settled_seen (bare c.args.tree.now.tree) c.args.id c.args.boxes.now in
+    let few : length settled ≤ c.loop-index.index = omega (arith, c.loop-index-test.false, settled_length (bare c.args.tree.now.tree) c.args.id c.args.members.now c.args.boxes.now c.requires.members.same (boxes_counted (bare c.args.tree.now.tree) c.args.id c.args.members.now c.args.boxes.now c.requires.members c.requires.roomy)) in
+    all_there (map block_of) settled c.loop-index.index c.loop-index.blocks (map block_of settled) refl few c.loop-index.invariant.blocks
+
+pub ask_members-returns-clause-right : goal.ask_members-returns-clause-right
+ask_members-returns-clause-right g t c = c.loop-index.invariant.right
+
+pub ask_members-returns-clause-below : goal.ask_members-returns-clause-below
+ask_members-returns-clause-below g t c = c.loop-index.invariant.walked
+
+pub row_at-node_at-requires : goal.row_at-node_at-requires
+row_at-node_at-requires g t c = subst (λ (z : BareTrees). IsLive z c.args.id) (sym (c.in_ok-parts.ensures.below (inline_query false [])).walk.bare_same) c.requires.live
