@@ -1,0 +1,48 @@
+//! Nodes as the arena holds them.
+
+ghost use Rattle.std.specs.Prelude.{◌≡◌, [], IfOk};
+ghost use Rattle.style_types.specs.Computed.{computed_style};
+ghost use Rattle.page_tree.specs.Documents.{kind_of};
+
+use doc_text::Kind;
+use layout_cache::Kept;
+use lunit::{Copied, Lu, Name, NoMemory};
+use placing::{Node, NodeKind};
+use std::alloc::Global;
+use style_types::Declared;
+
+/// The kind of a node in the arena.
+pub(crate) fn node_kind(alloc: Global, kind: &Kind) -> Result<NodeKind, NoMemory>
+    ensures { IfOk result (λ made. kind_of made ≡ kind.now) }
+{
+    match kind {
+        Kind::Grid => Ok(NodeKind::Grid),
+        Kind::Flex => Ok(NodeKind::Flex),
+        Kind::Leaf(content) => Ok(NodeKind::Leaf(content.copy(alloc)?)),
+    }
+}
+
+/// A node that keeps no answer, whose font size is `em` where that of the root is `rem`.
+pub(crate) fn made(
+    alloc: Global,
+    name: Name,
+    kind: NodeKind,
+    declared: Declared,
+    em: Lu,
+    rem: Lu,
+) -> Result<Node, NoMemory>
+    ensures name { IfOk result (λ node. node.name ≡ name) }
+    ensures kind { IfOk result (λ node. node.kind ≡ kind) }
+    ensures declared { IfOk result (λ node. node.declared ≡ declared) }
+    ensures style { IfOk result (λ node. node.style ≡ computed_style em rem declared) }
+    ensures kept { IfOk result (λ node. node.kept ≡ []) }
+{
+    let style = declared.computed(alloc, em, rem)?;
+    Ok(Node {
+        name,
+        kind,
+        declared,
+        style,
+        kept: Kept::new(alloc)?,
+    })
+}

@@ -1,0 +1,205 @@
+//! A document as the engine holds it.
+
+ghost use Rattle.std.specs.Prelude.{◌≡◌, false, Ok, Some, IfOk, OnOk, OnErr, IsSome};
+ghost use Rattle.plain_tree.specs.Trees.{leafless, tree};
+ghost use Rattle.node_arena.specs.Numbers.{part_at};
+ghost use Rattle.doc_text.specs.Edits.{edited, tree_of};
+ghost use Rattle.doc_text.specs.declared.edit.Edit.TheVariants as edit;
+ghost use Rattle.doc_text.specs.Growth.{holds};
+ghost use Rattle.doc_text.specs.Label.{Label};
+ghost use Rattle.doc_text.specs.Named.{inserted, relabelled, IsDistinct};
+ghost use Rattle.doc_text.specs.View.{label_of};
+ghost use Rattle.placing.specs.Keeping.{KeepsNone};
+ghost use Rattle.placing.specs.Kept.{IsRight};
+ghost use Rattle.page_tree.specs.Documents.{kind_of, Becomes};
+ghost use Rattle.page_tree.specs.Filled.{filled, AreNew};
+ghost use Rattle.page_tree.specs.Fonts.{KeepsFont};
+ghost use Rattle.page_tree.specs.Pages.{document_of, trees_in, IsAround, IsRoot, Stands, StandsUnder};
+ghost use Rattle.page_tree.specs.Registers.{Finds};
+
+use crate::font::{font_at, font_of_root, root_font};
+use crate::node::{made, node_kind};
+use crate::register::Register;
+use doc_text::{Doc, MAX_CHILDREN, Plain, node_limit};
+use lunit::{Copied, Lu, Name, NoMemory};
+use node_arena::{Arena, NodeId};
+use placing::{Node, NodeKind};
+use std::alloc::Global;
+use std::marker::Model;
+use style_types::Declared;
+
+/// A document in the form that edits and layouts work on: its nodes in an arena, found by their names, each with its
+/// computed style and the answers that it keeps.
+#[derive(Drop)]
+pub struct Page {
+    version: u8,
+    width: Lu,
+    height: Lu,
+    nodes: Register,
+    alloc: Global,
+}
+
+impl Model for Page {
+    ghost use Rattle.page_tree.specs.Pages.{Held, held_code, IsPage};
+
+    ghost Value = { Held };
+
+    ghost coded = { held_code };
+
+    ghost view = { λ a. record { version = a.version; width = a.width; height = a.height; nodes = a.nodes } };
+
+    ghost invariant = { λ a. IsPage a.nodes.tree };
+}
+
+impl Page {
+    /// The version of the language, 1 or 2.
+    pub fn version(&self) -> u8
+        ensures { result ≡ self.now.version }
+    {
+        self.version
+    }
+
+    /// The nodes.
+    pub fn tree(&self) -> &Arena<Node>
+        ensures { result.now ≡ self.now.nodes }
+    {
+        self.nodes.tree()
+    }
+
+    /// The nodes. What holds of every page is told here.
+    pub(crate) fn stands(&self) -> &Arena<Node>
+        ensures { Stands self.now.nodes.tree }
+    {
+        let tree = self.nodes.tree();
+        let _ = tree.root();
+        tree
+    }
+
+    /// The viewport has this size. No kept answer depends on it.
+    pub fn set_viewport(&mut self, width: Lu, height: Lu)
+        ensures document { edited (edit.Viewport width height) (document_of self.old) ≡ Ok (document_of self.new) }
+        ensures nodes { self.new.nodes ≡ self.old.nodes }
+    {
+        self.width = width;
+        self.height = height;
+    }
+
+    /// The number of the node of a name; `None` exactly where no node has the name.
+    pub fn find(&self, name: &Name) -> Option<NodeId>
+        ensures { Finds self.now.nodes.tree name.now result }
+    {
+        self.nodes.find(name)
+    }
+
+    /// The document of a root alone.
+    fn of_root(alloc: Global, doc: &Doc) -> Result<Page, NoMemory>
+        ensures { IfOk result (λ page. IsRoot doc.now page) }
+    {
+        let font = font_of_root(&doc.root.style);
+        let kind = node_kind(alloc, &doc.root.kind)?;
+        let declared = doc.root.style.copy(alloc)?;
+        let root = made(alloc, doc.root.name, kind, declared, font, font)?;
+        let (nodes, _) = Register::new(alloc, root, node_limit(doc.version), MAX_CHILDREN)?;
+        Ok(Page {
+            version: doc.version,
+            width: doc.width,
+            height: doc.height,
+            nodes,
+            alloc,
+        })
+    }
+
+    /// A node as it stands under another.
+    fn node_under(&self, parent: NodeId, plain: &Plain) -> Result<Node, NoMemory>
+        requires { IsSome (part_at self.now.nodes.tree parent) }
+        ensures { IfOk result (λ node. StandsUnder parent self.now.nodes.tree plain.now node) }
+    {
+        let tree = self.nodes.tree();
+        let root = root_font(tree);
+        let font = plain.style.font(font_at(tree, root, parent), root);
+        let kind = node_kind(self.alloc, &plain.kind)?;
+        let declared = plain.style.copy(self.alloc)?;
+        made(self.alloc, plain.name, kind, declared, font, root)
+    }
+
+    /// Makes a node without children under the node of a name, at an index of its children; where no node has the name,
+    /// nothing. It takes all its memory first.
+    pub(crate) fn add(&mut self, parent: &Name, index: usize, plain: &Plain) -> Result<(), NoMemory>
+        requires { holds (trees_in self.old) plain.now.name ≡ false }
+        ensures nodes { OnOk result (trees_in self.new ≡ inserted parent.now index (label_of plain.now) (trees_in self.old)) }
+        ensures around { OnOk result (IsAround self.old self.new) }
+        ensures kept { OnOk result (KeepsNone self.old.nodes.tree → KeepsNone self.new.nodes.tree) }
+        ensures err { OnErr result (self.new ≡ self.old) }
+    {
+        if self.nodes.tree().inserted() == u64::MAX {
+            return Err(NoMemory);
+        }
+        let id = match self.nodes.find(parent) {
+            Some(id) => id,
+            None => return Ok(()),
+        };
+        let node = self.node_under(id, plain)?;
+        self.nodes.insert(id, index, node)?;
+        Ok(())
+    }
+
+    /// Gives the node of a name and a number another kind and other values, which leave its font size. It takes all its
+    /// memory first.
+    pub(crate) fn relabel(
+        &mut self,
+        name: &Name,
+        id: NodeId,
+        kind: NodeKind,
+        declared: Declared,
+    ) -> Result<(), NoMemory>
+        requires found { Finds self.old.nodes.tree name.now (Some id) }
+        requires font { KeepsFont id declared self.old.nodes.tree }
+        ensures nodes { OnOk result ((change : Label → Label) → Becomes id change (record { name = name.now; kind = kind_of kind; style = declared }) self.old.nodes.tree → trees_in self.new ≡ relabelled name.now change (trees_in self.old)) }
+        ensures around { OnOk result (IsAround self.old self.new) }
+        ensures kept { OnOk result (KeepsNone self.old.nodes.tree → KeepsNone self.new.nodes.tree) }
+        ensures err { OnErr result (self.new ≡ self.old) }
+    {
+        let tree = self.nodes.tree();
+        let root = root_font(tree);
+        let font = font_at(tree, root, id);
+        let node = made(self.alloc, *name, kind, declared, font, root)?;
+        self.nodes.put(id, node);
+        Ok(())
+    }
+
+    /// Where memory is taken.
+    pub(crate) fn alloc(&self) -> Global {
+        self.alloc
+    }
+
+    /// The page of a document whose names differ, as those of every valid document do. No answer is kept yet.
+    ///
+    /// `NoMemory` where memory is wanting.
+    pub fn new(alloc: Global, doc: &Doc) -> Result<Page, NoMemory>
+        requires { IsDistinct (tree_of doc.now) }
+        ensures document { IfOk result (λ page. document_of page ≡ doc.now) }
+        ensures right { IfOk result (λ page. IsRight page.nodes.tree) }
+    {
+        let mut page = Page::of_root(alloc, doc)?;
+        fill(&mut page, &doc.root)?;
+        Ok(page)
+    }
+}
+
+/// Makes all nodes below one that has none yet.
+fn fill(page: &mut Page, node: &Plain) -> Result<(), NoMemory>
+    requires distinct { IsDistinct node.now.children }
+    requires new { AreNew node.now.children (trees_in page.old) }
+    requires bare { filled node.now.name leafless (trees_in page.old) ≡ trees_in page.old }
+    ensures nodes { OnOk result (trees_in page.new ≡ filled node.now.name node.now.children (trees_in page.old)) }
+    ensures around { OnOk result (IsAround page.old page.new) }
+    ensures kept { OnOk result (KeepsNone page.old.nodes.tree → KeepsNone page.new.nodes.tree) }
+{
+    let children = node.children.nodes();
+    for index in 0..children.len() {
+        let child = &children[index];
+        page.add(&node.name, index, child)?;
+        fill(page, child)?;
+    }
+    Ok(())
+}
