@@ -5,6 +5,8 @@
 #[cfg(test)]
 mod declarations;
 #[cfg(test)]
+mod documents;
+#[cfg(test)]
 mod lines;
 #[cfg(test)]
 mod pieces;
