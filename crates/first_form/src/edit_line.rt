@@ -106,8 +106,8 @@ fn named_of(number: u32, bytes: &[u8], token: Token) -> Option<Named>
     })
 }
 
-/// The edit of a line of this number, at its tokens.
 #[tactic(auto, using(crate::proofs::Within::words_alone))]
+/// The edit of a line of this number, at its tokens.
 fn edit_of_words(number: u32, bytes: &[u8], tokens: &[Token]) -> Option<Edit>
     requires fits { list_all (fits bytes.now) tokens.now ≡ true }
     requires short { length bytes.now ≤ 65536 }
@@ -141,8 +141,8 @@ pub fn read_edit(alloc: Global, line: &Line) -> Result<Edit, ReadError>
     edit_at(line, &tokens).ok_or(ReadError::Fault(not_built_at(line.number)))
 }
 
-/// The edit of a line without a fault, at its tokens.
 #[tactic(auto, using(crate::proofs::Within::tokens_fit))]
+/// The edit of a line without a fault, at its tokens.
 fn edit_at(line: &Line, tokens: &[Token]) -> Option<Edit>
     requires tokens { tokens.now ≡ tokens_of line.now.bytes }
     requires short { length line.now.bytes ≤ 65536 }

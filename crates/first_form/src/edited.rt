@@ -94,8 +94,8 @@ fn first_named(nodes: &[Plain], name: Name) -> Option<usize>
     nodes.iter().position(|node| node.name == name)
 }
 
-/// The index of the first node of this name, or how many nodes there are where none has it.
 #[tactic(auto, using(crate::proofs::Indents::none_found))]
+/// The index of the first node of this name, or how many nodes there are where none has it.
 fn index_of(nodes: &[Plain], name: Name) -> usize
     ensures { result ≡ position_or_len (has_name name) nodes.now }
 {
@@ -105,8 +105,8 @@ fn index_of(nodes: &[Plain], name: Name) -> usize
     }
 }
 
-/// Edits the lines of the node that the edit names, among the leaves of a grid of so many tracks.
 #[tactic(auto, using(crate::proofs::Naming::naming))]
+/// Edits the lines of the node that the edit names, among the leaves of a grid of so many tracks.
 pub(crate) fn edit_leaves(nodes: &mut Vec<Plain>, tracks: usize, edit: &Edit) -> Result<(), Fault>
     ensures { Edits result (edited_leaves tracks edit.now (trees_of nodes.old.items)) (trees_of nodes.old.items) (trees_of nodes.new.items) }
 {

@@ -45,8 +45,8 @@ fn indent_of(bytes: &[u8]) -> usize
     }
 }
 
-/// The words of a line, at its tokens.
 #[tactic(auto, using(crate::proofs::Within::tokens_fit))]
+/// The words of a line, at its tokens.
 fn words_of<'a>(line: &'a Line, tokens: &'a [Token]) -> Words<'a>
     requires { tokens.now ≡ tokens_of line.now.bytes }
     ensures { result ≡ words_of line.now.bytes }
@@ -127,8 +127,8 @@ fn read_child(alloc: Global, line: &Line, grid: &Plain) -> Result<Plain, ReadErr
     }
 }
 
-/// The leaves of a grid, at its lines; all names differ.
 #[tactic(auto, using(crate::proofs::Leaves::reading))]
+/// The leaves of a grid, at its lines; all names differ.
 fn read_children(alloc: Global, lines: &[Line], grid: &Plain) -> Result<Children, ReadError>
     requires { list_all is_sound lines.now ≡ true }
     ensures { Gives result (children_of grid.now (rows_of lines.now)) }
@@ -191,8 +191,8 @@ pub fn read_doc(alloc: Global, lines: &[Line], _end: Place) -> Result<Doc, ReadE
     }
 }
 
-/// Whether the two header lines and the line of the grid are there.
 #[tactic(auto, using(crate::proofs::Rows::counting, crate::proofs::Fronts::fronts))]
+/// Whether the two header lines and the line of the grid are there.
 fn has_heads(lines: &[Line]) -> bool
     requires { list_all is_sound lines.now ≡ true }
     ensures { result ≡ true → HasHeads (rows_of lines.now) }
@@ -206,9 +206,9 @@ fn has_heads(lines: &[Line]) -> bool
     }
 }
 
+#[tactic(auto, using(crate::proofs::Fronts::fronts))]
 /// Whether the lines are no document whatever lines follow them, as far as these lines tell. A reader of a long text need hold
 /// no more lines then. It looks at all of the lines. Or `NoMemory`.
-#[tactic(auto, using(crate::proofs::Fronts::fronts))]
 pub fn begins_none(alloc: Global, lines: &[Line]) -> Result<bool, NoMemory>
     ensures { IfOk result (λ none. none ≡ true → BeginsNone lines.now) }
 {

@@ -11,16 +11,16 @@ pub fn units(number: i64) -> Wide
     Wide::of(number as i128)
 }
 
-/// Whether the first is at most the second.
 #[tactic(auto, using(crate::proofs::Orders::le_is))]
+/// Whether the first is at most the second.
 pub fn is_at_most(first: Wide, second: Wide) -> bool
     ensures { result ≡ int_le first second }
 {
     first <= second
 }
 
-/// Whether the first is less than the second.
 #[tactic(auto, using(crate::proofs::Orders::lt_is))]
+/// Whether the first is less than the second.
 pub fn is_less(first: Wide, second: Wide) -> bool
     ensures { result ≡ int_lt first second }
 {

@@ -16,8 +16,8 @@ use lunit::{Along, Lu, NoMemory, Wide};
 use share_out::{Share, hand_out};
 use std::alloc::Global;
 
-/// The greatest of some outer cross sizes, at least 0.
 #[tactic(auto, using(crate::proofs::Crossing::greatest_laws))]
+/// The greatest of some outer cross sizes, at least 0.
 fn greatest(outer: &[Lu]) -> Lu
     ensures { result ≡ greatest_with (pos 0) outer.now }
 {

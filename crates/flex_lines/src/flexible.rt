@@ -62,8 +62,8 @@ pub fn first_flexible(
     Ok(all)
 }
 
-/// The size of an item as the line begins: its hypothetical size where it is frozen, else its base size.
 #[tactic(auto, using(crate::proofs::Starts::size_frozen, crate::proofs::Starts::size_free))]
+/// The size of an item as the line begins: its hypothetical size where it is frozen, else its base size.
 fn first_size(grow: bool, item: &FlexItem) -> Lu
     ensures { result ≡ size_of (begin grow item.now) }
 {
@@ -85,8 +85,8 @@ pub fn first_sizes(alloc: Global, grow: bool, items: &[FlexItem]) -> Result<Vec<
     Ok(sizes)
 }
 
-/// What an item takes that is frozen from the start; 0 for another.
 #[tactic(auto, using(crate::proofs::Starts::held_frozen, crate::proofs::Starts::held_free))]
+/// What an item takes that is frozen from the start; 0 for another.
 fn held_at_first(grow: bool, item: &FlexItem) -> Wide
     ensures value { result ≡ if is_free (begin grow item.now) then pos 0 else outer_now (begin grow item.now) }
     ensures range { IsOuter result }

@@ -9,8 +9,8 @@ ghost use Rattle.flex_lines.specs.Ranges.{IsOuter, IsSize};
 use lunit::{Lu, Wide};
 use part_rules::FlexItem;
 
-/// The number, but at most a limit.
 #[tactic(auto, using(crate::proofs::Sizes::at_most_size, crate::proofs::Sizes::at_most_units))]
+/// The number, but at most a limit.
 fn at_most(limit: Option<Lu>, number: Wide) -> Wide
     requires { IsSize number }
     ensures value { result ≡ at_most limit number }
@@ -23,8 +23,8 @@ fn at_most(limit: Option<Lu>, number: Wide) -> Wide
     }
 }
 
-/// A size limited by the maximum of an item, and then by its minimum and by borders and paddings (CSS Flexbox 1, 9.7).
 #[tactic(auto, using(crate::proofs::Sizes::at_least_size, crate::proofs::Sizes::at_least_units))]
+/// A size limited by the maximum of an item, and then by its minimum and by borders and paddings (CSS Flexbox 1, 9.7).
 pub fn limited_main(item: &FlexItem, size: Wide) -> Wide
     requires { IsSize size }
     ensures value { result ≡ limited_main item.now size }
@@ -35,8 +35,8 @@ pub fn limited_main(item: &FlexItem, size: Wide) -> Wide
     item.inner.wide().max(least)
 }
 
-/// The hypothetical main size of an item (CSS Flexbox 1, 9.2).
 #[tactic(auto, using(crate::proofs::Sizes::clamp_units))]
+/// The hypothetical main size of an item (CSS Flexbox 1, 9.2).
 pub fn hypothetical(item: &FlexItem) -> Lu
     ensures { result ≡ hypothetical item.now }
 {

@@ -5,8 +5,8 @@ ghost use Rattle.std.specs.Prelude.{◌≤ℤ◌, pos};
 use fr_tracks::{FrRow, expand, find_fr};
 use lunit::Lu;
 
-/// So many units.
 #[tactic(auto, using(crate::proofs::Measurable::some_length))]
+/// So many units.
 fn units(number: u32) -> Lu
     ensures { pos 0 ≤ℤ result }
 {

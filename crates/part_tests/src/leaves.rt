@@ -12,16 +12,16 @@ use word_leaf::{height_at, lines_at, narrowest, widest};
 /// the number and the height of the lines at it.
 type Row<'a> = (&'a [u32], [u32; 2], [i64; 2], [i64; 3]);
 
-/// So many units.
 #[tactic(auto, using(crate::proofs::Measurable::some_length))]
+/// So many units.
 fn units(number: u32) -> Lu
     ensures { pos 0 ≤ℤ result }
 {
     Lu::of(number as i64)
 }
 
-/// A leaf of words of these widths.
 #[tactic(auto, using(crate::proofs::Measurable::more_widths))]
+/// A leaf of words of these widths.
 pub(crate) fn text(
     alloc: Global,
     line: u32,

@@ -83,8 +83,8 @@ const TWO: Placed = (0, 2, 60, 100, Known(40));
 /// Two items of one track.
 const ALONE: [Placed; 2] = [(0, 1, 30, 50, Known(25)), (0, 1, 28, 45, Known(20))];
 
-/// So many units.
 #[tactic(auto, using(crate::proofs::Measurable::some_length))]
+/// So many units.
 fn units(number: u32) -> Lu
     ensures { pos 0 ≤ℤ result }
 {
@@ -179,8 +179,8 @@ fn item(count: usize, placed: &Placed) -> Option<Item>
     })
 }
 
-/// The items up to one that lies in no such tracks.
 #[tactic(auto, using(crate::proofs::Sizable::in_more))]
+/// The items up to one that lies in no such tracks.
 fn items(alloc: Global, count: usize, rows: &[Placed]) -> Result<Vec<Item>, NoMemory>
     ensures { IfOk result (λ all. AreIn (negsuc 1) count all.items) }
 {

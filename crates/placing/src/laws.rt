@@ -13,31 +13,31 @@ ghost use Rattle.placing.specs.Keeping.{without_answers, KeepsOn, KeepsNone};
 ghost use Rattle.placing.specs.Nodes.{bare, children_at, label_of_bare, sight_at, BareTrees, NodeTrees};
 ghost use Rattle.placing.specs.Ranges.{AreReadable, IsReadable};
 
-/// A kept answer is the one of the definitions, and its frames are those of the node's children, in document order.
 #[tactic(auto, using(crate::proofs::KeptTrees::read_value, crate::proofs::KeptTrees::read_children))]
+/// A kept answer is the one of the definitions, and its frames are those of the node's children, in document order.
 pub fn kept_answers_are_defined()
     ensures value { (t : NodeTrees) (n : NodeId) (q : Query) (a : Answer) → IsRight t → answer_to q (kept_at t n) ≡ Some a → plain_answer a ≡ answer_of (sight_at (bare t) n) q }
     ensures children { (t : NodeTrees) (n : NodeId) (q : Query) (a : Answer) → IsRight t → answer_to q (kept_at t n) ≡ Some a → NamesChildren (children_at (bare t) n) a }
 {}
 
+#[tactic(auto, using(crate::proofs::KeptTrees::none_right, crate::proofs::KeptTrees::still_right))]
 /// Where nothing is kept all is right. A tree is right where each node keeps nothing, or keeps what it kept in a right tree in which the rules saw the same
 /// of it and it had the same children.
-#[tactic(auto, using(crate::proofs::KeptTrees::none_right, crate::proofs::KeptTrees::still_right))]
 pub fn right_where_seen_the_same()
     ensures none { (t : NodeTrees) → KeepsNone t → IsRight t }
     ensures same { (t u : NodeTrees) → IsRight t → ((n : NodeId) → KeepsOn t u n) → IsRight u }
 {}
 
-/// Letting answers go changes nothing but the lists of these nodes, and what is right stays right.
 #[tactic(auto, using(crate::proofs::KeptTrees::forgets_bare, crate::proofs::KeptTrees::forgets_kept, crate::proofs::KeptTrees::forgets_right))]
+/// Letting answers go changes nothing but the lists of these nodes, and what is right stays right.
 pub fn forgetting_keeps_the_rest()
     ensures same { (ns : List NodeId) (t : NodeTrees) → bare (forgets without_answers ns t) ≡ bare t }
     ensures kept { (ns : List NodeId) (t : NodeTrees) (n : NodeId) → kept_at (forgets without_answers ns t) n ≡ (if is_among n ns then [] else kept_at t n) }
     ensures right { (ns : List NodeId) (t : NodeTrees) → IsRight t → IsRight (forgets without_answers ns t) }
 {}
 
-/// A tree of nodes whose kinds and values a text reads as, none of which has more than 65,536 children, is such a tree by the numbers of its nodes.
 #[tactic(auto, using(crate::proofs::Readable::by_nodes))]
+/// A tree of nodes whose kinds and values a text reads as, none of which has more than 65,536 children, is such a tree by the numbers of its nodes.
 pub fn readable_node_by_node()
     ensures { (b : BareTrees) → EachNode (λ x. IsReadable (label_of_bare x.1)) b → IsNarrow 65536 b → AreReadable b }
 {}

@@ -20,8 +20,8 @@ struct Filling {
     left: u64,
 }
 
-/// The place before which so many rows take more than the level.
 #[tactic(auto, using(part_rules::proofs::Levels::above_parts))]
+/// The place before which so many rows take more than the level.
 fn place_after(count: u64, level: u64, rows: &[Share]) -> usize
     requires { count ≤ above level rows.now }
     ensures within { result ≤ length rows.now }
@@ -40,9 +40,9 @@ fn place_after(count: u64, level: u64, rows: &[Share]) -> usize
     rows.len()
 }
 
+#[tactic(auto, using(crate::proofs::Levels::ends_at, crate::proofs::Levels::full_at, part_rules::proofs::Levels::used_none, part_rules::proofs::Levels::level_least))]
 /// How far the units fill the rows. The level rises by what each row that takes more would get of what is left; where some of
 /// them become full, there is something left for a further turn.
-#[tactic(auto, using(crate::proofs::Levels::ends_at, crate::proofs::Levels::full_at, part_rules::proofs::Levels::used_none, part_rules::proofs::Levels::level_least))]
 fn find_filling(units: u64, rows: &[Share]) -> Filling
     ensures same { handed units rows.now ≡ record { rows = filled_rows result.level result.higher rows.now; left = result.left } }
     ensures within { result.higher ≤ length rows.now }
@@ -85,6 +85,7 @@ fn fill_to(filling: Filling, rows: &mut [Share])
     fill(rest, filling.level);
 }
 
+#[tactic(auto, using(crate::proofs::Levels::rooms_filled, crate::proofs::Levels::rooms_kept))]
 /// Shares the space in equal parts, in units, and answers what is left of it. One unit at a time goes to the rows in their
 /// order, round after round, but for a row whose room is used up, until no unit is left or no row has room (own rule).
 ///
@@ -94,7 +95,6 @@ fn fill_to(filling: Filling, rows: &mut [Share])
 /// The units are not counted out. Each row that has room is filled by an equal part of what is left, and where some of them
 /// become full on the way, what is left then is divided again. So there is at most one division more than rows that become
 /// full, with one pass over the rows for each.
-#[tactic(auto, using(crate::proofs::Levels::rooms_filled, crate::proofs::Levels::rooms_kept))]
 pub fn hand_out(space: Lu, rows: &mut [Share]) -> Lu
     ensures rows { rows.new ≡ shared_rows space rows.old }
     ensures left { result ≡ left_over space rows.old }

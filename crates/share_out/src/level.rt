@@ -33,8 +33,8 @@ pub fn tally_at(level: u64, rows: &[Share]) -> Tally
     Tally { used, above }
 }
 
-/// Fills the rows to the level.
 #[tactic(auto, using(std::proofs::lemmas::List::Edits::map_over_more))]
+/// Fills the rows to the level.
 pub fn fill(rows: &mut [Share], level: u64)
     requires { level ≤ 2 ^ 30 }
     ensures { rows.new ≡ map (filled_to level) rows.old }

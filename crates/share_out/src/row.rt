@@ -15,8 +15,8 @@ pub fn units(length: Lu) -> u64
     u64::try_from(length.units()).unwrap_or(0)
 }
 
-/// The length of so many units.
 #[tactic(auto, unfolding(lunit::specs::Units::clamp))]
+/// The length of so many units.
 pub fn length(units: u64) -> Lu
     requires { units ≤ 2 ^ 30 }
     ensures { result ≡ pos units }

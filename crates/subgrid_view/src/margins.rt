@@ -65,8 +65,8 @@ fn no_level() -> Limited
     }
 }
 
-/// The margin of the levels, with nothing above them.
 #[tactic(auto, unfolding(lunit::specs::Units::clamp))]
+/// The margin of the levels, with nothing above them.
 fn whole(levels: Limited) -> Lu
     requires { IsOrdered levels }
     ensures { result ≡ given levels (pos 0) }

@@ -47,8 +47,8 @@ fn first_start(tracks: &[(i64, i64)]) -> Wide
     }
 }
 
-/// The end of the last track.
 #[tactic(auto, using(crate::proofs::Tracks::last_is))]
+/// The end of the last track.
 fn last_end(tracks: &[(i64, i64)]) -> Wide
     ensures value { result ≡ last_end tracks.now }
     ensures range { IsEdge result }
@@ -163,8 +163,8 @@ fn seen(
     moved(alloc, &moves_for(difference, origin, content), tracks)
 }
 
-/// The tracks over a span that is counted from the first one.
 #[tactic(auto, using(crate::proofs::Tracks::over_near))]
+/// The tracks over a span that is counted from the first one.
 fn tracks_over(edges: &[(i64, i64)], span: Span) -> &[(i64, i64)]
     requires start { pos 0 ≤ℤ span.start }
     requires order { span.start ≤ℤ span.end }

@@ -188,8 +188,8 @@ fn marked_where(row: &Row, note: &Share) -> Row
     raised.with_endless(row.limit().is_none() && raised.limit().is_some())
 }
 
-/// Raises the growth limits that are noted.
 #[tactic(auto, using(crate::proofs::Loops::zipping))]
+/// Raises the growth limits that are noted.
 fn raise_noted(rows: &mut [Row], notes: &[Share])
     requires { length notes.now ≡ length rows.old }
     ensures { rows.new ≡ zipped raised_where rows.old notes.now }
@@ -199,8 +199,8 @@ fn raise_noted(rows: &mut [Row], notes: &[Share])
     }
 }
 
-/// Raises the growth limits that are noted, with the marks for the next step.
 #[tactic(auto, using(crate::proofs::Loops::zipping))]
+/// Raises the growth limits that are noted, with the marks for the next step.
 fn raise_and_mark_noted(rows: &mut [Row], notes: &[Share])
     requires { length notes.now ≡ length rows.old }
     ensures { rows.new ≡ zipped marked_where rows.old notes.now }
@@ -210,8 +210,8 @@ fn raise_and_mark_noted(rows: &mut [Row], notes: &[Share])
     }
 }
 
-/// Raises the growth limits that some item reaches, with the marks for the next step.
 #[tactic(auto, using(crate::proofs::Noted::reaches))]
+/// Raises the growth limits that some item reaches, with the marks for the next step.
 fn raise_marked_limits(
     affected: &Affected,
     first: Wide,
@@ -229,8 +229,8 @@ fn raise_marked_limits(
     raise_and_mark_noted(rows, notes);
 }
 
-/// Raises the growth limits that some item reaches.
 #[tactic(auto, using(crate::proofs::Noted::reaches))]
+/// Raises the growth limits that some item reaches.
 fn raise_limits(
     affected: &Affected,
     first: Wide,

@@ -15,8 +15,8 @@ use crate::row::Row;
 use lunit::{Item, Lu, Wide};
 use part_rules::Share;
 
-/// A row that notes whether its track is reached.
 #[tactic(auto, unfolding(lunit::specs::Units::clamp))]
+/// A row that notes whether its track is reached.
 fn note(reached: bool) -> Share
     ensures { result ≡ note_of reached }
 {
@@ -34,8 +34,8 @@ pub fn is_noted(row: &Share) -> bool
     row.room.is_some()
 }
 
-/// Notes no track.
 #[tactic(auto, using(crate::proofs::Loops::changing))]
+/// Notes no track.
 fn note_none(notes: &mut [Share])
     ensures { notes.new ≡ map (λ (s : Share). note_of false) notes.old }
 {
@@ -58,8 +58,8 @@ fn noted(affected: &Affected, before: &Share, track: &Row) -> Share
     }
 }
 
-/// Notes the affected ones of these tracks.
 #[tactic(auto, using(crate::proofs::Loops::zipping))]
+/// Notes the affected ones of these tracks.
 fn note_affected(affected: &Affected, rows: &[Row], notes: &mut [Share])
     requires { length notes.old ≡ length rows.now }
     ensures { notes.new ≡ zipped (noted_by (affected_of affected.now)) notes.old rows.now }
@@ -86,8 +86,8 @@ fn note_item(affected: &Affected, first: Wide, item: &Item, rows: &[Row], notes:
     note_affected(affected, mine, own);
 }
 
-/// Notes the tracks that some item reaches, and no others.
 #[tactic(auto, using(crate::proofs::Noted::all_notes))]
+/// Notes the tracks that some item reaches, and no others.
 pub fn note_reached(
     affected: &Affected,
     first: Wide,

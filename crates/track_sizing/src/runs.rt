@@ -50,8 +50,8 @@ pub fn by_tracks(alloc: Global, items: &[Item]) -> Result<Vec<Item>, NoMemory>
     Ok(sorted)
 }
 
-/// How many items stand first that have this number, where none has a lesser one.
 #[tactic(auto, using(crate::proofs::Order::runs))]
+/// How many items stand first that have this number, where none has a lesser one.
 pub fn run_length(by: &Key, number: Wide, items: &[Item]) -> usize
     requires rising { AreRising by.now items.now }
     requires from { AreFrom by.now number items.now }

@@ -13,23 +13,23 @@ ghost use Rattle.tree_rules.specs.Orders.{in_document_order, in_order, sorted_by
 ghost use Rattle.tree_rules.specs.Places.{Seen, answers_of};
 ghost use Rattle.tree_rules.specs.Queries.{Answer, answer_of};
 
-/// The answers of a node depend on its label, the links upwards and what stands below it, and on nothing else of its tree.
 #[tactic(auto, using(crate::proofs::SameTrees::same_answers, crate::proofs::SameTrees::same_answer))]
+/// The answers of a node depend on its label, the links upwards and what stands below it, and on nothing else of its tree.
 pub fn equal_nodes_answer_equally()
     ensures all { (s t : Seen) → s.label ≡ t.label → s.chain ≡ t.chain → s.below ≡ t.below → answers_of s ≡ answers_of t }
     ensures each { (s t : Seen) (q : Query) → s.label ≡ t.label → s.chain ≡ t.chain → s.below ≡ t.below → answer_of s q ≡ answer_of t q }
 {}
 
+#[tactic(auto, using(crate::proofs::SameTrees::same_chain))]
 /// The chain of a child depends on names, on which nodes are grids, and on grid-class values, of its parent and of the parent's children, and
 /// on the links above: neither on content-class values nor on what stands below the children.
-#[tactic(auto, using(crate::proofs::SameTrees::same_chain))]
 pub fn chains_are_of_grid_values()
     ensures { (x y a b : Label) (chain : List Link) (below under : Trees Label) (n : ℕ) → sibling_of x ≡ sibling_of y → siblings_of below ≡ siblings_of under → sibling_of a ≡ sibling_of b → chain_of (above_of x chain below) n a ≡ chain_of (above_of y chain under) n b }
 {}
 
+#[tactic(auto, using(crate::proofs::KeptLists::none_right, crate::proofs::KeptLists::right_put))]
 /// A node that keeps nothing is right, and a list of kept answers that is right stays so where a right answer to a question that it lacks is put and the oldest of
 /// seventeen goes.
-#[tactic(auto, using(crate::proofs::KeptLists::none_right, crate::proofs::KeptLists::right_put))]
 pub fn right_answers_stay_right<A>()
     ensures none { (s : Seen) (plain : A → Answer) → AreRight {A = A} s plain [] }
     ensures put { (s : Seen) (plain : A → Answer) (kept : List (Query × A)) (q : Query) (a : A) → AreRight s plain kept → IsAbsent q kept → IsRightPair s plain q a → AreRight s plain (last_of most_kept (kept ++ (q, a) ∷ [])) }

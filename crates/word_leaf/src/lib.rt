@@ -37,12 +37,12 @@ pub fn widest(content: &Content) -> Lu
     }
 }
 
+#[tactic(auto, using(part_rules::proofs::WordLines::words_fewest))]
 /// How many lines the words are filled into at a width; 0 for a fixed box and where there are no words.
 ///
 /// A word joins the line where the line with a space and the word is at most the width, else it begins a new line. So the
 /// first word of a line stands on it also where it alone is wider. No way of cutting the words into lines that fit the width
 /// has fewer lines.
-#[tactic(auto, using(part_rules::proofs::WordLines::words_fewest))]
 pub fn lines_at(content: &Content, width: Lu) -> u32
     requires { IsMeasurable content.now }
     ensures count { result ≡ line_count content.now width }

@@ -6,8 +6,8 @@ ghost use Rattle.part_rules.specs.WordLines.{greatest, line_width, word_lines};
 
 use lunit::{Lu, Wide};
 
-/// The greatest of the words and 0.
 #[tactic(auto, using(crate::proofs::Greatest::max_laws))]
+/// The greatest of the words and 0.
 pub fn greatest_of(words: &[Lu]) -> Lu
     ensures { result ≡ clamp (greatest words.now) }
 {
@@ -31,16 +31,16 @@ pub fn width_of(space: Lu, words: &[Lu]) -> Lu
     (sum + space.wide().times(spaces as u64)).clamp()
 }
 
-/// Whether a line is at most as wide as there is room.
 #[tactic(auto, using(crate::proofs::Filling::le_is))]
+/// Whether a line is at most as wide as there is room.
 fn fits(line_width: Wide, width: Lu) -> bool
     ensures { result ≡ int_le line_width width }
 {
     line_width <= width.wide()
 }
 
-/// The number of lines that the words are filled into.
 #[tactic(auto, using(crate::proofs::Filling::lines_begun))]
+/// The number of lines that the words are filled into.
 pub fn lines_of(space: Lu, width: Lu, words: &[Lu]) -> u32
     requires { length words.now ≤ 65536 }
     ensures count { result ≡ length (word_lines space width words.now) }
