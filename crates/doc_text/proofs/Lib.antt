@@ -11,6 +11,7 @@ pub mod Shapes
 pub mod Grafts
 pub mod Apart
 pub mod Back
+pub mod Short
 pub mod Told
 pub mod Kept
 pub mod Validity

@@ -21,9 +21,10 @@ use Rattle.doc_text.specs.NodeText.{node_text}
 use Rattle.doc_text.specs.Growth.{holds, open_levels, parent_on, put_last}
 use Rattle.doc_text.specs.Documents.{from_counted, version_word, version_in, sizes_in, viewport_in, header, node_limit, child_count, has_room, is_leaf_node, standing, label_with, node_on, is_indent, node_in, node_of, nodes_of, rooted, sized, headed, document_of}
 use Rattle.doc_text.specs.Edits.{are_too_many}
-use Rattle.doc_text.specs.Valid.{IsShaped, IsTold, IsToldLabel, IsVersion, IsValid}
+use Rattle.doc_text.specs.Valid.{IsShaped, IsTold, IsToldLabel, IsVersion, IsValid, IsShort, AreShort}
 use Rattle.doc_text.proofs.Grown.{each_put, size_put, height_put, few_put, containers_put, distinct_put, not_true}
-use Rattle.doc_text.proofs.Told.{both, ok-not-err, same-ok, node_told}
+use Rattle.doc_text.proofs.Short.{Fits, line_fits, counted_short}
+use Rattle.doc_text.proofs.Told.{both, ok-not-err, same-ok, name_fits, node_told}
 
 -- ---- a node that may stand
 unless : {A : Type 0} (b : Bool) (fault : Fault) (rest : Result A Fault) (a : A) → (if b then Err fault else rest) ≡ Ok a → (b ≡ false) × (rest ≡ Ok a)
@@ -83,47 +84,47 @@ grown version level label trees g s told =
       labels = each_put (IsToldLabel version) label told level trees g.labels;
     }
 
-name_told : (text : Text) (name : Word × Text) → name_first text ≡ Ok name → is_name name.0 ≡ true
+pub name_told : (text : Text) (name : Word × Text) → name_first text ≡ Ok name → is_name name.0 ≡ true
 name_told text name e = by_word (is_name (first_word text)) refl e
   where
     by_word : (b : Bool) → is_name (first_word text) ≡ b → due 5 text (if b then Some (first_word text) else None) ≡ Ok name → is_name name.0 ≡ true
     by_word true h e = ap (λ (n : Word × Text). is_name n.0) (sym (same-ok _ _ e)) ∙ h
     by_word false h e = absurd (ok-not-err _ _ e)
 
-grown_on : (version level : ℕ) (text : Text) (trees made : Trees Label) → IsGrown version trees → node_on version level text trees ≡ Ok made → IsGrown version made
-grown_on version level text trees made g e =
+grown_on : (version level : ℕ) (text : Text) (trees made : Trees Label) → Fits text → IsGrown version trees → node_on version level text trees ≡ Ok made → IsGrown version made
+grown_on version level text trees made h g e =
     let name = both (name_first text) _ made e in
     let may = both (standing version level name.value.0 (word_place text) trees) (λ (done : Unit {0}). node_text version name.value.1 >>= λ node. Ok (put_last level (label_with name.value.0 node) trees)) made name.last in
     let node = both (node_text version name.value.1) _ made may.last in
-    let told = node_told version name.value.1 node.value node.first in
+    let told = node_told version name.value.1 node.value (name_fits text name.value name.first h) node.first in
     subst (IsGrown version) (same-ok _ made node.last)
     (grown version level (label_with name.value.0 node.value) trees g (stands version level name.value.0 (word_place text) trees may.value may.first)
     (record { named = name_told text name.value name.first; kind = told.0; style = told.1 }))
 
-grown_in : (version : ℕ) (text : Text) (trees made : Trees Label) → IsGrown version trees → node_in version text trees ≡ Ok made → IsGrown version made
-grown_in version text trees made g e = by_indent (is_indent (open_levels trees) (spaces_of text.bytes)) e
+grown_in : (version : ℕ) (text : Text) (trees made : Trees Label) → Fits text → IsGrown version trees → node_in version text trees ≡ Ok made → IsGrown version made
+grown_in version text trees made h g e = by_indent (is_indent (open_levels trees) (spaces_of text.bytes)) e
   where
     by_indent : (b : Bool) → (if b then node_on version (spaces_of text.bytes / 2) text trees else Err (fault_at 4 (word_place text))) ≡ Ok made → IsGrown version made
-    by_indent true e = grown_on version (spaces_of text.bytes / 2) text trees made g e
+    by_indent true e = grown_on version (spaces_of text.bytes / 2) text trees made h g e
     by_indent false e = absurd (ok-not-err _ _ e)
 
-grown_of : (version : ℕ) (line : Line) (trees made : Trees Label) → IsGrown version trees → node_of version line trees ≡ Ok made → IsGrown version made
-grown_of version line trees made g e = by_fault line.fault e
+grown_of : (version : ℕ) (line : Line) (trees made : Trees Label) → IsShort line → IsGrown version trees → node_of version line trees ≡ Ok made → IsGrown version made
+grown_of version line trees made h g e = by_fault line.fault e
   where
     by_fault : (f : Option Fault) → ◌≡◌ {A = Result (Trees Label) Fault} (elim f [ Some fault ↦ Err fault | None ↦ node_in version (text_of line) trees ]) (Ok made) → IsGrown version made
     by_fault (Some fault) e = absurd (ok-not-err _ _ e)
-    by_fault None e = grown_in version (text_of line) trees made g e
+    by_fault None e = grown_in version (text_of line) trees made (line_fits line h) g e
 
-grown_all : (version : ℕ) (lines : List Line) (trees made : Trees Label) → IsGrown version trees → nodes_of version lines trees ≡ Ok made → IsGrown version made
-grown_all version [] trees made g e = subst (IsGrown version) (same-ok trees made e) g
-grown_all version (line ∷ lines) trees made g e = by_skip (is_skipped line) e (λ (t : Trees Label). grown_all version lines t made)
+grown_all : (version : ℕ) (lines : List Line) (trees made : Trees Label) → AreShort lines → IsGrown version trees → nodes_of version lines trees ≡ Ok made → IsGrown version made
+grown_all version [] trees made h g e = subst (IsGrown version) (same-ok trees made e) g
+grown_all version (line ∷ lines) trees made h g e = by_skip (is_skipped line) e (λ (t : Trees Label). grown_all version lines t made h.1)
   where
     by_skip : (b : Bool) → (if b then nodes_of version lines trees else node_of version line trees >>= nodes_of version lines) ≡ Ok made
         → ((t : Trees Label) → IsGrown version t → nodes_of version lines t ≡ Ok made → IsGrown version made) → IsGrown version made
     by_skip true e rest = rest trees g e
     by_skip false e rest =
         let one = both (node_of version line trees) (nodes_of version lines) made e in
-        rest one.value (grown_of version line trees one.value g one.first) one.last
+        rest one.value (grown_of version line trees one.value h.0 g one.first) one.last
 
 nothing_grown : (version : ℕ) → IsGrown version leafless
 nothing_grown version = record {
@@ -214,20 +215,20 @@ rooted_valid version size end (tree x below after) doc v t g e =
     let one = first_grown version x below after g in
     subst IsValid (same-ok _ doc e) (record { version = v; width = t.0; height = t.1; shaped = one.shaped; labels = one.labels })
 
-sized_valid : (version : ℕ) (end : Place) (lines : List Line) (doc : Doc) → IsVersion version → sized version end lines ≡ Ok doc → IsValid doc
-sized_valid version end [] doc v e = absurd (ok-not-err _ _ e)
-sized_valid version end (line ∷ lines) doc v e =
+sized_valid : (version : ℕ) (end : Place) (lines : List Line) (doc : Doc) → AreShort lines → IsVersion version → sized version end lines ≡ Ok doc → IsValid doc
+sized_valid version end [] doc h v e = absurd (ok-not-err _ _ e)
+sized_valid version end (line ∷ lines) doc h v e =
     let size = both (header viewport_in line) (λ (size : ℤ × ℤ). nodes_of version lines leafless >>= rooted version size end) doc e in
     let nodes = both (nodes_of version lines leafless) (rooted version size.value end) doc size.last in
     rooted_valid version size.value end nodes.value doc v (viewport_told (text_of line) size.value (header_read viewport_in line size.value size.first))
-    (grown_all version lines leafless nodes.value (nothing_grown version) nodes.first) nodes.last
+    (grown_all version lines leafless nodes.value h.1 (nothing_grown version) nodes.first) nodes.last
 
-headed_valid : (end : Place) (lines : List Line) (doc : Doc) → headed end lines ≡ Ok doc → IsValid doc
-headed_valid end [] doc e = absurd (ok-not-err _ _ e)
-headed_valid end (line ∷ lines) doc e =
+headed_valid : (end : Place) (lines : List Line) (doc : Doc) → AreShort lines → headed end lines ≡ Ok doc → IsValid doc
+headed_valid end [] doc h e = absurd (ok-not-err _ _ e)
+headed_valid end (line ∷ lines) doc h e =
     let version = both (header version_in line) (λ (version : ℕ). sized version end (from_counted lines)) doc e in
-    sized_valid version.value end (from_counted lines) doc (version_read (text_of line) version.value (header_read version_in line version.value version.first)) version.last
+    sized_valid version.value end (from_counted lines) doc (counted_short lines h.1) (version_read (text_of line) version.value (header_read version_in line version.value version.first)) version.last
 
-pub reads_valid : (lines : List Line) (end : Place) (result : Result Doc ReadError) → Reads result (document_of lines end) → IfOk result (λ doc. IsValid doc)
-reads_valid lines end (Ok doc) h = headed_valid end (from_counted lines) doc h
-reads_valid lines end (Err e) h = tt
+pub reads_valid : (lines : List Line) (end : Place) (result : Result Doc ReadError) → Reads result (document_of lines end) → AreShort lines → IfOk result (λ doc. IsValid doc)
+reads_valid lines end (Ok doc) h short = headed_valid end (from_counted lines) doc (counted_short lines short) h
+reads_valid lines end (Err e) h short = tt

@@ -64,7 +64,7 @@ is_ended text = is_empty (first_word text)
 
 -- ---- the text of a line: its comment is left out, and the spaces at its end count for nothing
 
-abbrev onto_end : ℕ → List ℕ → List ℕ
+abbrev pub onto_end : ℕ → List ℕ → List ℕ
 onto_end byte [] = if is_space byte then [] else byte ∷ []
 onto_end byte (next ∷ bytes) = byte ∷ next ∷ bytes
 

@@ -1,6 +1,7 @@
 -- Documents that are valid.
-use Rattle.std.specs.Prelude.{◌≡◌, ℕ, ℤ, ◌≤◌, ◌⊎◌, true, false, List, [], ◌∷◌, Some, Ok, ⊤}
+use Rattle.std.specs.Prelude.{◌≡◌, ℕ, ℤ, ◌≤◌, ◌⊎◌, true, false, List, [], ◌∷◌, length, Some, Ok, ⊤}
 use Rattle.std.specs.FinMap as map
+use Rattle.text_scan.specs.declared.line.Line.{Line}
 use Rattle.text_scan.specs.declared.line.Place.{Place}
 use Rattle.part_rules.specs.declared.content.Content.{Content}
 use Rattle.part_rules.specs.declared.content.Content.TheVariants as content
@@ -51,9 +52,10 @@ abbrev pub AreTold : List ℤ → Type 0
 AreTold [] = ⊤
 AreTold (size ∷ sizes) = IsTold size × AreTold sizes
 
+-- at most 65,536 words: a line has no more bytes
 abbrev pub IsToldContent : Content → Type 0
 IsToldContent (content.Fixed width height) = IsTold width × IsTold height
-IsToldContent (content.Words line space words) = IsTold line × (IsTold space × AreTold words)
+IsToldContent (content.Words line space words) = IsTold line × (IsTold space × (AreTold words × length words ≤ 65536))
 
 abbrev pub IsToldKind : Kind → Type 0
 IsToldKind kind.Grid = ⊤
@@ -64,10 +66,11 @@ abbrev pub IsAmong : Prop × DeclaredValue → Settings → Type 0
 IsAmong setting [] = ⊥
 IsAmong setting (other ∷ settings) = (other ≡ setting) ⊎ IsAmong setting settings
 
--- some declaration of the version sets the property to the value
+-- some declaration of the version that a line can hold sets the property to the value
 pub record IsDeclared (version : ℕ) (p : Prop) (value : DeclaredValue) : Type 0 where
   pub at : Place
   pub text : List ℕ
+  pub short : length text ≤ 65536
   pub settings : Settings
   pub read : declaration version at text ≡ Ok settings
   pub among : IsAmong (p, value) settings
@@ -90,3 +93,13 @@ pub record IsValid (doc : Doc) : Type 0 where
   pub height : IsTold doc.height
   pub shaped : IsShaped doc.version (tree_of doc)
   pub labels : EachLabel (IsToldLabel doc.version) (tree_of doc)
+
+-- ---- lines
+
+-- so many bytes a line of a text has at most (own rule)
+abbrev pub IsShort : Line → Type 0
+IsShort line = length line.bytes ≤ 65536
+
+abbrev pub AreShort : List Line → Type 0
+AreShort [] = ⊤
+AreShort (line ∷ lines) = IsShort line × AreShort lines

@@ -2,7 +2,7 @@
 
 ghost use Rattle.std.specs.Prelude.{◌≡◌, ◌∷◌, [], ◌≤◌, MatchOption, IfOk};
 ghost use Rattle.plain_tree.specs.Trees.{leafless};
-ghost use Rattle.doc_text.specs.Valid.{IsValid};
+ghost use Rattle.doc_text.specs.Valid.{IsValid, AreShort};
 ghost use Rattle.track_text.specs.Gives.{Reads};
 ghost use Rattle.doc_text.specs.Growth.{open_levels};
 ghost use Rattle.doc_text.specs.Documents.{from_counted, version_word, version_in, sizes_in, viewport_in, header, is_indent, node_on, node_in, node_of, nodes_of, rooted, sized, document_of};
@@ -240,7 +240,7 @@ fn read_headed(alloc: Global, lines: &[Line], end: Place) -> Result<Doc, ReadErr
 /// node is there. `NoMemory` where memory is wanting.
 pub fn read_doc(alloc: Global, lines: &[Line], end: Place) -> Result<Doc, ReadError>
     ensures document { Reads result (document_of lines.now end) }
-    ensures valid { IfOk result (λ doc. IsValid doc) }
+    ensures valid { AreShort lines.now → IfOk result (λ doc. IsValid doc) }
 {
     read_headed(alloc, lines, end)
 }
