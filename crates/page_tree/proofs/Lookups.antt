@@ -52,7 +52,7 @@ pub no_leaf : (t : NodeTrees) (name : List ℕ) → Finds t name None → false 
 no_leaf t name f = sym (ap is_leaf_top (no_tree_at t name f))
 
 -- ---- levels
-tells_none : (id : NodeId) (name : List ℕ) (t : NodeTrees) → Tells id name t → times id t ≡ 0 → holds (plain_trees t) name ≡ false
+pub tells_none : (id : NodeId) (name : List ℕ) (t : NodeTrees) → Tells id name t → times id t ≡ 0 → holds (plain_trees t) name ≡ false
 tells_none id name leafless k e = refl
 tells_none id name (tree x below after) k e =
     let no : same x.0 id ≡ false = zero_no (same x.0 id) (omega arith) in
@@ -62,7 +62,7 @@ tells_none id name (tree x below after) k e =
     zero_no true e = absurd (omega arith)
     zero_no false e = refl
 
-tells_some : (id : NodeId) (name : List ℕ) (t : NodeTrees) → Tells id name t → 1 ≤ times id t → holds (plain_trees t) name ≡ true
+pub tells_some : (id : NodeId) (name : List ℕ) (t : NodeTrees) → Tells id name t → 1 ≤ times id t → holds (plain_trees t) name ≡ true
 tells_some id name leafless k e = absurd (omega arith)
 tells_some id name (tree x below after) k e =
     by_place x below id

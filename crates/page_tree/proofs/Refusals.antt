@@ -1,5 +1,5 @@
 -- The refusals of an edit, one after another.
-use Rattle.std.proofs.Common.{◌≡◌, ℕ, ◌+◌, ℤ, Bool, true, false, not, ◌||◌, Option, None, Some, Result, Ok, Err, refl, sym, ap, ◌∙◌, arith, add-one}
+use Rattle.std.proofs.Common.{◌≡◌, ℕ, ◌+◌, ℤ, Bool, true, false, not, ◌||◌, List, [], ◌∷◌, length, Option, None, Some, Result, Ok, Err, refl, sym, ap, ◌∙◌, arith, add-one}
 use Rattle.std.specs.Prelude.{nat_le, nat_lt}
 use Rattle.std.proofs.Math.Dec.{leb-suc-suc}
 use Rattle.text_scan.specs.declared.line.Fault.{Fault}
@@ -12,12 +12,17 @@ use Rattle.doc_text.specs.declared.edit.Named.{Named}
 use Rattle.doc_text.specs.Documents.{node_limit}
 use Rattle.doc_text.specs.declared.document.Doc.{Doc}
 use Rattle.doc_text.specs.declared.edit.Edit.{Edit}
+use Rattle.doc_text.specs.declared.kind.Kind.{Kind}
 use Rattle.doc_text.specs.Edits.{applied, child_count, edited, edited_trees, first_refusal, is_leaf_top, passes_children, passes_levels, refusals, size_after, tree_of, with_root}
 use Rattle.doc_text.proofs.Kept.{none_comes, not_there}
 use Rattle.doc_text.specs.Growth.{holds}
 use Rattle.doc_text.specs.Label.{Label}
 use Rattle.doc_text.specs.Named.{tree_at}
 use Rattle.track_text.specs.Gives.{fault_at}
+use Rattle.std.specs.Str.{bytes_eq}
+use Rattle.node_arena.specs.declared.number.NodeId.{NodeId}
+use Rattle.node_arena.specs.Numbers.{same, top_numbers}
+use Rattle.page_tree.specs.Registers.{Finds, Tells}
 use Rattle.page_tree.specs.Answered.{or_later}
 use Rattle.page_tree.specs.Documents.{plain_trees}
 use Rattle.page_tree.specs.Pages.{Held, document_of, plain_root, trees_in}
@@ -85,3 +90,23 @@ known h one named later e = ap (λ b. or_later (not b) 21 named.at later) (ap (�
 
 pub parent_told : (h : Held) → count_of h.nodes.tree ≡ 1 → (named : Named) (b : Bool) → b ≡ nat_lt 0 (child_count named.name (trees_in h)) → or_later (nat_lt 0 (child_count named.name (tree_of (document_of h)))) 14 named.at None ≡ or_later b 14 named.at None
 parent_told h one named b e = ap (λ u. or_later (nat_lt 0 (child_count named.name u)) 14 named.at None) (whole h one) ∙ ap (λ z. or_later z 14 named.at None) (sym e)
+
+abbrev content_rows : Trees Label → Named → Option Fault
+content_rows t named = or_later (not (holds t named.name)) 21 named.at (or_later (nat_lt 0 (child_count named.name t)) 14 named.at None)
+
+pub content_told : (h : Held) → count_of h.nodes.tree ≡ 1 → (named : Named) (kind : Kind) (a b : Bool) → a ≡ not (holds (trees_in h) named.name) → b ≡ nat_lt 0 (child_count named.name (trees_in h)) →
+    or_later a 21 named.at (or_later b 14 named.at None) ≡ first_refusal (refusals (document_of h) (edit.Content named kind))
+content_told h one named kind a b p q = (λ i. or_later (p i) 21 named.at (or_later (q i) 14 named.at None)) ∙ ap (λ t. content_rows t named) (sym (whole h one))
+
+-- ---- the root
+pub root_named : (h : Held) (root id : NodeId) (name : List ℕ) → top_numbers h.nodes.tree ≡ root ∷ [] → Tells id name h.nodes.tree → bytes_eq (document_of h).root.name name ≡ same root id
+root_named h root id name w k = at h.nodes.tree w k
+  where
+    at : (t : NodeTrees) → top_numbers t ≡ root ∷ [] → Tells id name t → bytes_eq (document_of (record h { nodes = record h.nodes { tree = t } })).root.name name ≡ same root id
+    at leafless w k = absurd (omega (arith, ap length w))
+    at (tree x below after) w k = let first : x.0 ≡ root = cc in sym k.0 ∙ ap (λ n. same n id) first
+
+pub root_removed : (h : Held) → count_of h.nodes.tree ≡ 1 → (named : Named) (root id : NodeId) (b : Bool) → Finds h.nodes.tree named.name (Some id) → top_numbers h.nodes.tree ≡ root ∷ [] → same root id ≡ b →
+    first_refusal (refusals (document_of h) (edit.Remove named)) ≡ or_later b 22 named.at None
+root_removed h one named root id b f w e =
+    known h one named (or_later (bytes_eq (document_of h).root.name named.name) 22 named.at None) f.there ∙ ap (λ c. or_later c 22 named.at None) (root_named h root id named.name w f.tells ∙ e)

@@ -88,7 +88,7 @@ second_part true b h = one_some b h
 second_part false b h = absurd (omega arith)
 
 -- a name that some number has stands in the document
-named_there : (name : List ℕ) (n : NodeId) (t : NodeTrees) → 1 ≤ named name n t → holds (plain_trees t) name ≡ true
+pub named_there : (name : List ℕ) (n : NodeId) (t : NodeTrees) → 1 ≤ named name n t → holds (plain_trees t) name ≡ true
 named_there name n leafless h = absurd (omega arith)
 named_there name n (tree x below after) h =
     or_there (bytes_eq x.1.name name) (holds (plain_trees below) name) (holds (plain_trees after) name) (one (same x.0 n && bytes_eq x.1.name name)) (named name n below) (named name n after) h
@@ -132,7 +132,7 @@ finds find t name None r e = record { live = tt; tells = tt; once = tt; there = 
 finds find t name (Some id) r e = let is = found find t name id r e in record { live = is.live; tells = is.tells; once = is.once; there = sym is.there }
 
 -- ---- changes
-named_summed : (name : List ℕ) (n : NodeId) (t : NodeTrees) → named name n t ≡ summed (λ x. one (same x.0 n && bytes_eq x.1.name name)) t
+pub named_summed : (name : List ℕ) (n : NodeId) (t : NodeTrees) → named name n t ≡ summed (λ x. one (same x.0 n && bytes_eq x.1.name name)) t
 named_summed name n leafless = refl
 named_summed name n (tree x below after) = omega (arith, named_summed name n below, named_summed name n after)
 

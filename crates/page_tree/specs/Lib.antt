@@ -4,3 +4,7 @@ pub mod Fonts
 pub mod Pages
 pub mod Filled
 pub mod Answered
+pub mod Boxes
+pub mod Moves
+pub mod Restyled
+pub mod Ranges

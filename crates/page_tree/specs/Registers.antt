@@ -1,10 +1,12 @@
 -- Nodes that are found by their names.
-use Rattle.std.specs.Prelude.{◌≡◌, ℕ, ◌+◌, ◌&&◌, true, List, Option, Some, None, IfSome, IsSome, is_some}
+use Rattle.std.specs.Prelude.{◌≡◌, ℕ, ◌+◌, ◌&&◌, true, List, Option, Some, None, IfSome, IsSome, is_some, if◌then◌else◌}
 use Rattle.std.specs.Str.{bytes_eq}
 use Rattle.plain_tree.specs.Trees.{leafless, tree}
 use Rattle.doc_text.specs.Growth.{holds}
 use Rattle.node_arena.specs.declared.number.NodeId.{NodeId}
-use Rattle.node_arena.specs.Numbers.{EachNode, IsDistinct, one, part_at, same, times}
+use Rattle.node_arena.specs.Numbers.{EachNode, IsDistinct, one, part_at, same, times, value_at}
+use Rattle.layout_cache.specs.Reach.{NextChild}
+use Rattle.placing.specs.declared.node.Node.{Node}
 use Rattle.placing.specs.Nodes.{NodeTrees}
 use Rattle.page_tree.specs.Documents.{plain_trees}
 
@@ -37,3 +39,13 @@ pub record Finds (t : NodeTrees) (name : List ℕ) (found : Option NodeId) : Typ
 -- the node of the number has this name
 abbrev pub HasName : NodeId → List ℕ → NodeTrees → Type 0
 HasName id name t = EachNode (λ x. same x.0 id ≡ true → x.1.name ≡ name) t
+
+-- the names of these trees tell nothing, and all others what they told
+abbrev pub Without : NodeTrees → (List ℕ → Option NodeId) → (List ℕ → Option NodeId) → Type 0
+Without gone old new = (name : List ℕ) → new name ≡ (if holds (plain_trees gone) name then None else old name)
+
+-- the child of this index is the node of this number
+pub record IsNext (t : NodeTrees) (n : NodeId) (index : ℕ) (c : NodeId) : Type 0 where
+  pub value : Node
+  pub there : value_at t c ≡ Some value
+  pub next : NextChild (λ v. bytes_eq v.name value.name) t n index c true

@@ -1,31 +1,73 @@
 //! Edits of a document, each as the definition of the edited document has it.
 
-ghost use Rattle.std.specs.Prelude.{◌≡◌, IfOk, OnOk};
+ghost use Rattle.std.specs.Prelude.{◌≡◌, None, IfOk, OnOk};
+ghost use Rattle.doc_text.specs.declared.kind.Kind.{Kind};
 ghost use Rattle.track_text.specs.Gives.{fault_at};
-ghost use Rattle.doc_text.specs.Edits.{edited, without_props};
+ghost use Rattle.doc_text.specs.Edits.{edited, first_refusal, refusals, without_props};
 ghost use Rattle.doc_text.specs.NodeText.{with_settings};
 ghost use Rattle.doc_text.specs.declared.edit.Edit.TheVariants as edit;
+ghost use Rattle.doc_text.specs.Laws.{NamesItsNode};
 ghost use Rattle.placing.specs.Keeping.{KeepsNone};
+ghost use Rattle.placing.specs.Kept.{IsRight};
 ghost use Rattle.page_tree.specs.Answered.{Applies};
-ghost use Rattle.page_tree.specs.Fonts.{AreNoFont, SetsNoFont};
 ghost use Rattle.page_tree.specs.Pages.{document_of};
 
 use crate::error::EditError;
+use crate::node::node_kind;
 use crate::page::Page;
 use crate::refusal;
-use doc_text::{Named, Plain};
+use doc_text::{Edit, Kind, Named, Plain};
 use lunit::{Copied, NoMemory};
 use std::alloc::Global;
 use style_types::{Declared, DeclaredValue, Prop};
 use text_scan::{Fault, Place};
 
 impl Page {
+    /// The document after an edit. A list of kept answers that was right is right after it: an edit of a node empties all.
+    ///
+    /// `Refused` exactly where the definition of the edited document refuses the edit, with its fault, the first in the order
+    /// of refusals. `NoMemory` where memory is wanting. After either nothing is changed, and no kept answer is lost.
+    pub fn apply(&mut self, edit: Edit) -> Result<(), EditError>
+        requires { NamesItsNode edit }
+        ensures applies { Applies result (edited edit (document_of self.old)) self.old self.new }
+        ensures right { IsRight self.old.nodes.tree → IsRight self.new.nodes.tree }
+    {
+        if let Edit::Viewport(width, height) = edit {
+            self.set_viewport(width, height);
+            return Ok(());
+        }
+        self.change(&edit)?;
+        self.forget();
+        Ok(())
+    }
+
+    /// The document after an edit, with kept answers that may no longer be right.
+    fn change(&mut self, edit: &Edit) -> Result<(), EditError>
+        requires { NamesItsNode edit.now }
+        ensures { Applies result (edited edit.now (document_of self.old)) self.old self.new }
+    {
+        match edit {
+            Edit::Set(named, settings) => self.set(named, settings.as_slice()),
+            Edit::Unset(named, props) => self.unset(named, props.as_slice()),
+            Edit::Insert(parent, index, at, named, node) => {
+                self.insert(parent, *index, *at, named, node)
+            }
+            Edit::Remove(named) => self.remove(named),
+            Edit::Move(named, parent, index, at) => self.move_node(named, parent, *index, *at),
+            Edit::Content(named, kind) => self.set_content(named, kind),
+            Edit::Viewport(width, height) => {
+                self.set_viewport(*width, *height);
+                Ok(())
+            }
+        }
+    }
+
     /// A new node without children, with the values of `node`, stands under a parent as child of this index, from 0.
     ///
     /// `Refused` exactly where the definition refuses the edit: for an unknown parent (21), an index past the last child
     /// (24), a name that is there (6), level 65 (12), a node too many (13), a parent that is a leaf (14), the first of
     /// them. `NoMemory` where memory is wanting. After either nothing is changed.
-    pub fn insert(
+    pub(crate) fn insert(
         &mut self,
         parent: &Named,
         index: u32,
@@ -47,16 +89,15 @@ impl Page {
         Ok(())
     }
 
-    /// The node has these properties, set one after another. None of them is the font size.
+    /// The node has these properties, set one after another.
     ///
     /// `Refused` exactly where the definition refuses the edit: for an unknown name (21). `NoMemory` where memory is
     /// wanting. After either nothing is changed.
-    pub fn set(
+    pub(crate) fn set(
         &mut self,
         named: &Named,
         settings: &[(Prop, DeclaredValue)],
     ) -> Result<(), EditError>
-        requires { SetsNoFont settings.now }
         ensures applies { Applies result (edited (edit.Set named.now settings.now) (document_of self.old)) self.old self.new }
         ensures kept { OnOk result (KeepsNone self.old.nodes.tree → KeepsNone self.new.nodes.tree) }
     {
@@ -76,12 +117,11 @@ impl Page {
         Ok(())
     }
 
-    /// These properties of the node are no longer set. None of them is the font size.
+    /// These properties of the node are no longer set.
     ///
     /// `Refused` exactly where the definition refuses the edit: for an unknown name (21). `NoMemory` where memory is
     /// wanting. After either nothing is changed.
-    pub fn unset(&mut self, named: &Named, props: &[Prop]) -> Result<(), EditError>
-        requires { AreNoFont props.now }
+    pub(crate) fn unset(&mut self, named: &Named, props: &[Prop]) -> Result<(), EditError>
         ensures applies { Applies result (edited (edit.Unset named.now props.now) (document_of self.old)) self.old self.new }
         ensures kept { OnOk result (KeepsNone self.old.nodes.tree → KeepsNone self.new.nodes.tree) }
     {
@@ -100,6 +140,88 @@ impl Page {
         let _ = self.stands();
         Ok(())
     }
+
+    /// The node has this kind, which is that of a leaf.
+    ///
+    /// `Refused` exactly where the definition refuses the edit: for an unknown name (21), a node that has children (14),
+    /// the first of them. `NoMemory` where memory is wanting. After either nothing is changed.
+    pub(crate) fn set_content(&mut self, named: &Named, kind: &Kind) -> Result<(), EditError>
+        ensures applies { Applies result (edited (edit.Content named.now kind.now) (document_of self.old)) self.old self.new }
+        ensures kept { OnOk result (KeepsNone self.old.nodes.tree → KeepsNone self.new.nodes.tree) }
+    {
+        let _ = self.stands();
+        match refusal::of_content(self, named) {
+            Some(fault) => Err(EditError::Refused(fault)),
+            None => self.replace_content(named, kind),
+        }
+    }
+
+    /// The same where the edit is not refused.
+    fn replace_content(&mut self, named: &Named, kind: &Kind) -> Result<(), EditError>
+        requires { (k : Kind) → first_refusal (refusals (document_of self.old) (edit.Content named.now k)) ≡ None }
+        ensures applies { Applies result (edited (edit.Content named.now kind.now) (document_of self.old)) self.old self.new }
+        ensures kept { OnOk result (KeepsNone self.old.nodes.tree → KeepsNone self.new.nodes.tree) }
+    {
+        let _ = self.stands();
+        let id = match self.find(&named.name) {
+            Some(id) => id,
+            None => return Err(EditError::NoMemory),
+        };
+        let node = match self.tree().get(id) {
+            Some(node) => node,
+            None => return Err(EditError::NoMemory),
+        };
+        let declared = node.declared.copy(self.alloc())?;
+        let kind = node_kind(self.alloc(), kind)?;
+        self.relabel(&named.name, id, kind, declared)?;
+        let _ = self.stands();
+        Ok(())
+    }
+
+    /// The node goes, with all below it.
+    ///
+    /// `Refused` exactly where the definition refuses the edit: for an unknown name (21) and for the root (22). Takes no
+    /// memory. After a refusal nothing is changed.
+    pub(crate) fn remove(&mut self, named: &Named) -> Result<(), EditError>
+        ensures { Applies result (edited (edit.Remove named.now) (document_of self.old)) self.old self.new }
+    {
+        let _ = self.stands();
+        let id = match self.find(&named.name) {
+            Some(id) => id,
+            None => return Err(EditError::Refused(unknown_name(named))),
+        };
+        if self.tree().root().is(id) {
+            return Err(EditError::Refused(root_stays(named)));
+        }
+        self.take_out(&named.name, id);
+        let _ = self.stands();
+        Ok(())
+    }
+
+    /// The node stands, with all below it, under a parent as child of this index, from 0, which is counted after it was taken
+    /// out.
+    ///
+    /// `Refused` exactly where the definition refuses the edit: for an unknown name (21), the root (22), a parent in the
+    /// moved tree (23), an index past the last child (24), level 65 (12), a child too many (13), a parent that is a leaf (14),
+    /// the first of them. `NoMemory` where memory is wanting. After either nothing is changed.
+    pub(crate) fn move_node(
+        &mut self,
+        named: &Named,
+        parent: &Named,
+        index: u32,
+        at: Place,
+    ) -> Result<(), EditError>
+        ensures { Applies result (edited (edit.Move named.now parent.now index at) (document_of self.old)) self.old self.new }
+    {
+        let _ = self.stands();
+        let (id, to) = match refusal::of_move(self, named, parent, index, at) {
+            Ok(ids) => ids,
+            Err(fault) => return Err(EditError::Refused(fault)),
+        };
+        self.shift(&named.name, &parent.name, id, to, index as usize)?;
+        let _ = self.stands();
+        Ok(())
+    }
 }
 
 /// The fault of a name that no node has.
@@ -108,6 +230,16 @@ fn unknown_name(named: &Named) -> Fault
 {
     Fault {
         number: 21,
+        place: named.at,
+    }
+}
+
+/// The fault of a root that is removed or moved.
+fn root_stays(named: &Named) -> Fault
+    ensures { result ≡ fault_at 22 named.now.at }
+{
+    Fault {
+        number: 22,
         place: named.at,
     }
 }

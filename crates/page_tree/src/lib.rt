@@ -2,15 +2,19 @@
 //! the edits of such a document.
 #![tactic(auto)]
 
+mod children;
 mod edits;
 mod error;
 mod font;
+mod laws;
 mod lookup;
 mod node;
 mod page;
 mod refusal;
 mod register;
+mod restyle;
 
 pub use error::EditError;
+pub use laws::valid_documents_are_readable;
 pub use page::Page;
 pub use register::Register;

@@ -2,24 +2,26 @@
 
 ghost use Rattle.std.specs.Prelude.{◌≡◌, false, Ok, Some, IfOk, OnOk, OnErr, IsSome};
 ghost use Rattle.plain_tree.specs.Trees.{leafless, tree};
+ghost use Rattle.node_arena.specs.Faults.{is_top};
 ghost use Rattle.node_arena.specs.Numbers.{part_at};
 ghost use Rattle.doc_text.specs.Edits.{edited, tree_of};
 ghost use Rattle.doc_text.specs.declared.edit.Edit.TheVariants as edit;
 ghost use Rattle.doc_text.specs.Growth.{holds};
 ghost use Rattle.doc_text.specs.Label.{Label};
-ghost use Rattle.doc_text.specs.Named.{inserted, relabelled, IsDistinct};
+ghost use Rattle.doc_text.specs.Named.{inserted, moved, relabelled, removed, IsDistinct};
 ghost use Rattle.doc_text.specs.View.{label_of};
 ghost use Rattle.placing.specs.Keeping.{KeepsNone};
 ghost use Rattle.placing.specs.Kept.{IsRight};
 ghost use Rattle.page_tree.specs.Documents.{kind_of, Becomes};
 ghost use Rattle.page_tree.specs.Filled.{filled, AreNew};
-ghost use Rattle.page_tree.specs.Fonts.{KeepsFont};
+ghost use Rattle.page_tree.specs.Moves.{AreApart};
 ghost use Rattle.page_tree.specs.Pages.{document_of, trees_in, IsAround, IsRoot, Stands, StandsUnder};
 ghost use Rattle.page_tree.specs.Registers.{Finds};
 
 use crate::font::{font_at, font_of_root, root_font};
 use crate::node::{made, node_kind};
 use crate::register::Register;
+use crate::restyle::{fonts_with, styles_below, styles_under};
 use doc_text::{Doc, MAX_CHILDREN, Plain, node_limit};
 use lunit::{Copied, Lu, Name, NoMemory};
 use node_arena::{Arena, NodeId};
@@ -76,7 +78,7 @@ impl Page {
     }
 
     /// The viewport has this size. No kept answer depends on it.
-    pub fn set_viewport(&mut self, width: Lu, height: Lu)
+    pub(crate) fn set_viewport(&mut self, width: Lu, height: Lu)
         ensures document { edited (edit.Viewport width height) (document_of self.old) ≡ Ok (document_of self.new) }
         ensures nodes { self.new.nodes ≡ self.old.nodes }
     {
@@ -143,8 +145,8 @@ impl Page {
         Ok(())
     }
 
-    /// Gives the node of a name and a number another kind and other values, which leave its font size. It takes all its
-    /// memory first.
+    /// Gives the node of a name and a number another kind and other values, and where these change its font size, all nodes
+    /// below it the computed styles that follow. It takes all its memory first.
     pub(crate) fn relabel(
         &mut self,
         name: &Name,
@@ -152,19 +154,61 @@ impl Page {
         kind: NodeKind,
         declared: Declared,
     ) -> Result<(), NoMemory>
-        requires found { Finds self.old.nodes.tree name.now (Some id) }
-        requires font { KeepsFont id declared self.old.nodes.tree }
+        requires { Finds self.old.nodes.tree name.now (Some id) }
         ensures nodes { OnOk result ((change : Label → Label) → Becomes id change (record { name = name.now; kind = kind_of kind; style = declared }) self.old.nodes.tree → trees_in self.new ≡ relabelled name.now change (trees_in self.old)) }
         ensures around { OnOk result (IsAround self.old self.new) }
         ensures kept { OnOk result (KeepsNone self.old.nodes.tree → KeepsNone self.new.nodes.tree) }
         ensures err { OnErr result (self.new ≡ self.old) }
     {
         let tree = self.nodes.tree();
-        let root = root_font(tree);
-        let font = font_at(tree, root, id);
+        let _ = tree.root();
+        let (font, root) = fonts_with(tree, id, &declared);
+        let styles = styles_below(self.alloc, tree, id, font, root)?;
         let node = made(self.alloc, *name, kind, declared, font, root)?;
         self.nodes.put(id, node);
+        self.nodes.restyle(styles);
         Ok(())
+    }
+
+    /// Takes the node of a name and a number, which is not the root, out with all below it. Takes no memory.
+    pub(crate) fn take_out(&mut self, name: &Name, id: NodeId)
+        requires found { Finds self.old.nodes.tree name.now (Some id) }
+        requires low { is_top self.old.nodes.tree id ≡ false }
+        ensures nodes { trees_in self.new ≡ removed name.now (trees_in self.old) }
+        ensures around { IsAround self.old self.new }
+    {
+        self.nodes.remove(id, name);
+    }
+
+    /// Moves the node of a name and a number under that of another, at an index of the children that are left. It takes all
+    /// its memory first.
+    pub(crate) fn shift(
+        &mut self,
+        name: &Name,
+        parent: &Name,
+        id: NodeId,
+        to: NodeId,
+        index: usize,
+    ) -> Result<(), NoMemory>
+        requires { AreApart self.old.nodes.tree name.now parent.now id to }
+        ensures nodes { OnOk result (trees_in self.new ≡ moved name.now parent.now index (trees_in self.old)) }
+        ensures around { OnOk result (IsAround self.old self.new) }
+        ensures err { OnErr result (self.new ≡ self.old) }
+    {
+        let tree = self.nodes.tree();
+        let _ = tree.root();
+        let styles = styles_under(self.alloc, tree, id, to)?;
+        self.nodes.move_to(id, to, index)?;
+        self.nodes.restyle(styles);
+        Ok(())
+    }
+
+    /// No node keeps an answer. Takes no memory.
+    pub(crate) fn forget(&mut self)
+        ensures document { document_of self.new ≡ document_of self.old }
+        ensures none { KeepsNone self.new.nodes.tree }
+    {
+        self.nodes.forget();
     }
 
     /// Where memory is taken.

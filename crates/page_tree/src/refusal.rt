@@ -1,16 +1,22 @@
 //! Why edits are refused.
 
-ghost use Rattle.std.specs.Prelude.{◌≡◌, ◌+◌, ◌||◌, nat_lt};
-ghost use Rattle.plain_tree.specs.Trees.{size_of};
+ghost use Rattle.std.specs.Prelude.{◌≡◌, ◌+◌, ◌||◌, nat_lt, IfErr, IfOk, OnOk, Some, None};
+ghost use Rattle.plain_tree.specs.Trees.{size_of, height_of};
+ghost use Rattle.doc_text.specs.Named.{removed, tree_at};
+ghost use Rattle.page_tree.specs.Moves.{place_refusal, AreApart};
+ghost use Rattle.page_tree.specs.Registers.{Finds};
 ghost use Rattle.doc_text.specs.Documents.{node_limit};
 ghost use Rattle.doc_text.specs.Edits.{are_too_many, child_count, first_refusal, passes_children, passes_levels, refusals};
 ghost use Rattle.doc_text.specs.declared.document.Plain.{Plain};
+ghost use Rattle.doc_text.specs.declared.kind.Kind.{Kind};
 ghost use Rattle.doc_text.specs.declared.edit.Edit.TheVariants as edit;
 ghost use Rattle.page_tree.specs.Pages.{document_of, trees_in};
 
+use crate::children::{has_child, height_below};
 use crate::lookup::{count, has, is_leaf_at, level, or_later, size};
 use crate::page::Page;
 use doc_text::{MAX_CHILDREN, MAX_LEVELS, Named, node_limit};
+use node_arena::NodeId;
 use text_scan::{Fault, Place};
 
 /// The number of the fault of a name that another node has.
@@ -27,6 +33,12 @@ const LEAF_HAS_CHILDREN: u8 = 14;
 
 /// The number of the fault of a name that no node has.
 const UNKNOWN_NAME: u8 = 21;
+
+/// The number of the fault of a root that is removed or moved.
+const ROOT: u8 = 22;
+
+/// The number of the fault of a parent that stands in the moved tree.
+const CYCLE: u8 = 23;
 
 /// The number of the fault of an index past the last child.
 const BAD_INDEX: u8 = 24;
@@ -91,4 +103,144 @@ pub(crate) fn of_insert(
     let past = is_past_last(page, parent, index);
     let later = or_later(past, BAD_INDEX, at, later);
     or_later(!has(page, &parent.name), UNKNOWN_NAME, parent.at, later)
+}
+
+/// Why another content of a node is refused.
+pub(crate) fn of_content(page: &Page, named: &Named) -> Option<Fault>
+    ensures { (kind : Kind) → result ≡ first_refusal (refusals (document_of page.now) (edit.Content named.now kind)) }
+{
+    let _ = page.stands();
+    let parent = count(page, &named.name) > 0;
+    let later = or_later(parent, LEAF_HAS_CHILDREN, named.at, None);
+    or_later(!has(page, &named.name), UNKNOWN_NAME, named.at, later)
+}
+
+/// Why a move of a node under a parent, at an index of the children that are left, is refused; else the numbers of both.
+pub(crate) fn of_move(
+    page: &Page,
+    named: &Named,
+    parent: &Named,
+    index: u32,
+    at: Place,
+) -> Result<(NodeId, NodeId), Fault>
+    ensures fault { IfErr result (λ fault. first_refusal (refusals (document_of page.now) (edit.Move named.now parent.now index at)) ≡ Some fault) }
+    ensures none { OnOk result (first_refusal (refusals (document_of page.now) (edit.Move named.now parent.now index at)) ≡ None) }
+    ensures apart { IfOk result (λ ids. AreApart page.now.nodes.tree named.now.name parent.now.name ids.0 ids.1) }
+{
+    let _ = page.stands();
+    match page.find(&named.name) {
+        Some(id) => of_move_from(page, id, named, parent, index, at),
+        None => Err(Fault {
+            number: UNKNOWN_NAME,
+            place: named.at,
+        }),
+    }
+}
+
+/// The same where the number of the node is known.
+fn of_move_from(
+    page: &Page,
+    id: NodeId,
+    named: &Named,
+    parent: &Named,
+    index: u32,
+    at: Place,
+) -> Result<(NodeId, NodeId), Fault>
+    requires { Finds page.now.nodes.tree named.now.name (Some id) }
+    ensures fault { IfErr result (λ fault. first_refusal (refusals (document_of page.now) (edit.Move named.now parent.now index at)) ≡ Some fault) }
+    ensures none { OnOk result (first_refusal (refusals (document_of page.now) (edit.Move named.now parent.now index at)) ≡ None) }
+    ensures apart { IfOk result (λ ids. AreApart page.now.nodes.tree named.now.name parent.now.name ids.0 ids.1) }
+{
+    let _ = page.stands();
+    match page.find(&parent.name) {
+        Some(to) => of_move_to(page, id, to, named, parent, index, at),
+        None => Err(Fault {
+            number: UNKNOWN_NAME,
+            place: parent.at,
+        }),
+    }
+}
+
+/// The same where both numbers are known.
+fn of_move_to(
+    page: &Page,
+    id: NodeId,
+    to: NodeId,
+    named: &Named,
+    parent: &Named,
+    index: u32,
+    at: Place,
+) -> Result<(NodeId, NodeId), Fault>
+    requires found { Finds page.now.nodes.tree named.now.name (Some id) }
+    requires onto { Finds page.now.nodes.tree parent.now.name (Some to) }
+    ensures fault { IfErr result (λ fault. first_refusal (refusals (document_of page.now) (edit.Move named.now parent.now index at)) ≡ Some fault) }
+    ensures none { OnOk result (first_refusal (refusals (document_of page.now) (edit.Move named.now parent.now index at)) ≡ None) }
+    ensures apart { IfOk result (λ ids. AreApart page.now.nodes.tree named.now.name parent.now.name ids.0 ids.1) }
+{
+    let _ = page.stands();
+    let tree = page.tree();
+    if tree.root().is(id) {
+        return Err(Fault {
+            number: ROOT,
+            place: named.at,
+        });
+    }
+    if tree.is_on_way(id, to) {
+        return Err(Fault {
+            number: CYCLE,
+            place: parent.at,
+        });
+    }
+    match of_place(page, id, to, named, parent, index, at) {
+        Some(fault) => Err(fault),
+        None => Ok((id, to)),
+    }
+}
+
+/// Why the place of a node that moves is refused.
+fn of_place(
+    page: &Page,
+    id: NodeId,
+    to: NodeId,
+    named: &Named,
+    parent: &Named,
+    index: u32,
+    at: Place,
+) -> Option<Fault>
+    requires { AreApart page.now.nodes.tree named.now.name parent.now.name id to }
+    ensures { result ≡ place_refusal page.now.version (trees_in page.now) named.now parent.now index at }
+{
+    let leaf = is_leaf_at(page, &parent.name);
+    let later = or_later(leaf, LEAF_HAS_CHILDREN, parent.at, None);
+    let children = count_left(page, id, to, named, parent);
+    let version = page.version();
+    let full = passes_children(version, children);
+    let later = or_later(full, TOO_MANY_NODES, named.at, later);
+    let deep = is_too_low(page, id, to, named, parent);
+    let later = or_later(deep, TOO_DEEP, named.at, later);
+    or_later(children < index as usize, BAD_INDEX, at, later)
+}
+
+/// How many children a node has without one that moves.
+fn count_left(page: &Page, id: NodeId, to: NodeId, named: &Named, parent: &Named) -> usize
+    requires { AreApart page.now.nodes.tree named.now.name parent.now.name id to }
+    ensures { result ≡ child_count parent.now.name (removed named.now.name (trees_in page.now)) }
+{
+    let tree = page.tree();
+    let count = tree.count(to);
+    if has_child(tree, to, id) {
+        count - 1
+    } else {
+        count
+    }
+}
+
+/// Whether a node of the tree that moves would stand on level 65.
+fn is_too_low(page: &Page, id: NodeId, to: NodeId, named: &Named, parent: &Named) -> bool
+    requires { AreApart page.now.nodes.tree named.now.name parent.now.name id to }
+    ensures { result ≡ passes_levels (removed named.now.name (trees_in page.now)) parent.now (height_of (tree_at named.now.name (trees_in page.now))) }
+{
+    let tree = page.tree();
+    let below = height_below(tree, id);
+    MAX_LEVELS < level(page, &parent.name) + (below + 1)
 }

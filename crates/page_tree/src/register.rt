@@ -1,18 +1,29 @@
 //! The arena of the nodes, with their numbers by name.
 
-ghost use Rattle.std.specs.Prelude.{◌≡◌, ◌≤◌, ◌<◌, ◌+◌, ◌^◌, false, IfOk, OnErr, IsSome, None};
-ghost use Rattle.node_arena.specs.Numbers.{part_at};
-ghost use Rattle.node_arena.specs.Plain.{first_node, with_node, with_value};
+ghost use Rattle.std.specs.Prelude.{◌≡◌, ◌≤◌, ◌<◌, ◌+◌, ◌^◌, false, IfOk, OnErr, OnOk, IsSome, None};
+ghost use Rattle.std.specs.BTreeMap.{values};
+ghost use Rattle.layout_cache.specs.Reach.{all_forgot};
+ghost use Rattle.node_arena.specs.Numbers.{part_at, times};
+ghost use Rattle.node_arena.specs.Faults.{is_top};
+ghost use Rattle.node_arena.specs.Plain.{first_node, with_node, with_move, with_value, without_node};
+ghost use Rattle.node_arena.specs.Edits.{removed};
 ghost use Rattle.doc_text.specs.Growth.{holds};
+ghost use Rattle.placing.specs.Keeping.{without_answers, KeepsNone};
+ghost use Rattle.placing.specs.Nodes.{bare};
 ghost use Rattle.page_tree.specs.Documents.{plain_trees};
 ghost use Rattle.page_tree.specs.Registers.{Finds, HasName};
+ghost use Rattle.page_tree.specs.Restyled.{with_styles};
 
-use lunit::{Name, NoMemory};
+use crate::children::take_names;
+use crate::restyle::write_all;
+use layout_cache::Linked;
+use lunit::{Name, NoMemory, Sequence};
 use node_arena::{Arena, NodeId};
 use placing::Node;
 use std::alloc::Global;
 use std::collections::BTreeMap;
 use std::marker::Model;
+use style_types::Style;
 
 /// The nodes of a document in their arena, each found by its name. Contracts see the arena.
 #[derive(Drop)]
@@ -115,5 +126,63 @@ impl Register {
             Ok(old) => drop(old),
             Err(_) => unreachable!(),
         }
+    }
+
+    /// Removes a node that is not the root and has this name, with all below it. Takes no memory.
+    pub(crate) fn remove(&mut self, id: NodeId, name: &Name)
+        requires live { IsSome (part_at self.old.tree id) }
+        requires low { is_top self.old.tree id ≡ false }
+        requires name { HasName id name.now self.old.tree }
+        ensures { self.new ≡ without_node id self.old }
+    {
+        let _ = self.tree.root();
+        self.numbers.remove(name);
+        take_names(&self.tree, id, &mut self.numbers);
+        match self.tree.remove(id) {
+            Ok(()) => {}
+            Err(_) => unreachable!(),
+        }
+    }
+
+    /// Moves a node and all below it under another that does not stand in its tree, at an index of the children that are left.
+    /// Where the arena refuses, and where memory is wanting, nothing is changed.
+    pub(crate) fn move_to(&mut self, id: NodeId, to: NodeId, index: usize) -> Result<(), NoMemory>
+        requires live { IsSome (part_at (removed id self.old.tree) to) }
+        requires once { times to (removed id self.old.tree) ≤ 1 }
+        ensures ok { OnOk result (self.new ≡ with_move id to index self.old) }
+        ensures err { OnErr result (self.new ≡ self.old) }
+    {
+        match self.tree.move_to(id, to, index) {
+            Ok(()) => Ok(()),
+            Err(_) => Err(NoMemory),
+        }
+    }
+
+    /// No node keeps an answer. Takes no memory.
+    pub(crate) fn forget(&mut self)
+        ensures same { bare self.new.tree ≡ bare self.old.tree }
+        ensures none { KeepsNone self.new.tree }
+    {
+        forget_all(&mut self.tree, &self.numbers);
+    }
+
+    /// Gives each of these nodes its computed style, and passes over a number that names no node. It takes no memory.
+    pub(crate) fn restyle(&mut self, styles: Sequence<(NodeId, Style)>)
+        ensures { self.new ≡ with_styles styles self.old }
+    {
+        write_all(&mut self.tree, styles);
+    }
+}
+
+#[tactic(auto, using(crate::proofs::Bares::forgetting))]
+/// Lets the answers of the nodes of these numbers go.
+fn forget_all(tree: &mut Arena<Node>, numbers: &BTreeMap<Name, NodeId>)
+    ensures { tree.new ≡ all_forgot without_answers (values numbers.now) tree.old }
+{
+    for id in numbers.values() {
+        let Some(node) = tree.get_mut(*id) else {
+            continue;
+        };
+        node.forget();
     }
 }

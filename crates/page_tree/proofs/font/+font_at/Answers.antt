@@ -2,7 +2,8 @@ use Rattle.std.proofs.Common.{rules, ◌≡◌, Some, sym, ap, subst, ◌∙◌}
 use Rattle.node_arena.specs.Numbers.{parent_at, value_at}
 use Rattle.style_types.specs.Computed.{font_of}
 use Rattle.page_tree.specs.Fonts.{HasFont}
-use Rattle.page_tree.proofs.Fonts.{child_has, declares, root_has}
+use Rattle.page_tree.proofs.Fonts.{declares, root_has}
+use Rattle.page_tree.proofs.Getting.{child_has}
 use Rattle.page_tree.proofs.font.+font_at.Goals as goal
 
 pub returns-in-Some-get : goal.returns-in-Some-get

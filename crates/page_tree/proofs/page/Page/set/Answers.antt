@@ -3,10 +3,9 @@ use Rattle.node_arena.specs.Numbers.{value_at}
 use Rattle.doc_text.specs.Edits.{with_set}
 use Rattle.doc_text.specs.NodeText.{with_settings}
 use Rattle.doc_text.specs.declared.edit.Edit.TheVariants as edit
-use Rattle.page_tree.specs.Fonts.{font_value}
 use Rattle.page_tree.specs.Pages.{document_of}
 use Rattle.page_tree.proofs.Changes.{becomes_from, label_by, tells_name}
-use Rattle.page_tree.proofs.Fonts.{declares, keeps_font, settings_keep}
+use Rattle.page_tree.proofs.Fonts.{declares}
 use Rattle.page_tree.proofs.Refusals.{applied_is, known, not_refused, refused, unknown}
 use Rattle.page_tree.proofs.page.Page.set.Goals as goal
 
@@ -15,16 +14,6 @@ returns-in-None-clause-applies c = (
   refused (edit.Set c.args.named.now c.args.settings.now) (document_of c.args.self.now) _ (unknown c.args.self.now c.stands.ensures.rooted c.args.named.now None c.in-None.ensures.there ∙ ap Some (sym c.unknown_name.ensures)),
   refl,
 )
-
-pub relabel-requires : goal.relabel-requires
-relabel-requires c =
-    let t = c.args.self.now.nodes.tree in
-    let node = c.in-Some-get.node.now in
-    let value : value_at t c.in-Some.id ≡ Some node = search rules in
-    record {
-      found = c.in-Some.ensures;
-      font = keeps_font t c.in-Some.id node c.in_ok-declared.declared (declares t c.in-Some.id node value c.stands.ensures.each) (ap font_value c.in_ok-declared.ensures ∙ settings_keep c.args.settings.now node.declared c.requires);
-    }
 
 pub returns-clause-applies : goal.returns-clause-applies
 returns-clause-applies c =

@@ -1,0 +1,29 @@
+-- The labels of a page's nodes are those that the definitions compute from the declared ones.
+use Rattle.std.proofs.Common.{◌≡◌, ℤ, refl, sym}
+use Rattle.plain_tree.specs.Trees.{leafless, tree, map_trees}
+use Rattle.node_arena.specs.Numbers.{mapped}
+use Rattle.style_types.specs.Computed.{font_of}
+use Rattle.tree_rules.specs.declared.kind.NodeKind.{NodeKind}
+use Rattle.tree_rules.specs.declared.kind.NodeKind.TheVariants as kind
+use Rattle.tree_rules.specs.Documents.{computed_label, computed_trees}
+use Rattle.tree_rules.specs.Labels.{label_of as label_of_rules}
+use Rattle.placing.specs.declared.node.Node.{Node}
+use Rattle.placing.specs.Nodes.{NodeTrees, bare_of, label_in, label_of_bare}
+use Rattle.node_arena.specs.declared.number.NodeId.{NodeId}
+use Rattle.page_tree.specs.Boxes.{declared_of, node_kind_of}
+use Rattle.page_tree.specs.Documents.{kind_of, label_of, plain_trees}
+use Rattle.page_tree.specs.Fonts.{AreStyled, HasStyle}
+
+kind_back : (k : NodeKind) → node_kind_of (kind_of k) ≡ k
+kind_back kind.Grid = refl
+kind_back kind.Flex = refl
+kind_back (kind.Leaf content) = refl
+
+pub label_computed : (em rem : ℤ) (n : NodeId) (v : Node) → HasStyle em rem v → label_in (n, bare_of v) ≡ computed_label em rem (declared_of (label_of v))
+unfolding label_of_bare
+label_computed em rem n v h = λ i. label_of_rules v.name (sym (kind_back v.kind) i) (h i)
+
+pub trees_computed : (p r : ℤ) (t : NodeTrees) → AreStyled p r t → map_trees label_in (mapped (λ n v. bare_of v) t) ≡ computed_trees p r (map_trees declared_of (plain_trees t))
+trees_computed p r leafless h = refl
+trees_computed p r (tree x below after) h =
+    λ i. tree (label_computed (font_of p r x.1.declared) r x.0 x.1 h.0 i) (trees_computed (font_of p r x.1.declared) r below h.1.0 i) (trees_computed p r after h.1.1 i)
