@@ -90,7 +90,7 @@ limits_alike false b own room = kept own (clamp room)
 -- ---- one child
 
 -- what a child is given after its line is known
-new_inline : (s : Settled) (size : ℤ) → s.inline ≡ given_box s.member.kid.label.grid.columns s.box → (settled_across s size).inline ≡ given_box s.member.kid.label.grid.columns size
+pub new_inline : (s : Settled) (size : ℤ) → s.inline ≡ given_box s.member.kid.label.grid.columns s.box → (settled_across s size).inline ≡ given_box s.member.kid.label.grid.columns size
 new_inline s size h = by (int_eq s.box size) refl
   where
     by : (t : Bool) → int_eq s.box size ≡ t → (if t then s else settled_at s.member size).inline ≡ given_box s.member.kid.label.grid.columns size

@@ -35,18 +35,18 @@ use Rattle.box_layout.proofs.Sums.{cross_left_is, gaps_are, line_rest_is, rest_i
 zero_units : IsUnits (pos 0)
 zero_units = (omega (arith, ints), omega (arith, ints))
 
-clamped_units : (z : ℤ) → IsUnits (clamp z)
+pub clamped_units : (z : ℤ) → IsUnits (clamp z)
 unfolding clamp
 clamped_units z = (omega (arith, ints, int_min_is top z, int_max_is bottom (int_min top z)), omega (arith, ints, int_min_is top z, int_max_is bottom (int_min top z)))
 
-chosen_units : (b : Bool) (x y : ℤ) → IsUnits x → IsUnits y → IsUnits (if b then x else y)
+pub chosen_units : (b : Bool) (x y : ℤ) → IsUnits x → IsUnits y → IsUnits (if b then x else y)
 chosen_units true x y h k = h
 chosen_units false x y h k = k
 
 edge_units : (x : ℤ) → IsEdge x → IsUnits x
 edge_units x h = (omega (arith, ints, h.low), omega (arith, ints, h.high))
 
-gap_units : (base : Option ℤ) (s : Size) → IsSize s → IsUnits (gap_by base (pos 0) s)
+pub gap_units : (base : Option ℤ) (s : Size) → IsSize s → IsUnits (gap_by base (pos 0) s)
 gap_units None size.Auto h = zero_units
 gap_units None size.Absent h = zero_units
 gap_units None size.Normal h = zero_units
@@ -60,11 +60,11 @@ gap_units (Some b) size.Content h = zero_units
 gap_units (Some b) (size.Length x) h = edge_units x h
 gap_units (Some b) (size.Percent t) h = clamped_units (floor_div (b *ℤ pos t) 100000)
 
-margin_units : (m : Option ℤ) → IsMargin m → IsUnits (margin m)
+pub margin_units : (m : Option ℤ) → IsMargin m → IsUnits (margin m)
 margin_units None h = zero_units
 margin_units (Some x) h = (omega (arith, ints, h.low), omega (arith, ints, h.high))
 
-pair_of : (z : ℤ) → IsUnits z → IsPair z
+pub pair_of : (z : ℤ) → IsUnits z → IsPair z
 pair_of z h = (omega (arith, ints, h.0), omega (arith, ints, h.1))
 
 main_axis : (column : Bool) (y : Label) → IsGridStyle y.grid → IsGridAxis (main_grid column y)
@@ -264,7 +264,7 @@ row_low k at size between low h g = omega (arith, ints, low, h.0, g.0)
 row_high : (k : ℕ) (at size between : ℤ) → at ≤ℤ pos (2147483648 * k) → IsUnits size → IsUnits between → (at +ℤ size +ℤ between) ≤ℤ pos (2147483648 * (k + 1))
 row_high k at size between high h g = omega (arith, ints, high, h.1, g.1)
 
-sum_near : (sizes : List ℤ) → AreUnits sizes → IsSum (length sizes) (sum_of sizes)
+pub sum_near : (sizes : List ℤ) → AreUnits sizes → IsSum (length sizes) (sum_of sizes)
 sum_near [] h = (omega (arith, ints), omega (arith, ints))
 sum_near (z ∷ rest) h = let more = sum_near rest h.1 in (omega (arith, ints, h.0.0, more.0), omega (arith, ints, h.0.1, more.1))
 

@@ -1,4 +1,7 @@
+pub mod Asking
 pub mod BothMargins
+pub mod FlexFrames
+pub mod GridFrames
 pub mod Near
 pub mod Places
 pub mod Ranges
@@ -6,3 +9,5 @@ pub mod Roots
 pub mod Seats
 pub mod Shares
 pub mod Sittings
+pub mod Stands
+pub mod Turns

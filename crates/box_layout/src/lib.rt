@@ -5,20 +5,36 @@
 #![tactic(auto)]
 
 mod aligned;
+mod columns;
+mod flex_anew;
+mod flexed;
+mod flexes;
 mod frames;
+mod framing;
+mod gridded;
+mod grids;
 mod items;
 mod laws;
 mod line;
 mod lines;
+mod queries;
 mod root;
+mod row_views;
 mod seats;
 mod sitting;
+mod turns;
 
 pub use aligned::{Margins, aligned_at, margins_of};
+pub use columns::column_lines;
+pub use flexed::{column_frames, row_frames};
+pub use flexes::frames_in_lines;
 pub use frames::{frame_in, moved_by};
+pub use framing::{frames_at, frames_of};
+pub use grids::{OverTracks, frame_over};
 pub use items::{box_size, place_in_area};
-pub use laws::flex_children_stand_near;
+pub use laws::{flex_children_stand_near, frames_fit_below, frames_stand_near};
 pub use lines::flex_frames;
+pub use queries::frames_query;
 pub use root::{given_box, root_height, root_rect, root_width};
 pub use seats::Seat;
 pub use sitting::{Container, Sitting, container_of, sitting_of};

@@ -68,7 +68,7 @@ pub struct Sitting {
 }
 
 /// The gap of a style along an axis, where percentages are of this size.
-fn gap_in<const AXIS: u8>(style: &Style, size: Lu) -> Lu
+pub(crate) fn gap_in<const AXIS: u8>(style: &Style, size: Lu) -> Lu
     ensures { result ≡ gap_by (Some size) (pos 0) (grid_at AXIS style.now).gap }
 {
     gap_by(&Some(size), Lu::default(), &gap::<AXIS>(style))

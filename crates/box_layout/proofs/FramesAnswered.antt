@@ -1,0 +1,31 @@
+-- What a grid answers to the question for its frames, and that it measures nothing for it.
+use Rattle.std.proofs.Common.{◌≡◌, [], List, map, sym, ap}
+use Rattle.node_arena.specs.declared.number.NodeId.{NodeId}
+use Rattle.part_rules.specs.declared.view.View.{View}
+use Rattle.placing.specs.Nodes.{BareTrees, kids_at, sight_at}
+use Rattle.placing.specs.Walks.{events_at, events_by}
+use Rattle.tree_rules.specs.Answers.{Frame, Pair}
+use Rattle.tree_rules.specs.Frames.{Framed, grid_child}
+use Rattle.tree_rules.specs.GridSizes.{view_by}
+use Rattle.tree_rules.specs.Orders.{in_document_order}
+use Rattle.tree_rules.specs.Queries.{answer_by, answer_of, child_frames}
+use Rattle.tree_rules.specs.Whole.{answers_by}
+use Rattle.tree_rules.specs.declared.kind.NodeKind.{NodeKind}
+use Rattle.tree_rules.specs.declared.kind.NodeKind.TheVariants as kind
+use Rattle.tree_rules.specs.declared.query.Ask.TheVariants as ask
+use Rattle.tree_rules.specs.declared.query.Given.{Given}
+use Rattle.tree_rules.specs.declared.query.Query.{Query}
+use Rattle.inline_sizes.specs.GridsSeen.{grid_seen}
+use Rattle.block_sizes.specs.Wides.{columns_seen, rows_seen, wides_seen}
+
+-- the frames of a grid in these rows
+abbrev pub frames_in : BareTrees → NodeId → List Pair → Given → View 1 → List Frame
+frames_in b n outer width rows = map (λ (f : Framed). f.frame) (in_document_order (map (grid_child (grid_seen b n outer width) (columns_seen b n outer width) rows) (wides_seen b n outer width)))
+
+pub frames_answer : (b : BareTrees) (n : NodeId) (q : Query) → (sight_at b n).label.kind ≡ kind.Grid → q.ask ≡ ask.Frames
+    → child_frames (frames_in b n q.reps q.inline (view_by {axis = 1} (rows_seen b n q.reps q.inline) q.block)) ≡ answer_of (sight_at b n) q
+unfolding grid_seen columns_seen wides_seen rows_seen
+frames_answer b n q k a = λ i. answer_by (answers_by (sym k i) (sight_at b n).label (sight_at b n).chain (kids_at b n)) (sym a i) q
+
+pub grid_quiet : (b : BareTrees) (n : NodeId) (q : Query) → (sight_at b n).label.kind ≡ kind.Grid → events_at b n q ≡ []
+grid_quiet b n q k = ap (λ (z : NodeKind). events_by z (sight_at b n).label.name q) k

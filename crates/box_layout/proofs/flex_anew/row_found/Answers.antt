@@ -1,0 +1,18 @@
+use Rattle.std.proofs.Common.{ap, sym}
+use Rattle.placing.proofs.Leaves.{on_err}
+use Rattle.placing.specs.Nodes.{bare}
+use Rattle.tree_rules.specs.Queries.{needs_inline}
+use Rattle.box_layout.proofs.FlexAnswered.{row_told}
+use Rattle.box_layout.proofs.flex_anew.row_found.Goals as goal
+
+pub returns-clause-value : goal.returns-clause-value
+returns-clause-value g c = row_told (bare c.args.tree.now.tree) c.args.id c.args.query.now c.requires.flex c.requires.ask c.requires.direction c.size_given-width.result c.size_given-height.result c.in_ok-frames.frames c.size_given-width.ensures c.size_given-height.ensures c.in_ok-frames.ensures.value
+
+pub returns-clause-children : goal.returns-clause-children
+returns-clause-children g c = c.in_ok-frames.ensures.value.children
+
+pub returns-clause-below : goal.returns-clause-below
+returns-clause-below g c = c.in_ok-frames.ensures.below c.args.query.now (sym c.size_given-width.ensures) (ap needs_inline c.requires.ask)
+
+pub returns-in_err-frames-clause-stopped : goal.returns-in_err-frames-clause-stopped
+returns-in_err-frames-clause-stopped g c = on_err _ _ (c.in_err-frames.ensures.stopped c.args.query.now (sym c.size_given-width.ensures) (ap needs_inline c.requires.ask))

@@ -1,0 +1,197 @@
+//! The frames of the children of a container, as its list of answers keeps them.
+
+ghost use Rattle.std.specs.Prelude.{◌≡◌, ◌∷◌, [], map, IfOk, OnErr, OnOk};
+ghost use Rattle.placing.specs.Kept.{frame_of, kept_at, IsRight};
+ghost use Rattle.placing.specs.Nodes.{bare, children_at, level_at, sight_at, IsLive};
+ghost use Rattle.placing.specs.Ranges.{AreReadable};
+ghost use Rattle.placing.specs.Seats.{IsSeat};
+ghost use Rattle.placing.specs.Walks.{kept_with, state, Stopped, Walked};
+ghost use Rattle.placing.specs.declared.node.Answer.TheVariants as answer;
+ghost use Rattle.placing.specs.declared.node.Frame.{Frame as NodeFrame};
+ghost use Rattle.tree_rules.specs.Chains.{is_grid_kind};
+ghost use Rattle.tree_rules.specs.KeptAnswers.{IsAbsent};
+ghost use Rattle.tree_rules.specs.Queries.{answer_of, child_frames, Fits};
+ghost use Rattle.tree_rules.specs.declared.kind.NodeKind.TheVariants as kind;
+ghost use Rattle.inline_sizes.specs.Calls.{Found, Keeps};
+ghost use Rattle.block_sizes.specs.Spread.{IsSpread};
+ghost use Rattle.block_sizes.specs.Wides.{farthest};
+ghost use Rattle.box_layout.specs.Asking.{frames_asked};
+
+use crate::flex_anew::flex_frames_anew;
+use crate::gridded::grid_frames;
+use crate::queries::{copied_frames, frames_query, kept_frames};
+use crate::row_views::rows_of;
+use block_sizes::wide_at;
+use layout_cache::{Given, Query};
+use lunit::{Area, NoMemory, Sequence, Steps};
+use node_arena::{Arena, NodeId};
+use outside::{Ruler, Tally};
+use placing::{Above, Answer, Frame, Node, NodeKind, node_at, put, root, seat};
+use std::alloc::Global;
+use std::sync::ledger::Ledger;
+
+/// Whether a node is a grid.
+fn is_grid(kind: &NodeKind) -> bool
+    ensures { result ≡ is_grid_kind kind.now }
+{
+    match kind {
+        NodeKind::Grid => true,
+        NodeKind::Flex => false,
+        NodeKind::Leaf(_) => false,
+    }
+}
+
+/// The frames of a grid in its seat that keeps none for this question: it makes two steps at most. They are kept last.
+fn grid_frames_anew<R: Ruler, L: Ledger>(
+    alloc: Global,
+    tree: &mut Arena<Node>,
+    id: NodeId,
+    query: Query,
+    above: &Above,
+    area: Area,
+    ruler: &mut R,
+    tally: &mut Tally,
+    passes: &mut Steps<L>,
+) -> Result<Sequence<Frame>, NoMemory>
+    requires live { IsLive (bare tree.old.tree) id }
+    requires right { IsRight tree.old.tree }
+    requires readable { AreReadable (bare tree.old.tree) }
+    requires grid { (sight_at (bare tree.old.tree) id).label.kind ≡ kind.Grid }
+    requires query { query ≡ frames_asked query.reps query.inline query.block }
+    requires fits { Fits (sight_at (bare tree.old.tree) id) query }
+    requires absent { IsAbsent query (kept_at tree.old.tree id) }
+    requires seat { IsSeat (sight_at (bare tree.old.tree) id) query.reps above.now area }
+    requires columns { IsSpread (farthest (level_at (bare tree.old.tree) id)) query.inline }
+    requires rows { IsSpread (farthest (level_at (bare tree.old.tree) id)) query.block }
+    ensures value { IfOk result (λ frames. child_frames (map frame_of frames) ≡ answer_of (sight_at (bare tree.old.tree) id) query) }
+    ensures children { IfOk result (λ frames. map (λ (f : NodeFrame). f.child) frames ≡ children_at (bare tree.old.tree) id) }
+    ensures right { IsRight tree.new.tree }
+    ensures walked { OnOk result (Walked id query (state tree.old tally.old passes.old (R.log ruler.old)) (state tree.new tally.new passes.new (R.log ruler.new))) }
+    ensures stopped { OnErr result (Stopped id query (state tree.old tally.old passes.old (R.log ruler.old)) (state tree.new tally.new passes.new (R.log ruler.new))) }
+    ensures own { IfOk result (λ frames. kept_at tree.new.tree id ≡ kept_with (kept_at tree.old.tree id) ((query, answer.Frames frames) ∷ [])) }
+{
+    root(tree);
+    let reps = query.reps.as_slice();
+    let width = &query.inline;
+    let height = &query.block;
+    let wide = wide_at(
+        alloc, tree, id, reps, above, area, width, ruler, tally, passes,
+    )?;
+    let rows = rows_of(alloc, tree, id, reps, width, &wide, height, passes)?;
+    let frames = grid_frames(alloc, tree, id, reps, width, &wide, &rows)?;
+    let listed = frames.as_slice();
+    let told = copied_frames(alloc, listed)?;
+    put(tree, id, query, Answer::Frames(frames), tally);
+    Ok(told)
+}
+
+/// The frames of a container in its seat that keeps none for this question: they are found, and kept last.
+fn frames_anew<R: Ruler, L: Ledger>(
+    alloc: Global,
+    tree: &mut Arena<Node>,
+    id: NodeId,
+    query: Query,
+    above: &Above,
+    area: Area,
+    ruler: &mut R,
+    tally: &mut Tally,
+    passes: &mut Steps<L>,
+) -> Result<Sequence<Frame>, NoMemory>
+    requires live { IsLive (bare tree.old.tree) id }
+    requires right { IsRight tree.old.tree }
+    requires readable { AreReadable (bare tree.old.tree) }
+    requires query { query ≡ frames_asked query.reps query.inline query.block }
+    requires fits { Fits (sight_at (bare tree.old.tree) id) query }
+    requires absent { IsAbsent query (kept_at tree.old.tree id) }
+    requires seat { IsSeat (sight_at (bare tree.old.tree) id) query.reps above.now area }
+    requires columns { IsSpread (farthest (level_at (bare tree.old.tree) id)) query.inline }
+    requires rows { IsSpread (farthest (level_at (bare tree.old.tree) id)) query.block }
+    ensures value { IfOk result (λ frames. child_frames (map frame_of frames) ≡ answer_of (sight_at (bare tree.old.tree) id) query) }
+    ensures children { IfOk result (λ frames. map (λ (f : NodeFrame). f.child) frames ≡ children_at (bare tree.old.tree) id) }
+    ensures right { IsRight tree.new.tree }
+    ensures walked { OnOk result (Walked id query (state tree.old tally.old passes.old (R.log ruler.old)) (state tree.new tally.new passes.new (R.log ruler.new))) }
+    ensures stopped { OnErr result (Stopped id query (state tree.old tally.old passes.old (R.log ruler.old)) (state tree.new tally.new passes.new (R.log ruler.new))) }
+    ensures own { IfOk result (λ frames. kept_at tree.new.tree id ≡ kept_with (kept_at tree.old.tree id) ((query, answer.Frames frames) ∷ [])) }
+{
+    if is_grid(&node_at(tree, id).kind) {
+        return grid_frames_anew(alloc, tree, id, query, above, area, ruler, tally, passes);
+    }
+    flex_frames_anew(alloc, tree, id, query, ruler, tally, passes)
+}
+
+/// The frames of the children of a container in its seat, by the counts of the repetitions above it and what it is given along each
+/// axis, in document order: `frames_of` says more.
+pub fn frames_at<R: Ruler, L: Ledger>(
+    alloc: Global,
+    tree: &mut Arena<Node>,
+    id: NodeId,
+    reps: &[(u32, u32)],
+    above: &Above,
+    area: Area,
+    inline: &Given,
+    block: &Given,
+    ruler: &mut R,
+    tally: &mut Tally,
+    passes: &mut Steps<L>,
+) -> Result<Sequence<Frame>, NoMemory>
+    requires live { IsLive (bare tree.old.tree) id }
+    requires right { IsRight tree.old.tree }
+    requires readable { AreReadable (bare tree.old.tree) }
+    requires fits { Fits (sight_at (bare tree.old.tree) id) (frames_asked reps.now inline.now block.now) }
+    requires seat { IsSeat (sight_at (bare tree.old.tree) id) reps.now above.now area }
+    requires columns { IsSpread (farthest (level_at (bare tree.old.tree) id)) inline.now }
+    requires rows { IsSpread (farthest (level_at (bare tree.old.tree) id)) block.now }
+    ensures value { IfOk result (λ frames. child_frames (map frame_of frames) ≡ answer_of (sight_at (bare tree.old.tree) id) (frames_asked reps.now inline.now block.now)) }
+    ensures children { IfOk result (λ frames. map (λ (f : NodeFrame). f.child) frames ≡ children_at (bare tree.old.tree) id) }
+    ensures right { IsRight tree.new.tree }
+    ensures walked { OnOk result (Walked id (frames_asked reps.now inline.now block.now) (state tree.old tally.old passes.old (R.log ruler.old)) (state tree.new tally.new passes.new (R.log ruler.new))) }
+    ensures stopped { OnErr result (Stopped id (frames_asked reps.now inline.now block.now) (state tree.old tally.old passes.old (R.log ruler.old)) (state tree.new tally.new passes.new (R.log ruler.new))) }
+    ensures found { Found id (frames_asked reps.now inline.now block.now) (state tree.old tally.old passes.old (R.log ruler.old)) (state tree.new tally.new passes.new (R.log ruler.new)) }
+    ensures own { IfOk result (λ frames. Keeps id (frames_asked reps.now inline.now block.now) (state tree.old tally.old passes.old (R.log ruler.old)) (state tree.new tally.new passes.new (R.log ruler.new)) (answer.Frames frames)) }
+{
+    let query = frames_query(alloc, reps, inline, block)?;
+    if let Some(frames) = kept_frames(tree, id, &query) {
+        return copied_frames(alloc, frames.as_slice());
+    }
+    frames_anew(alloc, tree, id, query, above, area, ruler, tally, passes)
+}
+
+/// The frames of the children of a container, in document order, once it is given this along each axis (CSS Grid 2, sections 6 and
+/// 11; CSS Flexbox 1, section 9): the border box of each child from the container's border box, in units of 1/64 px, and what the
+/// child is given. `reps` holds the counts of the automatic repeats of the grids above it that it sees, columns first, the topmost
+/// grid first. The edges of given tracks differ from 0 and from each other by at most 2^54, and 2^33 more for each level.
+///
+/// Kept frames are taken as they are, and then nothing changes; else they are found, and kept last. `NoMemory` where memory is
+/// wanting; what was kept by then is right.
+pub fn frames_of<R: Ruler, L: Ledger>(
+    alloc: Global,
+    tree: &mut Arena<Node>,
+    id: NodeId,
+    reps: &[(u32, u32)],
+    inline: &Given,
+    block: &Given,
+    ruler: &mut R,
+    tally: &mut Tally,
+    passes: &mut Steps<L>,
+) -> Result<Sequence<Frame>, NoMemory>
+    requires live { IsLive (bare tree.old.tree) id }
+    requires right { IsRight tree.old.tree }
+    requires readable { AreReadable (bare tree.old.tree) }
+    requires fits { Fits (sight_at (bare tree.old.tree) id) (frames_asked reps.now inline.now block.now) }
+    requires columns { IsSpread (farthest (level_at (bare tree.old.tree) id)) inline.now }
+    requires rows { IsSpread (farthest (level_at (bare tree.old.tree) id)) block.now }
+    ensures value { IfOk result (λ frames. child_frames (map frame_of frames) ≡ answer_of (sight_at (bare tree.old.tree) id) (frames_asked reps.now inline.now block.now)) }
+    ensures children { IfOk result (λ frames. map (λ (f : NodeFrame). f.child) frames ≡ children_at (bare tree.old.tree) id) }
+    ensures right { IsRight tree.new.tree }
+    ensures walked { OnOk result (Walked id (frames_asked reps.now inline.now block.now) (state tree.old tally.old passes.old (R.log ruler.old)) (state tree.new tally.new passes.new (R.log ruler.new))) }
+    ensures stopped { OnErr result (Stopped id (frames_asked reps.now inline.now block.now) (state tree.old tally.old passes.old (R.log ruler.old)) (state tree.new tally.new passes.new (R.log ruler.new))) }
+    ensures found { Found id (frames_asked reps.now inline.now block.now) (state tree.old tally.old passes.old (R.log ruler.old)) (state tree.new tally.new passes.new (R.log ruler.new)) }
+    ensures own { IfOk result (λ frames. Keeps id (frames_asked reps.now inline.now block.now) (state tree.old tally.old passes.old (R.log ruler.old)) (state tree.new tally.new passes.new (R.log ruler.new)) (answer.Frames frames)) }
+{
+    let query = frames_query(alloc, reps, inline, block)?;
+    if let Some(frames) = kept_frames(tree, id, &query) {
+        return copied_frames(alloc, frames.as_slice());
+    }
+    let (above, area) = seat(alloc, tree, id, reps)?;
+    frames_anew(alloc, tree, id, query, &above, area, ruler, tally, passes)
+}

@@ -1,0 +1,173 @@
+//! The frames of the children of a grid, once its columns lie where they lie and each child is as wide as it is there (CSS Grid 2,
+//! sections 6 and 11).
+
+ghost use Rattle.std.specs.Prelude.{◌≡◌, ◌+◌, ◌&&◌, ◌<◌, ◌≤ℤ◌, ◌∷◌, drop, get_or, length, map, pos, IfOk};
+ghost use Rattle.placing.specs.Areas.{entries_at, entry_by};
+ghost use Rattle.placing.specs.Axes.{grid_axis};
+ghost use Rattle.placing.specs.Nodes.{bare, children_at, sight_at, IsLive};
+ghost use Rattle.placing.specs.Kept.{frame_of};
+ghost use Rattle.placing.specs.Ranges.{AreReadable};
+ghost use Rattle.placing.specs.declared.node.Frame.{Frame as NodeFrame};
+ghost use Rattle.tree_rules.specs.Orders.{in_document_order};
+ghost use Rattle.tree_rules.specs.Chains.{is_subgrid};
+ghost use Rattle.tree_rules.specs.Frames.{Framed, grid_child};
+ghost use Rattle.tree_rules.specs.declared.kind.NodeKind.TheVariants as kind;
+ghost use Rattle.inline_sizes.specs.Grids.{IsEntry, has_subgrid_kind};
+ghost use Rattle.inline_sizes.specs.GridsSeen.{grid_seen};
+ghost use Rattle.block_sizes.specs.Spans.{LiesIn};
+ghost use Rattle.block_sizes.specs.Wides.{IsWide, columns_seen, wides_seen};
+ghost use Rattle.box_layout.specs.GridFrames.{AreFramesAt, AreIndices, AreTracks, IsFrameOf, no_frame};
+
+use crate::grids::{OverTracks, frame_over};
+use crate::turns::turns;
+use block_sizes::{GridWide, WideChild, from_first};
+use inline_sizes::items_lie_in_their_tracks;
+use layout_cache::Given;
+use lunit::{NoMemory, Sequence};
+use node_arena::{Arena, NodeId};
+use part_rules::View;
+use placing::style::is_subgrid;
+use placing::{ChildArea, Frame, Node, count, entry, has_subgrid, node_at, root};
+use std::alloc::Global;
+
+/// Whether a child of a grid is a subgrid in an axis.
+fn shares<const AXIS: u8>(tree: &Arena<Node>, id: NodeId) -> bool
+    requires { IsLive (bare tree.now.tree) id }
+    ensures { result ≡ (has_subgrid_kind (sight_at (bare tree.now.tree) id).label && is_subgrid (grid_axis AXIS (sight_at (bare tree.now.tree) id).label.grid).template) }
+{
+    let node = node_at(tree, id);
+    has_subgrid(node) && is_subgrid::<AXIS>(&node.style)
+}
+
+/// The child of a grid whose area is told at an index: it lies in the tracks of the grid.
+fn child_over(
+    tree: &Arena<Node>,
+    id: NodeId,
+    reps: &[(u32, u32)],
+    width: &Given,
+    wide: &GridWide,
+    index: usize,
+) -> ChildArea
+    requires live { IsLive (bare tree.now.tree) id }
+    requires readable { AreReadable (bare tree.now.tree) }
+    requires kind { (sight_at (bare tree.now.tree) id).label.kind ≡ kind.Grid }
+    requires wide { IsWide (bare tree.now.tree) id reps.now width.now wide.now }
+    requires index { index < length wide.now.parts.base.placed.areas }
+    ensures entry { IsEntry (bare tree.now.tree) id wide.now.parts.base result }
+    ensures next { drop index (entries_at (bare tree.now.tree) id wide.now.parts.base.placed) ≡ entry_by (bare tree.now.tree) result ∷ drop (index + 1) (entries_at (bare tree.now.tree) id wide.now.parts.base.placed) }
+    ensures columns { LiesIn wide.now.parts.base.placed.columns result.area.columns }
+    ensures rows { LiesIn wide.now.parts.base.placed.rows result.area.rows }
+    ensures there { index < length wide.now.children }
+{
+    root(tree);
+    items_lie_in_their_tracks(tree, id);
+    entry(tree, id, &wide.parts.base.placed, index)
+}
+
+/// What is known of the child of an index.
+fn wide_child_at(wide: &GridWide, index: usize) -> &WideChild
+    requires { index < length wide.now.children }
+    ensures { result.now ≡ get_or wide.now.children index result.now }
+{
+    let children = wide.children.as_slice();
+    &children[index]
+}
+
+/// The frame of the child of a grid whose area is told at an index, in these rows. `NoMemory` where memory is wanting.
+fn framed_child(
+    alloc: Global,
+    tree: &Arena<Node>,
+    id: NodeId,
+    reps: &[(u32, u32)],
+    width: &Given,
+    wide: &GridWide,
+    rows: &View<1>,
+    index: usize,
+) -> Result<Frame, NoMemory>
+    requires live { IsLive (bare tree.now.tree) id }
+    requires readable { AreReadable (bare tree.now.tree) }
+    requires kind { (sight_at (bare tree.now.tree) id).label.kind ≡ kind.Grid }
+    requires wide { IsWide (bare tree.now.tree) id reps.now width.now wide.now }
+    requires columns { AreTracks wide.now.parts.base.placed.columns wide.now.columns.edges }
+    requires rows { AreTracks wide.now.parts.base.placed.rows rows.now.edges }
+    requires gap { pos 0 ≤ℤ rows.now.gap }
+    requires index { index < length wide.now.parts.base.placed.areas }
+    ensures { IfOk result (IsFrameOf (bare tree.now.tree) id (get_or (map (grid_child (grid_seen (bare tree.now.tree) id reps.now width.now) (columns_seen (bare tree.now.tree) id reps.now width.now) rows.now) (wides_seen (bare tree.now.tree) id reps.now width.now)) index no_frame)) }
+{
+    let entry = child_over(tree, id, reps, width, wide, index);
+    let placed = &wide.parts.base.placed;
+    let child = wide_child_at(wide, index);
+    let container = node_at(tree, id);
+    let node = node_at(tree, entry.child);
+    let in_columns = shares::<0>(tree, entry.child);
+    let in_rows = shares::<1>(tree, entry.child);
+    let columns = from_first(placed.columns, entry.area.columns);
+    let across = from_first(placed.rows, entry.area.rows);
+    let over = OverTracks {
+        child: entry.child,
+        style: &node.style,
+        shares: (in_columns, in_rows),
+        columns,
+        rows: across,
+        width: child.box_,
+        inline: &child.inline,
+        content: child.block,
+    };
+    frame_over(alloc, &container.style, &wide.columns, rows, &over)
+}
+
+/// The frames of the children of a grid, in these rows, at these places among the areas.
+fn framed_children(
+    alloc: Global,
+    tree: &Arena<Node>,
+    id: NodeId,
+    reps: &[(u32, u32)],
+    width: &Given,
+    wide: &GridWide,
+    rows: &View<1>,
+    places: &[(usize, i64)],
+) -> Result<Sequence<Frame>, NoMemory>
+    requires live { IsLive (bare tree.now.tree) id }
+    requires readable { AreReadable (bare tree.now.tree) }
+    requires kind { (sight_at (bare tree.now.tree) id).label.kind ≡ kind.Grid }
+    requires wide { IsWide (bare tree.now.tree) id reps.now width.now wide.now }
+    requires columns { AreTracks wide.now.parts.base.placed.columns wide.now.columns.edges }
+    requires rows { AreTracks wide.now.parts.base.placed.rows rows.now.edges }
+    requires gap { pos 0 ≤ℤ rows.now.gap }
+    requires places { AreIndices (length wide.now.parts.base.placed.areas) places.now }
+    ensures { IfOk result (AreFramesAt (bare tree.now.tree) id (map (grid_child (grid_seen (bare tree.now.tree) id reps.now width.now) (columns_seen (bare tree.now.tree) id reps.now width.now) rows.now) (wides_seen (bare tree.now.tree) id reps.now width.now)) places.now) }
+{
+    let mut frames = Sequence::new(alloc);
+    for place in places {
+        let frame = framed_child(alloc, tree, id, reps, width, wide, rows, place.0)?;
+        frames.push(frame)?;
+    }
+    Ok(frames)
+}
+
+/// The frames of the children of a grid, in document order, in these rows (CSS Grid 2, sections 6 and 11). `NoMemory` where memory is
+/// wanting.
+pub(crate) fn grid_frames(
+    alloc: Global,
+    tree: &Arena<Node>,
+    id: NodeId,
+    reps: &[(u32, u32)],
+    width: &Given,
+    wide: &GridWide,
+    rows: &View<1>,
+) -> Result<Sequence<Frame>, NoMemory>
+    requires live { IsLive (bare tree.now.tree) id }
+    requires readable { AreReadable (bare tree.now.tree) }
+    requires kind { (sight_at (bare tree.now.tree) id).label.kind ≡ kind.Grid }
+    requires wide { IsWide (bare tree.now.tree) id reps.now width.now wide.now }
+    requires columns { AreTracks wide.now.parts.base.placed.columns wide.now.columns.edges }
+    requires rows { AreTracks wide.now.parts.base.placed.rows rows.now.edges }
+    requires gap { pos 0 ≤ℤ rows.now.gap }
+    ensures value { IfOk result (λ frames. map frame_of frames ≡ map (λ (f : Framed). f.frame) (in_document_order (map (grid_child (grid_seen (bare tree.now.tree) id reps.now width.now) (columns_seen (bare tree.now.tree) id reps.now width.now) rows.now) (wides_seen (bare tree.now.tree) id reps.now width.now)))) }
+    ensures children { IfOk result (λ frames. map (λ (f : NodeFrame). f.child) frames ≡ children_at (bare tree.now.tree) id) }
+{
+    root(tree);
+    count(tree, id);
+    let places = turns(alloc, wide.parts.base.placed.numbers.as_slice())?;
+    framed_children(alloc, tree, id, reps, width, wide, rows, &places)
+}
