@@ -1,5 +1,8 @@
 pub mod Alike
+mod Apart
 pub mod Backward
+mod BelowSteps
+mod BoxSteps
 pub mod BoxesFit
 pub mod BoxesNear
 pub mod Chained
@@ -19,14 +22,25 @@ pub mod GridFits
 pub mod GridFramed
 pub mod GridNear
 pub mod InPlaces
+mod KeptPaths
+mod KidFrames
+mod LaidWalks
 pub mod Named
 pub mod Near
+mod NearBoxes
 pub mod OwnRows
 pub mod OwnTracks
 pub mod Positions
 pub mod Reaches
 pub mod Rooms
+mod RootBoxes
+mod RootFits
+mod RootFramed
+mod RootNear
+mod RootStyled
+mod RootWalks
 pub mod Rows
+mod Seating
 pub mod SharedRows
 pub mod SharedSpans
 pub mod Starts

@@ -1,10 +1,15 @@
 pub mod Asking
+pub mod Beneath
 pub mod BothMargins
+pub mod BoxesSeen
 pub mod FlexFrames
 pub mod GridFrames
+pub mod KidBoxes
 pub mod Near
+pub mod Paths
 pub mod Places
 pub mod Ranges
+pub mod RootFrames
 pub mod Roots
 pub mod Seats
 pub mod Shares

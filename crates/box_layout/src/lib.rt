@@ -5,6 +5,7 @@
 #![tactic(auto)]
 
 mod aligned;
+mod child_seats;
 mod columns;
 mod flex_anew;
 mod flexed;
@@ -15,14 +16,17 @@ mod gridded;
 mod grids;
 mod items;
 mod laws;
+mod layout;
 mod line;
 mod lines;
 mod queries;
 mod root;
+mod root_frame;
 mod row_views;
 mod seats;
 mod sitting;
 mod turns;
+mod walk;
 
 pub use aligned::{Margins, aligned_at, margins_of};
 pub use columns::column_lines;
@@ -33,6 +37,7 @@ pub use framing::{frames_at, frames_of};
 pub use grids::{OverTracks, frame_over};
 pub use items::{box_size, place_in_area};
 pub use laws::{flex_children_stand_near, frames_fit_below, frames_stand_near};
+pub use layout::walk_boxes;
 pub use lines::flex_frames;
 pub use queries::frames_query;
 pub use root::{given_box, root_height, root_rect, root_width};

@@ -1,0 +1,25 @@
+use Rattle.std.proofs.Common.{sym, ap, ◌∙◌}
+use Rattle.tree_rules.specs.Chains.{is_grid_kind}
+use Rattle.placing.specs.Nodes.{bare, sight_at}
+use Rattle.box_layout.specs.declared.child_seats.ChildSeats.{ChildSeats}
+use Rattle.box_layout.proofs.Seating.{grid_kind_is, pairs_made, seats_in_flex, seats_made, seats_none}
+use Rattle.box_layout.proofs.child_seats.seats_below.Goals as goal
+
+pub returns-then-not-is_grid-clause-seats : goal.returns-then-not-is_grid-clause-seats
+returns-then-not-is_grid-clause-seats c =
+    seats_in_flex (bare c.args.tree.now.tree) c.args.id c.root.ensures.tree c.no_seats.result (ap (λ (s : ChildSeats). s.some) c.no_seats.ensures) (ap (λ (s : ChildSeats). s.nothing) c.no_seats.ensures)
+    (ap is_grid_kind (sym c.node_at.ensures.kind) ∙ sym c.is_grid.ensures ∙ c.if-not-is_grid.true)
+
+pub returns-then-not-has_subgrids-clause-seats : goal.returns-then-not-has_subgrids-clause-seats
+returns-then-not-has_subgrids-clause-seats c =
+    seats_none (bare c.args.tree.now.tree) c.args.id c.root.ensures.tree c.no_seats-then-not-has_subgrids.result (ap (λ (s : ChildSeats). s.some) c.no_seats-then-not-has_subgrids.ensures) (ap (λ (s : ChildSeats). s.nothing) c.no_seats-then-not-has_subgrids.ensures) (c.has_subgrids.ensures c.if-not-has_subgrids.true)
+
+pub returns-clause-seats : goal.returns-clause-seats
+returns-clause-seats c =
+    seats_made (bare c.args.tree.now.tree) c.args.id c.root.ensures.tree c.args.reps.now c.args.inline.now c.in_ok-base.base c.in_ok-areas.areas c.seats_in-seats.result c.in_ok-base.ensures
+    (ap is_grid_kind (sym c.node_at.ensures.kind) ∙ sym c.is_grid.ensures ∙ c.if-not-is_grid.false) c.in_ok-areas.ensures.counted c.in_ok-areas.ensures.areas c.seats_in-seats.ensures
+
+pub returns-clause-pairs : goal.returns-clause-pairs
+returns-clause-pairs c =
+    λ q reps inline. pairs_made (bare c.args.tree.now.tree) c.args.id c.args.reps.now c.args.inline.now c.in_ok-base.base c.in_ok-areas.areas c.seats_in-seats.result q c.in_ok-base.ensures
+    (grid_kind_is (sight_at (bare c.args.tree.now.tree) c.args.id).label.kind (ap is_grid_kind (sym c.node_at.ensures.kind) ∙ sym c.is_grid.ensures ∙ c.if-not-is_grid.false)) c.seats_in-seats.ensures reps inline

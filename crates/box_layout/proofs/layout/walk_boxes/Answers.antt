@@ -1,0 +1,59 @@
+use Rattle.std.proofs.Common.{true, refl, sym, subst, ◌≡◌, ◌∙◌, ◌≤◌, [], pos, ℤ}
+use Rattle.placing.specs.Kept.{frame_of}
+use Rattle.placing.specs.Nodes.{BareTrees, bare, level_at, sight_at}
+use Rattle.placing.specs.Walks.{state}
+use Rattle.placing.proofs.Leaves.{on_err}
+use Rattle.box_layout.specs.Asking.{frames_asked}
+use Rattle.box_layout.specs.BoxesSeen.{IsNearAt}
+use Rattle.tree_rules.specs.Queries.{is_container}
+use Rattle.box_layout.specs.Paths.{AreKeptBelow, IsAllKept, IsChildLaid, IsChildPart}
+use Rattle.box_layout.proofs.BelowSteps.{child_same, part_same}
+use Rattle.box_layout.proofs.KeptPaths.{path_of_root}
+use Rattle.box_layout.proofs.LaidWalks.{cut_boxes, walk_boxes}
+use Rattle.box_layout.proofs.RootBoxes.{first_of_root, level_some, quiet_all, value_all}
+use Rattle.box_layout.proofs.layout.walk_boxes.Goals as goal
+
+pub returns-in_err-frame-clause-quiet : goal.returns-in_err-frame-clause-quiet
+returns-in_err-frame-clause-quiet g c = (λ (kept : IsAllKept (bare c.args.tree.now.tree) c.args.width c.args.height (state c.args.tree.now c.args.tally.now c.args.passes.now (g.R.Ruler.log c.args.ruler.now))). c.root_frame.ensures.quiet (kept.inline c.root-id.result c.root-id.ensures.root) (kept.block c.root-id.result c.root-id.ensures.root))
+
+pub boxes_of-requires-clause-level : goal.boxes_of-requires-clause-level
+boxes_of-requires-clause-level g c = subst (λ (z : BareTrees). 1 ≤ level_at z c.root-id.result) (sym c.root_frame.ensures.bare) (level_some (bare c.args.tree.now.tree) c.root-id.result c.root-id.ensures.root)
+
+pub boxes_of-requires-clause-near : goal.boxes_of-requires-clause-near
+boxes_of-requires-clause-near g c =
+    let level : 1 ≤ level_at (bare c.root_frame.new.tree.tree) c.root-id.result = subst (λ (z : BareTrees). 1 ≤ level_at z c.root-id.result) (sym c.root_frame.ensures.bare) (level_some (bare c.args.tree.now.tree) c.root-id.result c.root-id.ensures.root) in
+    subst (λ (z : ℤ). IsNearAt (level_at (bare c.root_frame.new.tree.tree) c.root-id.result) z c.of-y.result (frame_of c.in_ok-frame.frame)) (sym c.of-x.ensures)
+    (subst (λ (z : ℤ). IsNearAt (level_at (bare c.root_frame.new.tree.tree) c.root-id.result) (pos 0) z (frame_of c.in_ok-frame.frame)) (sym c.of-y.ensures) (c.in_ok-frame.ensures.near (level_at (bare c.root_frame.new.tree.tree) c.root-id.result) level))
+
+pub returns-in_err-boxes_of-clause-bare : goal.returns-in_err-boxes_of-clause-bare
+returns-in_err-boxes_of-clause-bare g c = part_same (bare c.root_frame.new.tree.tree) c.root-id.result (frames_asked [] c.in_ok-frame.frame.inline c.in_ok-frame.frame.block) (state c.root_frame.new.tree c.root_frame.new.tally c.root_frame.new.passes (g.R.Ruler.log c.root_frame.new.ruler)) (state c.boxes_of.new.tree c.boxes_of.new.tally c.boxes_of.new.passes (g.R.Ruler.log c.boxes_of.new.ruler)) c.in_err-boxes_of.ensures.part ∙ c.root_frame.ensures.bare
+
+pub returns-in_err-boxes_of-clause-cut : goal.returns-in_err-boxes_of-clause-cut
+returns-in_err-boxes_of-clause-cut g c =
+    on_err _ _ (cut_boxes c.args.width c.args.height c.root-id.result (state c.args.tree.now c.args.tally.now c.args.passes.now (g.R.Ruler.log c.args.ruler.now)) c.root-id.ensures.root (state c.root_frame.new.tree c.root_frame.new.tally c.root_frame.new.passes (g.R.Ruler.log c.root_frame.new.ruler)) c.in_ok-frame.ensures.laid (frames_asked [] c.in_ok-frame.frame.inline c.in_ok-frame.frame.block) (λ k. first_of_root (bare c.args.tree.now.tree) c.root-id.result c.args.width c.args.height (frame_of c.in_ok-frame.frame) k c.in_ok-frame.ensures.value) (state c.boxes_of.new.tree c.boxes_of.new.tally c.boxes_of.new.passes (g.R.Ruler.log c.boxes_of.new.ruler))
+    (subst (λ (z : BareTrees). IsChildPart z c.root-id.result (frames_asked [] c.in_ok-frame.frame.inline c.in_ok-frame.frame.block) (state c.root_frame.new.tree c.root_frame.new.tally c.root_frame.new.passes (g.R.Ruler.log c.root_frame.new.ruler)) (state c.boxes_of.new.tree c.boxes_of.new.tally c.boxes_of.new.passes (g.R.Ruler.log c.boxes_of.new.ruler))) c.root_frame.ensures.bare c.in_err-boxes_of.ensures.part))
+
+pub returns-in_err-boxes_of-clause-quiet : goal.returns-in_err-boxes_of-clause-quiet
+returns-in_err-boxes_of-clause-quiet g c =
+    quiet_all (bare c.args.tree.now.tree) (bare c.root_frame.new.tree.tree) c.root-id.result c.args.width c.args.height (frame_of c.in_ok-frame.frame) (state c.args.tree.now c.args.tally.now c.args.passes.now (g.R.Ruler.log c.args.ruler.now)) (state c.root_frame.new.tree c.root_frame.new.tally c.root_frame.new.passes (g.R.Ruler.log c.root_frame.new.ruler)) (state c.boxes_of.new.tree c.boxes_of.new.tally c.boxes_of.new.passes (g.R.Ruler.log c.boxes_of.new.ruler)) c.root_frame.ensures.bare c.root-id.ensures.root c.in_ok-frame.ensures.value (λ (kept : IsAllKept (bare c.args.tree.now.tree) c.args.width c.args.height (state c.args.tree.now c.args.tally.now c.args.passes.now (g.R.Ruler.log c.args.ruler.now))). c.root_frame.ensures.quiet (kept.inline c.root-id.result c.root-id.ensures.root) (kept.block c.root-id.result c.root-id.ensures.root)) c.boxes_of.ensures.quiet
+
+pub returns-clause-value : goal.returns-clause-value
+returns-clause-value g c =
+    value_all (bare c.args.tree.now.tree) (bare c.root_frame.new.tree.tree) c.root-id.result c.args.width c.args.height [] (frame_of c.in_ok-frame.frame) c.of-x.result c.of-y.result c.new-told.result c.boxes_of.new.told c.root_frame.ensures.bare c.root-id.ensures.root c.root-id.ensures.top refl c.of-x.ensures c.of-y.ensures c.new-told.ensures c.in_ok-frame.ensures.value c.in_ok-boxes_of.ensures.value
+
+pub returns-clause-bare : goal.returns-clause-bare
+returns-clause-bare g c = child_same (bare c.root_frame.new.tree.tree) c.root-id.result (frames_asked [] c.in_ok-frame.frame.inline c.in_ok-frame.frame.block) (state c.root_frame.new.tree c.root_frame.new.tally c.root_frame.new.passes (g.R.Ruler.log c.root_frame.new.ruler)) (state c.boxes_of.new.tree c.boxes_of.new.tally c.boxes_of.new.passes (g.R.Ruler.log c.boxes_of.new.ruler)) c.in_ok-boxes_of.ensures.laid ∙ c.root_frame.ensures.bare
+
+pub returns-clause-laid : goal.returns-clause-laid
+returns-clause-laid g c =
+    walk_boxes c.args.width c.args.height c.root-id.result (state c.args.tree.now c.args.tally.now c.args.passes.now (g.R.Ruler.log c.args.ruler.now)) c.root-id.ensures.root (state c.root_frame.new.tree c.root_frame.new.tally c.root_frame.new.passes (g.R.Ruler.log c.root_frame.new.ruler)) c.in_ok-frame.ensures.laid (frames_asked [] c.in_ok-frame.frame.inline c.in_ok-frame.frame.block) (λ k. first_of_root (bare c.args.tree.now.tree) c.root-id.result c.args.width c.args.height (frame_of c.in_ok-frame.frame) k c.in_ok-frame.ensures.value) (state c.boxes_of.new.tree c.boxes_of.new.tally c.boxes_of.new.passes (g.R.Ruler.log c.boxes_of.new.ruler))
+    (subst (λ (z : BareTrees). IsChildLaid z c.root-id.result (frames_asked [] c.in_ok-frame.frame.inline c.in_ok-frame.frame.block) (state c.root_frame.new.tree c.root_frame.new.tally c.root_frame.new.passes (g.R.Ruler.log c.root_frame.new.ruler)) (state c.boxes_of.new.tree c.boxes_of.new.tally c.boxes_of.new.passes (g.R.Ruler.log c.boxes_of.new.ruler))) c.root_frame.ensures.bare c.in_ok-boxes_of.ensures.laid)
+
+pub returns-clause-quiet : goal.returns-clause-quiet
+returns-clause-quiet g c =
+    quiet_all (bare c.args.tree.now.tree) (bare c.root_frame.new.tree.tree) c.root-id.result c.args.width c.args.height (frame_of c.in_ok-frame.frame) (state c.args.tree.now c.args.tally.now c.args.passes.now (g.R.Ruler.log c.args.ruler.now)) (state c.root_frame.new.tree c.root_frame.new.tally c.root_frame.new.passes (g.R.Ruler.log c.root_frame.new.ruler)) (state c.boxes_of.new.tree c.boxes_of.new.tally c.boxes_of.new.passes (g.R.Ruler.log c.boxes_of.new.ruler)) c.root_frame.ensures.bare c.root-id.ensures.root c.in_ok-frame.ensures.value (λ (kept : IsAllKept (bare c.args.tree.now.tree) c.args.width c.args.height (state c.args.tree.now c.args.tally.now c.args.passes.now (g.R.Ruler.log c.args.ruler.now))). c.root_frame.ensures.quiet (kept.inline c.root-id.result c.root-id.ensures.root) (kept.block c.root-id.result c.root-id.ensures.root)) c.boxes_of.ensures.quiet
+
+pub returns-clause-paths : goal.returns-clause-paths
+returns-clause-paths g c =
+    path_of_root (bare c.args.tree.now.tree) c.root-id.result c.args.width c.args.height (frame_of c.in_ok-frame.frame) (state c.boxes_of.new.tree c.boxes_of.new.tally c.boxes_of.new.passes (g.R.Ruler.log c.boxes_of.new.ruler)) c.root-id.ensures.root c.in_ok-frame.ensures.value
+    (subst (λ (z : BareTrees). is_container (sight_at z c.root-id.result).label.kind ≡ true → AreKeptBelow z c.root-id.result (frames_asked [] c.in_ok-frame.frame.inline c.in_ok-frame.frame.block) (state c.boxes_of.new.tree c.boxes_of.new.tally c.boxes_of.new.passes (g.R.Ruler.log c.boxes_of.new.ruler))) c.root_frame.ensures.bare c.in_ok-boxes_of.ensures.paths)

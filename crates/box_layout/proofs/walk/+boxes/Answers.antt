@@ -1,0 +1,208 @@
+use Rattle.std.proofs.Common.{rules, arith, refl, sym, ap, subst, ◌≡◌, ◌∙◌, ◌+◌, ◌*◌, ◌<◌, ◌≤◌, ◌++◌, true, length, map}
+use Rattle.std.proofs.lemmas.Bool.{false≢true}
+use Rattle.std.proofs.lemmas.List.{length-map}
+use Rattle.lunit.specs.declared.geometry.Rect.{Rect}
+use Rattle.placing.specs.Kept.{IsRight, frame_of}
+use Rattle.placing.specs.Nodes.{BareTrees, IsLive, bare, kids_at, level_at, sight_at, size_at}
+use Rattle.placing.specs.Ranges.{AreReadable}
+use Rattle.placing.specs.Seats.{IsSeat}
+use Rattle.placing.specs.Walks.{state}
+use Rattle.placing.proofs.Leaves.{on_err}
+use Rattle.tree_rules.specs.Queries.{Fits, is_container}
+use Rattle.box_layout.specs.Asking.{frames_asked}
+use Rattle.box_layout.specs.Beneath.{AreSeats, HasPairs}
+use Rattle.box_layout.specs.BoxesSeen.{AreNear, IsNearAt, frames_seen, pairs_seen, reach}
+use Rattle.box_layout.specs.Paths.{AreKeptBelow, IsChildLaid, its_own}
+use Rattle.box_layout.specs.Ranges.{IsWithin}
+use Rattle.box_layout.specs.Stands.{IsGivenNear}
+use Rattle.box_layout.proofs.BelowSteps.{IsBelow, IsTurn, child_same, fit_seen, frames_counted, given_some, kind_is, laid_next, leaf_told, near_told, ok_then, part_next, quiet_next, turn_here, value_next}
+use Rattle.box_layout.proofs.BoxSteps.{boxes_all, boxes_are, frames_told}
+use Rattle.box_layout.proofs.KeptPaths.{all_done, asked_kept, done_next, none_done, outside_same, own_next}
+use Rattle.box_layout.proofs.Seating.{number_there}
+use Rattle.box_layout.proofs.LaidWalks.{laid_first, part_first, part_laid}
+use Rattle.box_layout.proofs.NearBoxes.{given_spread, long, stand_seen}
+use Rattle.box_layout.proofs.walk.+boxes.Goals as goal
+
+-- ---- one node
+
+pub boxes_of-moved_by-rect-requires-clause-x : goal.boxes_of-moved_by-rect-requires-clause-x
+boxes_of-moved_by-rect-requires-clause-x g t c = long (level_at (bare c.args.tree.now.tree) c.args.id) _ c.requires.near.x
+
+pub boxes_of-moved_by-rect-requires-clause-y : goal.boxes_of-moved_by-rect-requires-clause-y
+boxes_of-moved_by-rect-requires-clause-y g t c = long (level_at (bare c.args.tree.now.tree) c.args.id) _ c.requires.near.y
+
+pub boxes_of-returns-then-not-is_container-clause-value : goal.boxes_of-returns-then-not-is_container-clause-value
+boxes_of-returns-then-not-is_container-clause-value g t c =
+    leaf_told (bare c.args.tree.now.tree) c.args.id c.args.reps.now (frame_of c.args.frame.now) (c.args.x, c.args.y) c.args.told.now c.push.new.self c.name_of-name.result c.moved_by-rect.result
+    (kind_is c.node_at.result.now.kind (sight_at (bare c.args.tree.now.tree) c.args.id).label.kind c.is_container.result c.node_at.ensures.kind c.is_container.ensures ∙ c.if-not-is_container.true) c.in_ok-push.ensures.ok c.name_of-name.ensures c.moved_by-rect.ensures
+
+pub boxes_of-returns-then-not-is_container-clause-near : goal.boxes_of-returns-then-not-is_container-clause-near
+boxes_of-returns-then-not-is_container-clause-near g t c =
+    near_told (level_at (bare c.args.tree.now.tree) c.args.id) c.args.x c.args.y (frame_of c.args.frame.now) c.args.told.now c.push.new.self c.name_of-name.result c.moved_by-rect.result c.in_ok-push.ensures.ok c.moved_by-rect.ensures c.requires.near
+
+pub boxes_of-boxes_below-requires : goal.boxes_of-boxes_below-requires
+boxes_of-boxes_below-requires g t c =
+    let container : is_container (sight_at (bare c.args.tree.now.tree) c.args.id).label.kind ≡ true = kind_is c.node_at.result.now.kind (sight_at (bare c.args.tree.now.tree) c.args.id).label.kind c.is_container.result c.node_at.ensures.kind c.is_container.ensures ∙ c.if-not-is_container.false in
+    let fits : Fits (sight_at (bare c.args.tree.now.tree) c.args.id) (frames_asked c.args.reps.now c.args.frame.now.inline c.args.frame.now.block) = c.requires.fits container in
+    let level : 1 ≤ level_at (bare c.args.tree.now.tree) c.args.id = c.requires.level in
+    let columns : IsGivenNear (level_at (bare c.args.tree.now.tree) c.args.id) c.args.frame.now.inline = c.requires.near.inline in
+    let rows : IsGivenNear (level_at (bare c.args.tree.now.tree) c.args.id) c.args.frame.now.block = c.requires.near.block in
+    let x : IsWithin (reach (level_at (bare c.args.tree.now.tree) c.args.id)) c.moved_by-rect.result.x = subst (λ (r : Rect). IsWithin (reach (level_at (bare c.args.tree.now.tree) c.args.id)) r.x) (sym c.moved_by-rect.ensures) c.requires.near.x in
+    let y : IsWithin (reach (level_at (bare c.args.tree.now.tree) c.args.id)) c.moved_by-rect.result.y = subst (λ (r : Rect). IsWithin (reach (level_at (bare c.args.tree.now.tree) c.args.id)) r.y) (sym c.moved_by-rect.ensures) c.requires.near.y in
+    let small : 2 * size_at (bare c.args.tree.now.tree) c.args.id < 2 * size_at (bare c.args.tree.now.tree) c.args.id + 1 = omega arith in
+    search rules
+
+pub boxes_of-returns-clause-near : goal.boxes_of-returns-clause-near
+boxes_of-returns-clause-near g t c =
+    ok_then c.boxes_below.result _ _
+    (λ (more : AreNear c.push.new.self → AreNear c.boxes_below.new.told) (all : AreNear c.args.told.now).
+    more (near_told (level_at (bare c.args.tree.now.tree) c.args.id) c.args.x c.args.y (frame_of c.args.frame.now) c.args.told.now c.push.new.self c.name_of-name.result c.moved_by-rect.result c.in_ok-push.ensures.ok c.moved_by-rect.ensures c.requires.near all))
+    c.boxes_below.ensures.near
+
+-- ---- below a container
+
+pub boxes_below-frames_at-requires-clause-columns : goal.boxes_below-frames_at-requires-clause-columns
+boxes_below-frames_at-requires-clause-columns g t c = given_spread (level_at (bare c.args.tree.now.tree) c.args.id) c.args.inline.now c.requires.columns
+
+pub boxes_below-frames_at-requires-clause-rows : goal.boxes_below-frames_at-requires-clause-rows
+boxes_below-frames_at-requires-clause-rows g t c = given_spread (level_at (bare c.args.tree.now.tree) c.args.id) c.args.block.now c.requires.rows
+
+pub boxes_below-returns-in_err-frames-clause-part : goal.boxes_below-returns-in_err-frames-clause-part
+boxes_below-returns-in_err-frames-clause-part g t c = on_err _ _ (part_first c.args.id (frames_asked c.args.reps.now c.args.inline.now c.args.block.now) _ _ c.in_err-frames.ensures.stopped)
+
+pub boxes_below-returns-in_err-frames-clause-quiet : goal.boxes_below-returns-in_err-frames-clause-quiet
+boxes_below-returns-in_err-frames-clause-quiet g t c = λ kept. c.frames_at.ensures.found (kept c.args.id (frames_asked c.args.reps.now c.args.inline.now c.args.block.now) (its_own c.args.id (frames_asked c.args.reps.now c.args.inline.now c.args.block.now)))
+
+pub boxes_below-seats_below-requires-clause-live : goal.boxes_below-seats_below-requires-clause-live
+boxes_below-seats_below-requires-clause-live g t c = subst (λ (z : BareTrees). IsLive z c.args.id) (sym c.in_ok-frames.ensures.walked.walk.bare_same) c.requires.live
+
+pub boxes_below-seats_below-requires-clause-readable : goal.boxes_below-seats_below-requires-clause-readable
+boxes_below-seats_below-requires-clause-readable g t c = subst AreReadable (sym c.in_ok-frames.ensures.walked.walk.bare_same) c.requires.readable
+
+pub boxes_below-seats_below-requires-clause-reps : goal.boxes_below-seats_below-requires-clause-reps
+boxes_below-seats_below-requires-clause-reps g t c = c.requires.fits.reps ∙ ap (λ (z : BareTrees). length (sight_at z c.args.id).chain) (sym c.in_ok-frames.ensures.walked.walk.bare_same)
+
+pub boxes_below-seats_below-requires-clause-seat : goal.boxes_below-seats_below-requires-clause-seat
+boxes_below-seats_below-requires-clause-seat g t c = subst (λ (z : BareTrees). IsSeat (sight_at z c.args.id) c.args.reps.now c.args.above.now c.args.area) (sym c.in_ok-frames.ensures.walked.walk.bare_same) c.requires.seat
+
+pub boxes_below-seats_below-requires-clause-width : goal.boxes_below-seats_below-requires-clause-width
+boxes_below-seats_below-requires-clause-width g t c = given_some _ _ c.args.inline.now c.requires.fits.inline
+
+pub boxes_below-returns-in_err-seats-clause-part : goal.boxes_below-returns-in_err-seats-clause-part
+boxes_below-returns-in_err-seats-clause-part g t c = on_err _ _ (part_laid c.args.id (frames_asked c.args.reps.now c.args.inline.now c.args.block.now) _ _ (laid_first c.args.id (frames_asked c.args.reps.now c.args.inline.now c.args.block.now) _ _ c.in_ok-frames.ensures.walked))
+
+pub boxes_below-returns-in_err-seats-clause-quiet : goal.boxes_below-returns-in_err-seats-clause-quiet
+boxes_below-returns-in_err-seats-clause-quiet g t c = λ kept. c.frames_at.ensures.found (kept c.args.id (frames_asked c.args.reps.now c.args.inline.now c.args.block.now) (its_own c.args.id (frames_asked c.args.reps.now c.args.inline.now c.args.block.now)))
+
+pub boxes_below-loop-index-init : goal.boxes_below-loop-index-init
+boxes_below-loop-index-init g t c =
+    record {
+      right = c.frames_at.ensures.right;
+      same = c.in_ok-frames.ensures.walked.walk.bare_same;
+      laid = laid_first c.args.id (frames_asked c.args.reps.now c.args.inline.now c.args.block.now) _ _ c.in_ok-frames.ensures.walked;
+      value = ap (λ l. c.args.told.now ++ l) (sym (boxes_are (bare c.args.tree.now.tree) c.args.id (frames_asked c.args.reps.now c.args.inline.now c.args.block.now) (c.args.x, c.args.y)));
+      below = record {
+        tree = c.root.ensures.tree;
+        seen = frames_told (bare c.args.tree.now.tree) c.args.id c.args.reps.now c.args.inline.now c.args.block.now c.in_ok-frames.frames c.in_ok-frames.ensures.value ∙ ap (map frame_of) (sym c.as_slice-listed.ensures);
+        counted = frames_counted (bare c.args.tree.now.tree) c.args.id c.in_ok-frames.frames c.as_slice-listed.result.now c.in_ok-frames.ensures.children c.as_slice-listed.ensures;
+        stand = stand_seen (bare c.args.tree.now.tree) c.args.id (level_at (bare c.args.tree.now.tree) c.args.id) c.args.reps.now c.args.inline.now c.args.block.now (c.frames_stand_near.ensures (level_at (bare c.args.tree.now.tree) c.args.id) c.args.reps.now c.args.inline.now c.args.block.now (c.root.ensures.tree.level c.args.id) c.requires.columns c.requires.rows);
+        fit = fit_seen (bare c.args.tree.now.tree) c.args.id c.args.reps.now c.args.inline.now c.args.block.now (c.frames_fit_below.ensures c.args.reps.now c.args.inline.now c.args.block.now c.requires.fits);
+        seated = subst (λ (z : BareTrees). AreSeats z c.args.id c.in_ok-seats.seats) c.in_ok-frames.ensures.walked.walk.bare_same c.in_ok-seats.ensures.seats;
+        pairs = subst (λ (z : BareTrees). HasPairs z c.args.id (frames_asked c.args.reps.now c.args.inline.now c.args.block.now) c.in_ok-seats.seats) c.in_ok-frames.ensures.walked.walk.bare_same (c.in_ok-seats.ensures.pairs (frames_asked c.args.reps.now c.args.inline.now c.args.block.now) refl refl);
+        some = c.requires.level;
+        place_x = c.requires.x;
+        place_y = c.requires.y;
+      };
+      own = asked_kept c.args.id (frames_asked c.args.reps.now c.args.inline.now c.args.block.now) (state c.args.tree.now c.args.tally.now c.args.passes.now (g.R.Ruler.log c.args.ruler.now)) (state c.frames_at.new.tree c.frames_at.new.tally c.frames_at.new.passes (g.R.Ruler.log c.frames_at.new.ruler)) _ c.frames_at.ensures.found c.in_ok-frames.ensures.own;
+      done = none_done (bare c.args.tree.now.tree) c.args.id (frames_asked c.args.reps.now c.args.inline.now c.args.block.now) (state c.frames_at.new.tree c.frames_at.new.tally c.frames_at.new.passes (g.R.Ruler.log c.frames_at.new.ruler));
+      near = λ h. h;
+      quiet = λ kept. c.frames_at.ensures.found (kept c.args.id (frames_asked c.args.reps.now c.args.inline.now c.args.block.now) (its_own c.args.id (frames_asked c.args.reps.now c.args.inline.now c.args.block.now)));
+    }
+
+pub boxes_below-child-child-requires : goal.boxes_below-child-child-requires
+boxes_below-child-child-requires g t c =
+    subst (λ (z : BareTrees). c.loop-index.index < length (kids_at z c.args.id)) (sym c.loop-index.invariant.same) (omega (arith, c.loop-index.invariant.below.counted, c.loop-index-test.true))
+
+pub boxes_below-is_lower-lower-requires : goal.boxes_below-is_lower-lower-requires
+boxes_below-is_lower-lower-requires g t c = c.child-child.ensures.next.live
+
+pub boxes_below-boxes_of-requires : goal.boxes_below-boxes_of-requires
+boxes_below-boxes_of-requires g t c =
+    let turn : IsTurn (bare c.loop-index.tree.tree) c.args.id (frames_asked c.args.reps.now c.args.inline.now c.args.block.now) c.args.x c.args.y c.loop-index.index c.child-child.result c.pairs_for.result.now c.above_for.result.now c.area_for.result c.index-listed-index.result = turn_here (bare c.loop-index.tree.tree) c.args.id c.args.reps.now c.args.inline.now c.args.block.now c.as_slice-listed.result.now c.in_ok-seats.seats c.args.x c.args.y
+    (subst (λ (z : BareTrees). IsBelow z c.args.id (frames_asked c.args.reps.now c.args.inline.now c.args.block.now) c.as_slice-listed.result.now c.in_ok-seats.seats c.args.x c.args.y) (sym c.loop-index.invariant.same) c.loop-index.invariant.below) c.loop-index.index c.child-child.result c.child-child.ensures.next
+    (omega (arith, c.loop-index-test.true)) c.is_lower-lower.result c.is_lower-lower.ensures c.pairs_for.result.now c.pairs_for.ensures c.above_for.result.now c.above_for.ensures c.area_for.result c.area_for.ensures
+    c.index-listed-index.result c.index-listed-index.is in
+    let live : IsLive (bare c.loop-index.tree.tree) c.child-child.result = turn.next.live in
+    let right : IsRight c.loop-index.tree.tree = c.loop-index.invariant.right in
+    let readable : AreReadable (bare c.loop-index.tree.tree) = subst AreReadable (sym c.loop-index.invariant.same) c.requires.readable in
+    let reps : length c.pairs_for.result.now ≡ length (sight_at (bare c.loop-index.tree.tree) c.child-child.result).chain = turn.counts in
+    let seat : IsSeat (sight_at (bare c.loop-index.tree.tree) c.child-child.result) c.pairs_for.result.now c.above_for.result.now c.area_for.result = turn.seat in
+    let fits : is_container (sight_at (bare c.loop-index.tree.tree) c.child-child.result).label.kind ≡ true → Fits (sight_at (bare c.loop-index.tree.tree) c.child-child.result) (frames_asked c.pairs_for.result.now c.index-listed-index.result.inline c.index-listed-index.result.block) = turn.fits in
+    let level : 1 ≤ level_at (bare c.loop-index.tree.tree) c.child-child.result = turn.level in
+    let near : IsNearAt (level_at (bare c.loop-index.tree.tree) c.child-child.result) c.args.x c.args.y (frame_of c.index-listed-index.result) = turn.near in
+    let small : 2 * size_at (bare c.loop-index.tree.tree) c.child-child.result + 1 < 2 * size_at (bare c.args.tree.now.tree) c.args.id = omega (arith, turn.next.smaller, ap (λ (z : BareTrees). size_at z c.args.id) c.loop-index.invariant.same) in
+    search rules
+
+pub boxes_below-returns-in_err-boxes_of-clause-part : goal.boxes_below-returns-in_err-boxes_of-clause-part
+boxes_below-returns-in_err-boxes_of-clause-part g t c =
+    let turn : IsTurn (bare c.loop-index.tree.tree) c.args.id (frames_asked c.args.reps.now c.args.inline.now c.args.block.now) c.args.x c.args.y c.loop-index.index c.child-child.result c.pairs_for.result.now c.above_for.result.now c.area_for.result c.index-listed-index.result = turn_here (bare c.loop-index.tree.tree) c.args.id c.args.reps.now c.args.inline.now c.args.block.now c.as_slice-listed.result.now c.in_ok-seats.seats c.args.x c.args.y
+    (subst (λ (z : BareTrees). IsBelow z c.args.id (frames_asked c.args.reps.now c.args.inline.now c.args.block.now) c.as_slice-listed.result.now c.in_ok-seats.seats c.args.x c.args.y) (sym c.loop-index.invariant.same) c.loop-index.invariant.below) c.loop-index.index c.child-child.result c.child-child.ensures.next
+    (omega (arith, c.loop-index-test.true)) c.is_lower-lower.result c.is_lower-lower.ensures c.pairs_for.result.now c.pairs_for.ensures c.above_for.result.now c.above_for.ensures c.area_for.result c.area_for.ensures
+    c.index-listed-index.result c.index-listed-index.is in
+    on_err _ _ (part_next (bare c.args.tree.now.tree) (bare c.loop-index.tree.tree) c.loop-index.invariant.same c.args.id (frames_asked c.args.reps.now c.args.inline.now c.args.block.now) c.args.x c.args.y c.loop-index.index c.child-child.result c.pairs_for.result.now c.above_for.result.now c.area_for.result c.index-listed-index.result turn (state c.args.tree.now c.args.tally.now c.args.passes.now (g.R.Ruler.log c.args.ruler.now)) (state c.loop-index.tree c.loop-index.tally c.loop-index.passes (g.R.Ruler.log c.loop-index.ruler)) (state c.boxes_of.new.tree c.boxes_of.new.tally c.boxes_of.new.passes (g.R.Ruler.log c.boxes_of.new.ruler)) refl c.loop-index.invariant.laid c.in_err-boxes_of.ensures.part)
+
+pub boxes_below-returns-in_err-boxes_of-clause-quiet : goal.boxes_below-returns-in_err-boxes_of-clause-quiet
+boxes_below-returns-in_err-boxes_of-clause-quiet g t c =
+    let turn : IsTurn (bare c.loop-index.tree.tree) c.args.id (frames_asked c.args.reps.now c.args.inline.now c.args.block.now) c.args.x c.args.y c.loop-index.index c.child-child.result c.pairs_for.result.now c.above_for.result.now c.area_for.result c.index-listed-index.result = turn_here (bare c.loop-index.tree.tree) c.args.id c.args.reps.now c.args.inline.now c.args.block.now c.as_slice-listed.result.now c.in_ok-seats.seats c.args.x c.args.y
+    (subst (λ (z : BareTrees). IsBelow z c.args.id (frames_asked c.args.reps.now c.args.inline.now c.args.block.now) c.as_slice-listed.result.now c.in_ok-seats.seats c.args.x c.args.y) (sym c.loop-index.invariant.same) c.loop-index.invariant.below) c.loop-index.index c.child-child.result c.child-child.ensures.next
+    (omega (arith, c.loop-index-test.true)) c.is_lower-lower.result c.is_lower-lower.ensures c.pairs_for.result.now c.pairs_for.ensures c.above_for.result.now c.above_for.ensures c.area_for.result c.area_for.ensures
+    c.index-listed-index.result c.index-listed-index.is in
+    quiet_next (bare c.args.tree.now.tree) (bare c.loop-index.tree.tree) c.loop-index.invariant.same c.args.id (frames_asked c.args.reps.now c.args.inline.now c.args.block.now) c.args.x c.args.y c.loop-index.index c.child-child.result c.pairs_for.result.now c.above_for.result.now c.area_for.result c.index-listed-index.result turn (state c.args.tree.now c.args.tally.now c.args.passes.now (g.R.Ruler.log c.args.ruler.now)) (state c.loop-index.tree c.loop-index.tally c.loop-index.passes (g.R.Ruler.log c.loop-index.ruler)) (state c.boxes_of.new.tree c.boxes_of.new.tally c.boxes_of.new.passes (g.R.Ruler.log c.boxes_of.new.ruler)) c.loop-index.invariant.quiet c.boxes_of.ensures.quiet
+
+pub boxes_below-loop-index-preserved : goal.boxes_below-loop-index-preserved
+boxes_below-loop-index-preserved g t c =
+    let turn : IsTurn (bare c.loop-index.tree.tree) c.args.id (frames_asked c.args.reps.now c.args.inline.now c.args.block.now) c.args.x c.args.y c.loop-index.index c.child-child.result c.pairs_for.result.now c.above_for.result.now c.area_for.result c.index-listed-index.result = turn_here (bare c.loop-index.tree.tree) c.args.id c.args.reps.now c.args.inline.now c.args.block.now c.as_slice-listed.result.now c.in_ok-seats.seats c.args.x c.args.y
+    (subst (λ (z : BareTrees). IsBelow z c.args.id (frames_asked c.args.reps.now c.args.inline.now c.args.block.now) c.as_slice-listed.result.now c.in_ok-seats.seats c.args.x c.args.y) (sym c.loop-index.invariant.same) c.loop-index.invariant.below) c.loop-index.index c.child-child.result c.child-child.ensures.next
+    (omega (arith, c.loop-index-test.true)) c.is_lower-lower.result c.is_lower-lower.ensures c.pairs_for.result.now c.pairs_for.ensures c.above_for.result.now c.above_for.ensures c.area_for.result c.area_for.ensures
+    c.index-listed-index.result c.index-listed-index.is in
+    record {
+      right = c.boxes_of.ensures.right;
+      same = child_same (bare c.loop-index.tree.tree) c.child-child.result _ _ _ c.in_ok-boxes_of.ensures.laid ∙ c.loop-index.invariant.same;
+      laid = laid_next (bare c.args.tree.now.tree) (bare c.loop-index.tree.tree) c.loop-index.invariant.same c.args.id (frames_asked c.args.reps.now c.args.inline.now c.args.block.now) c.args.x c.args.y c.loop-index.index c.child-child.result c.pairs_for.result.now c.above_for.result.now c.area_for.result c.index-listed-index.result turn (state c.args.tree.now c.args.tally.now c.args.passes.now (g.R.Ruler.log c.args.ruler.now)) (state c.loop-index.tree c.loop-index.tally c.loop-index.passes (g.R.Ruler.log c.loop-index.ruler)) (state c.boxes_of.new.tree c.boxes_of.new.tally c.boxes_of.new.passes (g.R.Ruler.log c.boxes_of.new.ruler)) refl c.loop-index.invariant.laid c.in_ok-boxes_of.ensures.laid;
+      value = value_next (bare c.args.tree.now.tree) (bare c.loop-index.tree.tree) c.loop-index.invariant.same c.args.id (frames_asked c.args.reps.now c.args.inline.now c.args.block.now) c.args.x c.args.y c.loop-index.index c.child-child.result c.pairs_for.result.now c.above_for.result.now c.area_for.result c.index-listed-index.result turn c.loop-index.told c.boxes_of.new.told _ c.in_ok-boxes_of.ensures.value c.loop-index.invariant.value;
+      below = c.loop-index.invariant.below;
+      own = own_next (bare c.args.tree.now.tree) c.differ.ensures c.args.id c.args.reps.now c.args.inline.now c.args.block.now c.args.x c.args.y c.loop-index.index c.child-child.result c.pairs_for.result.now c.above_for.result.now c.area_for.result c.index-listed-index.result (subst (λ (z : BareTrees). IsTurn z c.args.id (frames_asked c.args.reps.now c.args.inline.now c.args.block.now) c.args.x c.args.y c.loop-index.index c.child-child.result c.pairs_for.result.now c.above_for.result.now c.area_for.result c.index-listed-index.result) c.loop-index.invariant.same turn) (state c.loop-index.tree c.loop-index.tally c.loop-index.passes (g.R.Ruler.log c.loop-index.ruler)) (state c.boxes_of.new.tree c.boxes_of.new.tally c.boxes_of.new.passes (g.R.Ruler.log c.boxes_of.new.ruler)) (outside_same (bare c.args.tree.now.tree) c.child-child.result (frames_asked c.pairs_for.result.now c.index-listed-index.result.inline c.index-listed-index.result.block) (state c.loop-index.tree c.loop-index.tally c.loop-index.passes (g.R.Ruler.log c.loop-index.ruler)) (state c.boxes_of.new.tree c.boxes_of.new.tally c.boxes_of.new.passes (g.R.Ruler.log c.boxes_of.new.ruler)) c.loop-index.invariant.same (subst (λ (z : BareTrees). IsChildLaid z c.child-child.result (frames_asked c.pairs_for.result.now c.index-listed-index.result.inline c.index-listed-index.result.block) (state c.loop-index.tree c.loop-index.tally c.loop-index.passes (g.R.Ruler.log c.loop-index.ruler)) (state c.boxes_of.new.tree c.boxes_of.new.tally c.boxes_of.new.passes (g.R.Ruler.log c.boxes_of.new.ruler))) c.loop-index.invariant.same c.in_ok-boxes_of.ensures.laid)) (frames_asked c.args.reps.now c.args.inline.now c.args.block.now) c.loop-index.invariant.own;
+      done = done_next (bare c.args.tree.now.tree) c.differ.ensures c.args.id c.args.reps.now c.args.inline.now c.args.block.now c.args.x c.args.y c.loop-index.index c.child-child.result c.pairs_for.result.now c.above_for.result.now c.area_for.result c.index-listed-index.result (subst (λ (z : BareTrees). IsTurn z c.args.id (frames_asked c.args.reps.now c.args.inline.now c.args.block.now) c.args.x c.args.y c.loop-index.index c.child-child.result c.pairs_for.result.now c.above_for.result.now c.area_for.result c.index-listed-index.result) c.loop-index.invariant.same turn) (state c.loop-index.tree c.loop-index.tally c.loop-index.passes (g.R.Ruler.log c.loop-index.ruler)) (state c.boxes_of.new.tree c.boxes_of.new.tally c.boxes_of.new.passes (g.R.Ruler.log c.boxes_of.new.ruler)) (outside_same (bare c.args.tree.now.tree) c.child-child.result (frames_asked c.pairs_for.result.now c.index-listed-index.result.inline c.index-listed-index.result.block) (state c.loop-index.tree c.loop-index.tally c.loop-index.passes (g.R.Ruler.log c.loop-index.ruler)) (state c.boxes_of.new.tree c.boxes_of.new.tally c.boxes_of.new.passes (g.R.Ruler.log c.boxes_of.new.ruler)) c.loop-index.invariant.same (subst (λ (z : BareTrees). IsChildLaid z c.child-child.result (frames_asked c.pairs_for.result.now c.index-listed-index.result.inline c.index-listed-index.result.block) (state c.loop-index.tree c.loop-index.tally c.loop-index.passes (g.R.Ruler.log c.loop-index.ruler)) (state c.boxes_of.new.tree c.boxes_of.new.tally c.boxes_of.new.passes (g.R.Ruler.log c.boxes_of.new.ruler))) c.loop-index.invariant.same c.in_ok-boxes_of.ensures.laid)) c.loop-index.invariant.done
+          (subst (λ (z : BareTrees). is_container (sight_at z c.child-child.result).label.kind ≡ true → AreKeptBelow z c.child-child.result (frames_asked c.pairs_for.result.now c.index-listed-index.result.inline c.index-listed-index.result.block) (state c.boxes_of.new.tree c.boxes_of.new.tally c.boxes_of.new.passes (g.R.Ruler.log c.boxes_of.new.ruler))) c.loop-index.invariant.same c.in_ok-boxes_of.ensures.paths);
+      near = λ h. c.in_ok-boxes_of.ensures.near (c.loop-index.invariant.near h);
+      quiet = quiet_next (bare c.args.tree.now.tree) (bare c.loop-index.tree.tree) c.loop-index.invariant.same c.args.id (frames_asked c.args.reps.now c.args.inline.now c.args.block.now) c.args.x c.args.y c.loop-index.index c.child-child.result c.pairs_for.result.now c.above_for.result.now c.area_for.result c.index-listed-index.result turn (state c.args.tree.now c.args.tally.now c.args.passes.now (g.R.Ruler.log c.args.ruler.now)) (state c.loop-index.tree c.loop-index.tally c.loop-index.passes (g.R.Ruler.log c.loop-index.ruler)) (state c.boxes_of.new.tree c.boxes_of.new.tally c.boxes_of.new.passes (g.R.Ruler.log c.boxes_of.new.ruler)) c.loop-index.invariant.quiet c.boxes_of.ensures.quiet;
+    }
+
+pub boxes_below-returns-clause-value : goal.boxes_below-returns-clause-value
+boxes_below-returns-clause-value g t c =
+    let few : length (frames_seen (bare c.args.tree.now.tree) c.args.id (frames_asked c.args.reps.now c.args.inline.now c.args.block.now)) ≤ c.loop-index.index = omega (arith, ap length c.loop-index.invariant.below.seen, length-map c.as_slice-listed.result.now frame_of, c.loop-index-test.false) in
+    boxes_all (pairs_seen (bare c.args.tree.now.tree) c.args.id (frames_asked c.args.reps.now c.args.inline.now c.args.block.now)) (c.args.x, c.args.y) (kids_at (bare c.args.tree.now.tree) c.args.id) (frames_seen (bare c.args.tree.now.tree) c.args.id (frames_asked c.args.reps.now c.args.inline.now c.args.block.now)) c.loop-index.index c.loop-index.told _ few c.loop-index.invariant.value
+
+pub boxes_below-returns-clause-near : goal.boxes_below-returns-clause-near
+boxes_below-returns-clause-near g t c = c.loop-index.invariant.near
+
+pub boxes_below-returns-clause-right : goal.boxes_below-returns-clause-right
+boxes_below-returns-clause-right g t c = c.loop-index.invariant.right
+
+pub boxes_below-returns-clause-laid : goal.boxes_below-returns-clause-laid
+boxes_below-returns-clause-laid g t c = c.loop-index.invariant.laid
+
+pub boxes_below-returns-clause-quiet : goal.boxes_below-returns-clause-quiet
+boxes_below-returns-clause-quiet g t c = c.loop-index.invariant.quiet
+
+pub boxes_below-returns-clause-paths : goal.boxes_below-returns-clause-paths
+boxes_below-returns-clause-paths g t c =
+    all_done (bare c.args.tree.now.tree) c.args.id (frames_asked c.args.reps.now c.args.inline.now c.args.block.now) (state c.loop-index.tree c.loop-index.tally c.loop-index.passes (g.R.Ruler.log c.loop-index.ruler)) c.loop-index.invariant.own
+    (λ k e r child passed. c.loop-index.invariant.done k e r (omega (arith, number_there (bare c.args.tree.now.tree) c.args.id e k c.root.ensures.tree child, c.loop-index.invariant.below.counted, c.loop-index-test.false)) child passed)
+
+pub boxes_of-returns-then-not-is_container-clause-paths : goal.boxes_of-returns-then-not-is_container-clause-paths
+boxes_of-returns-then-not-is_container-clause-paths g t c =
+    λ container. absurd (false≢true (sym (kind_is c.node_at.result.now.kind (sight_at (bare c.args.tree.now.tree) c.args.id).label.kind c.is_container.result c.node_at.ensures.kind c.is_container.ensures ∙ c.if-not-is_container.true) ∙ container))
+
+pub boxes_of-returns-clause-paths : goal.boxes_of-returns-clause-paths
+boxes_of-returns-clause-paths g t c = ok_then c.boxes_below.result _ _ (λ kept container. kept) c.boxes_below.ensures.paths

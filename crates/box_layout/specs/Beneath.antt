@@ -1,0 +1,38 @@
+-- What the children of a node see of it, as the code holds it (CSS Grid 2, section 9).
+use Rattle.std.specs.Prelude.{◌≡◌, ℕ, ◌<◌, ◌&&◌, true, List, length, get_or, Some}
+use Rattle.lunit.specs.declared.geometry.Area.{Area}
+use Rattle.node_arena.specs.declared.number.NodeId.{NodeId}
+use Rattle.node_arena.specs.Numbers.{child_at}
+use Rattle.placing.specs.Areas.{IsPlaced}
+use Rattle.placing.specs.Nodes.{BareTrees, sight_at}
+use Rattle.placing.specs.Seats.{IsSeat, context_at, context_of}
+use Rattle.placing.specs.declared.contexts.Above.TheVariants as above
+use Rattle.placing.specs.declared.contexts.Context.{Context}
+use Rattle.placing.specs.declared.contexts.Placed.{Placed}
+use Rattle.tree_rules.specs.Answers.{Pair}
+use Rattle.tree_rules.specs.Chains.{has_chain}
+use Rattle.tree_rules.specs.declared.query.Query.{Query}
+use Rattle.inline_sizes.specs.Grids.{has_subgrid_kind}
+use Rattle.box_layout.specs.BoxesSeen.{pairs_seen}
+use Rattle.box_layout.specs.declared.child_seats.ChildSeats.{ChildSeats}
+
+-- the area of the child of this number, where it is a subgrid of the node
+abbrev pub IsAreaOf : BareTrees → NodeId → Placed → ℕ → Area → Type 0
+IsAreaOf b n p number a =
+    (c : NodeId) (made : Context) (reps : List Pair) → child_at b n number ≡ Some c → context_of made ≡ context_at (sight_at b n) reps → IsPlaced b n (context_of made) p → has_chain (sight_at b c).chain ≡ true → IsSeat (sight_at b c) reps (above.Grid made) a
+
+-- the seat of a child that is a subgrid of the node
+pub record IsSeated (b : BareTrees) (c : NodeId) (number : ℕ) (seats : ChildSeats) : Type 0 where
+  pub counts : length seats.pairs ≡ length (sight_at b c).chain
+  pub there : number < length seats.areas
+  pub seat : (d : Area) → IsSeat (sight_at b c) seats.pairs seats.above (get_or seats.areas number d)
+
+-- These are the seats of the children of a node: which of them are subgrids of it, and where these stand.
+pub record AreSeats (b : BareTrees) (n : NodeId) (seats : ChildSeats) : Type 0 where
+  pub nothing : seats.nothing ≡ above.Nothing
+  pub told : (number : ℕ) (c : NodeId) → child_at b n number ≡ Some c → has_chain (sight_at b c).chain ≡ (seats.some && has_subgrid_kind (sight_at b c).label)
+  pub seated : (number : ℕ) (c : NodeId) → child_at b n number ≡ Some c → has_chain (sight_at b c).chain ≡ true → IsSeated b c number seats
+
+-- where there are subgrids, they see the counts of the node's repetitions once it is asked this
+abbrev pub HasPairs : BareTrees → NodeId → Query → ChildSeats → Type 0
+HasPairs b n q seats = seats.some ≡ true → seats.pairs ≡ pairs_seen b n q

@@ -1,0 +1,191 @@
+//! Where the children of a grid stand that are subgrids of it: found once a grid, and only where there is one (CSS Grid 2, section 9).
+
+ghost use Rattle.std.specs.Prelude.{◌≡◌, ◌<◌, ◌&&◌, [], true, false, ℕ, List, Some, length, map, get_or, if◌then◌else◌, IfOk};
+ghost use Rattle.lunit.specs.declared.geometry.Area.{Area};
+ghost use Rattle.node_arena.specs.Numbers.{child_at};
+ghost use Rattle.node_arena.specs.declared.number.NodeId.{NodeId};
+ghost use Rattle.placing.specs.Areas.{HasChildren};
+ghost use Rattle.placing.specs.Counted.{IsGivenSize};
+ghost use Rattle.placing.specs.Nodes.{bare, kids_at, sight_at, IsLive};
+ghost use Rattle.placing.specs.Ranges.{AreReadable};
+ghost use Rattle.placing.specs.Seats.{IsSeat};
+ghost use Rattle.placing.specs.declared.contexts.Above.TheVariants as above;
+ghost use Rattle.tree_rules.specs.Chains.{is_grid_kind};
+ghost use Rattle.tree_rules.specs.declared.query.Query.{Query};
+ghost use Rattle.inline_sizes.specs.Grids.{has_subgrid_kind};
+ghost use Rattle.box_layout.specs.Beneath.{AreSeats, HasPairs, IsAreaOf};
+
+use inline_sizes::{GridBase, base_at};
+use layout_cache::Given;
+use lunit::{Area, NoMemory, Sequence, Span};
+use node_arena::{Arena, NodeId};
+use placing::{Above, Node, NodeKind, Placed, child, count, entry, has_subgrid, node_at, root};
+use std::alloc::Global;
+
+/// No area.
+const NO_AREA: Area = Area {
+    columns: Span { start: 0, end: 0 },
+    rows: Span { start: 0, end: 0 },
+};
+
+/// What the children of a node see of it that are subgrids of it.
+#[derive(Drop)]
+pub(crate) struct ChildSeats {
+    /// Whether there are such children.
+    pub(crate) some: bool,
+    /// The counts of the repetitions that they see, the topmost grid first.
+    pub(crate) pairs: Sequence<(u32, u32)>,
+    /// The context of the node.
+    pub(crate) above: Above,
+    /// The area of each child, in document order.
+    pub(crate) areas: Sequence<Area>,
+    /// What other children see.
+    pub(crate) nothing: Above,
+}
+
+/// Whether a node is a grid.
+fn is_grid(kind: &NodeKind) -> bool
+    ensures { result ≡ is_grid_kind kind.now }
+{
+    match kind {
+        NodeKind::Grid => true,
+        NodeKind::Flex => false,
+        NodeKind::Leaf(_) => false,
+    }
+}
+
+/// Whether some child of a grid is a subgrid of it.
+fn has_subgrids(tree: &Arena<Node>, id: NodeId) -> bool
+    ensures { result ≡ false → (number : ℕ) (c : NodeId) → child_at (bare tree.now.tree) id number ≡ Some c → has_subgrid_kind (sight_at (bare tree.now.tree) c).label ≡ false }
+{
+    root(tree);
+    for index in 0..count(tree, id) {
+        let child = child(tree, id, index);
+        if has_subgrid(node_at(tree, child)) {
+            return true;
+        }
+    }
+    false
+}
+
+/// Areas without the numbers of their children.
+fn all_areas(alloc: Global, placed: &[(NodeId, Area)]) -> Result<Sequence<Area>, NoMemory>
+    ensures { IfOk result (λ areas. areas ≡ map (λ (e : NodeId × Area). e.1) placed.now) }
+{
+    let mut areas = Sequence::new(alloc);
+    for (_, area) in placed {
+        areas.push(*area)?;
+    }
+    Ok(areas)
+}
+
+/// The area of each child of a grid, in document order.
+fn areas_by_number(
+    alloc: Global,
+    tree: &Arena<Node>,
+    id: NodeId,
+    placed: &Placed,
+) -> Result<Sequence<Area>, NoMemory>
+    requires live { IsLive (bare tree.now.tree) id }
+    requires children { HasChildren (bare tree.now.tree) id placed.now }
+    ensures counted { IfOk result (λ areas. length areas ≡ length (kids_at (bare tree.now.tree) id)) }
+    ensures areas { IfOk result (λ areas. (number : ℕ) → number < length (kids_at (bare tree.now.tree) id) → (d : Area) → IsAreaOf (bare tree.now.tree) id placed.now number (get_or areas number d)) }
+{
+    root(tree);
+    let mut areas = all_areas(alloc, placed.areas.as_slice())?;
+    for index in 0..placed.areas.len() {
+        let child = entry(tree, id, placed, index);
+        areas.set(child.number, child.area);
+    }
+    Ok(areas)
+}
+
+/// No child is a subgrid of the node. It takes no memory.
+pub(crate) fn no_seats(alloc: Global) -> ChildSeats
+    ensures { result ≡ record { some = false; pairs = []; above = above.Nothing; areas = []; nothing = above.Nothing } }
+{
+    ChildSeats {
+        some: false,
+        pairs: Sequence::new(alloc),
+        above: Above::Nothing,
+        areas: Sequence::new(alloc),
+        nothing: Above::Nothing,
+    }
+}
+
+/// The seats in a grid, with the areas of its children.
+fn seats_in(base: GridBase, areas: Sequence<Area>) -> ChildSeats
+    ensures { result ≡ record { some = true; pairs = base.pairs; above = base.above; areas = areas; nothing = above.Nothing } }
+{
+    ChildSeats {
+        some: true,
+        pairs: base.pairs,
+        above: base.above,
+        areas,
+        nothing: Above::Nothing,
+    }
+}
+
+/// The seats of the children of a node in its own seat, by the counts of the repetitions above it and what it is given in the inline
+/// axis. The context of a grid is made only where some child is a subgrid of it. `NoMemory` where memory is wanting.
+pub(crate) fn seats_below(
+    alloc: Global,
+    tree: &Arena<Node>,
+    id: NodeId,
+    reps: &[(u32, u32)],
+    above: &Above,
+    area: Area,
+    inline: &Given,
+) -> Result<ChildSeats, NoMemory>
+    requires live { IsLive (bare tree.now.tree) id }
+    requires readable { AreReadable (bare tree.now.tree) }
+    requires reps { length reps.now ≡ length (sight_at (bare tree.now.tree) id).chain }
+    requires seat { IsSeat (sight_at (bare tree.now.tree) id) reps.now above.now area }
+    requires width { IsGivenSize inline.now }
+    ensures seats { IfOk result (AreSeats (bare tree.now.tree) id) }
+    ensures pairs { IfOk result (λ seats. (q : Query) → q.reps ≡ reps.now → q.inline ≡ inline.now → HasPairs (bare tree.now.tree) id q seats) }
+{
+    root(tree);
+    if !is_grid(&node_at(tree, id).kind) {
+        return Ok(no_seats(alloc));
+    }
+    if !has_subgrids(tree, id) {
+        return Ok(no_seats(alloc));
+    }
+    let base = base_at(alloc, tree, id, reps, above, area, inline)?;
+    let areas = areas_by_number(alloc, tree, id, &base.placed)?;
+    let seats = seats_in(base, areas);
+    Ok(seats)
+}
+
+/// Whether a child is a subgrid of its parent.
+pub(crate) fn is_lower(tree: &Arena<Node>, seats: &ChildSeats, child: NodeId) -> bool
+    requires { IsLive (bare tree.now.tree) child }
+    ensures { result ≡ (seats.now.some && has_subgrid_kind (sight_at (bare tree.now.tree) child).label) }
+{
+    seats.some && has_subgrid(node_at(tree, child))
+}
+
+/// The counts of the repetitions that a child sees.
+pub(crate) fn pairs_for(seats: &ChildSeats, lower: bool) -> &[(u32, u32)]
+    ensures { result.now ≡ (if lower then seats.now.pairs else []) }
+{
+    if lower { seats.pairs.as_slice() } else { &[] }
+}
+
+/// What a child sees above it.
+pub(crate) fn above_for(seats: &ChildSeats, lower: bool) -> &Above
+    ensures { result.now ≡ (if lower then seats.now.above else seats.now.nothing) }
+{
+    if lower { &seats.above } else { &seats.nothing }
+}
+
+/// The area of the child of a number; none where there are no seats.
+pub(crate) fn area_for(seats: &ChildSeats, number: usize) -> Area
+    ensures { number < length seats.now.areas → (d : Area) → result ≡ get_or seats.now.areas number d }
+{
+    match seats.areas.get(number) {
+        Some(area) => *area,
+        None => NO_AREA,
+    }
+}

@@ -1,0 +1,73 @@
+//! The boxes of a whole tree in a viewport.
+
+ghost use Rattle.std.specs.Prelude.{◌≡◌, [], IfOk, OnOk, OnErr};
+ghost use Rattle.placing.specs.Kept.{IsRight};
+ghost use Rattle.placing.specs.Nodes.{bare};
+ghost use Rattle.placing.specs.Ranges.{AreReadable};
+ghost use Rattle.placing.specs.Walks.{state, Walk};
+ghost use Rattle.box_layout.specs.BoxesSeen.{AreNear, bare_boxes};
+ghost use Rattle.box_layout.specs.Paths.{IsAllKept, IsAsked, IsCutShort, IsPathKept};
+
+use crate::root_frame::root_frame;
+use crate::walk::boxes_of;
+use lunit::{Along, Area, Lu, Name, NoMemory, Rect, Sequence, Span, Steps};
+use node_arena::Arena;
+use outside::{Ruler, Tally};
+use placing::{Above, Node, root};
+use std::alloc::Global;
+use std::sync::ledger::Ledger;
+
+/// No area.
+const NO_AREA: Area = Area {
+    columns: Span { start: 0, end: 0 },
+    rows: Span { start: 0, end: 0 },
+};
+
+/// The name and the border box of each node of a tree in a viewport of this width and height, in units of 1/64 px from the origin
+/// of the viewport, in document order (CSS Grid 2, section 6; CSS Flexbox 1, section 9; that the root is an item in the viewport is
+/// an own rule). No number of a box is beyond 2^56.
+///
+/// Each container is asked once for its frames; the answers that the nodes keep are taken as they are, and what is found is kept.
+/// Where all of that is kept, nothing changes. `NoMemory` where memory is wanting; what was kept by then is right.
+pub fn walk_boxes<R: Ruler, L: Ledger>(
+    alloc: Global,
+    tree: &mut Arena<Node>,
+    width: Lu,
+    height: Lu,
+    ruler: &mut R,
+    tally: &mut Tally,
+    passes: &mut Steps<L>,
+) -> Result<Sequence<(Name, Rect)>, NoMemory>
+    requires right { IsRight tree.old.tree }
+    requires readable { AreReadable (bare tree.old.tree) }
+    ensures value { IfOk result (λ told. told ≡ bare_boxes width height (bare tree.old.tree)) }
+    ensures near { IfOk result AreNear }
+    ensures bare { bare tree.new.tree ≡ bare tree.old.tree }
+    ensures right { IsRight tree.new.tree }
+    ensures laid { OnOk result (Walk (IsAsked (bare tree.old.tree) width height) 0 [] (state tree.old tally.old passes.old (R.log ruler.old)) (state tree.new tally.new passes.new (R.log ruler.new))) }
+    ensures cut { OnErr result (IsCutShort (bare tree.old.tree) width height (state tree.old tally.old passes.old (R.log ruler.old)) (state tree.new tally.new passes.new (R.log ruler.new))) }
+    ensures paths { OnOk result (IsPathKept (bare tree.old.tree) width height (state tree.new tally.new passes.new (R.log ruler.new))) }
+    ensures quiet { IsAllKept (bare tree.old.tree) width height (state tree.old tally.old passes.old (R.log ruler.old)) → state tree.new tally.new passes.new (R.log ruler.new) ≡ state tree.old tally.old passes.old (R.log ruler.old) }
+{
+    let id = root(tree);
+    let frame = root_frame(alloc, tree, id, width, height, ruler, tally, passes)?;
+    let x = Along::of(0);
+    let y = Along::of(0);
+    let mut told = Sequence::new(alloc);
+    boxes_of(
+        alloc,
+        tree,
+        id,
+        &[],
+        &Above::Nothing,
+        NO_AREA,
+        &frame,
+        x,
+        y,
+        &mut told,
+        ruler,
+        tally,
+        passes,
+    )?;
+    Ok(told)
+}

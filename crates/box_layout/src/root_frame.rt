@@ -1,0 +1,110 @@
+//! The frame of the root of a tree in the viewport, by what the root answers.
+
+ghost use Rattle.std.specs.Prelude.{◌≡◌, ◌∷◌, ◌^◌, ◌≤◌, ◌≤ℤ◌, [], ℕ, false, pos, true, IfOk, OnErr, OnOk, IsSome};
+ghost use Rattle.layout_cache.specs.Kept.{answer_to};
+ghost use Rattle.node_arena.specs.Numbers.{top_numbers};
+ghost use Rattle.placing.specs.Kept.{frame_of, kept_at, IsRight};
+ghost use Rattle.placing.specs.Nodes.{bare, sight_at, IsLive};
+ghost use Rattle.placing.specs.Ranges.{AreReadable};
+ghost use Rattle.placing.specs.Walks.{state, Walk};
+ghost use Rattle.tree_rules.specs.AskedQueries.{block_query, inline_query};
+ghost use Rattle.tree_rules.specs.Boxes.{root_framed, root_inline, root_of, root_width};
+ghost use Rattle.tree_rules.specs.Frames.{given_box};
+ghost use Rattle.tree_rules.specs.NodeSizes.{inner};
+ghost use Rattle.tree_rules.specs.Queries.{is_container, Fits, IsGivenFor};
+ghost use Rattle.box_layout.specs.Asking.{frames_asked};
+ghost use Rattle.box_layout.specs.BoxesSeen.{IsNearAt};
+ghost use Rattle.box_layout.specs.Paths.{IsAsked, IsCutShort};
+ghost use Rattle.box_layout.specs.Ranges.{IsWithin};
+ghost use Rattle.box_layout.specs.RootFrames.{root_frame_by, width_by};
+
+use crate::root::{given_box, root_height, root_rect, root_width};
+use block_sizes::block_of;
+use inline_sizes::inline_of;
+use layout_cache::Given;
+use lunit::{Lu, NoMemory, Steps};
+use node_arena::{Arena, NodeId};
+use outside::{Ruler, Tally};
+use placing::{Frame, Node, node_at};
+use std::alloc::Global;
+use std::sync::ledger::Ledger;
+
+/// The inline size of the border box of the root in a viewport of this width, by the two inline sizes of its content.
+fn root_box(tree: &Arena<Node>, id: NodeId, width: Lu, sizes: (Lu, Lu)) -> Lu
+    requires live { IsLive (bare tree.now.tree) id }
+    requires readable { AreReadable (bare tree.now.tree) }
+    ensures value { result ≡ width_by width (sight_at (bare tree.now.tree) id).label sizes }
+    ensures least { inner (sight_at (bare tree.now.tree) id).label.grid.columns ≤ℤ result }
+{
+    root_width(&node_at(tree, id).style, width, sizes)
+}
+
+/// What the root is given in the inline axis, by the inline size of its border box.
+fn root_given(tree: &Arena<Node>, id: NodeId, across: Lu) -> Given
+    requires live { IsLive (bare tree.now.tree) id }
+    requires readable { AreReadable (bare tree.now.tree) }
+    ensures { result ≡ given_box (sight_at (bare tree.now.tree) id).label.grid.columns across }
+{
+    given_box::<0>(&node_at(tree, id).style, across)
+}
+
+/// The frame of the root, by the inline size of its border box, what it is given for that, and the block size of its content.
+fn root_placed(
+    tree: &Arena<Node>,
+    id: NodeId,
+    viewport: (Lu, Lu),
+    across: Lu,
+    inline: Given,
+    content: Lu,
+) -> Frame
+    requires live { IsLive (bare tree.now.tree) id }
+    requires readable { AreReadable (bare tree.now.tree) }
+    ensures child { result.child ≡ id }
+    ensures value { frame_of result ≡ root_frame_by viewport (sight_at (bare tree.now.tree) id).label across inline content }
+    ensures some { IsGivenFor true false 0 result.block }
+    ensures x { IsWithin (2 ^ 36) result.rect.x }
+    ensures y { IsWithin (2 ^ 36) result.rect.y }
+{
+    let style = &node_at(tree, id).style;
+    let size = root_height(style, viewport.1, content);
+    Frame {
+        child: id,
+        rect: root_rect(style, viewport, (across, size)),
+        inline,
+        block: given_box::<1>(style, size),
+    }
+}
+
+/// The frame of the root in a viewport of this width and height. It is asked for its inline sizes, and for its block size at its
+/// width. `NoMemory` where memory is wanting; what was kept by then is right.
+pub(crate) fn root_frame<R: Ruler, L: Ledger>(
+    alloc: Global,
+    tree: &mut Arena<Node>,
+    id: NodeId,
+    width: Lu,
+    height: Lu,
+    ruler: &mut R,
+    tally: &mut Tally,
+    passes: &mut Steps<L>,
+) -> Result<Frame, NoMemory>
+    requires top { top_numbers (bare tree.old.tree) ≡ id ∷ [] }
+    requires live { IsLive (bare tree.old.tree) id }
+    requires alone { (sight_at (bare tree.old.tree) id).chain ≡ [] }
+    requires right { IsRight tree.old.tree }
+    requires readable { AreReadable (bare tree.old.tree) }
+    ensures child { IfOk result (λ frame. frame.child ≡ id) }
+    ensures value { IfOk result (λ frame. frame_of frame ≡ (root_framed width height (root_of (sight_at (bare tree.old.tree) id).label (sight_at (bare tree.old.tree) id).below)).frame) }
+    ensures fits { is_container (sight_at (bare tree.old.tree) id).label.kind ≡ true → IfOk result (λ frame. Fits (sight_at (bare tree.old.tree) id) (frames_asked [] frame.inline frame.block)) }
+    ensures near { (level : ℕ) → 1 ≤ level → IfOk result (λ frame. IsNearAt level (pos 0) (pos 0) (frame_of frame)) }
+    ensures right { IsRight tree.new.tree }
+    ensures bare { bare tree.new.tree ≡ bare tree.old.tree }
+    ensures laid { OnOk result (Walk (IsAsked (bare tree.old.tree) width height) 0 [] (state tree.old tally.old passes.old (R.log ruler.old)) (state tree.new tally.new passes.new (R.log ruler.new))) }
+    ensures cut { OnErr result (IsCutShort (bare tree.old.tree) width height (state tree.old tally.old passes.old (R.log ruler.old)) (state tree.new tally.new passes.new (R.log ruler.new))) }
+    ensures quiet { IsSome (answer_to (inline_query false []) (kept_at tree.old.tree id)) → IsSome (answer_to (block_query false [] (root_inline (root_of (sight_at (bare tree.old.tree) id).label (sight_at (bare tree.old.tree) id).below) (root_width width (root_of (sight_at (bare tree.old.tree) id).label (sight_at (bare tree.old.tree) id).below)))) (kept_at tree.old.tree id)) → state tree.new tally.new passes.new (R.log ruler.new) ≡ state tree.old tally.old passes.old (R.log ruler.old) }
+{
+    let sizes = inline_of(alloc, tree, id, &[], ruler, tally, passes)?;
+    let across = root_box(tree, id, width, sizes);
+    let inline = root_given(tree, id, across);
+    let content = block_of(alloc, tree, id, &[], &inline, ruler, tally, passes)?;
+    Ok(root_placed(tree, id, (width, height), across, inline, content))
+}

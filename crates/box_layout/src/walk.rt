@@ -1,0 +1,183 @@
+//! The walk down the tree on the way of the boxes: each container is asked once for its frames, and the seat of each child is handed
+//! down, so that a context is made at most once a grid, and only where a child is a subgrid of it.
+
+ghost use Rattle.std.specs.Prelude.{◌≡◌, ◌++◌, ◌≤◌, true, length, OnOk, OnErr};
+ghost use Rattle.node_arena.specs.Numbers.{IsDistinct};
+ghost use Rattle.placing.specs.Kept.{frame_of, IsRight};
+ghost use Rattle.placing.specs.Nodes.{bare, level_at, sight_at, IsLive};
+ghost use Rattle.placing.specs.Ranges.{AreReadable};
+ghost use Rattle.placing.specs.Seats.{IsSeat};
+ghost use Rattle.placing.specs.Walks.{state};
+ghost use Rattle.tree_rules.specs.Queries.{is_container, Fits};
+ghost use Rattle.box_layout.specs.Asking.{frames_asked};
+ghost use Rattle.box_layout.specs.BoxesSeen.{AreNear, IsNearAt, boxes_seen, boxes_with, reach};
+ghost use Rattle.box_layout.specs.Paths.{AreKeptBelow, IsChildLaid, IsChildPart, IsLaidOut, IsLaidPart};
+ghost use Rattle.box_layout.specs.Ranges.{IsWithin};
+ghost use Rattle.box_layout.specs.Stands.{IsGivenNear};
+
+use crate::child_seats::{above_for, area_for, is_lower, pairs_for, seats_below};
+use crate::frames::moved_by;
+use crate::framing::frames_at;
+use crate::laws::{frames_fit_below, frames_stand_near};
+use layout_cache::Given;
+use lunit::{Along, Area, BLOCK, INLINE, Name, NoMemory, Rect, Sequence, Steps};
+use node_arena::{Arena, NodeId};
+use outside::{Ruler, Tally};
+use placing::{Above, Frame, Node, NodeKind, child, node_at, root};
+use std::alloc::Global;
+use std::sync::ledger::Ledger;
+
+/// Whether a node can have children.
+fn is_container(kind: &NodeKind) -> bool
+    ensures { result ≡ is_container kind.now }
+{
+    match kind {
+        NodeKind::Grid => true,
+        NodeKind::Flex => true,
+        NodeKind::Leaf(_) => false,
+    }
+}
+
+/// The name of a node.
+fn name_of(tree: &Arena<Node>, id: NodeId) -> Name
+    requires { IsLive (bare tree.now.tree) id }
+    ensures { result ≡ (sight_at (bare tree.now.tree) id).label.name }
+{
+    node_at(tree, id).name
+}
+
+/// No two nodes of an arena have one number.
+fn differ(tree: &Arena<Node>) -> NodeId
+    ensures { IsDistinct (bare tree.now.tree) }
+{
+    tree.root()
+}
+
+#[cycle(boxes)]
+/// The box of a node in its seat that has this frame, and the boxes below it, where its parent's border box is at this position,
+/// are put after others.
+pub(crate) fn boxes_of<R: Ruler, L: Ledger>(
+    alloc: Global,
+    tree: &mut Arena<Node>,
+    id: NodeId,
+    reps: &[(u32, u32)],
+    above: &Above,
+    area: Area,
+    frame: &Frame,
+    x: Along<INLINE>,
+    y: Along<BLOCK>,
+    told: &mut Sequence<(Name, Rect)>,
+    ruler: &mut R,
+    tally: &mut Tally,
+    passes: &mut Steps<L>,
+) -> Result<(), NoMemory>
+    requires live { IsLive (bare tree.old.tree) id }
+    requires right { IsRight tree.old.tree }
+    requires readable { AreReadable (bare tree.old.tree) }
+    requires reps { length reps.now ≡ length (sight_at (bare tree.old.tree) id).chain }
+    requires seat { IsSeat (sight_at (bare tree.old.tree) id) reps.now above.now area }
+    requires fits { is_container (sight_at (bare tree.old.tree) id).label.kind ≡ true → Fits (sight_at (bare tree.old.tree) id) (frames_asked reps.now frame.now.inline frame.now.block) }
+    requires level { 1 ≤ level_at (bare tree.old.tree) id }
+    requires near { IsNearAt (level_at (bare tree.old.tree) id) x y (frame_of frame.now) }
+    ensures value { OnOk result (told.new ≡ told.old ++ boxes_with (bare tree.old.tree) id reps.now (frame_of frame.now) (x, y)) }
+    ensures near { OnOk result (AreNear told.old → AreNear told.new) }
+    ensures right { IsRight tree.new.tree }
+    ensures laid { OnOk result (IsChildLaid (bare tree.old.tree) id (frames_asked reps.now frame.now.inline frame.now.block) (state tree.old tally.old passes.old (R.log ruler.old)) (state tree.new tally.new passes.new (R.log ruler.new))) }
+    ensures part { OnErr result (IsChildPart (bare tree.old.tree) id (frames_asked reps.now frame.now.inline frame.now.block) (state tree.old tally.old passes.old (R.log ruler.old)) (state tree.new tally.new passes.new (R.log ruler.new))) }
+    ensures paths { OnOk result (is_container (sight_at (bare tree.old.tree) id).label.kind ≡ true → AreKeptBelow (bare tree.old.tree) id (frames_asked reps.now frame.now.inline frame.now.block) (state tree.new tally.new passes.new (R.log ruler.new))) }
+    ensures quiet { (is_container (sight_at (bare tree.old.tree) id).label.kind ≡ true → AreKeptBelow (bare tree.old.tree) id (frames_asked reps.now frame.now.inline frame.now.block) (state tree.old tally.old passes.old (R.log ruler.old))) → state tree.new tally.new passes.new (R.log ruler.new) ≡ state tree.old tally.old passes.old (R.log ruler.old) }
+{
+    root(tree);
+    let rect = moved_by(x, y, &frame.rect);
+    let x = rect.x;
+    let y = rect.y;
+    let name = name_of(tree, id);
+    told.push((name, rect))?;
+    if !is_container(&node_at(tree, id).kind) {
+        return Ok(());
+    }
+    boxes_below(
+        alloc,
+        tree,
+        id,
+        reps,
+        above,
+        area,
+        &frame.inline,
+        &frame.block,
+        x,
+        y,
+        told,
+        ruler,
+        tally,
+        passes,
+    )
+}
+
+#[cycle(boxes)]
+/// The boxes below a container in its seat that is given this along each axis and whose border box is at this position, in document
+/// order, are put after others.
+fn boxes_below<R: Ruler, L: Ledger>(
+    alloc: Global,
+    tree: &mut Arena<Node>,
+    id: NodeId,
+    reps: &[(u32, u32)],
+    above: &Above,
+    area: Area,
+    inline: &Given,
+    block: &Given,
+    x: Along<INLINE>,
+    y: Along<BLOCK>,
+    told: &mut Sequence<(Name, Rect)>,
+    ruler: &mut R,
+    tally: &mut Tally,
+    passes: &mut Steps<L>,
+) -> Result<(), NoMemory>
+    requires live { IsLive (bare tree.old.tree) id }
+    requires right { IsRight tree.old.tree }
+    requires readable { AreReadable (bare tree.old.tree) }
+    requires fits { Fits (sight_at (bare tree.old.tree) id) (frames_asked reps.now inline.now block.now) }
+    requires seat { IsSeat (sight_at (bare tree.old.tree) id) reps.now above.now area }
+    requires level { 1 ≤ level_at (bare tree.old.tree) id }
+    requires columns { IsGivenNear (level_at (bare tree.old.tree) id) inline.now }
+    requires rows { IsGivenNear (level_at (bare tree.old.tree) id) block.now }
+    requires x { IsWithin (reach (level_at (bare tree.old.tree) id)) x }
+    requires y { IsWithin (reach (level_at (bare tree.old.tree) id)) y }
+    ensures value { OnOk result (told.new ≡ told.old ++ boxes_seen (bare tree.old.tree) id (frames_asked reps.now inline.now block.now) (x, y)) }
+    ensures near { OnOk result (AreNear told.old → AreNear told.new) }
+    ensures right { IsRight tree.new.tree }
+    ensures laid { OnOk result (IsLaidOut id (frames_asked reps.now inline.now block.now) (state tree.old tally.old passes.old (R.log ruler.old)) (state tree.new tally.new passes.new (R.log ruler.new))) }
+    ensures part { OnErr result (IsLaidPart id (frames_asked reps.now inline.now block.now) (state tree.old tally.old passes.old (R.log ruler.old)) (state tree.new tally.new passes.new (R.log ruler.new))) }
+    ensures paths { OnOk result (AreKeptBelow (bare tree.old.tree) id (frames_asked reps.now inline.now block.now) (state tree.new tally.new passes.new (R.log ruler.new))) }
+    ensures quiet { AreKeptBelow (bare tree.old.tree) id (frames_asked reps.now inline.now block.now) (state tree.old tally.old passes.old (R.log ruler.old)) → state tree.new tally.new passes.new (R.log ruler.new) ≡ state tree.old tally.old passes.old (R.log ruler.old) }
+{
+    root(tree);
+    differ(tree);
+    frames_stand_near(tree, id);
+    frames_fit_below(tree, id);
+    let frames = frames_at(
+        alloc, tree, id, reps, above, area, inline, block, ruler, tally, passes,
+    )?;
+    let seats = seats_below(alloc, tree, id, reps, above, area, inline)?;
+    let listed = frames.as_slice();
+    for index in 0..listed.len() {
+        let child = child(tree, id, index);
+        let lower = is_lower(tree, &seats, child);
+        boxes_of(
+            alloc,
+            tree,
+            child,
+            pairs_for(&seats, lower),
+            above_for(&seats, lower),
+            area_for(&seats, index),
+            &listed[index],
+            x,
+            y,
+            told,
+            ruler,
+            tally,
+            passes,
+        )?;
+    }
+    Ok(())
+}
