@@ -8,7 +8,7 @@ const ALL: u32 = 4_294_967_295;
 
 #[test]
 fn content_stands_where_its_value_says(rt: HostRuntime) {
-    let rows = [
+    static ROWS: &[(Mode, bool, i64, u32, u32, i64)] = &[
         (Mode::Start, false, 100, 1, 3, 0),
         (Mode::Start, true, 100, 2, 3, 0),
         (Mode::Start, false, -7, 0, 2, 0),
@@ -68,7 +68,8 @@ fn content_stands_where_its_value_says(rt: HostRuntime) {
         (Mode::Evenly, true, 0, 1, 2, 0),
         (Mode::Evenly, false, -7, 1, 2, 0),
     ];
-    for (mode, safe, free, k, n, want) in rows {
+    for row in ROWS {
+        let (mode, safe, free, k, n, want) = *row;
         assert!(rt; -MOST <= free && free <= MOST && k < n);
         assert_eq!(rt;
             content_offset(mode, safe, free, k, n),
@@ -80,7 +81,7 @@ fn content_stands_where_its_value_says(rt: HostRuntime) {
 
 #[test]
 fn an_item_stands_where_its_value_says(rt: HostRuntime) {
-    let rows = [
+    static ROWS: &[(Mode, bool, i64, i64)] = &[
         (Mode::Start, false, 50, 0),
         (Mode::Start, true, 50, 0),
         (Mode::Start, false, -50, 0),
@@ -106,7 +107,8 @@ fn an_item_stands_where_its_value_says(rt: HostRuntime) {
         (Mode::Center, false, MOST, 36_028_797_018_963_968),
         (Mode::Center, false, -MOST, -36_028_797_018_963_968),
     ];
-    for (mode, safe, free, want) in rows {
+    for row in ROWS {
+        let (mode, safe, free, want) = *row;
         assert!(rt; -MOST <= free && free <= MOST);
         assert_eq!(rt; self_offset(mode, safe, free), want, "in {free}");
     }
@@ -114,7 +116,7 @@ fn an_item_stands_where_its_value_says(rt: HostRuntime) {
 
 #[test]
 fn auto_margins_take_what_is_free(rt: HostRuntime) {
-    let rows = [
+    static ROWS: &[(i64, bool, bool, (i64, i64))] = &[
         (101, true, true, (50, 51)),
         (101, true, false, (101, 0)),
         (101, false, true, (0, 101)),
@@ -149,11 +151,9 @@ fn auto_margins_take_what_is_free(rt: HostRuntime) {
         ),
         (MOST, false, true, (0, 72_057_594_037_927_936)),
     ];
-    for (free, before, after, want) in rows {
+    for row in ROWS {
+        let (free, before, after, want) = *row;
         assert!(rt; -MOST <= free && free <= MOST);
-        let (first, last) = want;
-        let (taken_before, taken_after) = auto_margins(free, before, after);
-        assert_eq!(rt; taken_before, first, "before in {free}");
-        assert_eq!(rt; taken_after, last, "after in {free}");
+        assert_eq!(rt; auto_margins(free, before, after), want, "in {free}");
     }
 }

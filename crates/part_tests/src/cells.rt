@@ -50,7 +50,7 @@ fn agree(rt: &impl Abort, alloc: Global, added: &[Row], asked: &[Row]) -> Result
 
 #[test]
 fn cells_are_taken_once_added(rt: HostRuntime) -> Result<(), Fail> {
-    let added = [
+    static ADDED: &[Row] = &[
         (0, 2, 0, 2, true),
         (2, 4, 0, 1, true),
         // this one overlaps the first in column 1 of row 1, and is taken too
@@ -60,7 +60,7 @@ fn cells_are_taken_once_added(rt: HostRuntime) -> Result<(), Fail> {
         (5, 6, 9, 9, true),
         (8, 5, 0, 9, true),
     ];
-    let asked = [
+    static ASKED: &[Row] = &[
         (0, 1, 0, 1, false),
         (0, 1, 2, 3, true),
         // rows 1 to 3 hold columns 1 and 2 of the third area
@@ -74,18 +74,18 @@ fn cells_are_taken_once_added(rt: HostRuntime) -> Result<(), Fail> {
         (-2_000_000_000, 2_000_000_000, -9, 0, true),
         (-2_000_000_000, 2_000_000_000, -9, 9, false),
     ];
-    agree(&rt, rt.alloc(), &added, &asked)?;
+    agree(&rt, rt.alloc(), ADDED, ASKED)?;
     Ok(())
 }
 
 #[test]
 fn long_areas_are_taken(rt: HostRuntime) -> Result<(), Fail> {
-    let added = [
+    static ADDED: &[Row] = &[
         (-10_000, 10_000, 20, 21, true),
         (9, 10, -10_000, 10_000, false),
         (6, 7, -10_000, 20, true),
     ];
-    let asked = [
+    static ASKED: &[Row] = &[
         (4, 6, -3, 20, true),
         (4, 6, -3, 21, false),
         (9, 10, 9_999, 10_000, false),
@@ -94,14 +94,14 @@ fn long_areas_are_taken(rt: HostRuntime) -> Result<(), Fail> {
         (6, 7, 21, 22, true),
         (7, 9, -10_000, 20, true),
     ];
-    agree(&rt, rt.alloc(), &added, &asked)?;
+    agree(&rt, rt.alloc(), ADDED, ASKED)?;
     Ok(())
 }
 
 /// Spans that meet, that lie apart, that are joined by one between them, and rows that become the same.
 #[test]
 fn rows_fill_up(rt: HostRuntime) -> Result<(), Fail> {
-    let added = [
+    static ADDED: &[Row] = &[
         (0, 1, 0, 1, true),
         (4, 5, 0, 1, true),
         (1, 2, 0, 1, true),
@@ -112,7 +112,7 @@ fn rows_fill_up(rt: HostRuntime) -> Result<(), Fail> {
         (0, 5, 2, 3, true),
         (7, 8, 1, 3, true),
     ];
-    let asked = [
+    static ASKED: &[Row] = &[
         (5, 7, 0, 4, true),
         (5, 8, 0, 1, true),
         (5, 8, 0, 2, false),
@@ -123,6 +123,6 @@ fn rows_fill_up(rt: HostRuntime) -> Result<(), Fail> {
         (0, 9, 4, 9, true),
         (0, 9, -4, 0, true),
     ];
-    agree(&rt, rt.alloc(), &added, &asked)?;
+    agree(&rt, rt.alloc(), ADDED, ASKED)?;
     Ok(())
 }

@@ -1,5 +1,6 @@
 ghost use Rattle.std.specs.Prelude.{◌≡◌, ◌<◌, length, IfOk};
 
+use Item::{Growing, Of, Plain};
 use flex_lines::{FlexItem, collect_lines, cross_sizes, resolve_lengths};
 use lunit::{Along, INLINE, Lu, NoMemory, Steps};
 use std::alloc::Global;
@@ -11,8 +12,16 @@ use std::test::Fail;
 /// The greatest length.
 const TOP: i64 = 1 << 30;
 
-/// An item: its base size, minimum, maximum, margins, and borders and paddings; its grow and its shrink factor.
-type Item = (i64, i64, Option<i64>, i64, i64, [u32; 2]);
+/// An item.
+#[derive(Clone, Copy)]
+enum Item {
+    /// Of this base size, without limits, that shrinks.
+    Plain(i64),
+    /// Without a base size, of at most this size, that grows.
+    Growing(Option<i64>),
+    /// By its base size, minimum, maximum, margins, and borders and paddings; and its grow and its shrink factor.
+    Of(i64, i64, Option<i64>, i64, i64, [u32; 2]),
+}
 
 /// Items, a main size, a gap, whether there is wrapping, and the lines.
 type Wrapped<'a> = (&'a [Item], i64, i64, bool, &'a [(usize, usize)]);
@@ -24,16 +33,6 @@ type Resolved<'a> = (&'a [Item], i64, i64, bool, &'a [i64]);
 /// lines share the rest; and the cross sizes of the lines.
 type Crossed<'a> = (&'a [i64], i64, Option<i64>, i64, [bool; 2], &'a [i64]);
 
-/// An item of this base size, without limits, that shrinks.
-const fn plain(base: i64) -> Item {
-    (base, 0, None, 0, 0, [0, 1000])
-}
-
-/// An item without a base size, of at most this size, that grows.
-const fn growing(max: Option<i64>) -> Item {
-    (0, 0, max, 0, 0, [1000, 1000])
-}
-
 fn length_or_none(units: Option<i64>) -> Option<Lu> {
     match units {
         Some(units) => Some(Lu::of(units)),
@@ -41,19 +40,40 @@ fn length_or_none(units: Option<i64>) -> Option<Lu> {
     }
 }
 
+fn sized(
+    base: i64,
+    min: i64,
+    max: Option<i64>,
+    margins: i64,
+    inner: i64,
+    factors: [u32; 2],
+) -> FlexItem {
+    let [grow, shrink] = factors;
+    FlexItem {
+        base: Lu::of(base),
+        min: Lu::of(min),
+        max: length_or_none(max),
+        margins: Lu::of(margins),
+        inner: Lu::of(inner),
+        grow,
+        shrink,
+    }
+}
+
+fn flexed(row: &Item) -> FlexItem {
+    match row {
+        Plain(base) => sized(*base, 0, None, 0, 0, [0, 1000]),
+        Growing(max) => sized(0, 0, *max, 0, 0, [1000, 1000]),
+        Of(base, min, max, margins, inner, factors) => {
+            sized(*base, *min, *max, *margins, *inner, *factors)
+        }
+    }
+}
+
 fn items(alloc: Global, rows: &[Item]) -> Result<Vec<FlexItem>, NoMemory> {
     let mut items = Vec::new(alloc);
     for row in rows {
-        let (base, min, max, margins, inner, [grow, shrink]) = *row;
-        items.push(FlexItem {
-            base: Lu::of(base),
-            min: Lu::of(min),
-            max: length_or_none(max),
-            margins: Lu::of(margins),
-            inner: Lu::of(inner),
-            grow,
-            shrink,
-        })?;
+        items.extend_from_slice(&[flexed(row)])?;
     }
     Ok(items)
 }
@@ -70,14 +90,14 @@ fn lengths(alloc: Global, units: &[i64]) -> Result<Vec<Lu>, NoMemory>
 
 #[test]
 fn items_are_collected_into_lines(rt: HostRuntime) -> Result<(), Fail> {
-    let rows: [Wrapped; 24] = [
+    static ROWS: &[Wrapped] = &[
         // without wrapping one line; without items none
-        (&[plain(150), plain(20)], 10, 0, false, &[(0, 2)]),
+        (&[Plain(150), Plain(20)], 10, 0, false, &[(0, 2)]),
         (&[], 10, 0, false, &[]),
         (&[], 10, 0, true, &[]),
         // 40 + 10 + 40 is 90, and 140 passes 100
         (
-            &[plain(40), plain(40), plain(40)],
+            &[Plain(40), Plain(40), Plain(40)],
             100,
             10,
             true,
@@ -85,34 +105,34 @@ fn items_are_collected_into_lines(rt: HostRuntime) -> Result<(), Fail> {
         ),
         // 3840 + 640 + 1920 is 6400, an exact fit
         (
-            &[plain(3840), plain(1920), plain(2560)],
+            &[Plain(3840), Plain(1920), Plain(2560)],
             6400,
             640,
             true,
             &[(0, 2), (2, 3)],
         ),
-        (&[plain(45), plain(45)], 100, 10, true, &[(0, 2)]),
-        (&[plain(45), plain(46)], 100, 10, true, &[(0, 1), (1, 2)]),
-        (&[plain(0), plain(0), plain(0)], 0, 0, true, &[(0, 3)]),
+        (&[Plain(45), Plain(45)], 100, 10, true, &[(0, 2)]),
+        (&[Plain(45), Plain(46)], 100, 10, true, &[(0, 1), (1, 2)]),
+        (&[Plain(0), Plain(0), Plain(0)], 0, 0, true, &[(0, 3)]),
         (
-            &[plain(0), plain(0), plain(0)],
+            &[Plain(0), Plain(0), Plain(0)],
             0,
             1,
             true,
             &[(0, 1), (1, 2), (2, 3)],
         ),
-        (&[plain(10); 5], 35, 5, true, &[(0, 2), (2, 4), (4, 5)]),
+        (&[Plain(10); 5], 35, 5, true, &[(0, 2), (2, 4), (4, 5)]),
         // the first item of a line joins it also where it is too long
-        (&[plain(150), plain(20)], 100, 0, true, &[(0, 1), (1, 2)]),
-        (&[plain(20), plain(150)], 100, 0, true, &[(0, 1), (1, 2)]),
-        (&[plain(150), plain(150)], 100, 0, true, &[(0, 1), (1, 2)]),
-        (&[plain(0)], -5, 0, true, &[(0, 1)]),
-        (&[plain(0), plain(0)], -5, 0, true, &[(0, 1), (1, 2)]),
+        (&[Plain(150), Plain(20)], 100, 0, true, &[(0, 1), (1, 2)]),
+        (&[Plain(20), Plain(150)], 100, 0, true, &[(0, 1), (1, 2)]),
+        (&[Plain(150), Plain(150)], 100, 0, true, &[(0, 1), (1, 2)]),
+        (&[Plain(0)], -5, 0, true, &[(0, 1)]),
+        (&[Plain(0), Plain(0)], -5, 0, true, &[(0, 1), (1, 2)]),
         // the hypothetical size: at most the maximum, at least the minimum, and at least borders and paddings
         (
             &[
-                (60, 0, Some(40), 0, 0, [0, 0]),
-                (60, 0, Some(40), 0, 0, [0, 0]),
+                Of(60, 0, Some(40), 0, 0, [0, 0]),
+                Of(60, 0, Some(40), 0, 0, [0, 0]),
             ],
             80,
             0,
@@ -120,28 +140,28 @@ fn items_are_collected_into_lines(rt: HostRuntime) -> Result<(), Fail> {
             &[(0, 2)],
         ),
         (
-            &[(10, 60, None, 0, 0, [0, 0]), plain(40)],
+            &[Of(10, 60, None, 0, 0, [0, 0]), Plain(40)],
             99,
             0,
             true,
             &[(0, 1), (1, 2)],
         ),
         (
-            &[(50, 60, Some(20), 0, 0, [0, 0]), plain(40)],
+            &[Of(50, 60, Some(20), 0, 0, [0, 0]), Plain(40)],
             100,
             0,
             true,
             &[(0, 2)],
         ),
         (
-            &[(50, 60, Some(20), 0, 0, [0, 0]), plain(41)],
+            &[Of(50, 60, Some(20), 0, 0, [0, 0]), Plain(41)],
             100,
             0,
             true,
             &[(0, 1), (1, 2)],
         ),
         (
-            &[(30, 0, Some(5), 0, 30, [0, 0]), plain(70)],
+            &[Of(30, 0, Some(5), 0, 30, [0, 0]), Plain(70)],
             100,
             0,
             true,
@@ -149,34 +169,41 @@ fn items_are_collected_into_lines(rt: HostRuntime) -> Result<(), Fail> {
         ),
         // with margins, also below zero: 50 + 50, 40 + 41, and 90 + 10
         (
-            &[(40, 0, None, 10, 0, [0, 0]), (40, 0, None, 10, 0, [0, 0])],
+            &[
+                Of(40, 0, None, 10, 0, [0, 0]),
+                Of(40, 0, None, 10, 0, [0, 0]),
+            ],
             100,
             0,
             true,
             &[(0, 2)],
         ),
         (
-            &[(60, 0, None, -20, 0, [0, 0]), (61, 0, None, -20, 0, [0, 0])],
+            &[
+                Of(60, 0, None, -20, 0, [0, 0]),
+                Of(61, 0, None, -20, 0, [0, 0]),
+            ],
             80,
             0,
             true,
             &[(0, 1), (1, 2)],
         ),
         (
-            &[plain(90), (30, 0, None, -20, 0, [0, 0])],
+            &[Plain(90), Of(30, 0, None, -20, 0, [0, 0])],
             100,
             0,
             true,
             &[(0, 2)],
         ),
         // sums beyond the range of lengths
-        (&[plain(TOP), plain(TOP)], 2 * TOP, 0, true, &[(0, 2)]),
+        (&[Plain(TOP), Plain(TOP)], 2 * TOP, 0, true, &[(0, 2)]),
     ];
-    for (given, main, gap, wrap, wants) in rows {
+    for row in ROWS {
+        let (given, main, gap, wrap, wants) = *row;
         let all = items(rt.alloc(), given)?;
         let main = Along::<INLINE>::of(main);
         let lines = collect_lines(rt.alloc(), &all, main, Lu::of(gap), wrap)?;
-        assert_eq!(rt; lines.as_slice(), wants, "{given:?}");
+        assert_eq!(rt; lines.as_slice(), wants);
     }
     Ok(())
 }
@@ -194,7 +221,7 @@ fn resolves<L: Ledger>(
     assert!(rt; all.len() < 100);
     let sizes = resolve_lengths(alloc, &all, &lines, main, Lu::of(gap), passes)?;
     let wants = lengths(alloc, wants)?;
-    assert_eq!(rt; sizes.as_slice(), wants.as_slice(), "{given:?}");
+    assert_eq!(rt; sizes.as_slice(), wants.as_slice());
     Ok(())
 }
 
@@ -217,33 +244,42 @@ fn resolve_all<L: Ledger>(
 
 #[test]
 fn items_get_their_main_sizes(rt: HostRuntime) -> Result<(), Fail> {
-    let rows: [Resolved; 33] = [
+    static ROWS: &[Resolved] = &[
         // 3200 each; the first is lowered to 1920, and the second takes the rest
         (
-            &[growing(Some(1920)), growing(None)],
+            &[Growing(Some(1920)), Growing(None)],
             6400,
             0,
             false,
             &[1920, 4480],
         ),
-        (&[growing(None)], 6400, 0, false, &[6400]),
+        (&[Growing(None)], 6400, 0, false, &[6400]),
         // no items
         (&[], 6400, 0, false, &[]),
         // a factor of 0.25 takes a quarter; 0.2 and 0.3 take 200 and 300 of 1000
-        (&[(0, 0, None, 0, 0, [250, 1000])], 6400, 0, false, &[1600]),
         (
-            &[(0, 0, None, 0, 0, [200, 0]), (0, 0, None, 0, 0, [300, 0])],
+            &[Of(0, 0, None, 0, 0, [250, 1000])],
+            6400,
+            0,
+            false,
+            &[1600],
+        ),
+        (
+            &[
+                Of(0, 0, None, 0, 0, [200, 0]),
+                Of(0, 0, None, 0, 0, [300, 0]),
+            ],
             1000,
             0,
             false,
             &[200, 300],
         ),
         // shrink factors of 0.5 and of 0.25 twice give back half of the 100 that lack
-        (&[(200, 0, None, 0, 0, [0, 500])], 100, 0, false, &[150]),
+        (&[Of(200, 0, None, 0, 0, [0, 500])], 100, 0, false, &[150]),
         (
             &[
-                (100, 0, None, 0, 0, [0, 250]),
-                (100, 0, None, 0, 0, [0, 250]),
+                Of(100, 0, None, 0, 0, [0, 250]),
+                Of(100, 0, None, 0, 0, [0, 250]),
             ],
             100,
             0,
@@ -253,18 +289,18 @@ fn items_get_their_main_sizes(rt: HostRuntime) -> Result<(), Fail> {
         // 1280 are lacking, 640 of each: not below the minimum, and without one
         (
             &[
-                (2560, 2560, None, 0, 0, [0, 1000]),
-                (2560, 2560, None, 0, 0, [0, 1000]),
+                Of(2560, 2560, None, 0, 0, [0, 1000]),
+                Of(2560, 2560, None, 0, 0, [0, 1000]),
             ],
             3840,
             0,
             false,
             &[2560, 2560],
         ),
-        (&[plain(2560), plain(2560)], 3840, 0, false, &[1920, 1920]),
+        (&[Plain(2560), Plain(2560)], 3840, 0, false, &[1920, 1920]),
         // two lines of items that do not grow
         (
-            &[plain(3840), plain(1920), plain(2560)],
+            &[Plain(3840), Plain(1920), Plain(2560)],
             6400,
             640,
             true,
@@ -273,9 +309,9 @@ fn items_get_their_main_sizes(rt: HostRuntime) -> Result<(), Fail> {
         // two lines that grow by 10 and by 60
         (
             &[
-                (40, 0, None, 0, 0, [1000, 0]),
-                (40, 0, None, 0, 0, [1000, 0]),
-                (40, 0, None, 0, 0, [1000, 0]),
+                Of(40, 0, None, 0, 0, [1000, 0]),
+                Of(40, 0, None, 0, 0, [1000, 0]),
+                Of(40, 0, None, 0, 0, [1000, 0]),
             ],
             100,
             10,
@@ -283,13 +319,13 @@ fn items_get_their_main_sizes(rt: HostRuntime) -> Result<(), Fail> {
             &[45, 45, 100],
         ),
         // an exact fit
-        (&[plain(50), plain(50)], 100, 0, false, &[50, 50]),
+        (&[Plain(50), Plain(50)], 100, 0, false, &[50, 50]),
         // 100 each; -50 and 50 even out, so all are frozen
         (
             &[
-                growing(Some(50)),
-                (0, 150, None, 0, 0, [1000, 0]),
-                growing(None),
+                Growing(Some(50)),
+                Of(0, 150, None, 0, 0, [1000, 0]),
+                Growing(None),
             ],
             300,
             0,
@@ -297,9 +333,9 @@ fn items_get_their_main_sizes(rt: HostRuntime) -> Result<(), Fail> {
             &[50, 150, 100],
         ),
         // 50 are lacking: the weights 100 and 50 give up 33 and 17; with a minimum of 90, 10 and 40
-        (&[plain(100), plain(50)], 100, 0, false, &[67, 33]),
+        (&[Plain(100), Plain(50)], 100, 0, false, &[67, 33]),
         (
-            &[(100, 90, None, 0, 0, [0, 1000]), plain(50)],
+            &[Of(100, 90, None, 0, 0, [0, 1000]), Plain(50)],
             100,
             0,
             false,
@@ -308,8 +344,8 @@ fn items_get_their_main_sizes(rt: HostRuntime) -> Result<(), Fail> {
         // borders and paddings do not shrink: 30 by the weights 40 and 20
         (
             &[
-                (60, 0, None, 0, 20, [0, 1000]),
-                (60, 0, None, 0, 40, [0, 1000]),
+                Of(60, 0, None, 0, 20, [0, 1000]),
+                Of(60, 0, None, 0, 40, [0, 1000]),
             ],
             90,
             0,
@@ -319,8 +355,8 @@ fn items_get_their_main_sizes(rt: HostRuntime) -> Result<(), Fail> {
         // weights that sum to 0: nothing is given up
         (
             &[
-                (30, 0, None, 0, 30, [0, 1000]),
-                (30, 0, None, 0, 30, [0, 1000]),
+                Of(30, 0, None, 0, 30, [0, 1000]),
+                Of(30, 0, None, 0, 30, [0, 1000]),
             ],
             40,
             0,
@@ -330,8 +366,8 @@ fn items_get_their_main_sizes(rt: HostRuntime) -> Result<(), Fail> {
         // margins of 30 and a gap of 5 leave 65: floor(65 / 4) is 16
         (
             &[
-                (0, 0, None, 30, 0, [1000, 0]),
-                (0, 0, None, 0, 0, [3000, 0]),
+                Of(0, 0, None, 30, 0, [1000, 0]),
+                Of(0, 0, None, 0, 0, [3000, 0]),
             ],
             100,
             5,
@@ -339,10 +375,10 @@ fn items_get_their_main_sizes(rt: HostRuntime) -> Result<(), Fail> {
             &[16, 49],
         ),
         // the sums make 33 1/3, 66 2/3 and 100
-        (&[growing(None); 3], 100, 0, false, &[33, 33, 34]),
+        (&[Growing(None); 3], 100, 0, false, &[33, 33, 34]),
         // no factor: the hypothetical size
         (
-            &[(40, 0, Some(30), 0, 0, [0, 0]), growing(None)],
+            &[Of(40, 0, Some(30), 0, 0, [0, 0]), Growing(None)],
             100,
             0,
             false,
@@ -350,14 +386,14 @@ fn items_get_their_main_sizes(rt: HostRuntime) -> Result<(), Fail> {
         ),
         // limits against the way in which sizes change
         (
-            &[(50, 0, Some(30), 0, 0, [1000, 0]), growing(None)],
+            &[Of(50, 0, Some(30), 0, 0, [1000, 0]), Growing(None)],
             100,
             0,
             false,
             &[30, 70],
         ),
         (
-            &[(10, 40, None, 0, 0, [0, 1000]), plain(100)],
+            &[Of(10, 40, None, 0, 0, [0, 1000]), Plain(100)],
             100,
             0,
             false,
@@ -365,7 +401,7 @@ fn items_get_their_main_sizes(rt: HostRuntime) -> Result<(), Fail> {
         ),
         // a minimum above the maximum: 50 each; the first is raised to 60
         (
-            &[(0, 60, Some(20), 0, 0, [1000, 0]), growing(None)],
+            &[Of(0, 60, Some(20), 0, 0, [1000, 0]), Growing(None)],
             100,
             0,
             false,
@@ -373,14 +409,14 @@ fn items_get_their_main_sizes(rt: HostRuntime) -> Result<(), Fail> {
         ),
         // both are lowered at once; one after the other: 100, 145 and 170; and 100, 130, 135 and 135
         (
-            &[growing(Some(10)), growing(Some(50)), growing(None)],
+            &[Growing(Some(10)), Growing(Some(50)), Growing(None)],
             300,
             0,
             false,
             &[10, 50, 240],
         ),
         (
-            &[growing(Some(10)), growing(Some(120)), growing(None)],
+            &[Growing(Some(10)), Growing(Some(120)), Growing(None)],
             300,
             0,
             false,
@@ -388,10 +424,10 @@ fn items_get_their_main_sizes(rt: HostRuntime) -> Result<(), Fail> {
         ),
         (
             &[
-                growing(Some(10)),
-                growing(Some(120)),
-                growing(Some(150)),
-                growing(None),
+                Growing(Some(10)),
+                Growing(Some(120)),
+                Growing(Some(150)),
+                Growing(None),
             ],
             400,
             0,
@@ -401,9 +437,9 @@ fn items_get_their_main_sizes(rt: HostRuntime) -> Result<(), Fail> {
         // the same where they shrink, of 100 each: 90 and 60 at once; 90, then 45, and then 85 of the third
         (
             &[
-                (100, 90, None, 0, 0, [0, 1000]),
-                (100, 60, None, 0, 0, [0, 1000]),
-                plain(100),
+                Of(100, 90, None, 0, 0, [0, 1000]),
+                Of(100, 60, None, 0, 0, [0, 1000]),
+                Plain(100),
             ],
             150,
             0,
@@ -412,9 +448,9 @@ fn items_get_their_main_sizes(rt: HostRuntime) -> Result<(), Fail> {
         ),
         (
             &[
-                (100, 90, None, 0, 0, [0, 1000]),
-                (100, 45, None, 0, 0, [0, 1000]),
-                plain(100),
+                Of(100, 90, None, 0, 0, [0, 1000]),
+                Of(100, 45, None, 0, 0, [0, 1000]),
+                Plain(100),
             ],
             150,
             0,
@@ -423,7 +459,7 @@ fn items_get_their_main_sizes(rt: HostRuntime) -> Result<(), Fail> {
         ),
         // one raised by 10 and one lowered by 20: the lowered one is frozen, and the other takes 70
         (
-            &[growing(Some(30)), (0, 60, None, 0, 0, [1000, 0])],
+            &[Growing(Some(30)), Of(0, 60, None, 0, 0, [1000, 0])],
             100,
             0,
             false,
@@ -433,8 +469,8 @@ fn items_get_their_main_sizes(rt: HostRuntime) -> Result<(), Fail> {
         // which a factor of 0.25 gives up no more than floor(223 / 4) = 55
         (
             &[
-                (18, 0, None, -32, 0, [1, 3000]),
-                (389, 129, None, 0, 17, [3000, 250]),
+                Of(18, 0, None, -32, 0, [1, 3000]),
+                Of(389, 129, None, 0, 17, [3000, 250]),
             ],
             152,
             0,
@@ -444,8 +480,8 @@ fn items_get_their_main_sizes(rt: HostRuntime) -> Result<(), Fail> {
         // 18 are left beside 74, of which a factor of 0.25 takes 4
         (
             &[
-                (27, 0, None, 0, 16, [250, 5_766_017]),
-                (102, 74, Some(22), 0, 0, [1000, 0]),
+                Of(27, 0, None, 0, 16, [250, 5_766_017]),
+                Of(102, 74, Some(22), 0, 0, [1000, 0]),
             ],
             119,
             0,
@@ -453,13 +489,13 @@ fn items_get_their_main_sizes(rt: HostRuntime) -> Result<(), Fail> {
             &[31, 74],
         ),
         // a space beyond the range of lengths is limited
-        (&[growing(None)], 2 * TOP, 0, false, &[TOP]),
+        (&[Growing(None)], 2 * TOP, 0, false, &[TOP]),
         // a first item of the greatest size and margins that take it back: of 200 each is given 100; the first is lowered by 100
         // and the second raised by 50, so the first is frozen, and the second takes all
         (
             &[
-                (TOP, 0, Some(TOP), -TOP, 0, [1000, 0]),
-                (0, 150, None, 0, 0, [1000, 0]),
+                Of(TOP, 0, Some(TOP), -TOP, 0, [1000, 0]),
+                Of(0, 150, None, 0, 0, [1000, 0]),
             ],
             200,
             0,
@@ -467,17 +503,29 @@ fn items_get_their_main_sizes(rt: HostRuntime) -> Result<(), Fail> {
             &[TOP, 200],
         ),
     ];
-    resolve_all::<Brand>(&rt, rt.alloc(), Blank::new(1), &rows)?;
+    resolve_all::<Brand>(&rt, rt.alloc(), Blank::new(1), ROWS)?;
     Ok(())
+}
+
+/// So many items of 10.
+fn tens(alloc: Global, count: usize) -> Result<Vec<FlexItem>, NoMemory> {
+    let mut all = Vec::new(alloc);
+    for _ in 0..count {
+        all.push(Plain(10))?;
+    }
+    items(alloc, &all)
+}
+
+fn cross_or_none(cross: Option<i64>) -> Option<Along<INLINE>> {
+    match cross {
+        Some(units) => Some(Along::of(units)),
+        None => None,
+    }
 }
 
 fn crosses(rt: &impl Abort, alloc: Global, row: &Crossed) -> Result<(), NoMemory> {
     let (outer, count, cross, gap, [wrap, stretch], wants) = *row;
-    let mut all = Vec::new(alloc);
-    for _one in outer {
-        all.push(plain(10))?;
-    }
-    let all = items(alloc, &all)?;
+    let all = tens(alloc, outer.len())?;
     let lines = collect_lines(
         alloc,
         &all,
@@ -487,19 +535,16 @@ fn crosses(rt: &impl Abort, alloc: Global, row: &Crossed) -> Result<(), NoMemory
     )?;
     let outer = lengths(alloc, outer)?;
     assert!(rt; all.len() == outer.len());
-    let cross = match cross {
-        Some(units) => Some(Along::<INLINE>::of(units)),
-        None => None,
-    };
+    let cross = cross_or_none(cross);
     let sizes = cross_sizes(alloc, &outer, &lines, cross, Lu::of(gap), wrap, stretch)?;
     let wants = lengths(alloc, wants)?;
-    assert_eq!(rt; sizes.as_slice(), wants.as_slice(), "{outer:?}");
+    assert_eq!(rt; sizes.as_slice(), wants.as_slice());
     Ok(())
 }
 
 #[test]
 fn lines_get_their_cross_sizes(rt: HostRuntime) -> Result<(), Fail> {
-    let rows: [Crossed; 23] = [
+    static ROWS: &[Crossed] = &[
         // the greatest of each line, at least 0
         (&[10, 30, 20], 2, None, 5, [true, false], &[30, 20]),
         (&[640, 1280, 640], 2, None, 320, [true, true], &[1280, 640]),
@@ -539,7 +584,7 @@ fn lines_get_their_cross_sizes(rt: HostRuntime) -> Result<(), Fail> {
             &[TOP, 536_870_912],
         ),
     ];
-    for row in &rows {
+    for row in ROWS {
         crosses(&rt, rt.alloc(), row)?;
     }
     Ok(())

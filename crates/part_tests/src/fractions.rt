@@ -5,6 +5,15 @@ ghost use Rattle.std.specs.Prelude.{◌≤ℤ◌, pos};
 use fr_tracks::{FrRow, expand, find_fr};
 use lunit::Lu;
 
+/// The factors of three tracks, where they are flexible.
+type Factors = (Option<u32>, Option<u32>, Option<u32>);
+
+/// Base sizes and factors of three tracks, gutters and a space; the size of an `fr`, as a space over a weight; and the sizes.
+type Row = ([u32; 3], Factors, u32, i64, (i64, u64), [i64; 3]);
+
+/// A factor of 1.
+const ONE: Option<u32> = Some(1000);
+
 #[tactic(auto, using(crate::proofs::Measurable::some_length))]
 /// So many units.
 fn units(number: u32) -> Lu
@@ -31,12 +40,11 @@ fn bases(tracks: &[FrRow; 3]) -> [i64; 3] {
 
 #[test]
 fn fractions_fill_a_space(rt: HostRuntime) {
-    let one = Some(1000);
-    let rows = [
+    static ROWS: &[Row] = &[
         // three equal factors: 6400 over 3000, and floor(6400 / 3) = 2133, 4266 and 6400
         (
             [0, 0, 0],
-            [one, one, one],
+            (ONE, ONE, ONE),
             0,
             6400,
             (6400, 3000),
@@ -45,7 +53,7 @@ fn fractions_fill_a_space(rt: HostRuntime) {
         // half of 6400 is below 5120, which is kept: 1280 is left for the other factor
         (
             [5120, 0, 0],
-            [one, one, None],
+            (ONE, ONE, None),
             0,
             6400,
             (1280, 1000),
@@ -54,7 +62,7 @@ fn fractions_fill_a_space(rt: HostRuntime) {
         // a factor of 0.5 alone takes half
         (
             [0, 0, 0],
-            [Some(500), None, None],
+            (Some(500), None, None),
             0,
             6400,
             (6400, 1000),
@@ -63,7 +71,7 @@ fn fractions_fill_a_space(rt: HostRuntime) {
         // factors that sum to less than 1 leave space: 640 and 1280 of 6400
         (
             [0, 0, 0],
-            [Some(100), Some(200), None],
+            (Some(100), Some(200), None),
             0,
             6400,
             (6400, 1000),
@@ -72,7 +80,7 @@ fn fractions_fill_a_space(rt: HostRuntime) {
         // 900 gives 300 each, below 500; then 400 gives 200 each, below 250; then 150 is left
         (
             [500, 250, 0],
-            [one, one, one],
+            (ONE, ONE, ONE),
             0,
             900,
             (150, 1000),
@@ -81,7 +89,7 @@ fn fractions_fill_a_space(rt: HostRuntime) {
         // a base size that equals its part takes part: 450 of 900
         (
             [450, 0, 0],
-            [one, one, None],
+            (ONE, ONE, None),
             0,
             900,
             (900, 2000),
@@ -90,7 +98,7 @@ fn fractions_fill_a_space(rt: HostRuntime) {
         // and one unit more does not: 449 is left
         (
             [451, 0, 0],
-            [one, one, None],
+            (ONE, ONE, None),
             0,
             900,
             (449, 1000),
@@ -99,7 +107,7 @@ fn fractions_fill_a_space(rt: HostRuntime) {
         // 1000 less the gutters and the other track: 500 for a factor of 2
         (
             [400, 0, 0],
-            [None, Some(2000), None],
+            (None, Some(2000), None),
             100,
             1000,
             (500, 2000),
@@ -108,7 +116,7 @@ fn fractions_fill_a_space(rt: HostRuntime) {
         // by 1, 2 and 1 of 4: 25, 50 and 25
         (
             [0, 0, 0],
-            [one, Some(2000), one],
+            (ONE, Some(2000), ONE),
             0,
             100,
             (100, 4000),
@@ -117,7 +125,7 @@ fn fractions_fill_a_space(rt: HostRuntime) {
         // a factor of 0 gets nothing, and keeps no base size of 0 from it
         (
             [0, 0, 0],
-            [Some(0), one, None],
+            (Some(0), ONE, None),
             0,
             70,
             (70, 1000),
@@ -126,34 +134,38 @@ fn fractions_fill_a_space(rt: HostRuntime) {
         // one with a base size is left out: 70 less 5
         (
             [5, 0, 0],
-            [Some(0), one, None],
+            (Some(0), ONE, None),
             0,
             70,
             (65, 1000),
             [5, 65, 0],
         ),
         // the gutters pass the space
-        ([0, 0, 0], [one, None, None], 300, 100, (0, 1000), [0, 0, 0]),
+        ([0, 0, 0], (ONE, None, None), 300, 100, (0, 1000), [0, 0, 0]),
         // each flexible track falls short: 100 by two is below 70, and then 30 below 60
         (
             [70, 60, 0],
-            [one, one, None],
+            (ONE, ONE, None),
             0,
             100,
             (0, 1000),
             [70, 60, 0],
         ),
         // no flexible track
-        ([7, 8, 9], [None, None, None], 0, 100, (0, 1000), [7, 8, 9]),
+        ([7, 8, 9], (None, None, None), 0, 100, (0, 1000), [7, 8, 9]),
     ];
-    for (sizes, factors, gutters, space, (left, weight), wants) in rows {
+    for row in ROWS {
+        let (sizes, factors, gutters, space, (left, weight), wants) = *row;
         let [first, second, third] = sizes;
-        let [one, two, three] = factors;
+        let (one, two, three) = factors;
         let mut tracks = [track(first, one), track(second, two), track(third, three)];
         let fraction = find_fr(&tracks, units(gutters), Lu::of(space));
-        assert_eq!(rt; fraction.space.units(), left, "space of {space}");
-        assert_eq!(rt; fraction.weight, weight, "weight for {space}");
+        let found = (fraction.space.units(), fraction.weight);
         expand(&mut tracks, fraction);
-        assert_eq!(rt; bases(&tracks), wants, "sizes for {space}");
+        assert_eq!(rt;
+            (found, bases(&tracks)),
+            ((left, weight), wants),
+            "in {space}"
+        );
     }
 }

@@ -8,6 +8,9 @@ use std::process::Abort;
 use std::test::Fail;
 use word_leaf::{height_at, lines_at, narrowest, widest};
 
+/// The greatest length.
+const TOP: i64 = 1 << 30;
+
 /// A row of the table, in units: the words, their space and line height; the narrowest and the widest width; and a width with
 /// the number and the height of the lines at it.
 type Row<'a> = (&'a [u32], [u32; 2], [i64; 2], [i64; 3]);
@@ -52,35 +55,33 @@ fn fixed(width: u32, height: u32) -> Content
     }
 }
 
+/// The narrowest and the widest width, and the number and the height of the lines at a width.
+fn sizes(content: &Content, width: Lu) -> [i64; 4]
+    requires { IsMeasurable content.now }
+{
+    [
+        narrowest(content).units(),
+        widest(content).units(),
+        lines_at(content, width) as i64,
+        height_at(content, width).units(),
+    ]
+}
+
 /// The answers are those of the row.
 fn agrees(rt: &impl Abort, alloc: Global, row: &Row) -> Result<(), NoMemory> {
     let (words, [space, line], [least, most], [width, lines, height]) = *row;
     assert!(rt; words.len() <= 65_536);
     let content = text(alloc, line, space, words)?;
     assert_eq!(rt;
-        narrowest(&content),
-        Lu::of(least),
-        "narrowest of {words:?}"
-    );
-    assert_eq!(rt; widest(&content), Lu::of(most), "widest of {words:?}");
-    let width = Lu::of(width);
-    assert_eq!(rt;
-        lines_at(&content, width) as i64,
-        lines,
-        "lines of {words:?}"
-    );
-    assert_eq!(rt;
-        height_at(&content, width),
-        Lu::of(height),
-        "height of {words:?}"
+        sizes(&content, Lu::of(width)),
+        [least, most, lines, height]
     );
     Ok(())
 }
 
 #[test]
 fn words_have_the_sizes_of_the_table(rt: HostRuntime) -> Result<(), Fail> {
-    let top = 1 << 30;
-    let rows: [Row; 15] = [
+    static ROWS: &[Row] = &[
         // an exact fit, and one unit less
         (&[10, 20], [5, 7], [20, 35], [35, 1, 7]),
         (&[10, 20], [5, 7], [20, 35], [34, 2, 14]),
@@ -96,33 +97,36 @@ fn words_have_the_sizes_of_the_table(rt: HostRuntime) -> Result<(), Fail> {
         (&[0, 0, 0], [1, 20], [0, 2], [0, 3, 60]),
         (&[10, 20], [0, 0], [20, 30], [30, 1, 0]),
         // sizes are limited to 2^30, the width of a line that is compared is not
-        (&[1 << 30, 1], [0, 20], [top, top], [top, 2, 40]),
-        (&[4, 4], [0, (1 << 30) - 1], [4, 8], [7, 2, top]),
-        // four words of 2 with three spaces of 4 fill 20 units
-        (&[2; 10_000], [4, 7], [2, 59_996], [20, 2_500, 17_500]),
-        (&[2; 10_000], [4, 7], [2, 59_996], [19, 3_334, 23_338]),
+        (&[1 << 30, 1], [0, 20], [TOP, TOP], [TOP, 2, 40]),
+        (&[4, 4], [0, (1 << 30) - 1], [4, 8], [7, 2, TOP]),
     ];
-    for row in &rows {
+    for row in ROWS {
         agrees(&rt, rt.alloc(), row)?;
+    }
+    // four words of 2 with three spaces of 4 fill 20 units
+    let many = [2; 10_000];
+    for lines in [[20, 2_500, 17_500], [19, 3_334, 23_338]] {
+        let row: Row = (&many, [4, 7], [2, 59_996], lines);
+        agrees(&rt, rt.alloc(), &row)?;
     }
     Ok(())
 }
 
 #[test]
 fn a_fixed_box_has_its_sides(rt: HostRuntime) -> Result<(), Fail> {
-    let content = fixed(30, 50);
-    assert_eq!(rt; narrowest(&content), Lu::of(30));
-    assert_eq!(rt; widest(&content), Lu::of(30));
-    assert_eq!(rt; lines_at(&content, Lu::of(10)), 0);
-    assert_eq!(rt; height_at(&content, Lu::of(10)), Lu::of(50));
+    assert_eq!(rt; sizes(&fixed(30, 50), Lu::of(10)), [30, 30, 0, 50]);
+    Ok(())
+}
+
+fn is_copied(rt: &impl Abort, alloc: Global, content: &Content) -> Result<(), NoMemory> {
+    assert_eq!(rt; &content.copy(alloc)?, content);
     Ok(())
 }
 
 #[test]
 fn a_copy_is_the_same_content(rt: HostRuntime) -> Result<(), Fail> {
     let words = text(rt.alloc(), 20, 5, &[10, 20])?;
-    assert_eq!(rt; &words.copy(rt.alloc())?, &words);
-    let sized = fixed(30, 50);
-    assert_eq!(rt; &sized.copy(rt.alloc())?, &sized);
+    is_copied(&rt, rt.alloc(), &words)?;
+    is_copied(&rt, rt.alloc(), &fixed(30, 50))?;
     Ok(())
 }

@@ -7,6 +7,9 @@ const TOP: i64 = 1 << 30;
 /// The greatest weight.
 const HEAVY: u32 = 4_294_967_295;
 
+/// The rooms of three rows, where they have an end.
+type Rooms = (Option<i64>, Option<i64>, Option<i64>);
+
 /// A row that came with 9 units.
 fn row(room: Option<i64>) -> Share {
     let room = match room {
@@ -27,61 +30,58 @@ fn got(rows: &[Share; 3]) -> [i64; 3] {
 
 #[test]
 fn shares_in_equal_parts(rt: HostRuntime) {
-    let rows = [
+    static ROWS: &[(i64, Rooms, [i64; 3], i64)] = &[
         // the odd units go to the first rows
-        (6400, [None, None, None], [2134, 2133, 2133], 0),
-        (1, [None, None, None], [1, 0, 0], 0),
-        (2, [None, None, None], [1, 1, 0], 0),
+        (6400, (None, None, None), [2134, 2133, 2133], 0),
+        (1, (None, None, None), [1, 0, 0], 0),
+        (2, (None, None, None), [1, 1, 0], 0),
         (
             TOP,
-            [None, None, None],
+            (None, None, None),
             [357_913_942, 357_913_941, 357_913_941],
             0,
         ),
-        (2, [Some(0), None, None], [0, 1, 1], 0),
-        (4, [None, Some(1), None], [2, 1, 1], 0),
-        (7, [Some(2), Some(3), Some(4)], [2, 3, 2], 0),
-        (99, [Some(50), Some(0), None], [50, 0, 49], 0),
+        (2, (Some(0), None, None), [0, 1, 1], 0),
+        (4, (None, Some(1), None), [2, 1, 1], 0),
+        (7, (Some(2), Some(3), Some(4)), [2, 3, 2], 0),
+        (99, (Some(50), Some(0), None), [50, 0, 49], 0),
         // a full row is passed
-        (5, [Some(1), None, Some(2)], [1, 2, 2], 0),
-        (5, [Some(1), Some(1), None], [1, 1, 3], 0),
-        (8, [Some(2), Some(3), Some(4)], [2, 3, 3], 0),
-        (10, [Some(2), Some(3), None], [2, 3, 5], 0),
-        (101, [Some(50), Some(0), None], [50, 0, 51], 0),
+        (5, (Some(1), None, Some(2)), [1, 2, 2], 0),
+        (5, (Some(1), Some(1), None), [1, 1, 3], 0),
+        (8, (Some(2), Some(3), Some(4)), [2, 3, 3], 0),
+        (10, (Some(2), Some(3), None), [2, 3, 5], 0),
+        (101, (Some(50), Some(0), None), [50, 0, 51], 0),
         (
             1_000_003,
-            [Some(1), None, Some(1000)],
+            (Some(1), None, Some(1000)),
             [1, 999_002, 1000],
             0,
         ),
         // all rows are full
-        (9, [Some(3), Some(3), Some(3)], [3, 3, 3], 0),
-        (10, [Some(3), Some(3), Some(3)], [3, 3, 3], 1),
-        (10, [Some(2), Some(3), Some(4)], [2, 3, 4], 1),
+        (9, (Some(3), Some(3), Some(3)), [3, 3, 3], 0),
+        (10, (Some(3), Some(3), Some(3)), [3, 3, 3], 1),
+        (10, (Some(2), Some(3), Some(4)), [2, 3, 4], 1),
         (
             19_200,
-            [Some(1280), Some(30), Some(0)],
+            (Some(1280), Some(30), Some(0)),
             [1280, 30, 0],
             17_890,
         ),
-        (TOP, [Some(0), Some(TOP), Some(0)], [0, TOP, 0], 0),
+        (TOP, (Some(0), Some(TOP), Some(0)), [0, TOP, 0], 0),
         // no room, and rooms below zero
-        (7, [Some(0), Some(-5), None], [0, 0, 7], 0),
-        (10, [Some(0), Some(-1), Some(-TOP)], [0, 0, 0], 10),
+        (7, (Some(0), Some(-5), None), [0, 0, 7], 0),
+        (10, (Some(0), Some(-1), Some(-TOP)), [0, 0, 0], 10),
         // nothing to share
-        (0, [None, Some(4), None], [0, 0, 0], 0),
-        (-4, [None, Some(5), Some(-5)], [0, 0, 0], -4),
-        (-TOP, [None, None, None], [0, 0, 0], -TOP),
+        (0, (None, Some(4), None), [0, 0, 0], 0),
+        (-4, (None, Some(5), Some(-5)), [0, 0, 0], -4),
+        (-TOP, (None, None, None), [0, 0, 0], -TOP),
     ];
-    for (space, rooms, wants, left) in rows {
-        let [first, second, third] = rooms;
+    for given in ROWS {
+        let (space, rooms, wants, left) = *given;
+        let (first, second, third) = rooms;
         let mut shared = [row(first), row(second), row(third)];
-        assert_eq!(rt;
-            hand_out(Lu::of(space), &mut shared).units(),
-            left,
-            "left of {space}"
-        );
-        assert_eq!(rt; got(&shared), wants, "of {space}");
+        let rest = hand_out(Lu::of(space), &mut shared).units();
+        assert_eq!(rt; (got(&shared), rest), (wants, left), "of {space}");
     }
 }
 
@@ -126,7 +126,7 @@ fn shares_among_many_rows(rt: HostRuntime) {
 
 #[test]
 fn shares_by_weights(rt: HostRuntime) {
-    let rows = [
+    static ROWS: &[(i64, u64, [u32; 3], [i64; 3])] = &[
         // the sums make 2133 1/3, 4266 2/3 and 6400
         (6400, 3000, [1000, 1000, 1000], [2133, 2133, 2134]),
         (6400, 1000, [500, 0, 0], [3200, 0, 0]),
@@ -166,7 +166,8 @@ fn shares_by_weights(rt: HostRuntime) {
         (TOP, u64::MAX, [HEAVY, 0, 0], [0, 0, 0]),
         (-TOP, u64::MAX, [HEAVY, 0, 0], [-1, 0, 0]),
     ];
-    for (space, total, weights, wants) in rows {
+    for given in ROWS {
+        let (space, total, weights, wants) = *given;
         let [first, second, third] = weights;
         assert!(rt; total > 0 && u64::from(first) + u64::from(second) + u64::from(third) <= total);
         let mut parts = [Lu::of(9); 3];

@@ -19,7 +19,7 @@ use std::test::Fail;
 use track_sizing::{Fit, Least, Most, Rule, Space, size_axis};
 
 /// A min or a max function: a length, `auto`, `min-content`, `max-content`, `fit-content`, or a factor in thousandths.
-#[derive(Clone, Copy, Debug)]
+#[derive(Clone, Copy)]
 enum Of {
     Px(u32),
     Auto,
@@ -30,21 +30,21 @@ enum Of {
 }
 
 /// A track by its min and max functions; `Gone` is collapsed.
-#[derive(Clone, Copy, Debug)]
+#[derive(Clone, Copy)]
 enum Track {
     Open(Of, Of),
     Gone(Of, Of),
 }
 
 /// A minimum contribution: a length, or by the automatic minimum with a content size, margins, and borders and paddings.
-#[derive(Clone, Copy, Debug)]
+#[derive(Clone, Copy)]
 enum Smallest {
     Known(i64),
     Content(i64, i64, i64),
 }
 
 /// What tracks are sized for: a definite space, min-content or max-content.
-#[derive(Clone, Copy, Debug)]
+#[derive(Clone, Copy)]
 enum Within {
     Definite(i64),
     Minimal,
@@ -204,6 +204,14 @@ fn space(within: &Within) -> Space<INLINE>
     }
 }
 
+fn units_of(alloc: Global, sizes: &[Lu]) -> Result<Vec<i64>, NoMemory> {
+    let mut all = Vec::new(alloc);
+    for size in sizes {
+        all.push(size.units())?;
+    }
+    Ok(all)
+}
+
 fn sizes<L: Ledger>(
     rt: &impl Abort,
     alloc: Global,
@@ -222,11 +230,7 @@ fn sizes<L: Ledger>(
         stretch,
     };
     let sizes = size_axis(alloc, &rules, FIRST, &items, &fit, passes)?;
-    let mut found = Vec::new(alloc);
-    for size in &sizes {
-        found.push(size.units())?;
-    }
-    assert_eq!(rt; found.as_slice(), wants, "{row:?}");
+    assert_eq!(rt; units_of(alloc, &sizes)?.as_slice(), wants);
     Ok(())
 }
 
@@ -249,7 +253,7 @@ fn size_all<L: Ledger>(
 
 #[test]
 fn tracks_fit_the_items_that_span_them_alone(rt: HostRuntime) -> Result<(), Fail> {
-    let rows: [Sized; 30] = [
+    static ROWS: &[Sized] = &[
         (&[], &[], Maximal, NONE, 0, true, &[]),
         // a fixed track grows to its max function, and an `auto` one takes the rest
         (
@@ -476,13 +480,13 @@ fn tracks_fit_the_items_that_span_them_alone(rt: HostRuntime) -> Result<(), Fail
             &[0, 100],
         ),
     ];
-    size_all::<Brand>(&rt, rt.alloc(), Blank::new(1), &rows)?;
+    size_all::<Brand>(&rt, rt.alloc(), Blank::new(1), ROWS)?;
     Ok(())
 }
 
 #[test]
 fn tracks_fit_items_of_more_tracks(rt: HostRuntime) -> Result<(), Fail> {
-    let rows: [Sized; 29] = [
+    static ROWS: &[Sized] = &[
         // the odd unit goes to the first track
         (
             &[AUTO, AUTO],
@@ -746,13 +750,13 @@ fn tracks_fit_items_of_more_tracks(rt: HostRuntime) -> Result<(), Fail> {
             &[10, 10],
         ),
     ];
-    size_all::<Brand>(&rt, rt.alloc(), Blank::new(1), &rows)?;
+    size_all::<Brand>(&rt, rt.alloc(), Blank::new(1), ROWS)?;
     Ok(())
 }
 
 #[test]
 fn flexible_tracks_are_expanded(rt: HostRuntime) -> Result<(), Fail> {
-    let rows: [Sized; 24] = [
+    static ROWS: &[Sized] = &[
         (
             &[ONE_FR, ONE_FR, ONE_FR],
             &[],
@@ -982,6 +986,6 @@ fn flexible_tracks_are_expanded(rt: HostRuntime) -> Result<(), Fail> {
             &[40, 60],
         ),
     ];
-    size_all::<Brand>(&rt, rt.alloc(), Blank::new(1), &rows)?;
+    size_all::<Brand>(&rt, rt.alloc(), Blank::new(1), ROWS)?;
     Ok(())
 }

@@ -70,22 +70,24 @@ fn steps_are_counted_over_a_blank_book(rt: HostRuntime) {
 /// Each length with its text, and whether the text is what is printed.
 #[test]
 fn numbers_are_read_and_printed(rt: HostRuntime) -> Result<(), Fail> {
-    let rows = [
-        (b"0".as_slice(), 0, true),
-        (b"1.5".as_slice(), 96, true),
-        (b"+1.50".as_slice(), 96, false),
-        (b".5".as_slice(), 32, false),
-        (b"5.".as_slice(), 320, false),
-        (b"-0.015625".as_slice(), -1, true),
-        (b"0.0156249".as_slice(), 0, false),
-        (b"-0.03".as_slice(), -1, false),
-        (b"-0".as_slice(), 0, false),
-        (b"33.328125".as_slice(), 2133, true),
-        (b"-0.5".as_slice(), -32, true),
-        (b"16384".as_slice(), 1_048_576, true),
-        (b"-1048576".as_slice(), -67_108_864, true),
+    static ROWS: &[(&[u8], i32, bool)] = &[
+        (b"0", 0, true),
+        (b"1.5", 96, true),
+        (b"+1.50", 96, false),
+        (b".5", 32, false),
+        (b"5.", 320, false),
+        (b"-0.015625", -1, true),
+        (b"0.0156249", 0, false),
+        (b"-0.03", -1, false),
+        (b"-0", 0, false),
+        (b"33.328125", 2133, true),
+        (b"-0.5", -32, true),
+        (b"16384", 1_048_576, true),
+        (b"-1048576", -67_108_864, true),
     ];
-    for (text, units, is_printed) in rows {
+    for row in ROWS {
+        let (text, units, is_printed) = *row;
+        let units = i64::from(units);
         assert_eq!(rt; Lu::read(text)?.units(), units);
         let mut room = [0; 32];
         let length = px_text(units, &mut room);

@@ -75,14 +75,14 @@ fn sees(rt: &impl Abort, alloc: Global, row: &Seen) -> Result<(), NoMemory> {
     let (edges, gap, [start, end], sizes, wants) = *row;
     assert!(rt; start <= end && usize::from(end) <= edges.len());
     let seen = view(alloc, edges, gap, start, end, sizes)?;
-    assert_eq!(rt; seen.edges.as_slice(), wants, "{edges:?}");
+    assert_eq!(rt; seen.edges.as_slice(), wants);
     assert_eq!(rt; seen.gap, Lu::of(sizes[0]));
     Ok(())
 }
 
 #[test]
 fn subgrids_see_the_tracks_of_their_parent(rt: HostRuntime) -> Result<(), Fail> {
-    let rows: [Seen; 24] = [
+    static ROWS: &[Seen] = &[
         // gutters of 640 and 1280: half of the difference, 320, on each side
         (
             &[(0, 6400), (7040, 13_440)],
@@ -222,7 +222,7 @@ fn subgrids_see_the_tracks_of_their_parent(rt: HostRuntime) -> Result<(), Fail> 
             &[(0, 888_160_255), (954_602_516, TOP)],
         ),
     ];
-    for row in &rows {
+    for row in ROWS {
         sees(&rt, rt.alloc(), row)?;
     }
     Ok(())
@@ -245,7 +245,7 @@ fn chain(alloc: Global, levels: &[([i32; 2], [i64; 4])]) -> Result<Vec<Level>, N
 
 #[test]
 fn items_have_extra_margins_before_them(rt: HostRuntime) -> Result<(), Fail> {
-    let rows: [Margin; 21] = [
+    static ROWS: &[Margin] = &[
         (&[], 3, 0),
         // an inner line: the half after the gutter, of 640, 7, 9 - 2, 1, -1, -7 and 2^30
         (&[([0, 2], [1280, 640, 0, 0])], 1, 320),
@@ -310,16 +310,17 @@ fn items_have_extra_margins_before_them(rt: HostRuntime) -> Result<(), Fail> {
             7 - TOP,
         ),
     ];
-    for (levels, line, want) in rows {
+    for row in ROWS {
+        let (levels, line, want) = *row;
         let all = chain(rt.alloc(), levels)?;
-        assert_eq!(rt; extra_before(&all, line).units(), want, "{levels:?} {line}");
+        assert_eq!(rt; extra_before(&all, line).units(), want, "at line {line}");
     }
     Ok(())
 }
 
 #[test]
 fn items_have_extra_margins_after_them(rt: HostRuntime) -> Result<(), Fail> {
-    let rows: [Margin; 21] = [
+    static ROWS: &[Margin] = &[
         (&[], 1, 0),
         // an inner line: the half before the gutter
         (&[([0, 2], [1280, 640, 0, 0])], 1, 320),
@@ -384,9 +385,10 @@ fn items_have_extra_margins_after_them(rt: HostRuntime) -> Result<(), Fail> {
             7 - TOP,
         ),
     ];
-    for (levels, line, want) in rows {
+    for row in ROWS {
+        let (levels, line, want) = *row;
         let all = chain(rt.alloc(), levels)?;
-        assert_eq!(rt; extra_after(&all, line).units(), want, "{levels:?} {line}");
+        assert_eq!(rt; extra_after(&all, line).units(), want, "at line {line}");
     }
     Ok(())
 }
