@@ -1,18 +1,23 @@
--- The labels of a page's nodes are those that the definitions compute from the declared ones.
-use Rattle.std.proofs.Common.{◌≡◌, ℤ, refl, sym}
-use Rattle.plain_tree.specs.Trees.{leafless, tree, map_trees}
+-- The labels of a page's nodes are those that the definitions compute from the declared ones, and so its boxes are the document's.
+use Rattle.std.proofs.Common.{◌≡◌, ℤ, refl, sym, ap, ◌∙◌, arith}
+use Rattle.std.specs.Prelude.{List, Result, Ok, Err, IfOk}
+use Rattle.plain_tree.specs.Trees.{leafless, tree, count_of, map_trees}
+use Rattle.node_arena.specs.declared.number.NodeId.{NodeId}
 use Rattle.node_arena.specs.Numbers.{mapped}
 use Rattle.style_types.specs.Computed.{font_of}
 use Rattle.tree_rules.specs.declared.kind.NodeKind.{NodeKind}
 use Rattle.tree_rules.specs.declared.kind.NodeKind.TheVariants as kind
+use Rattle.tree_rules.specs.Answers.{Box}
+use Rattle.tree_rules.specs.Boxes.{boxes}
 use Rattle.tree_rules.specs.Documents.{computed_label, computed_trees}
 use Rattle.tree_rules.specs.Labels.{label_of as label_of_rules}
 use Rattle.placing.specs.declared.node.Node.{Node}
-use Rattle.placing.specs.Nodes.{NodeTrees, bare_of, label_in, label_of_bare}
-use Rattle.node_arena.specs.declared.number.NodeId.{NodeId}
-use Rattle.page_tree.specs.Boxes.{declared_of, node_kind_of}
+use Rattle.placing.specs.Nodes.{NodeTrees, bare, bare_of, label_in, label_of_bare}
+use Rattle.box_layout.specs.BoxesSeen.{bare_boxes}
+use Rattle.page_tree.specs.Boxes.{boxes_of, declared_of, node_kind_of}
 use Rattle.page_tree.specs.Documents.{kind_of, label_of, plain_trees}
-use Rattle.page_tree.specs.Fonts.{AreStyled, HasStyle}
+use Rattle.page_tree.specs.Fonts.{AreStyled, HasStyle, IsStyled, root_font}
+use Rattle.page_tree.specs.Pages.{Held, IsPage, document_of}
 
 kind_back : (k : NodeKind) → node_kind_of (kind_of k) ≡ k
 kind_back kind.Grid = refl
@@ -27,3 +32,17 @@ pub trees_computed : (p r : ℤ) (t : NodeTrees) → AreStyled p r t → map_tre
 trees_computed p r leafless h = refl
 trees_computed p r (tree x below after) h =
     λ i. tree (label_computed (font_of p r x.1.declared) r x.0 x.1 h.0 i) (trees_computed (font_of p r x.1.declared) r below h.1.0 i) (trees_computed p r after h.1.1 i)
+
+-- the boxes of the bare tree are those of the document
+pub page_boxes : (h : Held) → IsPage h.nodes.tree → bare_boxes h.width h.height (bare h.nodes.tree) ≡ boxes_of (document_of h)
+unfolding bare
+page_boxes h p = at h.nodes.tree p.rooted p.styled
+  where
+    at : (t : NodeTrees) → count_of t ≡ 1 → IsStyled t → bare_boxes h.width h.height (mapped (λ n v. bare_of v) t) ≡ boxes_of (document_of (record h { nodes = record h.nodes { tree = t } }))
+    at leafless e s = absurd (omega (arith, e))
+    at (tree x below after) e s =
+        λ i. boxes h.width h.height (label_computed (root_font x.1.declared) (root_font x.1.declared) x.0 x.1 s.0 i) (trees_computed (root_font x.1.declared) (root_font x.1.declared) below s.1 i)
+
+pub boxes_told : {E : Type 0} (r : Result (List Box) E) (inside now : Held) → inside ≡ now → bare_boxes inside.width inside.height (bare inside.nodes.tree) ≡ boxes_of (document_of inside) → IfOk r (λ told. told ≡ bare_boxes inside.width inside.height (bare inside.nodes.tree)) → IfOk r (λ told. told ≡ boxes_of (document_of now))
+boxes_told (Ok told) inside now same is e = e ∙ is ∙ ap (λ (h : Held). boxes_of (document_of h)) same
+boxes_told (Err error) inside now same is e = e

@@ -1,6 +1,6 @@
 //! A document as the engine holds it.
 
-ghost use Rattle.std.specs.Prelude.{◌≡◌, false, Ok, Some, IfOk, OnOk, OnErr, IsSome};
+ghost use Rattle.std.specs.Prelude.{◌≡◌, [], false, Ok, Some, IfOk, OnOk, OnErr, IsSome};
 ghost use Rattle.plain_tree.specs.Trees.{leafless, tree};
 ghost use Rattle.node_arena.specs.Faults.{is_top};
 ghost use Rattle.node_arena.specs.Numbers.{part_at};
@@ -10,7 +10,13 @@ ghost use Rattle.doc_text.specs.Growth.{holds};
 ghost use Rattle.doc_text.specs.Label.{Label};
 ghost use Rattle.doc_text.specs.Named.{inserted, moved, relabelled, removed, IsDistinct};
 ghost use Rattle.doc_text.specs.View.{label_of};
+ghost use Rattle.box_layout.specs.BoxesSeen.{AreNear};
+ghost use Rattle.box_layout.specs.Paths.{IsAllKept, IsAsked, IsCutShort, IsPathKept};
+ghost use Rattle.doc_text.specs.Valid.{IsValid};
+ghost use Rattle.placing.specs.Walks.{state, Walk};
 ghost use Rattle.placing.specs.Keeping.{KeepsNone};
+ghost use Rattle.placing.specs.Nodes.{bare};
+ghost use Rattle.page_tree.specs.Boxes.{boxes_of};
 ghost use Rattle.placing.specs.Kept.{IsRight};
 ghost use Rattle.page_tree.specs.Documents.{kind_of, Becomes};
 ghost use Rattle.page_tree.specs.Filled.{filled, AreNew};
@@ -19,15 +25,18 @@ ghost use Rattle.page_tree.specs.Pages.{document_of, trees_in, IsAround, IsRoot,
 ghost use Rattle.page_tree.specs.Registers.{Finds};
 
 use crate::font::{font_at, font_of_root, root_font};
+use crate::laws::valid_documents_are_readable;
 use crate::node::{made, node_kind};
 use crate::register::Register;
 use crate::restyle::{fonts_with, styles_below, styles_under};
 use doc_text::{Doc, MAX_CHILDREN, Plain, node_limit};
-use lunit::{Copied, Lu, Name, NoMemory};
+use lunit::{Copied, Lu, Name, NoMemory, Rect, Sequence, Steps};
 use node_arena::{Arena, NodeId};
+use outside::{Ruler, Tally};
 use placing::{Node, NodeKind};
 use std::alloc::Global;
 use std::marker::Model;
+use std::sync::ledger::Ledger;
 use style_types::Declared;
 
 /// A document in the form that edits and layouts work on: its nodes in an arena, found by their names, each with its
@@ -201,6 +210,34 @@ impl Page {
         self.nodes.move_to(id, to, index)?;
         self.nodes.restyle(styles);
         Ok(())
+    }
+
+    /// The boxes of the document in its viewport, each with the name of its node, in document order, in units of 1/64 px (CSS
+    /// Grid 2, section 6; CSS Flexbox 1, section 9). Kept answers are taken, and what is found is kept; each of both is right.
+    ///
+    /// `NoMemory` where memory is wanting; what was kept by then is right, and the document is the same.
+    pub fn lay_out<R: Ruler, L: Ledger>(
+        &mut self,
+        ruler: &mut R,
+        tally: &mut Tally,
+        passes: &mut Steps<L>,
+    ) -> Result<Sequence<(Name, Rect)>, NoMemory>
+        requires valid { IsValid (document_of self.old) }
+        requires right { IsRight self.old.nodes.tree }
+        ensures boxes { IfOk result (λ told. told ≡ boxes_of (document_of self.old)) }
+        ensures near { IfOk result AreNear }
+        ensures document { document_of self.new ≡ document_of self.old }
+        ensures bare { bare self.new.nodes.tree ≡ bare self.old.nodes.tree }
+        ensures right { IsRight self.new.nodes.tree }
+        ensures laid { OnOk result (Walk (IsAsked (bare self.old.nodes.tree) self.old.width self.old.height) 0 [] (state self.old.nodes tally.old passes.old (R.log ruler.old)) (state self.new.nodes tally.new passes.new (R.log ruler.new))) }
+        ensures cut { OnErr result (IsCutShort (bare self.old.nodes.tree) self.old.width self.old.height (state self.old.nodes tally.old passes.old (R.log ruler.old)) (state self.new.nodes tally.new passes.new (R.log ruler.new))) }
+        ensures paths { OnOk result (IsPathKept (bare self.old.nodes.tree) self.old.width self.old.height (state self.new.nodes tally.new passes.new (R.log ruler.new))) }
+        ensures quiet { IsAllKept (bare self.old.nodes.tree) self.old.width self.old.height (state self.old.nodes tally.old passes.old (R.log ruler.old)) → state self.new.nodes tally.new passes.new (R.log ruler.new) ≡ state self.old.nodes tally.old passes.old (R.log ruler.old) }
+    {
+        let _ = self.stands();
+        valid_documents_are_readable(self);
+        self.nodes
+            .lay_out(self.alloc, self.width, self.height, ruler, tally, passes)
     }
 
     /// No node keeps an answer. Takes no memory.

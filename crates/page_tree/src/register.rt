@@ -1,6 +1,6 @@
 //! The arena of the nodes, with their numbers by name.
 
-ghost use Rattle.std.specs.Prelude.{◌≡◌, ◌≤◌, ◌<◌, ◌+◌, ◌^◌, false, IfOk, OnErr, OnOk, IsSome, None};
+ghost use Rattle.std.specs.Prelude.{◌≡◌, ◌≤◌, ◌<◌, ◌+◌, ◌^◌, [], false, IfOk, OnErr, OnOk, IsSome, None};
 ghost use Rattle.std.specs.BTreeMap.{values};
 ghost use Rattle.layout_cache.specs.Reach.{all_forgot};
 ghost use Rattle.node_arena.specs.Numbers.{part_at, times};
@@ -9,6 +9,11 @@ ghost use Rattle.node_arena.specs.Plain.{first_node, with_node, with_move, with_
 ghost use Rattle.node_arena.specs.Edits.{removed};
 ghost use Rattle.doc_text.specs.Growth.{holds};
 ghost use Rattle.placing.specs.Keeping.{without_answers, KeepsNone};
+ghost use Rattle.box_layout.specs.BoxesSeen.{bare_boxes, AreNear};
+ghost use Rattle.box_layout.specs.Paths.{IsAllKept, IsAsked, IsCutShort, IsPathKept};
+ghost use Rattle.placing.specs.Ranges.{AreReadable};
+ghost use Rattle.placing.specs.Walks.{state, Walk};
+ghost use Rattle.placing.specs.Kept.{IsRight};
 ghost use Rattle.placing.specs.Nodes.{bare};
 ghost use Rattle.page_tree.specs.Documents.{plain_trees};
 ghost use Rattle.page_tree.specs.Registers.{Finds, HasName};
@@ -16,13 +21,16 @@ ghost use Rattle.page_tree.specs.Restyled.{with_styles};
 
 use crate::children::take_names;
 use crate::restyle::write_all;
+use box_layout::walk_boxes;
 use layout_cache::Linked;
-use lunit::{Name, NoMemory, Sequence};
+use lunit::{Lu, Name, NoMemory, Rect, Sequence, Steps};
 use node_arena::{Arena, NodeId};
+use outside::{Ruler, Tally};
 use placing::Node;
 use std::alloc::Global;
 use std::collections::BTreeMap;
 use std::marker::Model;
+use std::sync::ledger::Ledger;
 use style_types::Style;
 
 /// The nodes of a document in their arena, each found by its name. Contracts see the arena.
@@ -156,6 +164,30 @@ impl Register {
             Ok(()) => Ok(()),
             Err(_) => Err(NoMemory),
         }
+    }
+
+    /// The boxes of all nodes in a viewport of this size, in document order. What is kept is taken, and what is found is kept.
+    pub(crate) fn lay_out<R: Ruler, L: Ledger>(
+        &mut self,
+        alloc: Global,
+        width: Lu,
+        height: Lu,
+        ruler: &mut R,
+        tally: &mut Tally,
+        passes: &mut Steps<L>,
+    ) -> Result<Sequence<(Name, Rect)>, NoMemory>
+        requires right { IsRight self.old.tree }
+        requires readable { AreReadable (bare self.old.tree) }
+        ensures value { IfOk result (λ told. told ≡ bare_boxes width height (bare self.old.tree)) }
+        ensures near { IfOk result AreNear }
+        ensures bare { bare self.new.tree ≡ bare self.old.tree }
+        ensures right { IsRight self.new.tree }
+        ensures laid { OnOk result (Walk (IsAsked (bare self.old.tree) width height) 0 [] (state self.old tally.old passes.old (R.log ruler.old)) (state self.new tally.new passes.new (R.log ruler.new))) }
+        ensures cut { OnErr result (IsCutShort (bare self.old.tree) width height (state self.old tally.old passes.old (R.log ruler.old)) (state self.new tally.new passes.new (R.log ruler.new))) }
+        ensures paths { OnOk result (IsPathKept (bare self.old.tree) width height (state self.new tally.new passes.new (R.log ruler.new))) }
+        ensures quiet { IsAllKept (bare self.old.tree) width height (state self.old tally.old passes.old (R.log ruler.old)) → state self.new tally.new passes.new (R.log ruler.new) ≡ state self.old tally.old passes.old (R.log ruler.old) }
+    {
+        walk_boxes(alloc, &mut self.tree, width, height, ruler, tally, passes)
     }
 
     /// No node keeps an answer. Takes no memory.

@@ -1,0 +1,31 @@
+use Rattle.std.specs.Prelude.{OnOk}
+use Rattle.placing.specs.Walks.{state}
+use Rattle.box_layout.specs.Paths.{IsPathKept}
+use Rattle.std.proofs.Common.{ap, sym, subst, ◌∙◌}
+use Rattle.placing.specs.Nodes.{bare}
+use Rattle.placing.specs.Ranges.{AreReadable}
+use Rattle.page_tree.specs.Pages.{Held}
+use Rattle.page_tree.specs.Pages.{document_of, plain_root}
+use Rattle.page_tree.proofs.Bares.{same_page, same_plain}
+use Rattle.page_tree.proofs.Laying.{boxes_told, page_boxes}
+use Rattle.page_tree.proofs.page.Page.lay_out.Goals as goal
+
+pub invariant_of-self : goal.invariant_of-self
+invariant_of-self g c = same_page _ c.self.inside.nodes.tree c.lay_out.ensures.bare c.self.invariant
+
+pub returns-clause-document : goal.returns-clause-document
+returns-clause-document g c =
+    (λ i. record { version = c.self.inside.version; width = c.self.inside.width; height = c.self.inside.height; root = plain_root (same_plain c.lay_out.new.self.tree c.self.inside.nodes.tree c.lay_out.ensures.bare i) })
+    ∙ ap document_of c.self.view_is
+
+pub lay_out-requires-clause-readable : goal.lay_out-requires-clause-readable
+lay_out-requires-clause-readable g c = subst (λ (h : Held). AreReadable (bare h.nodes.tree)) (sym c.self.view_is) (c.valid_documents_are_readable.ensures c.requires.valid)
+
+pub returns-clause-boxes : goal.returns-clause-boxes
+returns-clause-boxes g c =
+    let held : Held = record { version = c.self.inside.version; width = c.self.inside.width; height = c.self.inside.height; nodes = c.self.inside.nodes } in
+    boxes_told c.lay_out.result held c.args.self.now c.self.view_is (page_boxes held c.self.invariant) c.lay_out.ensures.value
+
+pub returns-clause-paths : goal.returns-clause-paths
+returns-clause-paths g c =
+    subst (λ (h : Held). OnOk c.lay_out.result (IsPathKept (bare h.nodes.tree) h.width h.height (state c.lay_out.new.self c.lay_out.new.tally c.lay_out.new.passes (g.R.Ruler.log c.lay_out.new.ruler)))) c.self.view_is c.lay_out.ensures.paths
