@@ -5,9 +5,11 @@ use Rattle.text_scan.specs.declared.line.Line.{Line}
 use Rattle.outside.specs.Told.{Adds, AddsPrefix}
 use Rattle.outside.specs.declared.event.Event.{Event}
 use Rattle.outside.proofs.Laws.{adds_more}
-use Rattle.session.specs.Script.{has_end}
-use Rattle.session.specs.Outcome.{output_of, log_of}
-use Rattle.session.specs.Runs.{AddsFrom, due_output, due_log, WritesFrom, WritesPrefix}
+use Rattle.session.specs.Script.{has_end, texts, all_made}
+use Rattle.session.specs.Outcome.{output_of}
+use Rattle.session.specs.Logs.{LogsFrom}
+use Rattle.session.specs.Runs.{AddsFrom, due_made, due_output, WritesFrom, WritesPrefix}
+use Rattle.session.proofs.Logs.{from_front, front_from}
 
 -- all of a part, and a prefix of the next
 pub from_after : {A : Type 0} (a b c : Option (List A)) (xs ys whole : List A) → Adds a b xs → AddsPrefix b c ys → whole ≡ xs ++ ys → AddsFrom a c xs whole
@@ -29,27 +31,27 @@ module _ (w w' : Option (List ℕ)) (l l' : Option (List Event)) (earlier given 
   -- all output of the earlier lines was written, and a prefix of what comes behind it
   pub record WritesBehind : Type 0 where
     pub written : AddsFrom w w' (output_of earlier) (output_of given)
-    pub log : AddsFrom l l' (log_of earlier) (log_of given)
+    pub log : LogsFrom l l' (all_made earlier) (all_made given)
 
   -- all of it is due where they hold the whole document
   pub all_due : has_end earlier ≡ true → WritesBehind → WritesFrom w w' l l' earlier given
   all_due e p =
       record {
-        written = subst (λ (b : Bool). AddsFrom w w' (if b then output_of earlier else []) (output_of given)) (sym e) p.written;
-        log = subst (λ (b : Bool). AddsFrom l l' (if b then log_of earlier else []) (log_of given)) (sym e) p.log;
+        written = subst (λ (b : Bool). AddsFrom w w' (texts 0 (if b then all_made earlier else [])) (output_of given)) (sym e) p.written;
+        log = subst (λ (b : Bool). LogsFrom l l' (if b then all_made earlier else []) (all_made given)) (sym e) p.log;
       }
 
   -- nothing is due where they don't
   pub none_due : has_end earlier ≡ false → WritesPrefix w w' l l' given → WritesFrom w w' l l' earlier given
   none_due e p =
       record {
-        written = subst (λ (b : Bool). AddsFrom w w' (if b then output_of earlier else []) (output_of given)) (sym e) (from_prefix w w' (output_of given) p.written);
-        log = subst (λ (b : Bool). AddsFrom l l' (if b then log_of earlier else []) (log_of given)) (sym e) (from_prefix l l' (log_of given) p.log);
+        written = subst (λ (b : Bool). AddsFrom w w' (texts 0 (if b then all_made earlier else [])) (output_of given)) (sym e) (from_prefix w w' (output_of given) p.written);
+        log = subst (λ (b : Bool). LogsFrom l l' (if b then all_made earlier else []) (all_made given)) (sym e) (from_front l l' (all_made given) p.log);
       }
 
   pub prefix_due : WritesFrom w w' l l' earlier given → WritesPrefix w w' l l' given
   prefix_due p =
       record {
         written = prefix_from w w' (due_output earlier) (output_of given) p.written;
-        log = prefix_from l l' (due_log earlier) (log_of given) p.log;
+        log = front_from l l' (due_made earlier) (all_made given) p.log;
       }

@@ -7,25 +7,25 @@ use Rattle.outside.specs.declared.event.Event.{Event}
 use Rattle.outside.proofs.Laws.{all_but_start, all_but_stays, prefix_all_but, prefix_all, prefix_longer}
 use Rattle.text_scan.specs.declared.line.Line.{Line}
 use Rattle.text_scan.specs.Lines.{lines_of, whole_lines}
-use Rattle.first_form.specs.declared.document.Doc.{Doc}
-use Rattle.first_form.specs.Gives.{not_built}
-use Rattle.session.specs.Input.{limit, IsReadToEnd, IsFront}
+use Rattle.doc_text.specs.declared.document.Doc.{Doc}
 use Rattle.session.specs.Boxes.{boxes_of}
+use Rattle.session.specs.Input.{limit, IsReadToEnd, IsFront}
 use Rattle.session.specs.Printing.{print}
-use Rattle.session.specs.Script.{has_end, before_end, after_end, document_of_lines, made_in, made_from, all_made, text_of, texts}
+use Rattle.session.specs.Script.{has_end, before_end, after_end, document_of_lines, made_in, made_from, all_made, text_of, texts, is_refused}
 use Rattle.session.specs.Outcome.{output_of, answer_of, document_in, out, verdict, early_lines, IsEarlyFault}
 use Rattle.session.specs.Runs.{WritesAll, Stands, IsWhole, IsEnded, EndsAll, EndsBad, EndsEarly, Judged, Runs, Permits, PermitsOver, IsComplete, IsOverComplete, IsHeadline}
 use Rattle.session.specs.declared.status.Status.{Status}
 use Rattle.session.specs.declared.status.Status.TheVariants.{Done, BadDocument, SomeRefused, ReadFault, WriteFault, NoMemory, InputLimit, BadWords}
 use Rattle.session.proofs.Due.{prefix_due}
-use Rattle.session.proofs.Scripts.{Made, MadeMore, has_more, before_more, after_more, made_more, texts_more}
+use Rattle.session.proofs.Logs.{Made}
+use Rattle.session.proofs.Scripts.{MadeMore, has_more, before_more, after_more, made_more, texts_more}
 
 -- ---- the first lines of an input and all of them
 
 -- what more lines make comes behind
-from_more : (form : Option Doc) (script rest : List Line) → (more : List Made) × (made_from form (script ++ rest) ≡ made_from form script ++ more)
-from_more None script rest = ([], refl)
-from_more (Some doc) script rest = some_more (made_more doc script rest)
+from_more : (form : Made) (script rest : List Line) → (more : List Made) × (made_from form (script ++ rest) ≡ made_from form script ++ more)
+from_more (Err fault) script rest = ([], refl)
+from_more (Ok doc) script rest = some_more (made_more doc script rest)
   where
     some_more : MadeMore doc script rest → (more : List Made) × (Ok doc ∷ made_in doc (script ++ rest) ≡ (Ok doc ∷ made_in doc script) ++ more)
     some_more m = (m.0, ap (λ (l : List Made). Ok doc ∷ l) m.1)
@@ -45,11 +45,23 @@ prefix_front w w' given all e f p = with_more (all_more given f.rest e)
         prefix_longer w w' (output_of given) (texts (0 + length (all_made given)) m.0) (output_of all) p
         (ap output_of (sym f.parts) ∙ ap (texts 0) m.1 ∙ texts_more 0 (all_made given) m.0)
 
-bad_front : (given all : List Line) → has_end given ≡ true → IsFront given all → document_of_lines (before_end given) ≡ None → document_of_lines (before_end all) ≡ None
-bad_front given all e f n = ap (λ (l : List Line). document_of_lines (before_end l)) (sym f.parts) ∙ ap document_of_lines (before_more given f.rest e) ∙ n
+-- the document that was read
+abbrev read_of : List Line → Made
+read_of lines = document_of_lines (before_end lines)
 
-bad_made : (given : List Line) → document_of_lines (before_end given) ≡ None → all_made given ≡ Err not_built ∷ []
-bad_made given n = ap (λ (form : Option Doc). made_from form (after_end given)) n
+same_front : (given all : List Line) → has_end given ≡ true → IsFront given all → read_of all ≡ read_of given
+same_front given all e f = ap read_of (sym f.parts) ∙ ap document_of_lines (before_more given f.rest e)
+
+bad_made : (given : List Line) → is_refused (read_of given) ≡ true → all_made given ≡ read_of given ∷ []
+bad_made given n = bad_from (read_of given) n
+  where
+    bad_from : (made : Made) → is_refused made ≡ true → made_from made (after_end given) ≡ made ∷ []
+    bad_from (Ok doc) n = absurd (false≢true n)
+    bad_from (Err fault) n = refl
+
+bad_answer : (made : Made) (script : List Line) → is_refused made ≡ true → BadDocument ≡ answer_of made script
+bad_answer (Ok doc) script n = absurd (false≢true n)
+bad_answer (Err fault) script n = refl
 
 take_short : (n : ℕ) (xs ys : List ℕ) → n ≤ length xs → take n (xs ++ ys) ≡ take n xs
 take_short zero xs ys h = refl
@@ -88,16 +100,19 @@ module _ (told : List ℕ) (left' w w' : Option (List ℕ)) (l l' : Option (List
   all_out : (taken : List ℕ) (given : List Line) → IsWhole (Some told) left' taken given → WritesAll w w' l l' given → Adds w w' (out told)
   all_out taken given i a = subst (λ (x : List Line). Adds w w' (output_of x)) (lines_are taken given i) a.written
 
-  bad_is : (taken : List ℕ) (given : List Line) → IsFront given (lines_of told) → EndsBad (Some told) left' w w' l l' taken given → document_of_lines (before_end (lines_of told)) ≡ None
-  bad_is taken given f p = by_input p.input
+  same_read : (taken : List ℕ) (given : List Line) → IsFront given (lines_of told) → EndsBad (Some told) left' w w' l l' taken given → read_of (lines_of told) ≡ read_of given
+  same_read taken given f p = by_input p.input
     where
-      by_input : IsEnded (Some told) left' taken given → document_of_lines (before_end (lines_of told)) ≡ None
-      by_input (inl e) = bad_front given (lines_of told) e.0 f p.answer
-      by_input (inr i) = ap (λ (x : List Line). document_of_lines (before_end x)) (sym (lines_are taken given i)) ∙ p.answer
+      by_input : IsEnded (Some told) left' taken given → read_of (lines_of told) ≡ read_of given
+      by_input (inl e) = same_front given (lines_of told) e.0 f
+      by_input (inr i) = ap read_of (sym (lines_are taken given i))
+
+  bad_is : (taken : List ℕ) (given : List Line) → IsFront given (lines_of told) → EndsBad (Some told) left' w w' l l' taken given → is_refused (read_of (lines_of told)) ≡ true
+  bad_is taken given f p = ap is_refused (same_read taken given f p) ∙ p.answer
 
   bad_out : (taken : List ℕ) (given : List Line) → IsFront given (lines_of told) → EndsBad (Some told) left' w w' l l' taken given → Adds w w' (out told)
   bad_out taken given f p =
-      subst (λ (m : List Made). Adds w w' (texts 0 m)) (bad_made given p.answer ∙ sym (bad_made (lines_of told) (bad_is taken given f p))) p.output.written
+      subst (λ (m : List Made). Adds w w' (texts 0 m)) (bad_made given p.answer ∙ ap (λ (m : Made). m ∷ []) (sym (same_read taken given f p)) ∙ sym (bad_made (lines_of told) (bad_is taken given f p))) p.output.written
 
   part_out : (taken : List ℕ) (given : List Line) → IsFront given (lines_of told) → EndsEarly (Some told) left' w w' l l' taken given → AddsPrefix w w' (out told)
   part_out taken given f p = by_input p.input
@@ -127,7 +142,7 @@ module _ (told : List ℕ) (left' w w' : Option (List ℕ)) (l l' : Option (List
       (sym p.answer ∙ ap (λ (x : List Line). answer_of (document_of_lines (before_end x)) (after_end x)) (lines_are taken given p.input), all_out taken given p.input p.output)
 
   bad_verdict : (taken : List ℕ) (given : List Line) → IsFront given (lines_of told) → EndsBad (Some told) left' w w' l l' taken given → (BadDocument ≡ verdict told) × Adds w w' (out told)
-  bad_verdict taken given f p = (sym (ap (λ (form : Option Doc). answer_of form (after_end (lines_of told))) (bad_is taken given f p)), bad_out taken given f p)
+  bad_verdict taken given f p = (bad_answer (read_of (lines_of told)) (after_end (lines_of told)) (bad_is taken given f p), bad_out taken given f p)
 
   permitted : (status : Status) (taken : List ℕ) (given : List Line) → Loses (Some told) left' taken → IsFront given (lines_of told) → length told ≤ limit → Judged (Some told) left' w w' l l' taken given status
       → Permits w w' told status
@@ -144,7 +159,7 @@ module _ (told : List ℕ) (left' w w' : Option (List ℕ)) (l l' : Option (List
   early_fault taken given many p = by_input p.input
     where
       with_front : has_end given ≡ true → IsFront given (early_lines told) → IsEarlyFault (early_lines told)
-      with_front e f = (ap has_end (sym f.parts) ∙ has_more given f.rest e, bad_front given (early_lines told) e f p.answer)
+      with_front e f = (ap has_end (sym f.parts) ∙ has_more given f.rest e, ap is_refused (same_front given (early_lines told) e f) ∙ p.answer)
 
       by_input : IsEnded (Some told) left' taken given → IsEarlyFault (early_lines told)
       by_input (inl e) = with_front e.0 (e.1 many)
@@ -152,7 +167,7 @@ module _ (told : List ℕ) (left' w w' : Option (List ℕ)) (l l' : Option (List
 
   no_early_fault : (given : List Line) → given ≡ early_lines told → Stands w w' l l' given → ¬ IsEarlyFault (early_lines told)
   no_early_fault given g (inl s) fault = absurd (false≢true (sym s.0 ∙ ap has_end g ∙ fault.0))
-  no_early_fault given g (inr s) fault = absurd (s.1 (ap (λ (x : List Line). document_of_lines (before_end x)) g ∙ fault.1))
+  no_early_fault given g (inr s) fault = absurd (false≢true (sym s.1 ∙ ap (λ (x : List Line). is_refused (read_of x)) g ∙ fault.1))
 
   permitted_over : (status : Status) (taken : List ℕ) (given : List Line) → Loses (Some told) left' taken → IsFront given (lines_of told) → limit < length told → Judged (Some told) left' w w' l l' taken given status
       → PermitsOver w w' told status
@@ -214,15 +229,15 @@ over_complete (Some told) w w' s s' k k' status p read write = λ many no_read n
     by_status InputLimit p no_read no_write = inr (inl (refl, p))
     by_status BadWords p no_read no_write = absurd p
 
-out_is : (told : List ℕ) (doc : Doc) → document_in told ≡ Some doc → out told ≡ print 0 (boxes_of doc) ++ texts 1 (made_in doc (after_end (lines_of told)))
+out_is : (told : List ℕ) (doc : Doc) → document_in told ≡ Ok doc → out told ≡ print 0 (boxes_of doc) ++ texts 1 (made_in doc (after_end (lines_of told)))
 unfolding text_of
-out_is told doc is = ap (λ (form : Option Doc). texts 0 (made_from form (after_end (lines_of told)))) is
+out_is told doc is = ap (λ (made : Made). texts 0 (made_from made (after_end (lines_of told)))) is
 
 pub headline : (left w w' : Option (List ℕ)) (s s' k k' : ℕ) (status : Status) → IsComplete left w w' s s' k k' status → IsHeadline left w w' s s' k k' status
 headline None w w' s s' k k' status p = tt
 headline (Some told) w w' s s' k k' status p = λ few doc is no_read no_write memory. by_cases doc is memory (p few no_read no_write)
   where
-    by_cases : (doc : Doc) → document_in told ≡ Some doc → status ≢ NoMemory → (status ≡ NoMemory) ⊎ ((status ≡ verdict told) × Adds w w' (out told))
+    by_cases : (doc : Doc) → document_in told ≡ Ok doc → status ≢ NoMemory → (status ≡ NoMemory) ⊎ ((status ≡ verdict told) × Adds w w' (out told))
         → Adds w w' (print 0 (boxes_of doc) ++ texts 1 (made_in doc (after_end (lines_of told))))
     by_cases doc is memory (inl e) = absurd (memory e)
     by_cases doc is memory (inr h) = subst (λ (x : List ℕ). Adds w w' x) (out_is told doc is) h.1

@@ -1,8 +1,13 @@
-pub mod Added
-pub mod Bounded
+pub mod Options
 pub mod Pieces
-pub mod Leaves
-pub mod Edited
+pub mod Logs
+pub mod Measured
+pub mod Lain
+pub mod Laid
+pub mod Fronts
+pub mod Sound
+pub mod ToldEdits
+pub mod Validity
 pub mod EditLines
 pub mod Scripts
 pub mod Due

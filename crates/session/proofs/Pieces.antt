@@ -9,7 +9,7 @@ use Rattle.text_scan.specs.Lines.{lines_of, lines_from, has_line_feed, whole_lin
 use Rattle.text_scan.specs.Stream.{Stream, empty_stream, is_line_due, next_line, after_next, lines_ahead, HasRead}
 use Rattle.text_scan.proofs.Reading.{read_start, read_whole, next_ahead, takes_next, drained}
 use Rattle.session.specs.Input.{limit, IsReadToEnd, IsFront, AreFirst, HasGiven, HasGivenLine, HasGivenAll, Stops, MeetsPiece, TakesPiece, StopsAtPiece}
-use Rattle.session.proofs.Bounded.{none_is_no, some_same}
+use Rattle.session.proofs.Options.{none_is_no, some_same}
 use Rattle.std.proofs.lemmas.List.{length-take}
 use Rattle.session.specs.declared.status.Status.{Status}
 use Rattle.session.specs.declared.status.Status.TheVariants.{Done, BadDocument, SomeRefused, ReadFault, WriteFault, NoMemory, InputLimit, BadWords}

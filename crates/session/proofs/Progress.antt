@@ -1,18 +1,21 @@
 -- The lines of the script, one after another.
-use Rattle.std.proofs.Common.{◌≡◌, ap, sym, subst, ◌∙◌, ℕ, ◌+◌, ◌||◌, Bool, true, false, List, [], ◌∷◌, ◌++◌, length, Option, Some, Ok, append-nil, arith, length-append}
+use Rattle.std.proofs.Common.{◌≡◌, ap, sym, subst, ◌∙◌, ℕ, ◌+◌, ◌||◌, Bool, true, false, List, [], ◌∷◌, ◌++◌, length, Option, Result, Ok, append-nil, arith, length-append}
 use Rattle.std.specs.Prelude.{if◌then◌else◌}
+use Rattle.text_scan.specs.declared.line.Fault.{Fault}
 use Rattle.text_scan.specs.declared.line.Line.{Line}
 use Rattle.text_scan.specs.Tokens.{is_skipped}
 use Rattle.outside.specs.Told.{Adds}
 use Rattle.outside.specs.declared.event.Event.{Event}
 use Rattle.outside.proofs.Laws.{adds_more}
-use Rattle.first_form.specs.declared.document.Doc.{Doc}
+use Rattle.doc_text.specs.declared.document.Doc.{Doc}
+use Rattle.session.specs.Logs.{Logs, LogsFront, LogsFrom}
 use Rattle.session.specs.Runs.{WritesAll, WritesFrom}
-use Rattle.session.specs.Script.{before_end, after_end, document_of_lines, made_of, made_in, made_from, next_doc, all_made, texts, text_of, events, events_of, is_refused, some_refused}
-use Rattle.session.specs.Outcome.{output_of, log_of}
+use Rattle.session.specs.Script.{before_end, after_end, document_of_lines, made_of, made_in, made_from, next_doc, all_made, texts, text_of, is_refused, some_refused}
+use Rattle.session.specs.Outcome.{output_of}
 use Rattle.session.specs.Serving.{Answers, AnswersPrefix, last_doc, IsLaid, HasAnswered}
 use Rattle.session.proofs.Due.{from_after, all_due}
-use Rattle.session.proofs.Scripts.{Made, one_made, has_more, before_more, after_more, made_push, texts_more, events_more, refused_push, last_push}
+use Rattle.session.proofs.Logs.{Made, logs_more, from_more}
+use Rattle.session.proofs.Scripts.{one_made, has_more, before_more, after_more, made_push, texts_more, refused_push, last_push}
 
 -- ---- what is made of one line more
 
@@ -23,7 +26,7 @@ edit_one : (doc : Doc) (line : Line) → is_skipped line ≡ false → one_made 
 edit_one doc line e = ap (λ (b : Bool). if b then [] else made_of doc line ∷ []) e
 
 module _ (given : List Line) (doc : Doc) (k : ℕ) (bad : Bool) (p : IsLaid given doc k bad) (line : Line) where
-  document_push : document_of_lines (before_end (given ++ line ∷ [])) ≡ Some p.first
+  document_push : document_of_lines (before_end (given ++ line ∷ [])) ≡ Ok p.first
   document_push = ap document_of_lines (before_more given (line ∷ []) p.ended) ∙ p.read
 
   script_push : made_in p.first (after_end (given ++ line ∷ [])) ≡ made_in p.first (after_end given) ++ one_made doc line
@@ -33,11 +36,11 @@ module _ (given : List Line) (doc : Doc) (k : ℕ) (bad : Bool) (p : IsLaid give
       ∙ ap (λ (d : Doc). made_in p.first (after_end given) ++ one_made d line) (sym p.now)
 
   all_given : all_made given ≡ Ok p.first ∷ made_in p.first (after_end given)
-  all_given = ap (λ (o : Option Doc). made_from o (after_end given)) p.read
+  all_given = ap (λ (o : Result Doc Fault). made_from o (after_end given)) p.read
 
   all_push : all_made (given ++ line ∷ []) ≡ all_made given ++ one_made doc line
   all_push =
-      ap (λ (o : Option Doc). made_from o (after_end (given ++ line ∷ []))) document_push
+      ap (λ (o : Result Doc Fault). made_from o (after_end (given ++ line ∷ []))) document_push
       ∙ ap (λ (m : List Made). Ok p.first ∷ m) script_push
       ∙ ap (λ (m : List Made). m ++ one_made doc line) (sym all_given)
 
@@ -47,11 +50,9 @@ module _ (given : List Line) (doc : Doc) (k : ℕ) (bad : Bool) (p : IsLaid give
       ∙ texts_more 0 (all_made given) (one_made doc line)
       ∙ ap (λ (n : ℕ). output_of given ++ texts n (one_made doc line)) (omega (arith, p.count))
 
-  log_push : log_of (given ++ line ∷ []) ≡ log_of given ++ events k (one_made doc line)
-  log_push =
-      ap (events 0) all_push
-      ∙ events_more 0 (all_made given) (one_made doc line)
-      ∙ ap (λ (n : ℕ). log_of given ++ events n (one_made doc line)) (omega (arith, p.count))
+  -- the number of what is made next
+  next_number : k ≡ 0 + length (all_made given)
+  next_number = omega (arith, p.count)
 
   long : length (given ++ line ∷ []) ≡ length given + 1
   long = length-append given (line ∷ [])
@@ -94,20 +95,20 @@ module _ (given : List Line) (doc : Doc) (k : ℕ) (bad : Bool) (p : IsLaid give
     wrote_skipped e q =
         record {
           written = subst (λ (x : List ℕ). Adds w w' x) (sym (output_push ∙ ap (λ (m : List Made). output_of given ++ texts k m) (skipped_one doc line e) ∙ append-nil (output_of given))) q.written;
-          log = subst (λ (x : List Event). Adds l l' x) (sym (log_push ∙ ap (λ (m : List Made). log_of given ++ events k m) (skipped_one doc line e) ∙ append-nil (log_of given))) q.log;
+          log = subst (λ (m : List Made). Logs l l' 0 m) (sym (all_push ∙ ap (λ (m : List Made). all_made given ++ m) (skipped_one doc line e) ∙ append-nil (all_made given))) q.log;
         }
 
     output_edit : is_skipped line ≡ false → output_of (given ++ line ∷ []) ≡ output_of given ++ text_of k (made_of doc line)
     output_edit e = output_push ∙ ap (λ (m : List Made). output_of given ++ texts k m) (edit_one doc line e) ∙ ap (λ (x : List ℕ). output_of given ++ x) (append-nil (text_of k (made_of doc line)))
 
-    log_edit : is_skipped line ≡ false → log_of (given ++ line ∷ []) ≡ log_of given ++ events_of k (made_of doc line)
-    log_edit e = log_push ∙ ap (λ (m : List Made). log_of given ++ events k m) (edit_one doc line e) ∙ ap (λ (x : List Event). log_of given ++ x) (append-nil (events_of k (made_of doc line)))
+    made_edit : is_skipped line ≡ false → all_made (given ++ line ∷ []) ≡ all_made given ++ made_of doc line ∷ []
+    made_edit e = all_push ∙ ap (λ (m : List Made). all_made given ++ m) (edit_one doc line e)
 
     wrote_edit : (w'' : Option (List ℕ)) (l'' : Option (List Event)) → is_skipped line ≡ false → WritesAll w w' l l' given → Answers w' w'' l' l'' k (made_of doc line) → WritesAll w w'' l l'' (given ++ line ∷ [])
     wrote_edit w'' l'' e q a =
         record {
           written = adds_more w w' w'' (output_of given) (text_of k (made_of doc line)) _ q.written a.written (output_edit e);
-          log = adds_more l l' l'' (log_of given) (events_of k (made_of doc line)) _ q.log a.log (log_edit e);
+          log = subst (λ (m : List Made). Logs l l'' 0 m) (sym (made_edit e)) (logs_more l l' l'' 0 (all_made given) (made_of doc line ∷ []) q.log (subst (λ (n : ℕ). Logs l' l'' n (made_of doc line ∷ [])) next_number a.log));
         }
 
     wrote_part : (w'' : Option (List ℕ)) (l'' : Option (List Event)) → is_skipped line ≡ false → WritesAll w w' l l' given → AnswersPrefix w' w'' l' l'' k (made_of doc line) → WritesFrom w w'' l l'' given (given ++ line ∷ [])
@@ -115,7 +116,7 @@ module _ (given : List Line) (doc : Doc) (k : ℕ) (bad : Bool) (p : IsLaid give
         all_due w w'' l l'' given (given ++ line ∷ []) p.ended
         (record {
           written = from_after w w' w'' (output_of given) (text_of k (made_of doc line)) _ q.written a.written (output_edit e);
-          log = from_after l l' l'' (log_of given) (events_of k (made_of doc line)) _ q.log a.log (log_edit e);
+          log = subst (λ (m : List Made). LogsFrom l l'' (all_made given) m) (sym (made_edit e)) (from_more l l' l'' (all_made given) (made_of doc line ∷ []) q.log (subst (λ (n : ℕ). LogsFront l' l'' n (made_of doc line ∷ [])) next_number a.log));
         })
 
 -- ---- how far a run is

@@ -1,5 +1,5 @@
 -- How a run goes from its document to its script, and how it ends.
-use Rattle.std.proofs.Common.{◌≡◌, ◌≢◌, refl, ap, sym, subst, ◌∙◌, ℕ, zero, suc, ◌+◌, ◌-◌, ◌≤◌, ◌<◌, ◌||◌, Bool, true, false, List, [], ◌∷◌, ◌++◌, length, take, ◌⊎◌, inl, inr, Option, Some, None, Ok, IfSome, append_assoc, append-nil, arith, length-append}
+use Rattle.std.proofs.Common.{◌≡◌, refl, ap, sym, subst, ◌∙◌, ℕ, zero, suc, ◌+◌, ◌-◌, ◌≤◌, ◌<◌, ◌||◌, Bool, true, false, List, [], ◌∷◌, ◌++◌, length, take, ◌⊎◌, inl, inr, Option, Some, None, Ok, Err, IfSome, append_assoc, append-nil, arith, length-append}
 use Rattle.std.proofs.lemmas.Bool.{false≢true}
 use Rattle.std.specs.Prelude.{if◌then◌else◌}
 use Rattle.text_scan.specs.declared.line.Line.{Line}
@@ -10,21 +10,22 @@ use Rattle.outside.specs.Faults.{HasCauseOf}
 use Rattle.outside.specs.Told.{Adds, AddsPrefix, Loses}
 use Rattle.outside.specs.declared.event.Event.{Event}
 use Rattle.outside.proofs.Laws.{stays_same, prefix_all}
-use Rattle.first_form.specs.declared.document.Doc.{Doc}
-use Rattle.first_form.specs.Documents.{is_end_of_document}
+use Rattle.doc_text.specs.declared.document.Doc.{Doc}
+use Rattle.doc_text.specs.Documents.{document_of}
+use Rattle.session.specs.Logs.{Logs, LogsFront}
 use Rattle.session.specs.Input.{limit, IsFront, AreFirst, HasLastPiece, HasGiven, HasGivenLine, HasGivenAll, Stops}
-use Rattle.session.specs.Script.{has_end, before_end, after_end, document_of_lines, made_in, made_from, all_made, texts, text_of, events, events_of, some_refused}
-use Rattle.session.specs.Outcome.{output_of, log_of, answer_of, verdict_of, early_lines}
+use Rattle.session.specs.Script.{is_end_of_document, has_end, before_end, after_end, document_of_lines, made_in, made_from, all_made, texts, text_of, is_refused, some_refused}
+use Rattle.session.specs.Outcome.{output_of, answer_of, verdict_of, early_lines}
 use Rattle.session.specs.Runs.{StopsWriting, WritesAll, WritesPrefix, WritesFrom, Stands, HasEndInLast, IsWhole, IsEnded, EndsEarly, Judged, Runs}
-use Rattle.session.specs.Serving.{HasText, HasReadText, StopsInText, Answers, AnswersPrefix, EndsFirst, first_made, last_doc, HasAnswered, IsAt, ended}
+use Rattle.session.specs.Serving.{HasText, HasReadText, StopsInText, Answers, AnswersPrefix, EndsFirst, last_doc, HasAnswered, IsAt, ended}
 use Rattle.session.specs.declared.status.Status.{Status}
 use Rattle.session.specs.declared.status.Status.TheVariants.{Done, BadDocument, SomeRefused, ReadFault, WriteFault, NoMemory, InputLimit, BadWords}
-use Rattle.session.proofs.Scripts.{Made, has_more, before_none, after_none}
+use Rattle.session.proofs.Logs.{Made, front_all}
+use Rattle.session.proofs.Scripts.{has_more, before_none, after_none}
 use Rattle.session.proofs.Pieces.{first_given}
 use Rattle.session.proofs.Due.{none_due, prefix_due}
 use Rattle.session.specs.declared.text.Text.{Text}
 use Rattle.session.proofs.Texts.{given_few}
-use Rattle.session.proofs.Bounded.{none_is_no}
 
 -- ---- the lines of the document and the line after them
 
@@ -65,25 +66,22 @@ just_whole : (lines : List Line) → has_end lines ≡ false → IsJust lines li
 just_whole lines o = record { before = before_none lines o; after = after_none lines o }
 
 module _ (given lines : List Line) (p : IsJust given lines) where
-  just_made : all_made given ≡ first_made (document_of_lines lines) ∷ []
+  just_made : all_made given ≡ document_of_lines lines ∷ []
   just_made = ap (λ (l : List Line). made_from (document_of_lines l) (after_end given)) p.before ∙ ap (made_from (document_of_lines lines)) p.after ∙ one_made (document_of_lines lines)
     where
-      one_made : (form : Option Doc) → made_from form [] ≡ first_made form ∷ []
-      one_made None = refl
-      one_made (Some doc) = refl
+      one_made : (made : Made) → made_from made [] ≡ made ∷ []
+      one_made (Err fault) = refl
+      one_made (Ok doc) = refl
 
-  just_output : output_of given ≡ text_of 0 (first_made (document_of_lines lines))
-  just_output = ap (texts 0) just_made ∙ append-nil (text_of 0 (first_made (document_of_lines lines)))
-
-  just_log : log_of given ≡ events_of 0 (first_made (document_of_lines lines))
-  just_log = ap (events 0) just_made ∙ append-nil (events_of 0 (first_made (document_of_lines lines)))
+  just_output : output_of given ≡ text_of 0 (document_of_lines lines)
+  just_output = ap (texts 0) just_made ∙ append-nil (text_of 0 (document_of_lines lines))
 
   module _ (w w' : Option (List ℕ)) (l l' : Option (List Event)) where
-    wrote_first : Answers w w' l l' 0 (first_made (document_of_lines lines)) → WritesAll w w' l l' given
-    wrote_first a = record { written = subst (λ (x : List ℕ). Adds w w' x) (sym just_output) a.written; log = subst (λ (x : List Event). Adds l l' x) (sym just_log) a.log }
+    wrote_first : Answers w w' l l' 0 (document_of_lines lines) → WritesAll w w' l l' given
+    wrote_first a = record { written = subst (λ (x : List ℕ). Adds w w' x) (sym just_output) a.written; log = subst (λ (m : List Made). Logs l l' 0 m) (sym just_made) a.log }
 
-    wrote_first_part : AnswersPrefix w w' l l' 0 (first_made (document_of_lines lines)) → WritesPrefix w w' l l' given
-    wrote_first_part a = record { written = subst (λ (x : List ℕ). AddsPrefix w w' x) (sym just_output) a.written; log = subst (λ (x : List Event). AddsPrefix l l' x) (sym just_log) a.log }
+    wrote_first_part : AnswersPrefix w w' l l' 0 (document_of_lines lines) → WritesPrefix w w' l l' given
+    wrote_first_part a = record { written = subst (λ (x : List ℕ). AddsPrefix w w' x) (sym just_output) a.written; log = subst (λ (m : List Made). LogsFront l l' 0 m) (sym just_made) a.log }
 
 -- ---- the lines that are whole in the first bytes of a longer input
 
@@ -158,7 +156,7 @@ module _ (left left' : Option (List ℕ)) where
 
 module _ (left left' w w' : Option (List ℕ)) (l l' : Option (List Event)) where
   part_of_all : (given : List Line) → WritesAll w w' l l' given → WritesPrefix w w' l l' given
-  part_of_all given a = record { written = prefix_all w w' (output_of given) a.written; log = prefix_all l l' (log_of given) a.log }
+  part_of_all given a = record { written = prefix_all w w' (output_of given) a.written; log = front_all l l' 0 (all_made given) a.log }
 
   -- reading stopped
   wanted : (taken : List ℕ) (given : List Line) → Stands w w' l l' given → Judged left left' w w' l l' taken given NoMemory
@@ -183,7 +181,7 @@ module _ (left left' w w' : Option (List ℕ)) (l l' : Option (List Event)) wher
     where
       judged_first : (status : Status) → EndsFirst w w' l l' (document_of_lines lines) status → Judged left left' w w' l l' taken given status
       judged_first Done p = absurd p
-      judged_first BadDocument p = record { input = e; answer = ap document_of_lines j.before ∙ p.0; output = wrote_first given lines j w w' l l' p.1 }
+      judged_first BadDocument p = record { input = e; answer = ap (λ (l : List Line). is_refused (document_of_lines l)) j.before ∙ p.0; output = wrote_first given lines j w w' l l' p.1 }
       judged_first SomeRefused p = absurd p
       judged_first ReadFault p = absurd p
       judged_first WriteFault p = s (wrote_first_part given lines j w w' l l' p)
@@ -249,25 +247,25 @@ module _ (left left' w w' : Option (List ℕ)) (l l' : Option (List Event)) (str
       let whole : IsWhole left left' t.bytes lines = is_whole left left' lines t in
       ends_first left left' w w' l l' t.bytes lines lines status (just_whole lines o) t.taken (whole_first left left' lines t) (inr whole) (λ q. inr (record { unended = o; input = whole; output = q })) p
 
-  first_answers : (doc : Doc) → document_of_lines lines ≡ Some doc → Answers w w' l l' 0 (Ok doc) → Answers w w' l l' 0 (first_made (document_of_lines lines))
-  first_answers doc f a = subst (λ (form : Option Doc). Answers w w' l l' 0 (first_made form)) (sym f) a
+  first_answers : (doc : Doc) → document_of_lines lines ≡ Ok doc → Answers w w' l l' 0 (Ok doc) → Answers w w' l l' 0 (document_of_lines lines)
+  first_answers doc f a = subst (λ (made : Made). Answers w w' l l' 0 made) (sym f) a
 
-  ended_alone : (b : Bool) (doc : Doc) → b ≡ false → HasText left left' stream ended lines b → (document_of_lines lines ≡ Some doc) × Answers w w' l l' 0 (Ok doc) → Runs left left' w w' l l' Done
+  ended_alone : (b : Bool) (doc : Doc) → b ≡ false → HasText left left' stream ended lines b → (document_of_lines lines ≡ Ok doc) × Answers w w' l l' 0 (Ok doc) → Runs left left' w w' l l' Done
   ended_alone true doc e t p = absurd (false≢true (sym e))
   ended_alone false doc e t p =
       let just : IsJust lines lines = just_whole lines o in
       all_answered left left' w w' l l' false lines t
-      (ap (λ (l : List Line). answer_of (document_of_lines l) (after_end lines)) just.before ∙ ap (λ (form : Option Doc). answer_of form (after_end lines)) p.0 ∙ ap (answer_of (Some doc)) just.after)
+      (ap (λ (l : List Line). answer_of (document_of_lines l) (after_end lines)) just.before ∙ ap (λ (made : Made). answer_of made (after_end lines)) p.0 ∙ ap (answer_of (Ok doc)) just.after)
       (wrote_first lines lines just w w' l l' (first_answers doc p.0 p.1))
 
-  ended_at : (b : Bool) (doc : Doc) → b ≡ true → HasText left left' stream ended lines b → (document_of_lines lines ≡ Some doc) × Answers w w' l l' 0 (Ok doc)
+  ended_at : (b : Bool) (doc : Doc) → b ≡ true → HasText left left' stream ended lines b → (document_of_lines lines ≡ Ok doc) × Answers w w' l l' 0 (Ok doc)
       → IsAt left left' w w' l l' stream ended doc 1 false
   ended_at false doc e t p = absurd (false≢true e)
   ended_at true doc e t p =
       let given = lines ++ t.last ∷ [] in
       let just : IsJust given lines = just_ended lines t.last o t.end in
       let nothing : made_in doc (after_end given) ≡ [] = ap (made_in doc) just.after in
-      let once : all_made given ≡ Ok doc ∷ [] = just_made given lines just ∙ ap (λ (form : Option Doc). first_made form ∷ []) p.0 in
+      let once : all_made given ≡ Ok doc ∷ [] = just_made given lines just ∙ ap (λ (made : Made). made ∷ []) p.0 in
       record {
         given = given;
         input = t.given.all;
@@ -286,34 +284,31 @@ module _ (left left' w w' : Option (List ℕ)) (l l' : Option (List Event)) (str
       }
 
 module _ (left left' w w' : Option (List ℕ)) (l l' : Option (List Event)) (stream : Stream) (ended : Bool) (text : Text) (t : HasReadText left left' stream ended text) where
-  read_some : {engine : Doc} → document_of_lines text.lines ≡ Some engine → document_of_lines t.given ≡ Some engine
-  read_some f = sym t.same ∙ f
+  read_ok : (doc : Doc) → document_of text.lines text.end ≡ Ok doc → document_of_lines t.given ≡ Ok doc
+  read_ok doc f = sym t.same ∙ f
 
-  pub text_refused : (status : Status) → EndsFirst w w' l l' (document_of_lines text.lines) status → Runs left left' w w' l l' status
+  pub text_refused : (status : Status) → EndsFirst w w' l l' (document_of text.lines text.end) status → Runs left left' w w' l l' status
   text_refused status p =
-      ended_first left left' w w' l l' stream ended t.given t.unended text.has_script status t.input (subst (λ (form : Option Doc). EndsFirst w w' l l' form status) t.same p)
+      ended_first left left' w w' l l' stream ended t.given t.unended text.has_script status t.input (subst (λ (made : Made). EndsFirst w w' l l' made status) t.same p)
 
-  pub text_alone : (doc : Doc) → text.has_script ≡ false → (document_of_lines text.lines ≡ Some doc) × Answers w w' l l' 0 (Ok doc) → Runs left left' w w' l l' Done
-  text_alone doc e p = ended_alone left left' w w' l l' stream ended t.given t.unended text.has_script doc e t.input (read_some p.0, p.1)
+  pub text_alone : (doc : Doc) → text.has_script ≡ false → (document_of text.lines text.end ≡ Ok doc) × Answers w w' l l' 0 (Ok doc) → Runs left left' w w' l l' Done
+  text_alone doc e p = ended_alone left left' w w' l l' stream ended t.given t.unended text.has_script doc e t.input (read_ok doc p.0, p.1)
 
-  pub text_at : (doc : Doc) → text.has_script ≡ true → (document_of_lines text.lines ≡ Some doc) × Answers w w' l l' 0 (Ok doc) → IsAt left left' w w' l l' stream ended doc 1 false
-  text_at doc e p = ended_at left left' w w' l l' stream ended t.given t.unended text.has_script doc e t.input (read_some p.0, p.1)
+  pub text_at : (doc : Doc) → text.has_script ≡ true → (document_of text.lines text.end ≡ Ok doc) × Answers w w' l l' 0 (Ok doc) → IsAt left left' w w' l l' stream ended doc 1 false
+  text_at doc e p = ended_at left left' w w' l l' stream ended t.given t.unended text.has_script doc e t.input (read_ok doc p.0, p.1)
 
 pub ruleset starting = (stopped_in_text, text_refused, text_alone, text_at)
 
 -- ---- between two lines of the script
 
-none_or_some : {A : Type 0} (o : Option A) (x : A) → o ≡ Some x → o ≢ None
-none_or_some o x e n = none_is_no x (sym n ∙ e)
-
 module _ (left left' w w' : Option (List ℕ)) (l l' : Option (List Event)) (given : List Line) (doc : Doc) (k : ℕ) (bad : Bool) (p : HasAnswered w w' l l' given doc k bad) where
   pub script_stopped : (status : Status) → Stops left left' given status → Runs left left' w w' l l' status
-  script_stopped status s = stopped left left' w w' l l' given status s (inr (p.laid.ended, none_or_some _ p.laid.first p.laid.read, p.output))
+  script_stopped status s = stopped left left' w w' l l' given status s (inr (p.laid.ended, ap is_refused p.laid.read, p.output))
 
   pub script_ended : HasGivenAll left left' given → Runs left left' w w' l l' (ended bad)
   script_ended q =
       all_answered left left' w w' l l' bad given q
-      (ap (λ (form : Option Doc). answer_of form (after_end given)) p.laid.read ∙ ap ended (sym p.laid.refused))
+      (ap (λ (made : Made). answer_of made (after_end given)) p.laid.read ∙ ap ended (sym p.laid.refused))
       p.output
 
 -- no stop of reading is a fault of writing

@@ -6,14 +6,17 @@ use Rattle.text_scan.specs.declared.line.Line.{Line}
 use Rattle.text_scan.specs.Lines.{lines_of, split_lines, onto_first, is_line_feed, numbered}
 use Rattle.text_scan.specs.Stream.{Stream, empty_stream, lines_ahead}
 use Rattle.text_scan.specs.Tokens.{is_skipped}
-use Rattle.first_form.specs.Documents.{document_of, is_end_of_document, BeginsNone}
-use Rattle.first_form.proofs.Skipped.{skipped_line}
+use Rattle.text_scan.specs.declared.line.Place.{Place}
+use Rattle.doc_text.specs.Documents.{document_of}
+use Rattle.doc_text.specs.Valid.{IsShort, AreShort}
+use Rattle.doc_text.proofs.Short.{short_joined}
 use Rattle.session.specs.Input.{limit, HasGiven, HasGivenLine, HasGivenAll, GivesNext}
-use Rattle.session.specs.Script.{has_end, document_of_lines}
-use Rattle.session.specs.Serving.{HasEnded, HasText, Holds, HasReadText, StopsInText}
+use Rattle.session.specs.Script.{is_end_of_document, has_end, document_of_lines}
+use Rattle.session.specs.Serving.{BeginsNone, HasEnded, HasText, Holds, HasReadText, StopsInText}
 use Rattle.session.specs.declared.text.Held.{Held}
 use Rattle.session.specs.declared.text.Text.{Text}
 use Rattle.session.specs.declared.status.Status.TheVariants.{NoMemory}
+use Rattle.session.proofs.Fronts.{skipped_line}
 use Rattle.session.proofs.Pieces.{given_none, no_memory}
 
 -- ---- there are not more lines than bytes
@@ -80,36 +83,49 @@ pub in_text_few : (before now : Option (List ℕ)) (stream : Stream) (ended : Bo
 in_text_few before now stream ended held count p = omega (arith, p.counted, given_few before now p.given stream ended p.input)
 
 module _ (held : Held) (given : List Line) (line : Line) (p : Holds held given) where
+  behind : (more : List Line) (end : Place) → document_of ((given ++ line ∷ []) ++ more) end ≡ document_of (given ++ line ∷ more) end
+  behind more end = ap (λ (l : List Line). document_of l end) (append_assoc given (line ∷ []) more)
+
   pub holds_lost : held.lost ≡ true → Holds held (given ++ line ∷ [])
-  unfolding document_of_lines
   holds_lost e =
+      let none : BeginsNone held.lines = p.lost e in
       record {
-        same = λ more. p.lost e more ∙ sym (ap document_of (append_assoc given (line ∷ []) more) ∙ sym (p.same (line ∷ more)) ∙ p.lost e (line ∷ more));
+        same = λ more end. none.stays more end ∙ sym (none.stays (line ∷ more) end) ∙ p.same (line ∷ more) end ∙ sym (behind more end);
         lost = p.lost;
       }
 
   pub holds_skipped : is_skipped line ≡ true → Holds held (given ++ line ∷ [])
-  unfolding document_of_lines
   holds_skipped e =
       record {
-        same = λ more. p.same more ∙ sym (ap document_of (append_assoc given (line ∷ []) more) ∙ skipped_line given line more e);
+        same = λ more end. p.same more end ∙ sym (behind more end ∙ skipped_line line more e given end);
         lost = p.lost;
       }
 
   pub holds_more : (next : Held) → next.lines ≡ held.lines ++ line ∷ [] → (next.lost ≡ true → BeginsNone next.lines) → Holds next (given ++ line ∷ [])
   holds_more next e lost =
       record {
-        same = λ more. ap (λ (l : List Line). document_of_lines (l ++ more)) e ∙ ap document_of_lines (append_assoc held.lines (line ∷ []) more) ∙ p.same (line ∷ more) ∙ sym (ap document_of_lines (append_assoc given (line ∷ []) more));
+        same = λ more end. ap (λ (l : List Line). document_of (l ++ more) end) e ∙ ap (λ (l : List Line). document_of l end) (append_assoc held.lines (line ∷ []) more) ∙ p.same (line ∷ more) end ∙ sym (behind more end);
         lost = lost;
       }
 
   pub holds_on : (next : Held) → next.lines ≡ held.lines ++ line ∷ [] → next.lost ≡ false → Holds next (given ++ line ∷ [])
   holds_on next e not_lost = holds_more next e (λ h. absurd (false≢true (sym not_lost ∙ h)))
 
-pub ruleset holding = (holds_lost, holds_skipped, holds_more, holds_on)
+-- one short line more
+pub short_more : (lines next : List Line) (line : Line) → next ≡ lines ++ line ∷ [] → IsShort line → AreShort lines → AreShort next
+short_more lines next line e h s = subst AreShort (sym e) (short_joined lines (line ∷ []) s (h, tt))
 
-same_alone : (held : Held) (given : List Line) → Holds held given → document_of_lines held.lines ≡ document_of_lines given
-same_alone held given p = ap document_of_lines (sym (append-nil held.lines)) ∙ p.same [] ∙ ap document_of_lines (append-nil given)
+pub ruleset holding = (holds_lost, holds_skipped, holds_more, holds_on, short_more)
+
+-- what is held is the document, where its text ends behind the lines
+same_alone : (held : Held) (given : List Line) (lines : List Line) (count : ℕ) (end : Place) → Holds held given → lines ≡ held.lines → end ≡ record { line = count + 1; column = 1 } → count ≡ length given
+    → document_of lines end ≡ document_of_lines given
+unfolding document_of_lines
+same_alone held given lines count end p k at c =
+    ap (λ (l : List Line). document_of l end) (k ∙ sym (append-nil held.lines))
+    ∙ p.same [] end
+    ∙ ap (λ (l : List Line). document_of l end) (append-nil given)
+    ∙ ap (document_of given) (at ∙ ap (λ (n : ℕ). record { line = n + 1; column = 1 }) c)
 
 module _ (before now now' : Option (List ℕ)) (stream stream' : Stream) (ended ended' : Bool) (held : Held) (count : ℕ) (line : Line)
     (p : IsInText before now stream ended held count) (q : GivesNext before now' p.given stream' ended' (Ok (Some line))) where
@@ -132,8 +148,7 @@ module _ (before now now' : Option (List ℕ)) (stream stream' : Stream) (ended 
       record {
         given = p.given;
         unended = p.unended;
-        same = ap document_of_lines k ∙ same_alone held p.given p.holds;
-        end = at ∙ ap (λ (n : ℕ). record { line = n + 1; column = 1 }) p.counted;
+        same = same_alone held p.given text.lines count text.end p.holds k at p.counted;
         input = subst (HasText before now' stream' ended' p.given) (sym b) (ended_text before now' p.given line stream' ended' e q);
       }
 
@@ -144,8 +159,7 @@ module _ (before now now' : Option (List ℕ)) (stream stream' : Stream) (ended 
       record {
         given = p.given;
         unended = p.unended;
-        same = ap document_of_lines k ∙ same_alone held p.given p.holds;
-        end = at ∙ ap (λ (n : ℕ). record { line = n + 1; column = 1 }) p.counted;
+        same = same_alone held p.given text.lines count text.end p.holds k at p.counted;
         input = subst (HasText before now' stream' ended' p.given) (sym b) q;
       }
 
@@ -164,7 +178,7 @@ fresh_text before stream ended held s e h =
       given = [];
       unended = refl;
       input = fresh before stream ended s e;
-      holds = record { same = λ more. ap (λ (l : List Line). document_of_lines (l ++ more)) h.0; lost = λ lost. absurd (false≢true (sym h.1 ∙ lost)) };
+      holds = record { same = λ more end. ap (λ (l : List Line). document_of (l ++ more) end) h.0; lost = λ lost. absurd (false≢true (sym h.1 ∙ lost)) };
       counted = refl;
     }
 

@@ -25,5 +25,4 @@ fault_name number =
     else if number == 22 then codes "root"
     else if number == 23 then codes "cycle"
     else if number == 24 then codes "bad-index"
-    else if number == 90 then codes "not-built"
     else []

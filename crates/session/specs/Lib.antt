@@ -2,18 +2,24 @@ pub use Rattle.outside.specs.Faults as Faults
 pub use Rattle.outside.specs.Told as Told
 pub use Rattle.text_scan.specs.Lines as Lines
 pub use Rattle.text_scan.specs.Stream as Stream
-pub use Rattle.first_form.specs.Documents as Documents
-pub use Rattle.first_form.specs.EditLines as EditLines
-pub use Rattle.first_form.specs.Edits as Edits
-pub mod Offsets
+pub use Rattle.doc_text.specs.Documents as Documents
+pub use Rattle.doc_text.specs.EditText as EditText
+pub use Rattle.doc_text.specs.Edits as Edits
+pub use Rattle.doc_text.specs.Laws as Laws
+pub use Rattle.doc_text.specs.Valid as Valid
+pub use Rattle.page_tree.specs.Boxes as DefinedBoxes
+pub use Rattle.page_tree.specs.Pages as Pages
 pub mod Printing
 pub mod Boxes
 pub mod Words
 pub mod FaultNames
 pub mod Script
 pub mod ScriptExamples
+pub mod Logs
+pub mod Laying
 pub mod Input
 pub mod Outcome
 pub mod Runs
 pub mod Serving
+pub mod Standing
 pub mod Engine

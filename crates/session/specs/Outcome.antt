@@ -1,11 +1,11 @@
 -- What a run writes and answers for the bytes of its input.
-use Rattle.std.specs.Prelude.{◌≡◌, ℕ, List, true, take, if◌then◌else◌, Option, Some, None}
+use Rattle.std.specs.Prelude.{◌≡◌, ℕ, List, true, take, if◌then◌else◌, Result, Ok, Err}
 use Rattle.text_scan.specs.Lines.{lines_of, whole_lines}
 use Rattle.text_scan.specs.declared.line.Line.{Line}
-use Rattle.outside.specs.declared.event.Event.{Event}
-use Rattle.first_form.specs.declared.document.Doc.{Doc}
+use Rattle.text_scan.specs.declared.line.Fault.{Fault}
+use Rattle.doc_text.specs.declared.document.Doc.{Doc}
 use Rattle.session.specs.Input.{limit}
-use Rattle.session.specs.Script.{has_end, before_end, after_end, document_of_lines, made_in, all_made, texts, events, some_refused}
+use Rattle.session.specs.Script.{has_end, before_end, after_end, document_of_lines, made_in, all_made, texts, is_refused, some_refused}
 use Rattle.session.specs.declared.status.Status.{Status}
 use Rattle.session.specs.declared.status.Status.TheVariants.{Done, BadDocument, SomeRefused}
 
@@ -14,20 +14,16 @@ use Rattle.session.specs.declared.status.Status.TheVariants.{Done, BadDocument, 
 abbrev pub output_of : List Line → List ℕ
 output_of lines = texts 0 (all_made lines)
 
--- what a ruler is told of them
-abbrev pub log_of : List Line → List Event
-log_of lines = events 0 (all_made lines)
-
 -- the answer for a document and its script
-abbrev pub answer_of : Option Doc → List Line → Status
-answer_of None script = BadDocument
-answer_of (Some doc) script = if some_refused (made_in doc script) then SomeRefused else Done
+abbrev pub answer_of : Result Doc Fault → List Line → Status
+answer_of (Err fault) script = BadDocument
+answer_of (Ok doc) script = if some_refused (made_in doc script) then SomeRefused else Done
 
 abbrev pub verdict_of : List Line → Status
 verdict_of lines = answer_of (document_of_lines (before_end lines)) (after_end lines)
 
--- the document in the bytes
-abbrev pub document_in : List ℕ → Option Doc
+-- the document in the bytes, or its fault
+abbrev pub document_in : List ℕ → Result Doc Fault
 document_in bytes = document_of_lines (before_end (lines_of bytes))
 
 -- all that is written for the input
@@ -44,4 +40,4 @@ early_lines bytes = lines_of (whole_lines (take limit bytes))
 
 -- one of these ends the document, and the document before it has a fault
 abbrev pub IsEarlyFault : List Line → Type 0
-IsEarlyFault lines = (has_end lines ≡ true) × (document_of_lines (before_end lines) ≡ None)
+IsEarlyFault lines = (has_end lines ≡ true) × (is_refused (document_of_lines (before_end lines)) ≡ true)

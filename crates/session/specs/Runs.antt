@@ -1,16 +1,18 @@
 -- How a run ends, and what it took, wrote and logged until then.
-use Rattle.std.specs.Prelude.{◌≡◌, ◌≢◌, ℕ, ◌+◌, ◌≤◌, ◌<◌, true, false, if◌then◌else◌, List, [], ◌∷◌, length, ◌++◌, ◌⊎◌, Option, Some, None, IfSome, ⊤}
+use Rattle.std.specs.Prelude.{◌≡◌, ◌≢◌, ℕ, ◌+◌, ◌≤◌, ◌<◌, true, false, if◌then◌else◌, List, [], ◌∷◌, length, ◌++◌, ◌⊎◌, Option, Result, Ok, IfSome, ⊤}
 use Rattle.outside.specs.Faults.{Rose}
 use Rattle.outside.specs.Told.{Stays, Adds, Loses, AddsPrefix}
 use Rattle.outside.specs.declared.event.Event.{Event}
 use Rattle.text_scan.specs.declared.line.Line.{Line}
 use Rattle.text_scan.specs.Lines.{lines_of, whole_lines}
-use Rattle.first_form.specs.declared.document.Doc.{Doc}
-use Rattle.session.specs.Input.{limit, IsReadToEnd, IsFront, AreFirst, HasLastPiece}
+use Rattle.text_scan.specs.declared.line.Fault.{Fault}
+use Rattle.doc_text.specs.declared.document.Doc.{Doc}
 use Rattle.session.specs.Boxes.{boxes_of}
+use Rattle.session.specs.Logs.{Logs, LogsFront, LogsFrom}
+use Rattle.session.specs.Input.{limit, IsReadToEnd, IsFront, AreFirst, HasLastPiece}
 use Rattle.session.specs.Printing.{print}
-use Rattle.session.specs.Script.{has_end, before_end, after_end, document_of_lines, texts, made_in}
-use Rattle.session.specs.Outcome.{document_in, output_of, log_of, verdict_of, out, verdict, early_lines, IsEarlyFault}
+use Rattle.session.specs.Script.{has_end, before_end, after_end, document_of_lines, texts, made_in, all_made, is_refused}
+use Rattle.session.specs.Outcome.{document_in, output_of, verdict_of, out, verdict, early_lines, IsEarlyFault}
 use Rattle.session.specs.declared.status.Status.{Status}
 use Rattle.session.specs.declared.status.Status.TheVariants.{Done, BadDocument, SomeRefused, ReadFault, WriteFault, NoMemory, InputLimit}
 
@@ -28,27 +30,27 @@ pub record AddsFrom {A : Type 0} (before after : Option (List A)) (least whole :
   pub parts : (least ++ part) ++ rest ≡ whole
 
 -- what is due for lines while more may come: nothing until one of them ends the document
-abbrev pub due_output : List Line → List ℕ
-due_output lines = if has_end lines then output_of lines else []
+abbrev pub due_made : List Line → List (Result Doc Fault)
+due_made lines = if has_end lines then all_made lines else []
 
-abbrev pub due_log : List Line → List Event
-due_log lines = if has_end lines then log_of lines else []
+abbrev pub due_output : List Line → List ℕ
+due_output lines = texts 0 (due_made lines)
 
 module _ (held held' : Option (List ℕ)) (events events' : Option (List Event)) where
-  -- all that is due for the lines was written and logged
+  -- all that is due for the lines was written, and the ruler was told of all of it
   pub record WritesAll (given : List Line) : Type 0 where
     pub written : Adds held held' (output_of given)
-    pub log : Adds events events' (log_of given)
+    pub log : Logs events events' 0 (all_made given)
 
   -- a prefix of it was
   pub record WritesPrefix (given : List Line) : Type 0 where
     pub written : AddsPrefix held held' (output_of given)
-    pub log : AddsPrefix events events' (log_of given)
+    pub log : LogsFront events events' 0 (all_made given)
 
   -- all that was due for the earlier lines was, and a prefix of what is due for the lines behind that
   pub record WritesFrom (earlier given : List Line) : Type 0 where
     pub written : AddsFrom held held' (due_output earlier) (output_of given)
-    pub log : AddsFrom events events' (due_log earlier) (log_of given)
+    pub log : LogsFrom events events' (due_made earlier) (all_made given)
 
   -- nothing was
   pub record IsSilent : Type 0 where
@@ -57,7 +59,7 @@ module _ (held held' : Option (List ℕ)) (events events' : Option (List Event))
 
   -- what is due for the lines so far: all of it where one of them ends the document, which then has no fault, else nothing
   abbrev pub Stands : List Line → Type 0
-  Stands given = ((has_end given ≡ false) × IsSilent) ⊎ ((has_end given ≡ true) × (document_of_lines (before_end given) ≢ None) × WritesAll given)
+  Stands given = ((has_end given ≡ false) × IsSilent) ⊎ ((has_end given ≡ true) × (is_refused (document_of_lines (before_end given)) ≡ false) × WritesAll given)
 
 -- no line that is whole in the bytes before the last piece ends the document: a piece has at most 65,536 bytes
 pub record HasEndInLast (taken : List ℕ) : Type 0 where
@@ -87,7 +89,7 @@ module _ (left left' held held' : Option (List ℕ)) (events events' : Option (L
 
   pub record EndsBad (taken : List ℕ) (given : List Line) : Type 0 where
     pub input : IsEnded left left' taken given
-    pub answer : document_of_lines (before_end given) ≡ None
+    pub answer : is_refused (document_of_lines (before_end given)) ≡ true
     pub output : WritesAll held held' events events' given
 
   pub record EndsEarly (taken : List ℕ) (given : List Line) : Type 0 where
@@ -161,5 +163,5 @@ IsOverComplete left reads reads' writes writes' status =
 -- each edit line gives, and nothing else
 abbrev pub IsHeadline : (left held held' : Option (List ℕ)) (reads reads' writes writes' : ℕ) → Status → Type 0
 IsHeadline left held held' reads reads' writes writes' status =
-    IfSome left (λ b. length b ≤ limit → (doc : Doc) → document_in b ≡ Some doc → ¬ Rose reads reads' → ¬ Rose writes writes' → status ≢ NoMemory
+    IfSome left (λ b. length b ≤ limit → (doc : Doc) → document_in b ≡ Ok doc → ¬ Rose reads reads' → ¬ Rose writes writes' → status ≢ NoMemory
     → Adds held held' (print 0 (boxes_of doc) ++ texts 1 (made_in doc (after_end (lines_of b)))))

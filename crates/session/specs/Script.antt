@@ -1,22 +1,25 @@
 -- The document text and the edit script of an input, and what each edit line makes.
-use Rattle.std.specs.Prelude.{ℕ, ◌+◌, Bool, true, false, List, [], ◌∷◌, ◌++◌, if◌then◌else◌, Option, Some, None, Result, Ok, Err}
+use Rattle.std.specs.Prelude.{ℕ, ◌+◌, Bool, true, false, ◌&&◌, is_none, List, [], ◌∷◌, ◌++◌, length, if◌then◌else◌, Result, Ok, Err, codes}
 use Rattle.std.specs.List.{list_any}
+use Rattle.std.specs.Str.{bytes_eq}
 use Rattle.text_scan.specs.declared.line.Line.{Line}
 use Rattle.text_scan.specs.declared.line.Fault.{Fault}
+use Rattle.text_scan.specs.declared.line.Place.{Place}
 use Rattle.text_scan.specs.Tokens.{is_skipped}
-use Rattle.outside.specs.declared.event.Event.{Event}
-use Rattle.outside.specs.declared.event.Event.TheVariants.{Begin}
-use Rattle.first_form.specs.declared.document.Doc.{Doc}
-use Rattle.first_form.specs.declared.edit.Edit.{Edit}
-use Rattle.first_form.specs.Documents.{document_of, is_end_of_document}
-use Rattle.first_form.specs.EditLines.{edit_of}
-use Rattle.first_form.specs.Edits.{edited}
-use Rattle.first_form.specs.Gives.{not_built, not_built_at}
+use Rattle.doc_text.specs.declared.document.Doc.{Doc}
+use Rattle.doc_text.specs.Documents.{document_of}
+use Rattle.doc_text.specs.Edits.{edited}
+use Rattle.doc_text.specs.EditText.{edit_of}
+use Rattle.doc_text.specs.Texts.{◌>>=◌}
 use Rattle.session.specs.Boxes.{boxes_of}
 use Rattle.session.specs.Printing.{print, refusal}
 use Rattle.session.specs.FaultNames.{fault_name}
 
 -- ---- the parts of an input
+
+-- the line that ends the text of a document: `---` and nothing else; edits follow it (own rule)
+abbrev pub is_end_of_document : Line → Bool
+is_end_of_document line = is_none line.fault && bytes_eq line.bytes (codes "---")
 
 -- some line is `---` and nothing else: it ends the document, and the script follows (own rule)
 abbrev pub has_end : List Line → Bool
@@ -32,20 +35,19 @@ abbrev pub after_end : List Line → List Line
 after_end [] = []
 after_end (line ∷ lines) = if is_end_of_document line then lines else after_end lines
 
--- the document that lines are, where they are one of the form that is built
-unfoldable pub document_of_lines : List Line → Option Doc
-document_of_lines lines = document_of lines
+-- the place where a text of these lines ends: that of the `---` after them, or column 1 of the line after the last one
+abbrev pub end_of_lines : List Line → Place
+end_of_lines lines = record { line = length lines + 1; column = 1 }
+
+-- the document that the lines of a whole text are, or its fault
+unfoldable pub document_of_lines : List Line → Result Doc Fault
+document_of_lines lines = document_of lines (end_of_lines lines)
 
 -- ---- what each edit line makes
 
--- what an edit makes of a document, where the line is one; a line that is none is refused at its first byte (own rule)
-abbrev pub applied : Doc → ℕ → Option Edit → Result Doc Fault
-applied doc number None = Err (not_built_at number)
-applied doc number (Some edit) = edited doc edit
-
--- what the line of an edit makes of a document: the edited one, or the fault why it is refused
+-- what the line of an edit makes of a document: the edited one, or the fault of the line, or why the edit is refused
 unfoldable pub made_of : Doc → Line → Result Doc Fault
-made_of doc line = applied doc line.number (edit_of line)
+made_of doc line = edit_of doc.version line >>= λ e. edited e doc
 
 -- a refused edit leaves the document as it was
 abbrev pub next_doc : Doc → Result Doc Fault → Doc
@@ -57,15 +59,15 @@ abbrev pub made_in : Doc → List Line → List (Result Doc Fault)
 made_in doc [] = []
 made_in doc (line ∷ lines) = if is_skipped line then made_in doc lines else made_of doc line ∷ made_in (next_doc doc (made_of doc line)) lines
 
--- the same with the document in front, which is made first; one that is not built is all that is made
-abbrev pub made_from : Option Doc → List Line → List (Result Doc Fault)
-made_from None script = Err not_built ∷ []
-made_from (Some doc) script = Ok doc ∷ made_in doc script
+-- the same with the document in front, which is made first; one that has a fault is all that is made
+abbrev pub made_from : Result Doc Fault → List Line → List (Result Doc Fault)
+made_from (Err fault) script = Err fault ∷ []
+made_from (Ok doc) script = Ok doc ∷ made_in doc script
 
 abbrev pub all_made : List Line → List (Result Doc Fault)
 all_made lines = made_from (document_of_lines (before_end lines)) (after_end lines)
 
--- ---- what is written and logged of it
+-- ---- what is written of it
 
 -- the boxes of the document that was made, or the line of the refusal, with the number k
 unfoldable pub text_of : ℕ → Result Doc Fault → List ℕ
@@ -76,15 +78,6 @@ text_of k (Err fault) = refusal k fault.place (fault_name fault.number)
 abbrev pub texts : ℕ → List (Result Doc Fault) → List ℕ
 texts k [] = []
 texts k (made ∷ rest) = text_of k made ++ texts (k + 1) rest
-
--- a layout begins for each document that was made
-abbrev pub events_of : ℕ → Result Doc Fault → List Event
-events_of k (Ok doc) = Begin k ∷ []
-events_of k (Err fault) = []
-
-abbrev pub events : ℕ → List (Result Doc Fault) → List Event
-events k [] = []
-events k (made ∷ rest) = events_of k made ++ events (k + 1) rest
 
 abbrev pub is_refused : Result Doc Fault → Bool
 is_refused (Ok doc) = false

@@ -1,18 +1,19 @@
 -- A run while it goes on: the text of the document, its first layout, and the lines of the script one after another.
-use Rattle.std.specs.Prelude.{◌≡◌, ℕ, ◌+◌, ◌≤◌, Bool, true, false, List, [], ◌∷◌, ◌++◌, length, Option, Some, None, Result, Ok, Err, if◌then◌else◌}
+use Rattle.std.specs.Prelude.{◌≡◌, ℕ, ◌≤◌, Bool, true, false, List, [], ◌∷◌, ◌++◌, length, Option, Result, Ok, Err, if◌then◌else◌}
 use Rattle.text_scan.specs.declared.line.Line.{Line}
 use Rattle.text_scan.specs.declared.line.Fault.{Fault}
+use Rattle.text_scan.specs.declared.line.Place.{Place}
 use Rattle.text_scan.specs.Stream.{Stream}
 use Rattle.outside.specs.Told.{Adds, AddsPrefix}
 use Rattle.outside.specs.declared.event.Event.{Event}
-use Rattle.first_form.specs.declared.document.Doc.{Doc}
-use Rattle.first_form.specs.Documents.{is_end_of_document, BeginsNone}
-use Rattle.first_form.specs.Gives.{not_built}
-use Rattle.session.specs.declared.engine.Engine.{Engine}
+use Rattle.doc_text.specs.declared.document.Doc.{Doc}
+use Rattle.doc_text.specs.Documents.{document_of}
+use Rattle.session.specs.Logs.{Logs, LogsFront}
+use Rattle.session.specs.Standing.{Standing, doc_of}
 use Rattle.session.specs.declared.text.Held.{Held}
 use Rattle.session.specs.declared.text.Text.{Text}
 use Rattle.session.specs.Input.{HasGiven, HasGivenLine, HasGivenAll, Stops}
-use Rattle.session.specs.Script.{has_end, before_end, after_end, document_of_lines, made_in, next_doc, all_made, some_refused, text_of, events_of}
+use Rattle.session.specs.Script.{is_end_of_document, has_end, before_end, after_end, document_of_lines, made_in, next_doc, all_made, is_refused, some_refused, text_of}
 use Rattle.session.specs.Runs.{WritesAll, Runs}
 use Rattle.session.specs.declared.answer.Progress.{Progress}
 use Rattle.session.specs.declared.status.Status.{Status}
@@ -31,17 +32,21 @@ abbrev pub HasText : Option (List ℕ) → Option (List ℕ) → Stream → Bool
 HasText before now stream ended lines true = HasEnded before now stream ended lines
 HasText before now stream ended lines false = HasGivenAll before now lines
 
+-- the lines have a fault that is that of the text whatever lines follow them, wherever it ends
+pub record BeginsNone (lines : List Line) : Type 0 where
+  pub fault : Fault
+  pub stays : (more : List Line) (end : Place) → document_of (lines ++ more) end ≡ Err fault
+
 -- of these lines such are held that make the same document, whatever follows; or none will be one
 pub record Holds (held : Held) (given : List Line) : Type 0 where
-  pub same : (more : List Line) → document_of_lines (held.lines ++ more) ≡ document_of_lines (given ++ more)
+  pub same : (more : List Line) (end : Place) → document_of (held.lines ++ more) end ≡ document_of (given ++ more) end
   pub lost : held.lost ≡ true → BeginsNone held.lines
 
--- the text of the document was read: what is kept of its lines makes the same document, and its end is the place behind them
+-- the text of the document was read: what is kept of its lines makes the same document
 pub record HasReadText (before now : Option (List ℕ)) (stream : Stream) (ended : Bool) (text : Text) : Type 0 where
   pub given : List Line
   pub unended : has_end given ≡ false
-  pub same : document_of_lines text.lines ≡ document_of_lines given
-  pub end : text.end ≡ record { line = length given + 1; column = 1 }
+  pub same : document_of text.lines text.end ≡ document_of_lines given
   pub input : HasText before now stream ended given text.has_script
 
 -- reading stopped before the document ended
@@ -56,33 +61,28 @@ ReadsText before now stream ended (Err status) = StopsInText before now status
 
 -- ---- one answer
 
--- what is made first: the document, or its refusal
-abbrev pub first_made : Option Doc → Result Doc Fault
-first_made None = Err not_built
-first_made (Some doc) = Ok doc
-
 module _ (held held' : Option (List ℕ)) (events events' : Option (List Event)) where
   -- the answer with the number k to what was made
   pub record Answers (k : ℕ) (made : Result Doc Fault) : Type 0 where
     pub written : Adds held held' (text_of k made)
-    pub log : Adds events events' (events_of k made)
+    pub log : Logs events events' k (made ∷ [])
 
   -- a prefix of it
   pub record AnswersPrefix (k : ℕ) (made : Result Doc Fault) : Type 0 where
     pub written : AddsPrefix held held' (text_of k made)
-    pub log : AddsPrefix events events' (events_of k made)
+    pub log : LogsFront events events' k (made ∷ [])
 
-  -- the lines are no document, or writing stopped
-  abbrev pub EndsFirst : Option Doc → Status → Type 0
-  EndsFirst doc BadDocument = (doc ≡ None) × Answers 0 (first_made doc)
-  EndsFirst doc WriteFault = AnswersPrefix 0 (first_made doc)
-  EndsFirst doc NoMemory = AnswersPrefix 0 (first_made doc)
-  EndsFirst doc status = ⊥
+  -- the document has a fault, or writing stopped
+  abbrev pub EndsFirst : Result Doc Fault → Status → Type 0
+  EndsFirst made BadDocument = (is_refused made ≡ true) × Answers 0 made
+  EndsFirst made WriteFault = AnswersPrefix 0 made
+  EndsFirst made NoMemory = AnswersPrefix 0 made
+  EndsFirst made status = ⊥
 
   -- the document was laid out, or the run ended there
-  abbrev pub Begins : Option Doc → Result Engine Status → Type 0
-  Begins doc (Ok engine) = (doc ≡ Some engine.doc) × Answers 0 (Ok engine.doc)
-  Begins doc (Err status) = EndsFirst doc status
+  abbrev pub Begins : Result Doc Fault → Result Standing Status → Type 0
+  Begins made (Ok engine) = (made ≡ Ok (doc_of engine)) × Answers 0 (Ok (doc_of engine))
+  Begins made (Err status) = EndsFirst made status
 
 -- ---- between two lines of the script
 
@@ -95,7 +95,7 @@ last_doc doc (made ∷ rest) = last_doc (next_doc doc made) rest
 pub record IsLaid (given : List Line) (doc : Doc) (k : ℕ) (bad : Bool) : Type 0 where
   pub first : Doc
   pub ended : has_end given ≡ true
-  pub read : document_of_lines (before_end given) ≡ Some first
+  pub read : document_of_lines (before_end given) ≡ Ok first
   pub now : doc ≡ last_doc first (made_in first (after_end given))
   pub count : k ≡ length (all_made given)
   pub refused : bad ≡ some_refused (made_in first (after_end given))
@@ -114,7 +114,7 @@ pub record IsAt (before now held held' : Option (List ℕ)) (events events' : Op
 
 -- a script follows the document, or the run ended before
 abbrev pub Starts : (before now held held' : Option (List ℕ)) (events events' : Option (List Event)) → Stream → Bool → Result Progress Status → Type 0
-Starts before now held held' events events' stream ended (Ok progress) = IsAt before now held held' events events' stream ended progress.engine.doc progress.number progress.refused
+Starts before now held held' events events' stream ended (Ok progress) = IsAt before now held held' events events' stream ended (doc_of progress.engine) progress.number progress.refused
 Starts before now held held' events events' stream ended (Err status) = Runs before now held held' events events' status
 
 -- the answer once all lines were answered

@@ -1,19 +1,19 @@
-ghost use Rattle.std.specs.Prelude.{◌≡◌, ◌+◌, ◌≤◌, ◌<◌, ◌∷◌, ◌++◌, [], ℕ, List, Option, None, Ok, Err, Some, false, length, IfOk, IfErr, OnOk, OnErr};
+ghost use Rattle.std.specs.Prelude.{◌≡◌, ◌≤◌, ◌∷◌, ◌++◌, [], ℕ, List, Option, Ok, Err, IfOk, IfErr, OnOk, OnErr};
 ghost use Rattle.outside.specs.Faults.{HasCauseOf};
 ghost use Rattle.outside.specs.Told.{Adds, AddsPrefix};
 ghost use Rattle.outside.specs.declared.event.Event.{Event};
-ghost use Rattle.first_form.specs.Gives.{Gives, not_built};
-ghost use Rattle.text_scan.specs.Tokens.{is_skipped};
+ghost use Rattle.doc_text.specs.Documents.{document_of};
+ghost use Rattle.doc_text.specs.Valid.{IsValid, IsShort, AreShort};
 ghost use Rattle.text_scan.specs.declared.line.Line.{Line};
-ghost use Rattle.session.specs.Boxes.{IsBounded};
 ghost use Rattle.session.specs.Runs.{StopsWriting, WritesFrom};
-ghost use Rattle.session.specs.Script.{document_of_lines, made_of, next_doc, is_refused};
+ghost use Rattle.session.specs.Script.{made_of, next_doc, is_refused};
 ghost use Rattle.session.specs.Serving.{Answers, AnswersPrefix, EndsFirst, Begins, HasAnswered};
+ghost use Rattle.session.specs.Standing.{doc_of};
 
 use crate::Status;
 use crate::edits::{answer_to_edit, layout_text, refusal_text};
 use crate::engine::Engine;
-use first_form::{Doc, ReadError, read_doc};
+use doc_text::{Doc, ReadError, read_doc};
 use lunit::{NoMemory, Steps};
 use outside::{Ruler, Sink, write_all};
 use std::alloc::Global;
@@ -42,15 +42,6 @@ fn write<K: Sink>(sink: &mut K, text: &[u8]) -> Result<(), Status>
     Ok(())
 }
 
-#[tactic(auto, unfolding(crate::specs::Script::document_of_lines), using(crate::proofs::Bounded::document_bounded))]
-/// Reads the document that the lines are, whose text ends at this place.
-fn read(alloc: Global, lines: &[Line], end: Place) -> Result<Doc, ReadError>
-    ensures document { Gives result (document_of_lines lines.now) }
-    ensures bounded { IfOk result (λ doc. IsBounded doc) }
-{
-    read_doc(alloc, lines, end)
-}
-
 #[tactic(auto, using(crate::proofs::Serving::first_laying))]
 /// Lays the document out, with the number 0, and writes its boxes.
 fn first_layout<K: Sink, R: Ruler, L: Ledger>(
@@ -60,15 +51,14 @@ fn first_layout<K: Sink, R: Ruler, L: Ledger>(
     ruler: &mut R,
     passes: &mut Steps<L>,
 ) -> Result<Engine, Status>
-    requires { IsBounded doc }
-    ensures engine { IfOk result (λ engine. (engine.doc ≡ doc) × (engine.calls ≡ 0)) }
+    requires { IsValid doc }
+    ensures engine { IfOk result (λ engine. doc_of engine ≡ doc) }
     ensures answers { OnOk result (Answers (K.written sink.old) (K.written sink.new) (R.log ruler.old) (R.log ruler.new) 0 (Ok doc)) }
     ensures prefix { OnErr result (AnswersPrefix (K.written sink.old) (K.written sink.new) (R.log ruler.old) (R.log ruler.new) 0 (Ok doc)) }
     ensures stops { IfErr result StopsWriting }
     ensures cause { HasCauseOf (K.faults sink.old) (K.faults sink.new) (result ≡ Err Status.WriteFault) }
-    ensures passes { passes.new ≡ passes.old }
 {
-    let mut engine = Engine::new(doc)?;
+    let mut engine = Engine::new(alloc, doc)?;
     let text = layout_text(alloc, &mut engine, 0, ruler, passes)?;
     write(sink, &text)?;
     Ok(engine)
@@ -77,8 +67,7 @@ fn first_layout<K: Sink, R: Ruler, L: Ledger>(
 #[tactic(auto, using(crate::proofs::Serving::document_refusing))]
 /// Writes the line of the refusal of a document.
 fn refuse_document<K: Sink>(alloc: Global, fault: Fault, sink: &mut K) -> Status
-    requires { fault ≡ not_built }
-    ensures refused { (events : Option (List Event)) → EndsFirst (K.written sink.old) (K.written sink.new) events events None result }
+    ensures refused { (events : Option (List Event)) → EndsFirst (K.written sink.old) (K.written sink.new) events events (Err fault) result }
     ensures cause { HasCauseOf (K.faults sink.old) (K.faults sink.new) (result ≡ Status.WriteFault) }
 {
     match refusal_text(alloc, 0, fault) {
@@ -91,7 +80,7 @@ fn refuse_document<K: Sink>(alloc: Global, fault: Fault, sink: &mut K) -> Status
 }
 
 #[tactic(auto, using(crate::proofs::Serving::beginning))]
-/// Answers the lines of the document: lays it out, or writes the line of its refusal.
+/// Answers the lines of the document, whose text ends at this place: lays it out, or writes the line of its refusal.
 pub(crate) fn begin<K: Sink, R: Ruler, L: Ledger>(
     alloc: Global,
     lines: &[Line],
@@ -100,12 +89,11 @@ pub(crate) fn begin<K: Sink, R: Ruler, L: Ledger>(
     ruler: &mut R,
     passes: &mut Steps<L>,
 ) -> Result<Engine, Status>
-    ensures begins { Begins (K.written sink.old) (K.written sink.new) (R.log ruler.old) (R.log ruler.new) (document_of_lines lines.now) result }
-    ensures engine { IfOk result (λ engine. IsBounded engine.doc × (engine.calls ≡ 0)) }
+    requires { AreShort lines.now }
+    ensures begins { Begins (K.written sink.old) (K.written sink.new) (R.log ruler.old) (R.log ruler.new) (document_of lines.now end) result }
     ensures cause { HasCauseOf (K.faults sink.old) (K.faults sink.new) (result ≡ Err Status.WriteFault) }
-    ensures passes { passes.new ≡ passes.old }
 {
-    match read(alloc, lines, end) {
+    match read_doc(alloc, lines, end) {
         Ok(doc) => first_layout(alloc, doc, sink, ruler, passes),
         Err(ReadError::Fault(fault)) => Err(refuse_document(alloc, fault, sink)),
         Err(ReadError::NoMemory) => Err(Status::NoMemory),
@@ -123,18 +111,12 @@ fn write_answer<K: Sink, R: Ruler, L: Ledger>(
     ruler: &mut R,
     passes: &mut Steps<L>,
 ) -> Result<bool, Status>
-    requires bounded { IsBounded engine.old.doc }
-    requires few { engine.old.calls < 67108864 }
-    requires counts { is_skipped line.now ≡ false }
-    requires short { length line.now.bytes ≤ 65536 }
-    ensures next { IfOk result (λ refused. (engine.new.doc ≡ next_doc engine.old.doc (made_of engine.old.doc line.now)) × (refused ≡ is_refused (made_of engine.old.doc line.now))) }
-    ensures answers { OnOk result (Answers (K.written sink.old) (K.written sink.new) (R.log ruler.old) (R.log ruler.new) k (made_of engine.old.doc line.now)) }
-    ensures prefix { OnErr result (AnswersPrefix (K.written sink.old) (K.written sink.new) (R.log ruler.old) (R.log ruler.new) k (made_of engine.old.doc line.now)) }
+    requires { IsShort line.now }
+    ensures next { IfOk result (λ refused. (doc_of engine.new ≡ next_doc (doc_of engine.old) (made_of (doc_of engine.old) line.now)) × (refused ≡ is_refused (made_of (doc_of engine.old) line.now))) }
+    ensures answers { OnOk result (Answers (K.written sink.old) (K.written sink.new) (R.log ruler.old) (R.log ruler.new) k (made_of (doc_of engine.old) line.now)) }
+    ensures prefix { OnErr result (AnswersPrefix (K.written sink.old) (K.written sink.new) (R.log ruler.old) (R.log ruler.new) k (made_of (doc_of engine.old) line.now)) }
     ensures stops { IfErr result StopsWriting }
     ensures cause { HasCauseOf (K.faults sink.old) (K.faults sink.new) (result ≡ Err Status.WriteFault) }
-    ensures calls { engine.new.calls ≤ engine.old.calls + 1 }
-    ensures bounded { IsBounded engine.new.doc }
-    ensures passes { passes.new ≡ passes.old }
 {
     let answer = answer_to_edit(alloc, engine, k, line, ruler, passes)?;
     write(sink, &answer.text)?;
@@ -151,17 +133,12 @@ pub(crate) fn handle_line<K: Sink, R: Ruler, L: Ledger>(
     ruler: &mut R,
     passes: &mut Steps<L>,
 ) -> Result<(), Status>
-    requires bounded { IsBounded progress.old.engine.doc }
     requires few { progress.old.number ≤ 67108864 }
-    requires calls { progress.old.engine.calls < progress.old.number }
-    requires short { length line.now.bytes ≤ 65536 }
-    ensures ok { (held : Option (List ℕ)) (events : Option (List Event)) (given : List Line) → HasAnswered held (K.written sink.old) events (R.log ruler.old) given progress.old.engine.doc progress.old.number progress.old.refused → OnOk result (HasAnswered held (K.written sink.new) events (R.log ruler.new) (given ++ line.now ∷ []) progress.new.engine.doc progress.new.number progress.new.refused) }
-    ensures err { (held : Option (List ℕ)) (events : Option (List Event)) (given : List Line) → HasAnswered held (K.written sink.old) events (R.log ruler.old) given progress.old.engine.doc progress.old.number progress.old.refused → OnErr result (WritesFrom held (K.written sink.new) events (R.log ruler.new) given (given ++ line.now ∷ [])) }
+    requires short { IsShort line.now }
+    ensures ok { (held : Option (List ℕ)) (events : Option (List Event)) (given : List Line) → HasAnswered held (K.written sink.old) events (R.log ruler.old) given (doc_of progress.old.engine) progress.old.number progress.old.refused → OnOk result (HasAnswered held (K.written sink.new) events (R.log ruler.new) (given ++ line.now ∷ []) (doc_of progress.new.engine) progress.new.number progress.new.refused) }
+    ensures err { (held : Option (List ℕ)) (events : Option (List Event)) (given : List Line) → HasAnswered held (K.written sink.old) events (R.log ruler.old) given (doc_of progress.old.engine) progress.old.number progress.old.refused → OnErr result (WritesFrom held (K.written sink.new) events (R.log ruler.new) given (given ++ line.now ∷ [])) }
     ensures stops { IfErr result StopsWriting }
     ensures cause { HasCauseOf (K.faults sink.old) (K.faults sink.new) (result ≡ Err Status.WriteFault) }
-    ensures bounded { IsBounded progress.new.engine.doc }
-    ensures calls { OnOk result (progress.new.engine.calls < progress.new.number) }
-    ensures passes { passes.new ≡ passes.old }
 {
     if line.is_skipped() {
         return Ok(());

@@ -1,19 +1,21 @@
-ghost use Rattle.std.specs.Prelude.{◌≡◌, ◌+◌, ◌≤◌, ◌<◌, ◌∷◌, [], false, IfOk, OnOk, OnErr, length};
-ghost use Rattle.outside.specs.Told.{Adds, AddsPrefix};
-ghost use Rattle.text_scan.specs.Tokens.{is_skipped};
-ghost use Rattle.outside.specs.declared.event.Event.TheVariants.{Begin};
-ghost use Rattle.session.specs.Boxes.{IsBounded, boxes_of};
-ghost use Rattle.session.specs.Engine.{Applies, IsAnswered};
+ghost use Rattle.std.specs.Prelude.{◌≡◌, ◌≤◌, ◌∷◌, [], Ok, IfOk, OnOk, OnErr};
+ghost use Rattle.doc_text.specs.Valid.{IsShort};
+ghost use Rattle.page_tree.specs.Answered.{Applies};
+ghost use Rattle.session.specs.Boxes.{boxes_of};
+ghost use Rattle.session.specs.Engine.{IsAnswered};
+ghost use Rattle.session.specs.Logs.{Logs, LogsFront};
 ghost use Rattle.session.specs.Printing.{print, refusal};
-ghost use Rattle.session.specs.Script.{applied, made_of, text_of, events_of};
+ghost use Rattle.session.specs.Script.{made_of};
+ghost use Rattle.session.specs.Standing.{doc_of};
 ghost use Rattle.session.specs.FaultNames.{fault_name};
 
-use crate::engine::{ApplyError, Engine};
+use crate::engine::Engine;
 use crate::faults::fault_name;
 use crate::print::{print_boxes, print_refusal};
-use first_form::{ReadError, read_edit};
+use doc_text::{ReadError, read_edit};
 use lunit::{NoMemory, Steps};
 use outside::Ruler;
+use page_tree::EditError;
 use std::alloc::Global;
 use std::sync::ledger::Ledger;
 use text_scan::{Fault, Line};
@@ -32,6 +34,7 @@ pub(crate) fn refusal_text(alloc: Global, k: u32, fault: Fault) -> Result<Vec<u8
     print_refusal(alloc, k, fault.place, fault_name(fault.number))
 }
 
+#[tactic(auto, using(crate::proofs::Laid::laid_text))]
 /// The text of the layout of an engine, with the number k.
 pub(crate) fn layout_text<R: Ruler, L: Ledger>(
     alloc: Global,
@@ -40,31 +43,25 @@ pub(crate) fn layout_text<R: Ruler, L: Ledger>(
     ruler: &mut R,
     passes: &mut Steps<L>,
 ) -> Result<Vec<u8>, NoMemory>
-    requires { IsBounded engine.old.doc }
-    ensures text { IfOk result (λ text. text.items ≡ print k (boxes_of engine.old.doc)) }
-    ensures log { OnOk result (Adds (R.log ruler.old) (R.log ruler.new) (Begin k ∷ [])) }
-    ensures err { OnErr result (AddsPrefix (R.log ruler.old) (R.log ruler.new) (Begin k ∷ [])) }
-    ensures same { engine.new ≡ engine.old }
-    ensures passes { passes.new ≡ passes.old }
+    ensures text { IfOk result (λ text. text.items ≡ print k (boxes_of (doc_of engine.old))) }
+    ensures log { OnOk result (Logs (R.log ruler.old) (R.log ruler.new) k (Ok (doc_of engine.old) ∷ [])) }
+    ensures err { OnErr result (LogsFront (R.log ruler.old) (R.log ruler.new) k (Ok (doc_of engine.old) ∷ [])) }
+    ensures document { doc_of engine.new ≡ doc_of engine.old }
 {
-    let layout = engine.layout(alloc, k, ruler, passes)?;
-    print_boxes(alloc, k, &layout.boxes)
+    let layout = engine.layout(k, ruler, passes)?;
+    print_boxes(alloc, k, layout.boxes.as_slice())
 }
 
 #[tactic(auto, using(crate::proofs::EditLines::line_applying))]
 /// Reads the edit that a line is, and applies it.
-fn apply_line(alloc: Global, engine: &mut Engine, line: &Line) -> Result<(), ApplyError>
-    requires few { engine.old.calls < 67108864 }
-    requires counts { is_skipped line.now ≡ false }
-    requires short { length line.now.bytes ≤ 65536 }
-    ensures applies { Applies result (made_of engine.old.doc line.now) engine.old.doc engine.new.doc }
-    ensures calls { engine.new.calls ≤ engine.old.calls + 1 }
-    ensures bounded { IsBounded engine.old.doc → IsBounded engine.new.doc }
+fn apply_line(alloc: Global, engine: &mut Engine, line: &Line) -> Result<(), EditError>
+    requires { IsShort line.now }
+    ensures { Applies result (made_of (doc_of engine.old) line.now) engine.old.page engine.new.page }
 {
-    match read_edit(alloc, line) {
+    match read_edit(alloc, line, engine.version()) {
         Ok(edit) => engine.apply(edit),
-        Err(ReadError::Fault(fault)) => Err(ApplyError::Refused(fault)),
-        Err(ReadError::NoMemory) => Err(ApplyError::NoMemory),
+        Err(ReadError::Fault(fault)) => Err(EditError::Refused(fault)),
+        Err(ReadError::NoMemory) => Err(EditError::NoMemory),
     }
 }
 
@@ -78,26 +75,20 @@ pub(crate) fn answer_to_edit<R: Ruler, L: Ledger>(
     ruler: &mut R,
     passes: &mut Steps<L>,
 ) -> Result<Answer, NoMemory>
-    requires bounded { IsBounded engine.old.doc }
-    requires few { engine.old.calls < 67108864 }
-    requires counts { is_skipped line.now ≡ false }
-    requires short { length line.now.bytes ≤ 65536 }
-    ensures answered { IfOk result (λ answer. IsAnswered k (made_of engine.old.doc line.now) engine.old.doc engine.new.doc answer.text.items answer.refused) }
-    ensures log { OnOk result (Adds (R.log ruler.old) (R.log ruler.new) (events_of k (made_of engine.old.doc line.now))) }
-    ensures err { OnErr result (AddsPrefix (R.log ruler.old) (R.log ruler.new) (events_of k (made_of engine.old.doc line.now))) }
-    ensures calls { engine.new.calls ≤ engine.old.calls + 1 }
-    ensures bounded { IsBounded engine.new.doc }
-    ensures passes { passes.new ≡ passes.old }
+    requires { IsShort line.now }
+    ensures answered { IfOk result (λ answer. IsAnswered k (made_of (doc_of engine.old) line.now) (doc_of engine.old) (doc_of engine.new) answer.text.items answer.refused) }
+    ensures log { OnOk result (Logs (R.log ruler.old) (R.log ruler.new) k (made_of (doc_of engine.old) line.now ∷ [])) }
+    ensures err { OnErr result (LogsFront (R.log ruler.old) (R.log ruler.new) k (made_of (doc_of engine.old) line.now ∷ [])) }
 {
     match apply_line(alloc, engine, line) {
         Ok(()) => Ok(Answer {
             text: layout_text(alloc, engine, k, ruler, passes)?,
             refused: false,
         }),
-        Err(ApplyError::Refused(fault)) => Ok(Answer {
+        Err(EditError::Refused(fault)) => Ok(Answer {
             text: refusal_text(alloc, k, fault)?,
             refused: true,
         }),
-        Err(ApplyError::NoMemory) => Err(NoMemory),
+        Err(EditError::NoMemory) => Err(NoMemory),
     }
 }

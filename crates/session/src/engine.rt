@@ -1,110 +1,126 @@
-ghost use Rattle.std.specs.Prelude.{◌≡◌, ◌+◌, ◌<◌, ◌∷◌, [], true, IfOk, OnOk, OnErr};
+ghost use Rattle.std.specs.Prelude.{◌≡◌, ◌+◌, ◌-◌, ◌^◌, ◌≤◌, ◌∷◌, [], Ok, min, IfOk, OnErr};
+ghost use Rattle.doc_text.specs.Edits.{edited};
+ghost use Rattle.doc_text.specs.Laws.{NamesItsNode};
+ghost use Rattle.doc_text.specs.Valid.{IsValid};
+ghost use Rattle.page_tree.specs.Answered.{Applies};
+ghost use Rattle.session.specs.Boxes.{boxes_of};
+ghost use Rattle.session.specs.Engine.{IsToldEdit};
+ghost use Rattle.session.specs.Laying.{LaysOut, Keeps, KeepsMore};
 ghost use Rattle.std.specs.List.{All};
-ghost use Rattle.outside.specs.Told.{Adds, AddsPrefix};
-ghost use Rattle.outside.specs.declared.event.Event.TheVariants.{Begin};
-ghost use Rattle.first_form.specs.Edits.{edited, is_ordered_edit};
-ghost use Rattle.session.specs.Boxes.{IsBounded, boxes_of};
+ghost use Rattle.session.specs.Logs.{LogsFront};
 ghost use Rattle.session.specs.Printing.{IsPrintableBox};
-ghost use Rattle.session.specs.Engine.{Applies};
+ghost use Rattle.session.specs.Standing.{doc_of};
 
-use crate::boxes::boxes_of;
-use first_form::{Doc, Edit};
-use lunit::{Name, NoMemory, Rect, Steps};
-use outside::Ruler;
+use crate::laying::lay_out;
+use doc_text::{Doc, Edit};
+use lunit::{Name, NoMemory, Rect, Sequence, Steps};
+use outside::{Ruler, Tally};
+use page_tree::{EditError, Page};
 use std::alloc::Global;
+use std::marker::Model;
 use std::sync::ledger::Ledger;
-use text_scan::Fault;
-use thiserror::Error;
 
-/// A document that is edited and laid out.
+/// A valid document that is edited and laid out. Every answer that its nodes keep is right.
 #[derive(Drop)]
 pub struct Engine {
-    pub(crate) doc: Doc,
-    pub(crate) calls: u32,
+    page: Page,
+    calls: u32,
 }
 
-/// Why an edit was not applied. The document is then as it was.
-#[derive(Clone, Copy, Debug, PartialEq, Eq, Error)]
-pub enum ApplyError {
-    /// The edit has this fault.
-    #[error("refused")]
-    Refused(Fault),
-    /// Memory was wanting.
-    #[error("want of memory")]
-    NoMemory,
+impl Model for Engine {
+    ghost use Rattle.session.specs.Standing.{Standing, standing_code, IsSound};
+
+    ghost Value = { Standing };
+
+    ghost coded = { standing_code };
+
+    ghost view = { λ a. record { page = a.page; calls = a.calls } };
+
+    ghost invariant = { λ a. IsSound a.page };
 }
 
 /// The boxes of a document, in document order, and what it took to lay it out.
 #[derive(Drop)]
 pub struct Layout {
-    /// Each node's name and its box, in units of 1/64 px.
-    pub boxes: Vec<(Name, Rect)>,
-    /// How often a leaf was measured: 0 so far.
+    /// Each node's name and its border box, in units of 1/64 px.
+    pub boxes: Sequence<(Name, Rect)>,
+    /// How often a leaf was measured, or 2^64 - 1 where that is less.
     pub measured: u64,
-    /// How many answers were kept: 0 so far.
+    /// How many answers were kept, or 2^64 - 1 where that is less.
     pub added: u64,
 }
 
 impl Engine {
-    /// An engine for a document of at most 10,000 tracks along each axis. Takes no memory yet.
-    pub fn new(doc: Doc) -> Result<Engine, NoMemory>
-        requires { IsBounded doc }
-        ensures { IfOk result (λ engine. (engine.doc ≡ doc) × (engine.calls ≡ 0)) }
+    #[tactic(auto, using(crate::proofs::Sound::beginning))]
+    /// The engine of a valid document, as every document is that is read. No answer is kept yet. Or `NoMemory`.
+    pub fn new(alloc: Global, doc: Doc) -> Result<Engine, NoMemory>
+        requires { IsValid doc }
+        ensures document { IfOk result (λ engine. doc_of engine ≡ doc) }
+        ensures calls { IfOk result (λ engine. engine.calls ≡ 0) }
     {
-        Ok(Engine { doc, calls: 0 })
+        let page = Page::new(alloc, &doc)?;
+        Ok(Engine { page, calls: 0 })
     }
 
-    /// How many calls of [`Engine::apply`] there were.
+    /// How many calls of [`Engine::apply`] there were. The count stands still at 2^32 - 1.
     pub fn calls(&self) -> u32
         ensures { result ≡ self.now.calls }
     {
         self.calls
     }
 
-    #[tactic(auto, using(crate::proofs::Edited::applying))]
-    /// Applies an edit, which has its lines in order, or refuses it; then the document is as it was.
-    ///
-    /// `Refused` comes exactly where the edit has a fault: 21 where no node has its name, at the name; else 90 at the first byte
-    /// of its line where the name is the root's or a line passes the tracks (own rule). Fewer than 2^26 calls came before.
-    pub fn apply(&mut self, edit: Edit) -> Result<(), ApplyError>
-        requires few { self.old.calls < 67108864 }
-        requires ordered { is_ordered_edit edit ≡ true }
-        ensures applies { Applies result (edited self.old.doc edit) self.old.doc self.new.doc }
-        ensures calls { self.new.calls ≡ self.old.calls + 1 }
-        // So a document that can be laid out stays one.
-        ensures bounded { IsBounded self.old.doc → IsBounded self.new.doc }
+    /// The version of the language of the document, 1 or 2.
+    pub fn version(&self) -> u8
+        ensures { result ≡ (doc_of self.now).version }
     {
-        self.calls += 1;
-        match self.doc.edit(&edit) {
-            Ok(()) => Ok(()),
-            Err(fault) => Err(ApplyError::Refused(fault)),
-        }
+        self.page.version()
     }
 
-    #[tactic(auto, using(crate::proofs::Edited::beginning))]
-    /// Lays the document out: the layout with the number `k` begins, then come the boxes. Or `NoMemory`. The engine is as before.
+    #[tactic(auto, using(crate::proofs::Sound::applying))]
+    /// Applies an edit or refuses it. Its values, contents and sizes are ones that a text of the version tells, as those of
+    /// every edit that is read, and an inserted node has the name that the edit gives it.
+    ///
+    /// `Refused` comes exactly where the definition of the edited document refuses the edit: 21 where a name names no node,
+    /// 22 where the root is removed or moved, 23 where a node is moved below itself, 24 where an index is past the last
+    /// child, 6 where a name is there, 12 where a node would stand on level 65, 13 where there would be too many nodes, 14
+    /// where a leaf would have children; the first of these. After that and after `NoMemory` the document and all answers
+    /// that are kept are as before.
+    pub fn apply(&mut self, edit: Edit) -> Result<(), EditError>
+        requires named { NamesItsNode edit }
+        requires told { IsToldEdit (doc_of self.old).version edit }
+        ensures applies { Applies result (edited edit (doc_of self.old)) self.old.page self.new.page }
+        ensures calls { self.new.calls ≡ min (self.old.calls + 1) (2 ^ 32 - 1) }
+    {
+        self.calls = self.calls.saturating_add(1);
+        self.page.apply(edit)
+    }
+
+    #[tactic(auto, using(crate::proofs::Laid::laying))]
+    /// Lays the document out: the ruler is told that the layout with the number `k` begins, and then measures leaves. Or
+    /// `NoMemory`; then a front of that was told. The document is as before, and every answer that is kept is right.
     pub fn layout<R: Ruler, L: Ledger>(
         &mut self,
-        alloc: Global,
         k: u32,
         ruler: &mut R,
         passes: &mut Steps<L>,
     ) -> Result<Layout, NoMemory>
-        requires { IsBounded self.old.doc }
-        ensures boxes { IfOk result (λ layout. layout.boxes.items ≡ boxes_of self.old.doc) }
-        ensures printable { IfOk result (λ layout. All IsPrintableBox layout.boxes.items) }
-        ensures counts { IfOk result (λ layout. (layout.measured ≡ 0) × (layout.added ≡ 0)) }
-        ensures log { OnOk result (Adds (R.log ruler.old) (R.log ruler.new) (Begin k ∷ [])) }
-        ensures err { OnErr result (AddsPrefix (R.log ruler.old) (R.log ruler.new) (Begin k ∷ [])) }
-        ensures same { self.new ≡ self.old }
-        ensures passes { passes.new ≡ passes.old }
+        ensures boxes { IfOk result (λ layout. layout.boxes ≡ boxes_of (doc_of self.old)) }
+        ensures printable { IfOk result (λ layout. All IsPrintableBox layout.boxes) }
+        ensures laid { IfOk result (λ layout. LaysOut k (doc_of self.old) (R.log ruler.old) (R.log ruler.new) layout.measured) }
+        ensures stopped { OnErr result (LogsFront (R.log ruler.old) (R.log ruler.new) k (Ok (doc_of self.old) ∷ [])) }
+        ensures document { doc_of self.new ≡ doc_of self.old }
+        ensures calls { self.new.calls ≡ self.old.calls }
+        ensures kept { IfOk result (λ layout. Keeps self.old.page self.new.page 0 layout.added passes.old passes.new) }
+        ensures kept_some { OnErr result (KeepsMore self.old.page self.new.page) }
     {
+        let page = &mut self.page;
         ruler.begin(k)?;
-        let boxes = boxes_of(alloc, &self.doc)?;
+        let mut tally = Tally::new();
+        let boxes = lay_out(page, ruler, &mut tally, passes)?;
         Ok(Layout {
             boxes,
-            measured: 0,
-            added: 0,
+            measured: tally.measured,
+            added: tally.added,
         })
     }
 }

@@ -1,8 +1,9 @@
 ghost use Rattle.std.specs.Prelude.{◌≡◌};
 ghost use Rattle.session.specs.FaultNames.{fault_name};
 
-use first_form::{NOT_BUILT, UNKNOWN_NAME};
 use text_scan::{BAD_BYTE, LINE_TOO_LONG};
+use track_text::{BAD_VALUE, UNSUPPORTED};
+use value_text::UNKNOWN_PROPERTY;
 
 const BAD_HEADER: u8 = 3;
 
@@ -14,13 +15,7 @@ const DUPLICATE_NAME: u8 = 6;
 
 const UNKNOWN_KIND: u8 = 7;
 
-const UNKNOWN_PROPERTY: u8 = 8;
-
-const BAD_VALUE: u8 = 9;
-
 const DUPLICATE_PROPERTY: u8 = 10;
-
-const UNSUPPORTED: u8 = 11;
 
 const TOO_DEEP: u8 = 12;
 
@@ -33,6 +28,8 @@ const SECOND_ROOT: u8 = 15;
 const NO_ROOT: u8 = 16;
 
 const UNKNOWN_EDIT: u8 = 20;
+
+const UNKNOWN_NAME: u8 = 21;
 
 const ROOT: u8 = 22;
 
@@ -67,7 +64,6 @@ pub(crate) fn fault_name(number: u8) -> &'static [u8]
         ROOT => b"root",
         CYCLE => b"cycle",
         BAD_INDEX => b"bad-index",
-        NOT_BUILT => b"not-built",
         _ => b"",
     }
 }

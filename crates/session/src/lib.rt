@@ -1,20 +1,20 @@
-//! The top call of the layout tool: it reads a document, lays it out and prints its boxes.
+//! The top call of the layout tool: it reads a document, lays it out and prints its boxes, and again after each edit.
 #![tactic(auto)]
 
 mod answer;
-mod boxes;
 mod edits;
 mod engine;
 mod faults;
 mod input;
-mod offsets;
+mod laying;
 mod print;
 mod serve;
 mod status;
 mod text;
 mod top_call;
 
-pub use engine::{ApplyError, Engine, Layout};
+pub use engine::{Engine, Layout};
+pub use page_tree::EditError as ApplyError;
 pub use print::print_boxes;
 pub use status::Status;
 pub use top_call::run;

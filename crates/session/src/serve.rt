@@ -1,7 +1,6 @@
-ghost use Rattle.std.specs.Prelude.{◌≡◌, ◌≤◌, ◌<◌, Err, false, IfOk, OnOk};
+ghost use Rattle.std.specs.Prelude.{◌≡◌, ◌≤◌, Err, false, OnOk};
 ghost use Rattle.outside.specs.Faults.{HasCauseOf};
 ghost use Rattle.text_scan.specs.Stream.{empty_stream};
-ghost use Rattle.session.specs.Boxes.{IsBounded};
 ghost use Rattle.session.specs.Input.{limit};
 ghost use Rattle.session.specs.Runs.{Runs};
 ghost use Rattle.session.specs.Serving.{Starts, ended};
@@ -28,12 +27,10 @@ fn start<S: Source, K: Sink, R: Ruler, L: Ledger>(
 ) -> Result<Progress, Status>
     requires new { (reader.old.lines ≡ empty_stream) × (reader.old.count ≡ 0) × (reader.old.ended ≡ false) }
     ensures starts { Starts (S.left source.old) (S.left source.new) (K.written sink.old) (K.written sink.new) (R.log ruler.old) (R.log ruler.new) reader.new.lines reader.new.ended result }
-    ensures engine { IfOk result (λ progress. IsBounded progress.engine.doc × (progress.engine.calls < progress.number)) }
     ensures count { OnOk result (reader.new.lines.fed ≡ reader.new.count) }
     ensures within { OnOk result (reader.new.count ≤ limit) }
     ensures read { HasCauseOf (S.faults source.old) (S.faults source.new) (result ≡ Err Status.ReadFault) }
     ensures write { HasCauseOf (K.faults sink.old) (K.faults sink.new) (result ≡ Err Status.WriteFault) }
-    ensures passes { passes.new ≡ passes.old }
 {
     let text = match read_text(alloc, source, room, reader) {
         Ok(text) => text,
@@ -65,7 +62,6 @@ pub(crate) fn serve<S: Source, K: Sink, R: Ruler, L: Ledger>(
     ensures runs { Runs (S.left source.old) (S.left source.new) (K.written sink.old) (K.written sink.new) (R.log ruler.old) (R.log ruler.new) result }
     ensures read { HasCauseOf (S.faults source.old) (S.faults source.new) (result ≡ Status.ReadFault) }
     ensures write { HasCauseOf (K.faults sink.old) (K.faults sink.new) (result ≡ Status.WriteFault) }
-    ensures passes { passes.new ≡ passes.old }
 {
     let mut room = [0; PIECE];
     let mut reader = Reader::new(alloc);

@@ -1,15 +1,12 @@
-ghost use Rattle.std.specs.Prelude.{◌≡◌, ◌≤◌, ◌<◌, None, length, IfOk};
-ghost use Rattle.session.specs.Boxes.{IsBounded};
+ghost use Rattle.std.specs.Prelude.{◌≡◌, ◌<◌};
 
 use super::*;
-use first_form::{Children, Doc, Edit, FirstAxis, FirstLines, FirstStyle, Named, Plain};
-use lunit::{Lu, Name, NoMemory, Sequence, Steps};
-use outside::{LogRuler, MemorySink, MemorySource, WordRuler};
+use lunit::{NoMemory, Sequence, Steps};
+use outside::{LogRuler, MemorySink, MemorySource};
 use std::alloc::Global;
 use std::marker::Brand;
 use std::sync::ledger::{Blank, Ledger};
 use std::test::Fail;
-use text_scan::{Fault, Place};
 
 /// One grid, and a leaf over both of its columns and one in its last cell.
 const FIRST: &[u8] =
@@ -29,13 +26,15 @@ const ANSWERS: [&[u8]; 4] = [
     b"refused 3 9:5 unknown-name\n",
 ];
 
-/// A document with a fraction, which is not built, and a script after it.
-const BAD_WITH_SCRIPT: &[u8] =
-    b"gridlay 1\nviewport 300 200\nmain grid { grid-template-columns: 1fr; grid-template-rows: 20px }\n---\nset b grid-column: 1\n";
+/// A document with a faulty value, and the line of its refusal.
+const BAD: &[u8] =
+    b"gridlay 1\nviewport 300 200\nmain grid { grid-template-columns: 1xx; grid-template-rows: 20px }\n";
 
-/// The same with `1fr` for the second column, which is not built.
-const SECOND: &[u8] =
-    b"gridlay 1\nviewport 300 200\nmain grid { grid-template-columns: 100px 1fr; grid-template-rows: 20px 30px }\n  a leaf 10 10 { grid-column: 1 / 3; grid-row: 1 / 2 }\n  b leaf 10 10 { grid-column: 2 / 3; grid-row: 2 / 3 }\n";
+const REFUSAL: &[u8] = b"refused 0 3:36 bad-value\n";
+
+/// The same with a script after it.
+const BAD_WITH_SCRIPT: &[u8] =
+    b"gridlay 1\nviewport 300 200\nmain grid { grid-template-columns: 1xx; grid-template-rows: 20px }\n---\nset b grid-column: 1\n";
 
 fn run_on<L: Ledger>(
     alloc: Global,
@@ -112,18 +111,17 @@ fn answers(alloc: Global, count: usize) -> Result<Vec<u8>, NoMemory> {
 #[test]
 fn answers_each_input(rt: HostRuntime) -> Result<(), Fail> {
     let alloc = rt.alloc();
-    let refusal = b"refused 0 1:1 not-built\n".as_slice();
     let text = edited(alloc)?;
     let unended = &text[..text.len().saturating_sub(1)];
     let all = answers(alloc, 4)?;
     let rows: [(&[&str], &[u8], Status, &[u8]); 7] = [
         (&["layout"], FIRST, Status::Done, FIRST_BOXES),
-        (&["layout"], SECOND, Status::BadDocument, refusal),
+        (&["layout"], BAD, Status::BadDocument, REFUSAL),
         (&["lay"], FIRST, Status::BadWords, b""),
         (&[], FIRST, Status::BadWords, b""),
         (&["layout"], &text, Status::SomeRefused, &all),
         (&["layout"], unended, Status::SomeRefused, &all),
-        (&["layout"], BAD_WITH_SCRIPT, Status::BadDocument, refusal),
+        (&["layout"], BAD_WITH_SCRIPT, Status::BadDocument, REFUSAL),
     ];
     for (words, text, status, written) in rows {
         let expected = ended(alloc, status, written)?;
@@ -202,7 +200,6 @@ fn filled(alloc: Global, text: &[u8], length: usize) -> Result<Vec<u8>, NoMemory
 #[test]
 fn takes_so_many_bytes_and_no_more(rt: HostRuntime) -> Result<(), Fail> {
     let alloc = rt.alloc();
-    let refusal = b"refused 0 1:1 not-built\n".as_slice();
     let text = edited(alloc)?;
     let all = answers(alloc, 4)?;
     let limit = 1 << 26;
@@ -211,118 +208,13 @@ fn takes_so_many_bytes_and_no_more(rt: HostRuntime) -> Result<(), Fail> {
         (FIRST, limit + 1, Status::InputLimit, b""),
         (&text, limit, Status::SomeRefused, &all),
         (&text, limit + 1, Status::InputLimit, &all),
-        (SECOND, limit + 1, Status::InputLimit, b""),
-        (BAD_WITH_SCRIPT, limit + 1, Status::BadDocument, refusal),
+        (BAD, limit + 1, Status::InputLimit, b""),
+        (BAD_WITH_SCRIPT, limit + 1, Status::BadDocument, REFUSAL),
     ];
     for (text, length, status, written) in rows {
         let text = filled(alloc, text, length)?;
         let ran = run_text(alloc, &["layout"], &text, false, 0, 0)?;
         assert_eq!(rt; ran, ended(alloc, status, written)?);
     }
-    Ok(())
-}
-
-fn name_of(text: &[u8]) -> Result<Name, Fail> {
-    Ok(Name::read(text).ok().ok_or("no name")?)
-}
-
-fn lines_at(start: i32) -> FirstLines
-    ensures { result ≡ record { start = start; end = None } }
-{
-    FirstLines { start, end: None }
-}
-
-/// A grid of two columns and one row, without leaves.
-fn grid(alloc: Global) -> Result<Plain, Fail>
-    ensures columns { IfOk result (λ grid. length grid.style.columns ≤ 10000) }
-    ensures rows { IfOk result (λ grid. length grid.style.rows ≤ 10000) }
-{
-    Ok(Plain {
-        name: name_of(b"main")?,
-        style: FirstStyle {
-            columns: Sequence::from_slice(alloc, &[Lu::of(6400), Lu::of(3200)])?,
-            rows: Sequence::from_slice(alloc, &[Lu::of(1280)])?,
-            column: lines_at(1),
-            row: lines_at(1),
-        },
-        children: Children::new(alloc),
-    })
-}
-
-/// A leaf in the first cell.
-fn leaf(alloc: Global) -> Result<Plain, Fail> {
-    Ok(Plain {
-        name: name_of(b"a")?,
-        style: FirstStyle {
-            columns: Sequence::new(alloc),
-            rows: Sequence::new(alloc),
-            column: lines_at(1),
-            row: lines_at(1),
-        },
-        children: Children::new(alloc),
-    })
-}
-
-fn document(alloc: Global) -> Result<Doc, Fail>
-    ensures { IfOk result (λ doc. IsBounded doc) }
-{
-    let mut root = grid(alloc)?;
-    root.children.push(leaf(alloc)?)?;
-    Ok(Doc {
-        width: Lu::of(19200),
-        height: Lu::of(12800),
-        root,
-    })
-}
-
-/// What is printed of a document after the edit that moves its leaf to the second column.
-fn moved<L: Ledger>(alloc: Global, doc: Doc, blank: Blank) -> Result<Vec<u8>, Fail>
-    requires name { blank.name ≡ L.name }
-    requires parts { blank.parts ≡ L.parts }
-    requires some { 0 < blank.parts }
-    requires doc { IsBounded doc }
-{
-    let mut engine = Engine::new(doc)?;
-    let named = Named {
-        name: name_of(b"a")?,
-        at: Place { line: 7, column: 5 },
-    };
-    engine.apply(Edit::Set(named, FirstAxis::Columns, lines_at(2)))?;
-    let mut ruler = WordRuler::new();
-    let mut passes: Steps<L> = Steps::new(blank);
-    let layout = engine.layout(alloc, 1, &mut ruler, &mut passes)?;
-    Ok(print_boxes(alloc, 1, &layout.boxes)?)
-}
-
-#[test]
-fn an_engine_edits_and_lays_out(rt: HostRuntime) -> Result<(), Fail> {
-    let alloc = rt.alloc();
-    let text = moved::<Brand>(alloc, document(alloc)?, Blank::new(1))?;
-    assert_eq!(rt;
-        text.as_slice(),
-        b"layout 1\nmain 0 0 300 20\na 100 0 50 20\n".as_slice()
-    );
-    Ok(())
-}
-
-#[test]
-fn an_engine_refuses_an_unknown_name(rt: HostRuntime) -> Result<(), Fail> {
-    let alloc = rt.alloc();
-    let mut engine = Engine::new(document(alloc)?)?;
-    let at = Place { line: 7, column: 5 };
-    let named = Named {
-        name: name_of(b"z")?,
-        at,
-    };
-    let refused = match engine.apply(Edit::Unset(named, FirstAxis::Rows)) {
-        Ok(()) => false,
-        Err(error) => error
-            == ApplyError::Refused(Fault {
-                number: 21,
-                place: at,
-            }),
-    };
-    assert!(rt; refused);
-    assert_eq!(rt; engine.calls(), 1);
     Ok(())
 }

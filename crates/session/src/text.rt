@@ -1,17 +1,20 @@
-ghost use Rattle.std.specs.Prelude.{◌≡◌, ◌+◌, ◌≤◌, ◌++◌, ◌∷◌, [], List, Err, false, OnOk};
+ghost use Rattle.std.specs.Prelude.{◌≡◌, ◌+◌, ◌≤◌, ◌++◌, ◌∷◌, [], List, Err, false, true, OnOk, IfOk, IfSome};
 ghost use Rattle.outside.specs.Faults.{HasCauseOf};
 ghost use Rattle.text_scan.specs.Stream.{empty_stream};
 ghost use Rattle.text_scan.specs.declared.line.Line.{Line};
 ghost use Rattle.session.specs.Input.{limit};
-ghost use Rattle.session.specs.Serving.{Holds, ReadsText};
+ghost use Rattle.doc_text.specs.Documents.{document_of};
+ghost use Rattle.doc_text.specs.Valid.{IsShort, AreShort};
+ghost use Rattle.session.specs.Script.{is_end_of_document};
+ghost use Rattle.session.specs.Serving.{BeginsNone, Holds, ReadsText};
 
 use crate::Status;
 use crate::input::{PIECE, Reader, next_line};
-use first_form::{begins_none, is_end_of_document};
+use doc_text::{ReadError, read_doc};
 use lunit::{NoMemory, Sequence};
 use outside::Source;
 use std::alloc::Global;
-use text_scan::{Line, Place};
+use text_scan::{Fault, Line, Place};
 
 /// The text of a document.
 #[derive(Drop)]
@@ -22,6 +25,43 @@ pub(crate) struct Text {
     pub(crate) end: Place,
     /// Whether a line ended it: then a script follows.
     pub(crate) has_script: bool,
+}
+
+/// So many lines a document has at most that are not skipped: two of its head, and one for each node.
+const MOST_LINES: usize = 131_074;
+
+/// Whether the line ends the text of a document: it is `---`, these three bytes and nothing else. Edits follow it.
+fn is_end_of_document(line: &Line) -> bool
+    ensures { result ≡ is_end_of_document line.now }
+{
+    line.fault.is_none() && line.bytes.as_slice() == b"---".as_slice()
+}
+
+/// The fault of the document that the lines are, where their text ends at this place; none where it has none.
+fn fault_of(alloc: Global, lines: &[Line], end: Place) -> Result<Option<Fault>, NoMemory>
+    ensures { IfOk result (λ found. IfSome found (λ fault. document_of lines.now end ≡ Err fault)) }
+{
+    match read_doc(alloc, lines, end) {
+        Ok(_) => Ok(None),
+        Err(ReadError::Fault(fault)) => Ok(Some(fault)),
+        Err(ReadError::NoMemory) => Err(NoMemory),
+    }
+}
+
+#[tactic(auto, using(crate::proofs::Fronts::fronts))]
+/// Whether the lines have a fault that stays whatever lines follow them: one that does not depend on where the text ends.
+fn begins_none(alloc: Global, lines: &[Line]) -> Result<bool, NoMemory>
+    ensures { IfOk result (λ none. none ≡ true → BeginsNone lines.now) }
+{
+    let first = match fault_of(alloc, lines, Place { line: 1, column: 1 })? {
+        Some(fault) => fault,
+        None => return Ok(false),
+    };
+    let second = match fault_of(alloc, lines, Place { line: 2, column: 1 })? {
+        Some(fault) => fault,
+        None => return Ok(false),
+    };
+    Ok(first.place.line == second.place.line)
 }
 
 /// The lines of a document as they are held: none that is skipped, and no more once they can begin no document.
@@ -41,15 +81,18 @@ impl Held {
     {
         Held {
             lines: Sequence::new(alloc),
-            next: 1024,
+            next: MOST_LINES,
             lost: false,
         }
     }
 
     #[tactic(auto, using(crate::proofs::Texts::holding))]
-    /// Adds a line. It looks at all lines each time when there are twice as many as before, so the time stays linear.
+    /// Adds a line. It looks at all lines where there are more than a document has, and then each time when there are twice
+    /// as many, so the time stays linear.
     fn add(&mut self, alloc: Global, line: Line) -> Result<(), NoMemory>
-        ensures { (given : List Line) → Holds self.old given → OnOk result (Holds self.new (given ++ line ∷ [])) }
+        requires { IsShort line }
+        ensures holds { (given : List Line) → Holds self.old given → OnOk result (Holds self.new (given ++ line ∷ [])) }
+        ensures short { AreShort self.old.lines → OnOk result (AreShort self.new.lines) }
     {
         if self.lost {
             return Ok(());
@@ -94,6 +137,7 @@ pub(crate) fn read_text<S: Source>(
 ) -> Result<Text, Status>
     requires new { (reader.old.lines ≡ empty_stream) × (reader.old.count ≡ 0) × (reader.old.ended ≡ false) }
     ensures text { ReadsText (S.left source.old) (S.left source.new) reader.new.lines reader.new.ended result }
+    ensures short { IfOk result (λ text. AreShort text.lines) }
     ensures count { OnOk result (reader.new.lines.fed ≡ reader.new.count) }
     ensures within { OnOk result (reader.new.count ≤ limit) }
     ensures cause { HasCauseOf (S.faults source.old) (S.faults source.new) (result ≡ Err Status.ReadFault) }

@@ -31,7 +31,6 @@ fn run_layout<S: Source, K: Sink, R: Ruler, L: Ledger>(
     ensures complete { IsComplete (S.left source.old) (K.written sink.old) (K.written sink.new) (S.faults source.old) (S.faults source.new) (K.faults sink.old) (K.faults sink.new) result }
     ensures over_complete { IsOverComplete (S.left source.old) (S.faults source.old) (S.faults source.new) (K.faults sink.old) (K.faults sink.new) result }
     ensures headline { IsHeadline (S.left source.old) (K.written sink.old) (K.written sink.new) (S.faults source.old) (S.faults source.new) (K.faults sink.old) (K.faults sink.new) result }
-    ensures passes { passes.new ≡ passes.old }
 {
     serve(alloc, source, sink, ruler, passes)
 }
@@ -52,15 +51,16 @@ fn is_layout(words: &[String]) -> bool
 /// - `BadWords` exactly where the words are others; then nothing is read, written or logged.
 /// - `Done` where the input, of at most 2^26 bytes, holds a document and no edit was refused: the input was read to its end.
 /// - `SomeRefused` where at least one edit was refused, else as `Done`.
-/// - `BadDocument` where the text before the line `---`, or all of it, is no document of the form that is built: the line
-///   `refused 0 1:1 not-built` is written, and no more is read.
+/// - `BadDocument` where the text before the line `---`, or all of it, has a fault: the line `refused 0 L:C name` of its first
+///   fault is written, and no more is read.
 /// - `InputLimit` where the input has more than 2^26 bytes, unless a line `---` is whole in the first 2^26 and the text before it
-///   is no document. What was written for the lines that are whole in these stands.
+///   has a fault. What was written for the lines that are whole in these stands.
 /// - `ReadFault` only where the source's count of faults rose in this call: what was written for the whole lines stands.
 /// - `WriteFault` only where the sink's count of faults rose in this call: a prefix is written.
 /// - `NoMemory` at want of memory: a prefix is written, or nothing.
 ///
-/// The ruler is told the begin of each layout that is made, with its number. `passes` counts nothing yet.
+/// The ruler is told the begin of each layout that is made, with its number, and then measures leaves of its document. `passes`
+/// counts the passes of track sizing and of flex lengths.
 pub fn run<S: Source, K: Sink, R: Ruler, L: Ledger>(
     alloc: Global,
     words: Vec<String>,
@@ -86,7 +86,6 @@ pub fn run<S: Source, K: Sink, R: Ruler, L: Ledger>(
     // The boxes written are those of the document that the source's bytes hold, and then, for each edit line, those of the edited
     // document or the line of the refusal.
     ensures headline { IsTrue (is_layout words.items) → IsHeadline (S.left source.old) (K.written sink.old) (K.written sink.new) (S.faults source.old) (S.faults source.new) (K.faults sink.old) (K.faults sink.new) result }
-    ensures passes { passes.new ≡ passes.old }
 {
     if is_layout(&words) {
         run_layout(alloc, source, sink, ruler, passes)

@@ -1,13 +1,13 @@
 use Rattle.std.proofs.Common.{subst, Err}
-use Rattle.first_form.specs.Gives.{Gives}
-use Rattle.first_form.specs.declared.errors.ReadError.{ReadError}
+use Rattle.track_text.specs.Gives.{Reads}
+use Rattle.track_text.specs.declared.errors.ReadError.{ReadError}
+use Rattle.doc_text.specs.Documents.{document_of}
 use Rattle.session.proofs.Serving.{begins_refused, begins_not}
-use Rattle.session.specs.Script.{document_of_lines}
 use Rattle.session.proofs.answer.begin.Goals as goal
 
 pub returns-in-Err-Fault-clause-begins : goal.returns-in-Err-Fault-clause-begins
 returns-in-Err-Fault-clause-begins g c =
-    begins_refused (g.K.Sink.written c.args.sink.now) (g.K.Sink.written c.refuse_document.new.sink) (g.R.Ruler.log c.args.ruler.now) (document_of_lines c.args.lines.now) c.in-Err-Fault.fault c.refuse_document.result (subst (λ (e : ReadError). Gives (Err e) (document_of_lines c.args.lines.now)) c.in-Err-Fault.field-0-is c.in-Err-Fault.ensures.document) (c.refuse_document.ensures.refused (g.R.Ruler.log c.args.ruler.now))
+    begins_refused (g.K.Sink.written c.args.sink.now) (g.K.Sink.written c.refuse_document.new.sink) (g.R.Ruler.log c.args.ruler.now) (document_of c.args.lines.now c.args.end) c.in-Err-Fault.fault c.refuse_document.result (subst (λ (e : ReadError). Reads (Err e) (document_of c.args.lines.now c.args.end)) c.in-Err-Fault.field-0-is c.in-Err-Fault.ensures.document) (c.refuse_document.ensures.refused (g.R.Ruler.log c.args.ruler.now))
 
 pub returns-in-Err-NoMemory-clause-begins : goal.returns-in-Err-NoMemory-clause-begins
-returns-in-Err-NoMemory-clause-begins g c = begins_not (g.K.Sink.written c.args.sink.now) (g.R.Ruler.log c.args.ruler.now) (document_of_lines c.args.lines.now)
+returns-in-Err-NoMemory-clause-begins g c = begins_not (g.K.Sink.written c.args.sink.now) (g.R.Ruler.log c.args.ruler.now) (document_of c.args.lines.now c.args.end)

@@ -3,6 +3,7 @@ use Rattle.session.specs.Runs.{Runs}
 use Rattle.session.specs.declared.status.Status.{Status}
 use Rattle.session.proofs.Texts.{line_given, end_given}
 use Rattle.session.proofs.Running.{part_written, script_stopped, script_ended, few_answers, closer, unwritten_stop}
+use Rattle.session.specs.Standing.{doc_of}
 use Rattle.session.proofs.serve.serve.Goals as goal
 
 pub handle_line-requires-clause-few : goal.handle_line-requires-clause-few
@@ -40,13 +41,10 @@ loop-line-preserved g c =
         input = line.all;
         answered = c.in-Ok-handle_line.ensures.ok (g.K.Sink.written c.args.sink.now) (g.R.Ruler.log c.args.ruler.now) at.given at.answered;
       };
-      bounded = search rules;
-      calls = search rules;
       count = search rules;
       within = search rules;
       read = search rules;
       written = search rules;
-      passes = search rules;
     }
 
 pub returns-in-Ok-None-clause-runs : goal.returns-in-Ok-None-clause-runs
@@ -58,13 +56,13 @@ returns-in-Ok-None-clause-runs g c =
     let events = g.R.Ruler.log c.args.ruler.now in
     let events' = g.R.Ruler.log c.loop-line.ruler in
     let at = c.loop-line.invariant.at in
-    subst (λ (status : Status). Runs left now held held' events events' status) (sym c.ended.ensures) (script_ended left now held held' events events' at.given c.loop-line.progress.engine.doc c.loop-line.progress.number c.loop-line.progress.refused at.answered (end_given left now at.given c.next_line.new.reader.lines c.next_line.new.reader.ended c.in-Ok-None.field-0 c.in-Ok-None.field-0-is (c.in-Ok-None.ensures.next left at.given at.input)))
+    subst (λ (status : Status). Runs left now held held' events events' status) (sym c.ended.ensures) (script_ended left now held held' events events' at.given (doc_of c.loop-line.progress.engine) c.loop-line.progress.number c.loop-line.progress.refused at.answered (end_given left now at.given c.next_line.new.reader.lines c.next_line.new.reader.ended c.in-Ok-None.field-0 c.in-Ok-None.field-0-is (c.in-Ok-None.ensures.next left at.given at.input)))
 
 pub returns-in-Err-next_line-clause-runs : goal.returns-in-Err-next_line-clause-runs
 returns-in-Err-next_line-clause-runs g c =
     let left = g.S.Source.left c.args.source.now in
     let at = c.loop-line.invariant.at in
-    script_stopped left (g.S.Source.left c.next_line.new.source) (g.K.Sink.written c.args.sink.now) (g.K.Sink.written c.loop-line.sink) (g.R.Ruler.log c.args.ruler.now) (g.R.Ruler.log c.loop-line.ruler) at.given c.loop-line.progress.engine.doc c.loop-line.progress.number c.loop-line.progress.refused at.answered c.in-Err-next_line.status (c.in-Err-next_line.ensures.next left at.given at.input)
+    script_stopped left (g.S.Source.left c.next_line.new.source) (g.K.Sink.written c.args.sink.now) (g.K.Sink.written c.loop-line.sink) (g.R.Ruler.log c.args.ruler.now) (g.R.Ruler.log c.loop-line.ruler) at.given (doc_of c.loop-line.progress.engine) c.loop-line.progress.number c.loop-line.progress.refused at.answered c.in-Err-next_line.status (c.in-Err-next_line.ensures.next left at.given at.input)
 
 pub returns-in-Err-next_line-clause-write : goal.returns-in-Err-next_line-clause-write
 returns-in-Err-next_line-clause-write g c =

@@ -1,5 +1,5 @@
-use Rattle.std.proofs.Common.{◌≡◌, ◌≤◌, ◌<◌, ◌+◌, ◌-◌}
-use Rattle.session.specs.Boxes.{IsBounded}
+use Rattle.std.proofs.Common.{◌≡◌, ◌≤◌, ◌+◌, ◌-◌}
+use Rattle.session.specs.Standing.{doc_of}
 use Rattle.session.specs.Input.{limit}
 use Rattle.session.specs.Serving.{IsAt}
 use Rattle.session.proofs.serve.serve.Given as goal
@@ -7,14 +7,11 @@ use Rattle.session.proofs.serve.serve.Given as goal
 abbrev pub invariant-loop-line : goal.invariant-loop-line
 invariant-loop-line g l =
     record {
-      at : IsAt (g.S.Source.left l.fn.source) (g.S.Source.left l.source) (g.K.Sink.written l.fn.sink) (g.K.Sink.written l.sink) (g.R.Ruler.log l.fn.ruler) (g.R.Ruler.log l.ruler) l.reader.lines l.reader.ended l.progress.engine.doc l.progress.number l.progress.refused;
-      bounded : IsBounded l.progress.engine.doc;
-      calls : l.progress.engine.calls < l.progress.number;
+      at : IsAt (g.S.Source.left l.fn.source) (g.S.Source.left l.source) (g.K.Sink.written l.fn.sink) (g.K.Sink.written l.sink) (g.R.Ruler.log l.fn.ruler) (g.R.Ruler.log l.ruler) l.reader.lines l.reader.ended (doc_of l.progress.engine) l.progress.number l.progress.refused;
       count : l.reader.lines.fed ≡ l.reader.count;
       within : l.reader.count ≤ limit;
       read : g.S.Source.faults l.fn.source ≤ g.S.Source.faults l.source;
       written : g.K.Sink.faults l.fn.sink ≤ g.K.Sink.faults l.sink;
-      passes : l.passes ≡ l.fn.passes;
     }
 
 abbrev pub decreases-loop-line : goal.decreases-loop-line

@@ -36,7 +36,8 @@ loop-line-preserved g c =
     let at = c.loop-line.invariant.text in
     let more = line_given before (g.S.Source.left c.next_line.new.source) at.given c.in-Ok-Some.line c.next_line.new.reader.lines c.next_line.new.reader.ended c.in-Ok-Some.field-0 c.in-Ok-Some.field-0-is (c.in-Ok-Some.ensures.next before at.given at.input) in
     record {
-      text = in_text_more before (g.S.Source.left c.loop-line.source) (g.S.Source.left c.next_line.new.source) c.loop-line.reader.lines c.next_line.new.reader.lines c.loop-line.reader.ended c.next_line.new.reader.ended c.loop-line.held c.loop-line.count c.in-Ok-Some.line at more c.add.new.self (sym c.is_end_of_document.ensures ∙ c.if-is_end_of_document.false) (c.in-Ok.ensures at.given at.holds);
+      text = in_text_more before (g.S.Source.left c.loop-line.source) (g.S.Source.left c.next_line.new.source) c.loop-line.reader.lines c.next_line.new.reader.lines c.loop-line.reader.ended c.next_line.new.reader.ended c.loop-line.held c.loop-line.count c.in-Ok-Some.line at more c.add.new.self (sym c.is_end_of_document.ensures ∙ c.if-is_end_of_document.false) (c.in-Ok.ensures.holds at.given at.holds);
+      short = c.in-Ok.ensures.short c.loop-line.invariant.short;
       fed = search rules;
       within = search rules;
       later = search rules;

@@ -1,9 +1,0 @@
-use Rattle.std.proofs.Common.{[], ◌∷◌, ap, ◌∙◌}
-use Rattle.first_form.specs.Trees.{joined}
-use Rattle.first_form.specs.View.{trees_of}
-use Rattle.first_form.proofs.Nodes.{trees_of-push}
-use Rattle.first_form.proofs.document.Children.push.Goals as goal
-
-pub returns-clause-ok : goal.returns-clause-ok
-returns-clause-ok c =
-    rw c.in_ok-push.ensures.items (trees_of-push _ _ ∙ ap (λ t. joined t (trees_of (c.args.node ∷ []))) c.self.view_is)

@@ -1,0 +1,25 @@
+use Rattle.std.proofs.Common.{ap, sym, ◌∙◌}
+use Rattle.node_arena.specs.Numbers.{top_numbers}
+use Rattle.node_arena.specs.Plain.{Nodes}
+use Rattle.page_tree.specs.Pages.{document_of}
+use Rattle.placing.specs.declared.node.Node.{Node}
+use Rattle.session.proofs.Lain.{measures, keeps, keeps_some, printable, hidden}
+use Rattle.session.proofs.laying.lay_out.Goals as goal
+
+pub returns-clause-boxes : goal.returns-clause-boxes
+returns-clause-boxes g c = hidden c.lay_out.result (document_of c.args.page.now) c.lay_out.ensures.boxes
+
+pub returns-clause-printable : goal.returns-clause-printable
+returns-clause-printable g c = printable c.lay_out.result c.lay_out.ensures.near
+
+pub returns-clause-measures : goal.returns-clause-measures
+returns-clause-measures g c =
+    measures c.args.page.now c.lay_out.new.self c.args.tally.now c.lay_out.new.tally c.args.passes.now c.lay_out.new.passes (g.R.Ruler.log c.args.ruler.now) (g.R.Ruler.log c.lay_out.new.ruler) c.root.result (ap (λ (a : Nodes Node). top_numbers a.tree) (sym c.tree.ensures) ∙ c.root.ensures.root) c.lay_out.result c.lay_out.ensures.laid c.lay_out.ensures.cut
+
+pub returns-clause-keeps : goal.returns-clause-keeps
+returns-clause-keeps g c =
+    keeps c.args.page.now c.lay_out.new.self c.args.tally.now c.lay_out.new.tally c.args.passes.now c.lay_out.new.passes (g.R.Ruler.log c.args.ruler.now) (g.R.Ruler.log c.lay_out.new.ruler) c.root.result (ap (λ (a : Nodes Node). top_numbers a.tree) (sym c.tree.ensures) ∙ c.root.ensures.root) c.lay_out.result c.lay_out.ensures.laid
+
+pub returns-clause-keeps_some : goal.returns-clause-keeps_some
+returns-clause-keeps_some g c =
+    keeps_some c.args.page.now c.lay_out.new.self c.args.tally.now c.lay_out.new.tally c.args.passes.now c.lay_out.new.passes (g.R.Ruler.log c.args.ruler.now) (g.R.Ruler.log c.lay_out.new.ruler) c.root.result (ap (λ (a : Nodes Node). top_numbers a.tree) (sym c.tree.ensures) ∙ c.root.ensures.root) c.lay_out.result c.lay_out.ensures.cut

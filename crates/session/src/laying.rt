@@ -1,0 +1,35 @@
+//! One layout of a held document.
+
+ghost use Rattle.std.specs.Prelude.{◌≡◌, IfOk, OnOk, OnErr};
+ghost use Rattle.std.specs.List.{All};
+ghost use Rattle.session.specs.Boxes.{boxes_of};
+ghost use Rattle.page_tree.specs.Pages.{document_of};
+ghost use Rattle.session.specs.Laying.{Measures, KeepsMore, Keeps};
+ghost use Rattle.session.specs.Printing.{IsPrintableBox};
+ghost use Rattle.session.specs.Standing.{IsSound};
+
+use lunit::{Name, NoMemory, Rect, Sequence, Steps};
+use outside::{Ruler, Tally};
+use page_tree::Page;
+use std::sync::ledger::Ledger;
+
+/// Lays a document out. Its values stay as they are, and every answer that a node keeps stays right, after want of memory
+/// too.
+pub(crate) fn lay_out<R: Ruler, L: Ledger>(
+    page: &mut Page,
+    ruler: &mut R,
+    tally: &mut Tally,
+    passes: &mut Steps<L>,
+) -> Result<Sequence<(Name, Rect)>, NoMemory>
+    requires { IsSound page.old }
+    ensures sound { IsSound page.new }
+    ensures document { document_of page.new ≡ document_of page.old }
+    ensures boxes { IfOk result (λ boxes. boxes ≡ boxes_of (document_of page.old)) }
+    ensures printable { IfOk result (λ boxes. All IsPrintableBox boxes) }
+    ensures measures { Measures (document_of page.old) (R.log ruler.old) (R.log ruler.new) tally.old.measured tally.new.measured }
+    ensures keeps { OnOk result (Keeps page.old page.new tally.old.added tally.new.added passes.old passes.new) }
+    ensures keeps_some { OnErr result (KeepsMore page.old page.new) }
+{
+    let _ = page.tree().root();
+    page.lay_out(ruler, tally, passes)
+}
