@@ -4,26 +4,50 @@ use lunit::{LineValue, Lu, Name};
 use std::alloc::Global;
 use std::process::Abort;
 use std::test::Fail;
-use style_types::{Align, AlignMode, Prop, Scroll, Size, Unit, Value};
+use style_types::{Align, AlignMode, DeclaredValue, Prop, Scroll, Size, Unit, Value};
 use text_scan::{Fault, Place};
 use track_text::ReadError;
 use value_text::read_decl;
 
 const AT: Place = Place { line: 3, column: 1 };
 
+/// One property alone is set, to a value without lengths.
+fn is_set(all: &[(Prop, DeclaredValue)], p: Prop, value: &Value) -> bool {
+    match all.first() {
+        Some((set, declared)) => {
+            all.len() == 1 && *set == p && declared.value == *value && declared.units.is_empty()
+        }
+        None => false,
+    }
+}
+
 /// A declaration that sets one property to a value without lengths.
 fn sets(rt: &impl Abort, alloc: Global, text: &[u8], p: Prop, value: &Value) -> Result<(), Fail> {
     let all = read_decl(alloc, text, AT, 1)?;
-    assert_eq!(rt; all.len(), 1, "number of {text:?}");
-    for (set, declared) in all.as_slice() {
-        assert_eq!(rt; *set, p, "property of {text:?}");
-        assert!(rt; declared.value == *value, "value of {text:?}");
-        assert!(rt; declared.units.is_empty(), "units of {text:?}");
-    }
+    assert!(rt; is_set(all.as_slice(), p, value), "{text:?}");
     Ok(())
 }
 
-/// A declaration of sizes: each is a length of so many units of 1/64 px, declared in this unit.
+/// A length of so many units of 1/64 px, declared in this unit.
+fn is_length(declared: &DeclaredValue, unit: Unit, units: i64) -> bool {
+    declared.value == Value::Size(Size::Length(Lu::of(units)))
+        && declared.units.as_slice() == [unit].as_slice()
+}
+
+/// These properties are set, each to such a length.
+fn are_lengths(all: &[(Prop, DeclaredValue)], unit: Unit, due: &[(Prop, i64)]) -> bool {
+    if all.len() != due.len() {
+        return false;
+    }
+    for ((set, declared), (p, units)) in all.iter().zip(due) {
+        if *set != *p || !is_length(declared, unit, *units) {
+            return false;
+        }
+    }
+    true
+}
+
+/// A declaration of sizes: each is a length of so many units, declared in this unit.
 fn sets_lengths(
     rt: &impl Abort,
     alloc: Global,
@@ -32,17 +56,7 @@ fn sets_lengths(
     due: &[(Prop, i64)],
 ) -> Result<(), Fail> {
     let all = read_decl(alloc, text, AT, 2)?;
-    assert_eq!(rt; all.len(), due.len(), "number of {text:?}");
-    for ((set, declared), (p, units)) in all.as_slice().iter().zip(due) {
-        assert_eq!(rt; *set, *p, "property of {text:?}");
-        let value = Value::Size(Size::Length(Lu::of(*units)));
-        assert!(rt; declared.value == value, "value of {text:?}");
-        assert_eq!(rt;
-            declared.units.as_slice(),
-            [unit].as_slice(),
-            "units of {text:?}"
-        );
-    }
+    assert!(rt; are_lengths(all.as_slice(), unit, due), "{text:?}");
     Ok(())
 }
 
@@ -113,8 +127,8 @@ fn sides_and_gaps(rt: HostRuntime) -> Result<(), Fail> {
 
 #[test]
 fn faults_at_their_places(rt: HostRuntime) {
-    let rows = [
-        (&b"colour: red"[..], 1, 8, 1),
+    static ROWS: &[(&[u8], u8, u8, u32)] = &[
+        (b"colour: red", 1, 8, 1),
         (b" float: left", 1, 11, 2),
         (b"width: 1em", 1, 11, 8),
         (b"width: -1em", 2, 9, 8),
@@ -123,5 +137,5 @@ fn faults_at_their_places(rt: HostRuntime) {
         (b"font-size: 1px", 1, 11, 1),
         (b"grid-column: 1 / 2 / 3", 1, 9, 14),
     ];
-    are_refused(&rt, rt.alloc(), &rows);
+    are_refused(&rt, rt.alloc(), ROWS);
 }

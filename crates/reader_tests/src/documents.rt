@@ -1,6 +1,7 @@
-use doc_text::{Content, Edit, Kind, Named, ReadError, read_doc, read_edit};
+use doc_text::{Content, Edit, Kind, Named, Plain, ReadError, read_doc, read_edit};
 use lunit::{BadName, Lu, Name, NoMemory, Sequence};
 use std::alloc::Global;
+use std::process::Abort;
 use std::test::Fail;
 use style_types::Prop;
 use text_scan::{Fault, Line, Place};
@@ -14,11 +15,14 @@ fn line(alloc: Global, number: u32, bytes: &[u8]) -> Result<Line, NoMemory> {
     })
 }
 
-/// The lines of a document whose header is that of a version.
-fn headed(alloc: Global, version: &[u8]) -> Result<Vec<Line>, NoMemory> {
+/// The lines of a text.
+fn lines_of(alloc: Global, texts: &[&[u8]]) -> Result<Vec<Line>, NoMemory> {
     let mut lines = Vec::new(alloc);
-    lines.push(line(alloc, 1, version)?)?;
-    lines.push(line(alloc, 2, b"viewport 100 50")?)?;
+    let mut number = 0_u32;
+    for text in texts {
+        number = number.saturating_add(1);
+        lines.push(line(alloc, number, text)?)?;
+    }
     Ok(lines)
 }
 
@@ -61,62 +65,86 @@ fn at(number: u8, line: u32, column: u32) -> Option<Fault> {
 
 /// The fault of a document of two lines after its header.
 fn fault_of_two(alloc: Global, third: &[u8], fourth: &[u8]) -> Result<Option<Fault>, NoMemory> {
-    let mut lines = headed(alloc, b"gridlay 1")?;
-    lines.push(line(alloc, 3, third)?)?;
-    lines.push(line(alloc, 4, fourth)?)?;
+    let lines = lines_of(alloc, &[b"gridlay 1", b"viewport 100 50", third, fourth])?;
     Ok(fault_of(alloc, lines.as_slice(), 5))
+}
+
+/// A leaf of a word of 3 px, on a line of 10 px, with a space of half a px.
+fn is_leaf_b(rt: &impl Abort, alloc: Global, leaf: &Plain) -> Result<(), NoMemory> {
+    let words = Content::Words {
+        line: Lu::of(640),
+        space: Lu::of(32),
+        words: Sequence::from_slice(alloc, &[Lu::of(192)])?,
+    };
+    assert_eq!(rt; leaf.name.bytes(), b"b".as_slice());
+    assert_eq!(rt; leaf.kind, Kind::Leaf(words));
+    Ok(())
+}
+
+/// A flex container, of which the leaf is the first child.
+fn is_flex_a(rt: &impl Abort, alloc: Global, flex: &Plain) -> Result<(), Fail> {
+    assert_eq!(rt; flex.kind, Kind::Flex);
+    is_leaf_b(rt, alloc, flex.children.nodes().first().ok_or("no leaf")?)?;
+    Ok(())
+}
+
+/// A grid with two declared values, of which the flex container is the first child.
+fn is_root(rt: &impl Abort, alloc: Global, root: &Plain) -> Result<(), Fail> {
+    assert_eq!(rt; root.kind, Kind::Grid);
+    let set = (
+        root.style.get(Prop::FontSize).is_some(),
+        root.style.get(Prop::Order).is_some(),
+        root.style.get(Prop::Width).is_some(),
+    );
+    assert_eq!(rt; set, (true, true, false));
+    assert_eq!(rt; root.children.len(), 2);
+    is_flex_a(rt, alloc, root.children.nodes().first().ok_or("no child")?)
 }
 
 #[test]
 fn a_document_is_read(rt: HostRuntime) -> Result<(), Fail> {
-    let mut lines = headed(rt.alloc(), b"gridlay 2")?;
-    lines.push(line(rt.alloc(), 3, b"main grid { font-size: 2em; order: 1 }")?)?;
-    lines.push(line(rt.alloc(), 4, b"  a flex # first")?)?;
-    lines.push(line(rt.alloc(), 5, b"    b words 10 .5 3px")?)?;
-    lines.push(line(rt.alloc(), 6, b"  c leaf 4 5px")?)?;
+    static TEXTS: &[&[u8]] = &[
+        b"gridlay 2",
+        b"viewport 100 50",
+        b"main grid { font-size: 2em; order: 1 }",
+        b"  a flex # first",
+        b"    b words 10 .5 3px",
+        b"  c leaf 4 5px",
+    ];
+    let lines = lines_of(rt.alloc(), TEXTS)?;
     let doc = read_doc(rt.alloc(), lines.as_slice(), Place { line: 7, column: 1 })?;
-    assert_eq!(rt; doc.version, 2);
-    assert_eq!(rt; doc.width, Lu::of(6400));
-    assert_eq!(rt; doc.height, Lu::of(3200));
-    assert_eq!(rt; doc.root.kind, Kind::Grid);
-    assert!(rt; doc.root.style.get(Prop::FontSize).is_some());
-    assert!(rt; doc.root.style.get(Prop::Order).is_some());
-    assert!(rt; doc.root.style.get(Prop::Width).is_none());
-    assert_eq!(rt; doc.root.children.len(), 2);
-    let first = doc.root.children.nodes().first().ok_or("no child")?;
-    assert_eq!(rt; first.kind, Kind::Flex);
-    let below = first.children.nodes().first().ok_or("no leaf")?;
-    assert_eq!(rt; below.name.bytes(), b"b".as_slice());
-    let words = Content::Words {
-        line: Lu::of(640),
-        space: Lu::of(32),
-        words: Sequence::from_slice(rt.alloc(), &[Lu::of(192)])?,
-    };
-    assert_eq!(rt; below.kind, Kind::Leaf(words));
-    Ok(())
+    let size = (doc.version, doc.width, doc.height);
+    assert_eq!(rt; size, (2, Lu::of(6400), Lu::of(3200)));
+    is_root(&rt, rt.alloc(), &doc.root)
 }
 
 #[test]
 fn the_first_fault_is_told(rt: HostRuntime) -> Result<(), Fail> {
-    let rows: [(&[u8], &[u8], Option<Fault>); 14] = [
-        (b"", b"", at(16, 5, 1)),
-        (b"  main grid", b"9 tree", at(4, 3, 3)),
-        (b"main grid", b"   a leaf 1 1", at(4, 4, 4)),
-        (b"main grid", b"a grid", at(15, 4, 1)),
-        (b"main leaf 1 1", b"  a leaf 1 1", at(14, 4, 3)),
-        (b"main grid { width: 1px; width: 2px }", b"", at(10, 3, 25)),
-        (b"main grid { width: calc(1px) }", b"", at(11, 3, 20)),
-        (b"main tree", b"", at(7, 3, 6)),
-        (b"main grid { colour: 1 }", b"", at(8, 3, 13)),
-        (b"9a grid", b"", at(5, 3, 1)),
-        (b"main grid", b"  main leaf 1 1", at(6, 4, 3)),
-        (b"main leaf 1", b"", at(9, 3, 12)),
-        (b"main grid { font-size: 1px }", b"", at(11, 3, 13)),
-        (b"main grid { width: 1px }", b"  a words 1 1 2 3 {}", None),
+    static ROWS: &[(&[u8], &[u8], (u8, u32, u32))] = &[
+        (b"", b"", (16, 5, 1)),
+        (b"  main grid", b"9 tree", (4, 3, 3)),
+        (b"main grid", b"   a leaf 1 1", (4, 4, 4)),
+        (b"main grid", b"a grid", (15, 4, 1)),
+        (b"main leaf 1 1", b"  a leaf 1 1", (14, 4, 3)),
+        (b"main grid { width: 1px; width: 2px }", b"", (10, 3, 25)),
+        (b"main grid { width: calc(1px) }", b"", (11, 3, 20)),
+        (b"main tree", b"", (7, 3, 6)),
+        (b"main grid { colour: 1 }", b"", (8, 3, 13)),
+        (b"9a grid", b"", (5, 3, 1)),
+        (b"main grid", b"  main leaf 1 1", (6, 4, 3)),
+        (b"main leaf 1", b"", (9, 3, 12)),
+        (b"main grid { font-size: 1px }", b"", (11, 3, 13)),
     ];
-    for (third, fourth, fault) in rows {
-        assert_eq!(rt; fault_of_two(rt.alloc(), third, fourth)?, fault);
+    for (third, fourth, (number, line, column)) in ROWS {
+        let due = at(*number, *line, *column);
+        assert_eq!(rt; fault_of_two(rt.alloc(), third, fourth)?, due);
     }
+    let none = fault_of_two(
+        rt.alloc(),
+        b"main grid { width: 1px }",
+        b"  a words 1 1 2 3 {}",
+    )?;
+    assert_eq!(rt; none, None);
     Ok(())
 }
 
@@ -131,7 +159,7 @@ fn a_header_is_due(rt: HostRuntime) -> Result<(), Fail> {
 
 /// Nodes one below the other.
 fn levels(alloc: Global, count: u32) -> Result<Vec<Line>, NoMemory> {
-    let mut lines = headed(alloc, b"gridlay 1")?;
+    let mut lines = lines_of(alloc, &[b"gridlay 1", b"viewport 100 50"])?;
     for level in 0..count {
         let text = numbered_node(alloc, level as usize * 2, level, b" grid")?;
         lines.push(line(alloc, level.saturating_add(3), text.as_slice())?)?;
@@ -150,7 +178,7 @@ fn there_are_at_most_64_levels(rt: HostRuntime) -> Result<(), Fail> {
 
 /// A root with so many leaves.
 fn leaves(alloc: Global, count: u32) -> Result<Vec<Line>, NoMemory> {
-    let mut lines = headed(alloc, b"gridlay 1")?;
+    let mut lines = lines_of(alloc, &[b"gridlay 1", b"viewport 100 50"])?;
     lines.push(line(alloc, 3, b"main grid")?)?;
     for number in 0..count {
         let text = numbered_node(alloc, 2, number, b" leaf 1 1")?;
@@ -180,19 +208,21 @@ fn edit_fault(alloc: Global, text: &[u8]) -> Result<Option<Fault>, NoMemory> {
 
 #[test]
 fn an_edit_line_has_its_first_fault(rt: HostRuntime) -> Result<(), Fail> {
-    let rows: [(&[u8], Option<Fault>); 9] = [
-        (b"frob main", at(20, 7, 1)),
-        (b"set main width", at(9, 7, 15)),
-        (b"insert main 0 a leaf 1 1 x", at(9, 7, 26)),
-        (b"set 9 colour: 1", at(5, 7, 5)),
-        (b"unset a colour", at(8, 7, 9)),
-        (b"content a grid", at(7, 7, 11)),
-        (b"move main main 0", None),
-        (b"remove a", None),
-        (b"viewport 1 1", None),
+    static FAULTS: &[(&[u8], (u8, u32, u32))] = &[
+        (b"frob main", (20, 7, 1)),
+        (b"set main width", (9, 7, 15)),
+        (b"insert main 0 a leaf 1 1 x", (9, 7, 26)),
+        (b"set 9 colour: 1", (5, 7, 5)),
+        (b"unset a colour", (8, 7, 9)),
+        (b"content a grid", (7, 7, 11)),
     ];
-    for (text, fault) in rows {
-        assert_eq!(rt; edit_fault(rt.alloc(), text)?, fault);
+    static EDITS: &[&[u8]] = &[b"move main main 0", b"remove a", b"viewport 1 1"];
+    for (text, (number, line, column)) in FAULTS {
+        let due = at(*number, *line, *column);
+        assert_eq!(rt; edit_fault(rt.alloc(), text)?, due);
+    }
+    for text in EDITS {
+        assert_eq!(rt; edit_fault(rt.alloc(), text)?, None);
     }
     Ok(())
 }

@@ -208,30 +208,25 @@ fn three(alloc: Global) -> Result<LineTable, Fail> {
 fn numbers_and_names_stand_for_lines(rt: HostRuntime) -> Result<(), Fail> {
     let alloc = rt.alloc();
     let table = three(alloc)?;
-    lie(
-        &rt,
-        alloc,
-        &table,
-        1,
-        &[
-            // above 0 the line one less, below 0 so many from line 3 + 1
-            (b"grid-column: 1 / auto", 0, 1),
-            (b"grid-column: -1 / auto", 3, 4),
-            (b"grid-column: -4 / auto", 0, 1),
-            (b"grid-column: -5 / auto", -1, 0),
-            // of the three lines `a` the last is 2; past them lines are counted from 3, and back from 0
-            (b"grid-column: 3 a / auto", 2, 3),
-            (b"grid-column: -1 a / auto", 2, 3),
-            (b"grid-column: -3 a / auto", 0, 1),
-            (b"grid-column: 5 a / auto", 5, 6),
-            (b"grid-column: -5 a / auto", -2, -1),
-            (b"grid-column: 2 z / auto", 4, 5),
-            // a bare name is the first of the name, here for both sides; line 4 where there is none
-            (b"grid-column: z / z", 3, 4),
-            (b"grid-column: q / q", 4, 5),
-            (b"grid-column: a / -1 z", 0, 3),
-        ],
-    )?;
+    static ROWS: &[(&[u8], i32, i32)] = &[
+        // above 0 the line one less, below 0 so many from line 3 + 1
+        (b"grid-column: 1 / auto", 0, 1),
+        (b"grid-column: -1 / auto", 3, 4),
+        (b"grid-column: -4 / auto", 0, 1),
+        (b"grid-column: -5 / auto", -1, 0),
+        // of the three lines `a` the last is 2; past them lines are counted from 3, and back from 0
+        (b"grid-column: 3 a / auto", 2, 3),
+        (b"grid-column: -1 a / auto", 2, 3),
+        (b"grid-column: -3 a / auto", 0, 1),
+        (b"grid-column: 5 a / auto", 5, 6),
+        (b"grid-column: -5 a / auto", -2, -1),
+        (b"grid-column: 2 z / auto", 4, 5),
+        // a bare name is the first of the name, here for both sides; line 4 where there is none
+        (b"grid-column: z / z", 3, 4),
+        (b"grid-column: q / q", 4, 5),
+        (b"grid-column: a / -1 z", 0, 3),
+    ];
+    lie(&rt, alloc, &table, 1, ROWS)?;
     Ok(())
 }
 
@@ -239,37 +234,27 @@ fn numbers_and_names_stand_for_lines(rt: HostRuntime) -> Result<(), Fail> {
 fn spans_reach_lines(rt: HostRuntime) -> Result<(), Fail> {
     let alloc = rt.alloc();
     let table = three(alloc)?;
-    lie(
-        &rt,
-        alloc,
-        &table,
-        1,
-        &[
-            (b"grid-column: 2 / span 3", 1, 4),
-            (b"grid-column: span 3 / 4", 0, 3),
-            // `a` after line 0 stands on 1 and 2; after line 4 nowhere, which counts on from 4; after line -1 on 0
-            (b"grid-column: 1 / span 2 a", 0, 2),
-            (b"grid-column: 1 / span 4 a", 0, 5),
-            (b"grid-column: 5 / span 1 a", 4, 5),
-            (b"grid-column: -5 / span 1 a", -1, 0),
-            // before line 3 it stands on 2, 1 and 0; `z` before line 1 nowhere, which counts back from 0, or from -5
-            (b"grid-column: span 1 a / 4", 2, 3),
-            (b"grid-column: span 3 a / 4", 0, 3),
-            (b"grid-column: span 2 z / 2", -2, 1),
-            (b"grid-column: span 2 a / -9", -7, -5),
-        ],
-    )?;
+    static REACHES: &[(&[u8], i32, i32)] = &[
+        (b"grid-column: 2 / span 3", 1, 4),
+        (b"grid-column: span 3 / 4", 0, 3),
+        // `a` after line 0 stands on 1 and 2; after line 4 nowhere, which counts on from 4; after line -1 on 0
+        (b"grid-column: 1 / span 2 a", 0, 2),
+        (b"grid-column: 1 / span 4 a", 0, 5),
+        (b"grid-column: 5 / span 1 a", 4, 5),
+        (b"grid-column: -5 / span 1 a", -1, 0),
+        // before line 3 it stands on 2, 1 and 0; `z` before line 1 nowhere, which counts back from 0, or from -5
+        (b"grid-column: span 1 a / 4", 2, 3),
+        (b"grid-column: span 3 a / 4", 0, 3),
+        (b"grid-column: span 2 z / 2", -2, 1),
+        (b"grid-column: span 2 a / -9", -7, -5),
+    ];
+    lie(&rt, alloc, &table, 1, REACHES)?;
     // `auto` beside a line is the automatic span, back from an end
-    lie(
-        &rt,
-        alloc,
-        &table,
-        3,
-        &[
-            (b"grid-column: 2 / auto", 1, 4),
-            (b"grid-column: auto / 4", 0, 3),
-        ],
-    )?;
+    static AUTOMATIC: &[(&[u8], i32, i32)] = &[
+        (b"grid-column: 2 / auto", 1, 4),
+        (b"grid-column: auto / 4", 0, 3),
+    ];
+    lie(&rt, alloc, &table, 3, AUTOMATIC)?;
     Ok(())
 }
 
@@ -277,23 +262,19 @@ fn spans_reach_lines(rt: HostRuntime) -> Result<(), Fail> {
 fn conflicts_are_settled(rt: HostRuntime) -> Result<(), Fail> {
     let alloc = rt.alloc();
     let table = three(alloc)?;
-    lie(
-        &rt,
-        alloc,
-        &table,
-        1,
-        &[
-            // two lines are put in order, and of equal ones the end is dropped
-            (b"grid-column: 3 / 1", 0, 2),
-            (b"grid-column: 2 / 2", 1, 2),
-            // the limit is from -10,000 to 10,000
-            (b"grid-column: 1 / 20000", 0, 10000),
-            (b"grid-column: 20000 / auto", 9999, 10000),
-            (b"grid-column: -20000 / auto", -10000, -9999),
-            (b"grid-column: -20000 / 1", -10000, 0),
-        ],
-    )?;
-    lie(&rt, alloc, &table, 3, &[(b"grid-column: 2 / 2", 1, 4)])?;
+    static ROWS: &[(&[u8], i32, i32)] = &[
+        // two lines are put in order, and of equal ones the end is dropped
+        (b"grid-column: 3 / 1", 0, 2),
+        (b"grid-column: 2 / 2", 1, 2),
+        // the limit is from -10,000 to 10,000
+        (b"grid-column: 1 / 20000", 0, 10000),
+        (b"grid-column: 20000 / auto", 9999, 10000),
+        (b"grid-column: -20000 / auto", -10000, -9999),
+        (b"grid-column: -20000 / 1", -10000, 0),
+    ];
+    lie(&rt, alloc, &table, 1, ROWS)?;
+    static AUTOMATIC: &[(&[u8], i32, i32)] = &[(b"grid-column: 2 / 2", 1, 4)];
+    lie(&rt, alloc, &table, 3, AUTOMATIC)?;
     Ok(())
 }
 
@@ -301,24 +282,19 @@ fn conflicts_are_settled(rt: HostRuntime) -> Result<(), Fail> {
 fn without_a_line_items_are_free(rt: HostRuntime) -> Result<(), Fail> {
     let alloc = rt.alloc();
     let table = three(alloc)?;
-    are_free(
-        &rt,
-        alloc,
-        &table,
-        4,
-        &[
-            // of two spans the end's is dropped, and one with a name counts as 1
-            (b"grid-column: span 2 / span 3", 2),
-            (b"grid-column: span 2 / auto", 2),
-            (b"grid-column: auto / span 2", 2),
-            (b"grid-column: span 3 a / auto", 1),
-            (b"grid-column: auto / span 3 a", 1),
-            (b"grid-column: span 3 a / span 7", 1),
-            (b"grid-column: auto / auto", 4),
-            // the limit has 20,000 tracks
-            (b"grid-column: span 30000 / auto", 20000),
-        ],
-    )?;
+    static ROWS: &[(&[u8], u32)] = &[
+        // of two spans the end's is dropped, and one with a name counts as 1
+        (b"grid-column: span 2 / span 3", 2),
+        (b"grid-column: span 2 / auto", 2),
+        (b"grid-column: auto / span 2", 2),
+        (b"grid-column: span 3 a / auto", 1),
+        (b"grid-column: auto / span 3 a", 1),
+        (b"grid-column: span 3 a / span 7", 1),
+        (b"grid-column: auto / auto", 4),
+        // the limit has 20,000 tracks
+        (b"grid-column: span 30000 / auto", 20000),
+    ];
+    are_free(&rt, alloc, &table, 4, ROWS)?;
     Ok(())
 }
 
@@ -336,33 +312,23 @@ fn with_areas(alloc: Global, names: &[u8]) -> Result<LineTable, Fail> {
 fn areas_name_lines(rt: HostRuntime) -> Result<(), Fail> {
     let alloc = rt.alloc();
     let table = with_areas(alloc, b"")?;
-    lie(
-        &rt,
-        alloc,
-        &table,
-        1,
-        &[
-            (b"grid-column: h / h", 0, 2),
-            (b"grid-column: m / m", 1, 2),
-            (b"grid-column: m / h", 1, 2),
-            // there is one line `m-start`, so the second is 2 + 1
-            (b"grid-column: 2 m-start / auto", 3, 4),
-        ],
-    )?;
+    static AREAS: &[(&[u8], i32, i32)] = &[
+        (b"grid-column: h / h", 0, 2),
+        (b"grid-column: m / m", 1, 2),
+        (b"grid-column: m / h", 1, 2),
+        // there is one line `m-start`, so the second is 2 + 1
+        (b"grid-column: 2 m-start / auto", 3, 4),
+    ];
+    lie(&rt, alloc, &table, 1, AREAS)?;
     let named = with_areas(alloc, b"m-start k k")?;
-    lie(
-        &rt,
-        alloc,
-        &named,
-        1,
-        &[
-            // now `m-start` stands on 0 and 1
-            (b"grid-column: m / m", 0, 2),
-            (b"grid-column: 2 m-start / auto", 1, 2),
-            // a name that stands twice on a line makes it one line: the second `k` is 2 + 1
-            (b"grid-column: 2 k / auto", 3, 4),
-        ],
-    )?;
+    static NAMED: &[(&[u8], i32, i32)] = &[
+        // now `m-start` stands on 0 and 1
+        (b"grid-column: m / m", 0, 2),
+        (b"grid-column: 2 m-start / auto", 1, 2),
+        // a name that stands twice on a line makes it one line: the second `k` is 2 + 1
+        (b"grid-column: 2 k / auto", 3, 4),
+    ];
+    lie(&rt, alloc, &named, 1, NAMED)?;
     Ok(())
 }
 
@@ -399,35 +365,25 @@ fn over_two(alloc: Global) -> Result<LineTable, Fail>
 fn subgrids_take_names_over(rt: HostRuntime) -> Result<(), Fail> {
     let alloc = rt.alloc();
     let table = over_two(alloc)?;
-    lie(
-        &rt,
-        alloc,
-        &table,
-        1,
-        &[
-            (b"grid-column: b / b", 0, 2),
-            (b"grid-column: 1 x / auto", 0, 1),
-            (b"grid-column: 1 p / 2 p", 0, 2),
-            // the last `p` is on line 2, since the fourth set is spare; from there all is past the limit, which is 0 to 2
-            (b"grid-column: -1 p / auto", 1, 2),
-            (b"grid-column: 1 y / auto", 1, 2),
-            (b"grid-column: auto / 1 y", 1, 2),
-            // `c` shares no track, but its `c-start` is a name of line 2
-            (b"grid-column: auto / 1 c-start", 1, 2),
-            (b"grid-column: 5 / auto", 1, 2),
-            (b"grid-column: -9 / auto", 0, 1),
-        ],
-    )?;
-    are_free(
-        &rt,
-        alloc,
-        &table,
-        2,
-        &[
-            (b"grid-column: span 7 / auto", 2),
-            (b"grid-column: auto / auto", 2),
-        ],
-    )?;
+    static LINES: &[(&[u8], i32, i32)] = &[
+        (b"grid-column: b / b", 0, 2),
+        (b"grid-column: 1 x / auto", 0, 1),
+        (b"grid-column: 1 p / 2 p", 0, 2),
+        // the last `p` is on line 2, since the fourth set is spare; from there all is past the limit, which is 0 to 2
+        (b"grid-column: -1 p / auto", 1, 2),
+        (b"grid-column: 1 y / auto", 1, 2),
+        (b"grid-column: auto / 1 y", 1, 2),
+        // `c` shares no track, but its `c-start` is a name of line 2
+        (b"grid-column: auto / 1 c-start", 1, 2),
+        (b"grid-column: 5 / auto", 1, 2),
+        (b"grid-column: -9 / auto", 0, 1),
+    ];
+    lie(&rt, alloc, &table, 1, LINES)?;
+    static FREE: &[(&[u8], u32)] = &[
+        (b"grid-column: span 7 / auto", 2),
+        (b"grid-column: auto / auto", 2),
+    ];
+    are_free(&rt, alloc, &table, 2, FREE)?;
     Ok(())
 }
 
@@ -438,13 +394,11 @@ fn subgrids_of_subgrids_take_over_what_is_left(rt: HostRuntime) -> Result<(), Fa
     let table = over_two(alloc)?;
     let own_area = [(Name::read(b"y")?, Span { start: 0, end: 9 })];
     let inner = below(alloc, &table, Span { start: 0, end: 1 }, &[], &own_area)?;
-    lie(
-        &rt,
-        alloc,
-        &inner,
-        1,
-        &[(b"grid-column: b / b", 0, 1), (b"grid-column: y / y", 0, 1)],
-    )?;
+    static ROWS: &[(&[u8], i32, i32)] = &[
+        (b"grid-column: b / b", 0, 1),
+        (b"grid-column: y / y", 0, 1),
+    ];
+    lie(&rt, alloc, &inner, 1, ROWS)?;
     Ok(())
 }
 
@@ -454,16 +408,11 @@ fn subgrids_lie_before_the_first_line_too(rt: HostRuntime) -> Result<(), Fail> {
     let alloc = rt.alloc();
     let parent = parent(alloc)?;
     let table = below(alloc, &parent, Span { start: -2, end: 1 }, &[], &[])?;
-    lie(
-        &rt,
-        alloc,
-        &table,
-        1,
-        &[
-            (b"grid-column: b / b", 2, 3),
-            (b"grid-column: 1 x / -1 x", 2, 3),
-        ],
-    )?;
+    static ROWS: &[(&[u8], i32, i32)] = &[
+        (b"grid-column: b / b", 2, 3),
+        (b"grid-column: 1 x / -1 x", 2, 3),
+    ];
+    lie(&rt, alloc, &table, 1, ROWS)?;
     Ok(())
 }
 
@@ -496,24 +445,22 @@ fn repeat(rt: &impl Abort, rows: &[(i64, bool, i64, u32)]) {
 
 #[test]
 fn repetitions_are_counted(rt: HostRuntime) {
-    repeat(
-        &rt,
-        &[
-            // three tracks of 6400 and two gutters of 640 are 20480, four are 27520
-            (640, true, 22400, 3),
-            (640, true, 20480, 3),
-            (640, true, 20479, 2),
-            (640, true, 100, 1),
-            (0, true, 12800, 2),
-            (0, true, 12799, 1),
-            // two tracks and a gutter are 13440
-            (640, false, 13440, 2),
-            (640, false, 13441, 3),
-            (640, false, 20480, 3),
-            (640, false, 0, 1),
-            (640, false, -1, 1),
-        ],
-    );
+    static ROWS: &[(i64, bool, i64, u32)] = &[
+        // three tracks of 6400 and two gutters of 640 are 20480, four are 27520
+        (640, true, 22400, 3),
+        (640, true, 20480, 3),
+        (640, true, 20479, 2),
+        (640, true, 100, 1),
+        (0, true, 12800, 2),
+        (0, true, 12799, 1),
+        // two tracks and a gutter are 13440
+        (640, false, 13440, 2),
+        (640, false, 13441, 3),
+        (640, false, 20480, 3),
+        (640, false, 0, 1),
+        (640, false, -1, 1),
+    ];
+    repeat(&rt, ROWS);
 }
 
 #[test]
