@@ -11,4 +11,6 @@ mod lines;
 #[cfg(test)]
 mod pieces;
 #[cfg(test)]
+mod styles;
+#[cfg(test)]
 mod track_lists;

@@ -20,6 +20,3 @@ pub use style::Style;
 pub use track::{Breadth, Repeat, Template, TrackFn, TrackList};
 pub use unit::Unit;
 pub use value::{Align, AlignMode, Areas, Scroll, Size, Value};
-
-#[cfg(test)]
-mod tests;

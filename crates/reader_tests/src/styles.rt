@@ -1,8 +1,12 @@
-use super::*;
+//! Tests of styles: classes, initial values, and values set, copied and unset.
 use lunit::{Area, Copied, LineValue, Lu, Name, NameSet, NoMemory, Sequence, Span};
 use std::alloc::Global;
 use std::process::Abort;
 use std::test::Fail;
+use style_types::{
+    Align, AlignMode, Areas, Breadth, Class, Prop, Repeat, Scroll, Size, Style, Template, TrackFn, TrackList, Value, class_of,
+    initial_of,
+};
 
 /// Each of these properties has this class and this initial value.
 fn begins(
