@@ -1,0 +1,5 @@
+pub mod Taken
+pub mod Digits
+pub mod Asked
+pub mod Words
+pub mod Rows

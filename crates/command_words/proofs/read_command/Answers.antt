@@ -1,0 +1,12 @@
+use Rattle.std.proofs.Common.{sym, ◌∙◌}
+use Rattle.command_words.proofs.Words.{layout_ok, make_ok}
+use Rattle.command_words.proofs.read_command.Goals as goal
+
+pub returns-then-is_word-clause-taken : goal.returns-then-is_word-clause-taken
+returns-then-is_word-clause-taken c =
+    layout_ok c.args.words.now c.in-Some.first.now c.in-Some.rest.now c.in-Some.ensures.cases.0 c.read_layout.result (sym c.is_word.ensures ∙ c.if-is_word.true) c.read_layout.ensures.taken
+
+pub returns-then-is_word-2-clause-taken : goal.returns-then-is_word-2-clause-taken
+returns-then-is_word-2-clause-taken c =
+    make_ok c.args.words.now c.in-Some.first.now c.in-Some.rest.now c.in-Some.ensures.cases.0 c.read_make.result (sym c.is_word.ensures ∙ c.if-is_word.false)
+    (sym c.is_word-else-is_word.ensures ∙ c.if-is_word-2.true) c.read_make.ensures.taken

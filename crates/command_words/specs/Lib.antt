@@ -1,0 +1,3 @@
+pub use Rattle.clap.specs.Words as ClapWords
+pub mod Options
+pub mod Commands
