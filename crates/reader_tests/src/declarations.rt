@@ -22,9 +22,9 @@ fn is_set(all: &[(Prop, DeclaredValue)], p: Prop, value: &Value) -> bool {
 }
 
 /// A declaration that sets one property to a value without lengths.
-fn sets(rt: &impl Abort, alloc: Global, text: &[u8], p: Prop, value: &Value) -> Result<(), Fail> {
+fn sets(rt: &impl Abort, alloc: Global, text: &[u8], p: Prop, value: Value) -> Result<(), Fail> {
     let all = read_decl(alloc, text, AT, 1)?;
-    assert!(rt; is_set(all.as_slice(), p, value), "{text:?}");
+    assert!(rt; is_set(all.as_slice(), p, &value), "{text:?}");
     Ok(())
 }
 
@@ -82,27 +82,25 @@ fn are_refused(rt: &impl Abort, alloc: Global, rows: &[(&[u8], u8, u8, u32)]) {
 fn values_without_lengths(rt: HostRuntime) -> Result<(), Fail> {
     let alloc = rt.alloc();
     let half = Value::Size(Size::Percent(50_000));
-    sets(&rt, alloc, b"width: 50%", Prop::Width, &half)?;
+    sets(&rt, alloc, b"width: 50%", Prop::Width, half)?;
     let auto = Value::Size(Size::Auto);
-    sets(&rt, alloc, b" margin-top:auto", Prop::MarginTop, &auto)?;
+    sets(&rt, alloc, b" margin-top:auto", Prop::MarginTop, auto)?;
     let clip = Value::Overflow(Scroll::Clip);
-    sets(&rt, alloc, b"overflow: clip", Prop::Overflow, &clip)?;
-    let factor = Value::Factor(250);
-    sets(&rt, alloc, b"flex-grow: .25", Prop::FlexGrow, &factor)?;
-    Ok(())
+    sets(&rt, alloc, b"overflow: clip", Prop::Overflow, clip)?;
+    let quarter = Value::Factor(250);
+    sets(&rt, alloc, b"flex-grow: .25", Prop::FlexGrow, quarter)
 }
 
 #[test]
 fn values_of_lines_and_alignments(rt: HostRuntime) -> Result<(), Fail> {
     let alloc = rt.alloc();
     let line = Value::Line(LineValue::Named(Name::read(b"a")?));
-    sets(&rt, alloc, b"grid-row-start: a", Prop::GridRowStart, &line)?;
+    sets(&rt, alloc, b"grid-row-start: a", Prop::GridRowStart, line)?;
     let end = Value::Align(Align {
         mode: AlignMode::End,
         safe: Some(true),
     });
-    sets(&rt, alloc, b"align-self: safe end", Prop::AlignSelf, &end)?;
-    Ok(())
+    sets(&rt, alloc, b"align-self: safe end", Prop::AlignSelf, end)
 }
 
 #[test]
@@ -121,8 +119,7 @@ fn sides_and_gaps(rt: HostRuntime) -> Result<(), Fail> {
     // a relative length stands as 0 beside its millionths
     let size = [(Prop::FontSize, 0)];
     sets_lengths(&rt, alloc, b"font-size: 0.5em", Unit::Em(500_000), &size)?;
-    sets_lengths(&rt, alloc, b"font-size: 2rem", Unit::Rem(2_000_000), &size)?;
-    Ok(())
+    sets_lengths(&rt, alloc, b"font-size: 2rem", Unit::Rem(2_000_000), &size)
 }
 
 #[test]

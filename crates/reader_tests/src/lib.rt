@@ -7,10 +7,18 @@ mod declarations;
 #[cfg(test)]
 mod documents;
 #[cfg(test)]
+mod edit_faults;
+#[cfg(test)]
+mod faults;
+#[cfg(test)]
+mod limits;
+#[cfg(test)]
 mod lines;
 #[cfg(test)]
 mod pieces;
 #[cfg(test)]
 mod styles;
+#[cfg(test)]
+mod texts;
 #[cfg(test)]
 mod track_lists;

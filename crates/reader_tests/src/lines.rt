@@ -13,17 +13,20 @@ use style_types::{DeclaredValue, Prop, Value};
 use text_scan::Place;
 use value_text::read_decl;
 
-/// The names of each line: lines end at `|`, and names at spaces.
-fn sets_of(alloc: Global, text: &[u8]) -> Result<Sequence<NameSet>, Fail> {
+/// A set of these names.
+fn set_of(alloc: Global, names: &[&[u8]]) -> Result<NameSet, Fail> {
+    let mut set = NameSet::new(alloc);
+    for name in names {
+        set.push(Name::read(name)?)?;
+    }
+    Ok(set)
+}
+
+/// The names of each line.
+fn sets_of(alloc: Global, lines: &[&[&[u8]]]) -> Result<Sequence<NameSet>, Fail> {
     let mut all = Sequence::new(alloc);
-    for line in text.split(|byte| *byte == b'|') {
-        let mut set = NameSet::new(alloc);
-        for name in line.split(|byte| *byte == b' ') {
-            if !name.is_empty() {
-                set.push(Name::read(name)?)?;
-            }
-        }
-        all.push(set)?;
+    for names in lines {
+        all.push(set_of(alloc, names)?)?;
     }
     Ok(all)
 }
@@ -158,11 +161,16 @@ fn spot(
     Ok(placed(table, all.as_slice(), automatic))
 }
 
+/// The place that is found is the one that is due.
+fn must_stand(rt: &impl Abort, found: Option<Spot>, due: Spot, text: &[u8]) {
+    assert!(rt; found == Some(due), "place of {text:?}");
+}
+
 /// With these declarations items lie between these lines.
 fn lie(
     rt: &impl Abort,
     alloc: Global,
-    table: &LineTable,
+    table: LineTable,
     automatic: u32,
     rows: &[(&[u8], i32, i32)],
 ) -> Result<(), Fail> {
@@ -171,11 +179,7 @@ fn lie(
             start: *start,
             end: *end,
         });
-        assert_eq!(rt;
-            spot(alloc, table, automatic, text)?,
-            Some(due),
-            "place of {text:?}"
-        );
+        must_stand(rt, spot(alloc, &table, automatic, text)?, due, text);
     }
     Ok(())
 }
@@ -184,30 +188,27 @@ fn lie(
 fn are_free(
     rt: &impl Abort,
     alloc: Global,
-    table: &LineTable,
+    table: LineTable,
     automatic: u32,
     rows: &[(&[u8], u32)],
 ) -> Result<(), Fail> {
     for (text, tracks) in rows {
-        assert_eq!(rt;
-            spot(alloc, table, automatic, text)?,
-            Some(Spot::Free(*tracks)),
-            "place of {text:?}"
-        );
+        let due = Spot::Free(*tracks);
+        must_stand(rt, spot(alloc, &table, automatic, text)?, due, text);
     }
     Ok(())
 }
 
 /// Three tracks, whose lines are named `a`, `a`, `a` and `z`.
 fn three(alloc: Global) -> Result<LineTable, Fail> {
-    let sets = sets_of(alloc, b"a|a|a|z")?;
+    static NAMES: &[&[&[u8]]] = &[&[b"a"], &[b"a"], &[b"a"], &[b"z"]];
+    let sets = sets_of(alloc, NAMES)?;
     own(alloc, sets.as_slice(), 3, &[])
 }
 
 #[test]
 fn numbers_and_names_stand_for_lines(rt: HostRuntime) -> Result<(), Fail> {
     let alloc = rt.alloc();
-    let table = three(alloc)?;
     static ROWS: &[(&[u8], i32, i32)] = &[
         // above 0 the line one less, below 0 so many from line 3 + 1
         (b"grid-column: 1 / auto", 0, 1),
@@ -226,14 +227,12 @@ fn numbers_and_names_stand_for_lines(rt: HostRuntime) -> Result<(), Fail> {
         (b"grid-column: q / q", 4, 5),
         (b"grid-column: a / -1 z", 0, 3),
     ];
-    lie(&rt, alloc, &table, 1, ROWS)?;
-    Ok(())
+    lie(&rt, alloc, three(alloc)?, 1, ROWS)
 }
 
 #[test]
 fn spans_reach_lines(rt: HostRuntime) -> Result<(), Fail> {
     let alloc = rt.alloc();
-    let table = three(alloc)?;
     static REACHES: &[(&[u8], i32, i32)] = &[
         (b"grid-column: 2 / span 3", 1, 4),
         (b"grid-column: span 3 / 4", 0, 3),
@@ -248,20 +247,18 @@ fn spans_reach_lines(rt: HostRuntime) -> Result<(), Fail> {
         (b"grid-column: span 2 z / 2", -2, 1),
         (b"grid-column: span 2 a / -9", -7, -5),
     ];
-    lie(&rt, alloc, &table, 1, REACHES)?;
+    lie(&rt, alloc, three(alloc)?, 1, REACHES)?;
     // `auto` beside a line is the automatic span, back from an end
     static AUTOMATIC: &[(&[u8], i32, i32)] = &[
         (b"grid-column: 2 / auto", 1, 4),
         (b"grid-column: auto / 4", 0, 3),
     ];
-    lie(&rt, alloc, &table, 3, AUTOMATIC)?;
-    Ok(())
+    lie(&rt, alloc, three(alloc)?, 3, AUTOMATIC)
 }
 
 #[test]
 fn conflicts_are_settled(rt: HostRuntime) -> Result<(), Fail> {
     let alloc = rt.alloc();
-    let table = three(alloc)?;
     static ROWS: &[(&[u8], i32, i32)] = &[
         // two lines are put in order, and of equal ones the end is dropped
         (b"grid-column: 3 / 1", 0, 2),
@@ -272,16 +269,14 @@ fn conflicts_are_settled(rt: HostRuntime) -> Result<(), Fail> {
         (b"grid-column: -20000 / auto", -10000, -9999),
         (b"grid-column: -20000 / 1", -10000, 0),
     ];
-    lie(&rt, alloc, &table, 1, ROWS)?;
+    lie(&rt, alloc, three(alloc)?, 1, ROWS)?;
     static AUTOMATIC: &[(&[u8], i32, i32)] = &[(b"grid-column: 2 / 2", 1, 4)];
-    lie(&rt, alloc, &table, 3, AUTOMATIC)?;
-    Ok(())
+    lie(&rt, alloc, three(alloc)?, 3, AUTOMATIC)
 }
 
 #[test]
 fn without_a_line_items_are_free(rt: HostRuntime) -> Result<(), Fail> {
     let alloc = rt.alloc();
-    let table = three(alloc)?;
     static ROWS: &[(&[u8], u32)] = &[
         // of two spans the end's is dropped, and one with a name counts as 1
         (b"grid-column: span 2 / span 3", 2),
@@ -294,12 +289,11 @@ fn without_a_line_items_are_free(rt: HostRuntime) -> Result<(), Fail> {
         // the limit has 20,000 tracks
         (b"grid-column: span 30000 / auto", 20000),
     ];
-    are_free(&rt, alloc, &table, 4, ROWS)?;
-    Ok(())
+    are_free(&rt, alloc, three(alloc)?, 4, ROWS)
 }
 
 /// Two tracks with the area `h` over both and `m` over the second, and these names of lines.
-fn with_areas(alloc: Global, names: &[u8]) -> Result<LineTable, Fail> {
+fn with_areas(alloc: Global, names: &[&[&[u8]]]) -> Result<LineTable, Fail> {
     let areas = [
         (Name::read(b"h")?, Span { start: 0, end: 2 }),
         (Name::read(b"m")?, Span { start: 1, end: 2 }),
@@ -311,7 +305,6 @@ fn with_areas(alloc: Global, names: &[u8]) -> Result<LineTable, Fail> {
 #[test]
 fn areas_name_lines(rt: HostRuntime) -> Result<(), Fail> {
     let alloc = rt.alloc();
-    let table = with_areas(alloc, b"")?;
     static AREAS: &[(&[u8], i32, i32)] = &[
         (b"grid-column: h / h", 0, 2),
         (b"grid-column: m / m", 1, 2),
@@ -319,8 +312,8 @@ fn areas_name_lines(rt: HostRuntime) -> Result<(), Fail> {
         // there is one line `m-start`, so the second is 2 + 1
         (b"grid-column: 2 m-start / auto", 3, 4),
     ];
-    lie(&rt, alloc, &table, 1, AREAS)?;
-    let named = with_areas(alloc, b"m-start k k")?;
+    lie(&rt, alloc, with_areas(alloc, &[])?, 1, AREAS)?;
+    static NAMES: &[&[&[u8]]] = &[&[b"m-start", b"k", b"k"]];
     static NAMED: &[(&[u8], i32, i32)] = &[
         // now `m-start` stands on 0 and 1
         (b"grid-column: m / m", 0, 2),
@@ -328,8 +321,7 @@ fn areas_name_lines(rt: HostRuntime) -> Result<(), Fail> {
         // a name that stands twice on a line makes it one line: the second `k` is 2 + 1
         (b"grid-column: 2 k / auto", 3, 4),
     ];
-    lie(&rt, alloc, &named, 1, NAMED)?;
-    Ok(())
+    lie(&rt, alloc, with_areas(alloc, NAMES)?, 1, NAMED)
 }
 
 /// Four tracks with the area `b` over lines 0 to 3 and `c` over 3 to 4, and the lines `x`, `x`, none, `y`, none.
@@ -341,7 +333,8 @@ fn parent(alloc: Global) -> Result<LineTable, Fail>
         (Name::read(b"b")?, Span { start: 0, end: 3 }),
         (Name::read(b"c")?, Span { start: 3, end: 4 }),
     ];
-    let sets = sets_of(alloc, b"x|x||y|")?;
+    static NAMES: &[&[&[u8]]] = &[&[b"x"], &[b"x"], &[], &[b"y"]];
+    let sets = sets_of(alloc, NAMES)?;
     own(alloc, sets.as_slice(), 4, &areas)
 }
 
@@ -350,7 +343,8 @@ fn over_two(alloc: Global) -> Result<LineTable, Fail>
     ensures low { IfOk result (λ table. table.low ≡ pos 0) }
     ensures high { IfOk result (λ table. table.high ≡ pos 2) }
 {
-    let sets = sets_of(alloc, b"p||p|p")?;
+    static NAMES: &[&[&[u8]]] = &[&[b"p"], &[], &[b"p"], &[b"p"]];
+    let sets = sets_of(alloc, NAMES)?;
     let parent = parent(alloc)?;
     below(
         alloc,
@@ -364,7 +358,6 @@ fn over_two(alloc: Global) -> Result<LineTable, Fail>
 #[test]
 fn subgrids_take_names_over(rt: HostRuntime) -> Result<(), Fail> {
     let alloc = rt.alloc();
-    let table = over_two(alloc)?;
     static LINES: &[(&[u8], i32, i32)] = &[
         (b"grid-column: b / b", 0, 2),
         (b"grid-column: 1 x / auto", 0, 1),
@@ -378,42 +371,45 @@ fn subgrids_take_names_over(rt: HostRuntime) -> Result<(), Fail> {
         (b"grid-column: 5 / auto", 1, 2),
         (b"grid-column: -9 / auto", 0, 1),
     ];
-    lie(&rt, alloc, &table, 1, LINES)?;
+    lie(&rt, alloc, over_two(alloc)?, 1, LINES)?;
     static FREE: &[(&[u8], u32)] = &[
         (b"grid-column: span 7 / auto", 2),
         (b"grid-column: auto / auto", 2),
     ];
-    are_free(&rt, alloc, &table, 2, FREE)?;
-    Ok(())
+    are_free(&rt, alloc, over_two(alloc)?, 2, FREE)
+}
+
+/// A subgrid of that subgrid, over its first track, with an area `y` of its own that reaches past it.
+fn over_one(alloc: Global) -> Result<LineTable, Fail> {
+    let own_area = [(Name::read(b"y")?, Span { start: 0, end: 9 })];
+    let table = over_two(alloc)?;
+    below(alloc, &table, Span { start: 0, end: 1 }, &[], &own_area)
 }
 
 #[test]
-/// One level more, over the first track, has `b` again, and an area of its own that reaches past it.
 fn subgrids_of_subgrids_take_over_what_is_left(rt: HostRuntime) -> Result<(), Fail> {
     let alloc = rt.alloc();
-    let table = over_two(alloc)?;
-    let own_area = [(Name::read(b"y")?, Span { start: 0, end: 9 })];
-    let inner = below(alloc, &table, Span { start: 0, end: 1 }, &[], &own_area)?;
     static ROWS: &[(&[u8], i32, i32)] = &[
         (b"grid-column: b / b", 0, 1),
         (b"grid-column: y / y", 0, 1),
     ];
-    lie(&rt, alloc, &inner, 1, ROWS)?;
-    Ok(())
+    lie(&rt, alloc, over_one(alloc)?, 1, ROWS)
+}
+
+/// A subgrid over the lines -2 to 1: the parent's lines 0 and 1 are its lines 2 and 3, and `b` is cut to the track between.
+fn before_the_first(alloc: Global) -> Result<LineTable, Fail> {
+    let parent = parent(alloc)?;
+    below(alloc, &parent, Span { start: -2, end: 1 }, &[], &[])
 }
 
 #[test]
-/// Over the lines -2 to 1 the parent's lines 0 and 1 are the lines 2 and 3, and `b` is cut to the track between them.
 fn subgrids_lie_before_the_first_line_too(rt: HostRuntime) -> Result<(), Fail> {
     let alloc = rt.alloc();
-    let parent = parent(alloc)?;
-    let table = below(alloc, &parent, Span { start: -2, end: 1 }, &[], &[])?;
     static ROWS: &[(&[u8], i32, i32)] = &[
         (b"grid-column: b / b", 2, 3),
         (b"grid-column: 1 x / -1 x", 2, 3),
     ];
-    lie(&rt, alloc, &table, 1, ROWS)?;
-    Ok(())
+    lie(&rt, alloc, before_the_first(alloc)?, 1, ROWS)
 }
 
 fn are_counted(lengths: &[Lu]) -> bool
@@ -469,10 +465,11 @@ fn pairs_of_tracks_repeat(rt: HostRuntime) {
     let pair = [Lu::of(64), Lu::of(64)];
     let fixed = [Lu::of(100)];
     let gap = Lu::of(10);
-    assert!(rt; times(&fixed, &pair, gap, RepeatSpace::Fits(Lu::of(395))) == Some(1));
-    assert!(rt; times(&fixed, &pair, gap, RepeatSpace::Fits(Lu::of(396))) == Some(2));
-    assert!(rt; times(&fixed, &pair, gap, RepeatSpace::Fills(Lu::of(249))) == Some(2));
-    assert!(rt; times(&fixed, &pair, gap, RepeatSpace::Endless) == Some(1));
+    let one = times(&fixed, &pair, gap, RepeatSpace::Fits(Lu::of(395)));
+    let two = times(&fixed, &pair, gap, RepeatSpace::Fits(Lu::of(396)));
+    let more = times(&fixed, &pair, gap, RepeatSpace::Fills(Lu::of(249)));
+    let endless = times(&fixed, &pair, gap, RepeatSpace::Endless);
+    assert!(rt; (one, two, more, endless) == (Some(1), Some(2), Some(2), Some(1)));
 }
 
 #[test]
@@ -480,6 +477,7 @@ fn repetitions_end_at_10_000(rt: HostRuntime) {
     // 2^30 over tracks of 64 would be 16,777,216
     let track = [Lu::of(64)];
     let size = Lu::of(1 << 30);
-    assert!(rt; times(&[], &track, Lu::of(0), RepeatSpace::Fits(size)) == Some(10_000));
-    assert!(rt; times(&[], &track, Lu::of(0), RepeatSpace::Fills(size)) == Some(10_000));
+    let fits = times(&[], &track, Lu::of(0), RepeatSpace::Fits(size));
+    let fills = times(&[], &track, Lu::of(0), RepeatSpace::Fills(size));
+    assert!(rt; (fits, fills) == (Some(10_000), Some(10_000)));
 }

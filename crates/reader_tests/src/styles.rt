@@ -1,340 +1,210 @@
-//! Tests of styles: classes, initial values, and values set, copied and unset.
-use lunit::{Area, Copied, LineValue, Lu, Name, NameSet, NoMemory, Sequence, Span};
+//! Styles: classes, initial values, and values set, copied and unset. Values are written as declarations.
+
+use lunit::{Copied, NoMemory};
 use std::alloc::Global;
-use std::process::Abort;
 use std::test::Fail;
-use style_types::{
-    Align, AlignMode, Areas, Breadth, Class, Prop, Repeat, Scroll, Size, Style, Template, TrackFn, TrackList, Value, class_of,
-    initial_of,
-};
+use style_types::{Class, DeclaredValue, Prop, Style, Value, class_of, initial_of};
+use text_scan::Place;
+use value_text::read_decl;
 
-/// Each of these properties has this class and this initial value.
-fn begins(
-    rt: &impl Abort,
+const AT: Place = Place { line: 1, column: 1 };
+
+/// This property alone is set, to this value.
+fn is_set_to(all: &[(Prop, DeclaredValue)], p: Prop, value: &Value) -> bool {
+    match all.first() {
+        Some((set, declared)) => all.len() == 1 && *set == p && declared.value == *value,
+        None => false,
+    }
+}
+
+/// The initial value of the property is the one that is declared.
+fn begins_as(alloc: Global, p: Prop, text: &[u8]) -> Result<bool, Fail> {
+    let all = read_decl(alloc, text, AT, 2)?;
+    let initial = initial_of(alloc, p)?;
+    Ok(is_set_to(all.as_slice(), p, &initial))
+}
+
+#[test]
+fn properties_begin_as_in_the_table(rt: HostRuntime) -> Result<(), Fail> {
+    static ROWS: &[(Prop, Class, &[u8])] = &[
+        (
+            Prop::GridTemplateColumns,
+            Class::Grid,
+            b"grid-template-columns: none",
+        ),
+        (
+            Prop::GridTemplateRows,
+            Class::Grid,
+            b"grid-template-rows: none",
+        ),
+        (
+            Prop::GridTemplateAreas,
+            Class::Grid,
+            b"grid-template-areas: none",
+        ),
+        (
+            Prop::GridAutoColumns,
+            Class::Grid,
+            b"grid-auto-columns: auto",
+        ),
+        (Prop::GridAutoRows, Class::Grid, b"grid-auto-rows: auto"),
+        (Prop::GridAutoFlow, Class::Grid, b"grid-auto-flow: row"),
+        (
+            Prop::GridColumnStart,
+            Class::Grid,
+            b"grid-column-start: auto",
+        ),
+        (Prop::GridColumnEnd, Class::Grid, b"grid-column-end: auto"),
+        (Prop::GridRowStart, Class::Grid, b"grid-row-start: auto"),
+        (Prop::GridRowEnd, Class::Grid, b"grid-row-end: auto"),
+        (Prop::Order, Class::Grid, b"order: 0"),
+        (Prop::RowGap, Class::Grid, b"row-gap: normal"),
+        (Prop::ColumnGap, Class::Grid, b"column-gap: normal"),
+        (Prop::MarginTop, Class::Grid, b"margin-top: 0"),
+        (Prop::MarginRight, Class::Grid, b"margin-right: 0"),
+        (Prop::MarginBottom, Class::Grid, b"margin-bottom: 0"),
+        (Prop::MarginLeft, Class::Grid, b"margin-left: 0"),
+        (Prop::PaddingTop, Class::Grid, b"padding-top: 0"),
+        (Prop::PaddingRight, Class::Grid, b"padding-right: 0"),
+        (Prop::PaddingBottom, Class::Grid, b"padding-bottom: 0"),
+        (Prop::PaddingLeft, Class::Grid, b"padding-left: 0"),
+        (Prop::BorderTopWidth, Class::Grid, b"border-top-width: 0"),
+        (
+            Prop::BorderRightWidth,
+            Class::Grid,
+            b"border-right-width: 0",
+        ),
+        (
+            Prop::BorderBottomWidth,
+            Class::Grid,
+            b"border-bottom-width: 0",
+        ),
+        (Prop::BorderLeftWidth, Class::Grid, b"border-left-width: 0"),
+        (Prop::Width, Class::Content, b"width: auto"),
+        (Prop::Height, Class::Content, b"height: auto"),
+        (Prop::MinWidth, Class::Content, b"min-width: auto"),
+        (Prop::MinHeight, Class::Content, b"min-height: auto"),
+        (Prop::MaxWidth, Class::Content, b"max-width: none"),
+        (Prop::MaxHeight, Class::Content, b"max-height: none"),
+        (Prop::BoxSizing, Class::Content, b"box-sizing: content-box"),
+        (Prop::Overflow, Class::Content, b"overflow: visible"),
+        (
+            Prop::JustifyContent,
+            Class::Content,
+            b"justify-content: normal",
+        ),
+        (Prop::AlignContent, Class::Content, b"align-content: normal"),
+        (Prop::JustifyItems, Class::Content, b"justify-items: normal"),
+        (Prop::AlignItems, Class::Content, b"align-items: normal"),
+        (Prop::JustifySelf, Class::Content, b"justify-self: auto"),
+        (Prop::AlignSelf, Class::Content, b"align-self: auto"),
+        (Prop::FlexDirection, Class::Content, b"flex-direction: row"),
+        (Prop::FlexWrap, Class::Content, b"flex-wrap: nowrap"),
+        (Prop::FlexGrow, Class::Content, b"flex-grow: 0"),
+        (Prop::FlexShrink, Class::Content, b"flex-shrink: 1"),
+        (Prop::FlexBasis, Class::Content, b"flex-basis: auto"),
+        (Prop::FontSize, Class::Font, b"font-size: 16px"),
+    ];
+    for (p, class, text) in ROWS {
+        let begins = begins_as(rt.alloc(), *p, text)?;
+        assert!(rt; begins && class_of(*p) == *class, "{text:?}");
+    }
+    Ok(())
+}
+
+/// Sets the declared values one after another.
+fn set_all(
+    style: &mut Style,
     alloc: Global,
-    props: &[Prop],
-    class: Class,
-    value: &Value,
+    all: &[(Prop, DeclaredValue)],
 ) -> Result<(), NoMemory> {
-    for p in props {
-        assert_eq!(rt; class_of(*p), class, "class of {p:?}");
-        let initial = initial_of(alloc, *p)?;
-        assert!(rt; initial == *value, "initial value of {p:?}");
+    for (p, declared) in all {
+        style.set(*p, declared.value.copy(alloc)?)?;
     }
     Ok(())
 }
 
-fn align(mode: AlignMode) -> Value {
-    Value::Align(Align { mode, safe: None })
-}
-
-fn size(size: Size) -> Value {
-    Value::Size(size)
-}
-
-#[test]
-fn grid_properties_begin_as_in_the_table(rt: HostRuntime) -> Result<(), Fail> {
-    let alloc = rt.alloc();
-    let templates = [Prop::GridTemplateColumns, Prop::GridTemplateRows];
-    begins(
-        &rt,
-        alloc,
-        &templates,
-        Class::Grid,
-        &Value::Template(Template::Absent),
-    )?;
-    begins(
-        &rt,
-        alloc,
-        &[Prop::GridTemplateAreas],
-        Class::Grid,
-        &Value::Areas(None),
-    )?;
-    let auto = TrackFn {
-        least: Breadth::Auto,
-        most: Breadth::Auto,
-        fit: None,
-    };
-    let tracks = Value::Sizes(Sequence::from_slice(alloc, &[auto])?);
-    begins(
-        &rt,
-        alloc,
-        &[Prop::GridAutoColumns, Prop::GridAutoRows],
-        Class::Grid,
-        &tracks,
-    )?;
-    let flow = Value::Flow {
-        column: false,
-        dense: false,
-    };
-    begins(&rt, alloc, &[Prop::GridAutoFlow], Class::Grid, &flow)?;
-    let lines = [
-        Prop::GridColumnStart,
-        Prop::GridColumnEnd,
-        Prop::GridRowStart,
-        Prop::GridRowEnd,
-    ];
-    begins(
-        &rt,
-        alloc,
-        &lines,
-        Class::Grid,
-        &Value::Line(LineValue::Auto),
-    )?;
-    begins(&rt, alloc, &[Prop::Order], Class::Grid, &Value::Order(0))?;
-    begins(
-        &rt,
-        alloc,
-        &[Prop::RowGap, Prop::ColumnGap],
-        Class::Grid,
-        &size(Size::Normal),
-    )?;
-    let edges = [
-        Prop::MarginTop,
-        Prop::MarginRight,
-        Prop::MarginBottom,
-        Prop::MarginLeft,
-        Prop::PaddingTop,
-        Prop::PaddingRight,
-        Prop::PaddingBottom,
-        Prop::PaddingLeft,
-        Prop::BorderTopWidth,
-        Prop::BorderRightWidth,
-        Prop::BorderBottomWidth,
-        Prop::BorderLeftWidth,
-    ];
-    begins(
-        &rt,
-        alloc,
-        &edges,
-        Class::Grid,
-        &size(Size::Length(Lu::of(0))),
-    )?;
-    Ok(())
-}
-
-#[test]
-fn other_properties_begin_as_in_the_table(rt: HostRuntime) -> Result<(), Fail> {
-    let alloc = rt.alloc();
-    let content = Class::Content;
-    let sizes = [
-        Prop::Width,
-        Prop::Height,
-        Prop::MinWidth,
-        Prop::MinHeight,
-        Prop::FlexBasis,
-    ];
-    begins(&rt, alloc, &sizes, content, &size(Size::Auto))?;
-    begins(
-        &rt,
-        alloc,
-        &[Prop::MaxWidth, Prop::MaxHeight],
-        content,
-        &size(Size::Absent),
-    )?;
-    begins(
-        &rt,
-        alloc,
-        &[Prop::BoxSizing],
-        content,
-        &Value::BorderBox(false),
-    )?;
-    begins(
-        &rt,
-        alloc,
-        &[Prop::Overflow],
-        content,
-        &Value::Overflow(Scroll::Visible),
-    )?;
-    let normal = [
-        Prop::JustifyContent,
-        Prop::AlignContent,
-        Prop::JustifyItems,
-        Prop::AlignItems,
-    ];
-    begins(&rt, alloc, &normal, content, &align(AlignMode::Normal))?;
-    begins(
-        &rt,
-        alloc,
-        &[Prop::JustifySelf, Prop::AlignSelf],
-        content,
-        &align(AlignMode::Auto),
-    )?;
-    begins(
-        &rt,
-        alloc,
-        &[Prop::FlexDirection],
-        content,
-        &Value::Column(false),
-    )?;
-    begins(&rt, alloc, &[Prop::FlexWrap], content, &Value::Wrap(false))?;
-    begins(&rt, alloc, &[Prop::FlexGrow], content, &Value::Factor(0))?;
-    begins(
-        &rt,
-        alloc,
-        &[Prop::FlexShrink],
-        content,
-        &Value::Factor(1000),
-    )?;
-    Ok(())
-}
-
-/// Whether the property is set to this value.
-fn holds(style: &Style, p: Prop, value: &Value) -> bool {
-    style.get(p).is_some_and(|held| *held == *value)
-}
-
-/// `[a b] 10px [] repeat(auto-fit, [c] minmax(5%, 1fr) []) [] minmax(auto, 20px) []`.
-fn tracks(alloc: Global) -> Result<Template, Fail> {
-    let fixed = Breadth::Length(Lu::of(640));
-    let fixed = TrackFn {
-        least: fixed,
-        most: fixed,
-        fit: None,
-    };
-    let limited = TrackFn {
-        least: Breadth::Auto,
-        most: Breadth::Length(Lu::of(1280)),
-        fit: None,
-    };
-    let part = TrackFn {
-        least: Breadth::Percent(5000),
-        most: Breadth::Flex(1000),
-        fit: None,
-    };
-    let mut edge = NameSet::new(alloc);
-    edge.push(Name::read(b"a")?)?;
-    edge.push(Name::read(b"b")?)?;
-    let mut inner = NameSet::new(alloc);
-    inner.push(Name::read(b"c")?)?;
-    let mut names = Sequence::new(alloc);
-    names.push(edge)?;
-    for _ in 0..3 {
-        names.push(NameSet::new(alloc))?;
+/// Sets what these declarations declare.
+fn set_texts(style: &mut Style, alloc: Global, texts: &[&[u8]]) -> Result<(), Fail> {
+    for text in texts {
+        let all = read_decl(alloc, text, AT, 1)?;
+        set_all(style, alloc, all.as_slice())?;
     }
-    let mut repeated = Sequence::new(alloc);
-    repeated.push(inner)?;
-    repeated.push(NameSet::new(alloc))?;
-    Ok(Template::Tracks(TrackList {
-        sizes: Sequence::from_slice(alloc, &[fixed, limited])?,
-        names,
-        repeat: Some(Repeat {
-            before: 1,
-            auto_fit: true,
-            sizes: Sequence::from_slice(alloc, &[part])?,
-            names: repeated,
-        }),
-    }))
+    Ok(())
 }
 
-/// The areas of `"h h" "n ."`.
-fn areas(alloc: Global) -> Result<Areas, Fail> {
-    let top = Span { start: 0, end: 1 };
-    let bottom = Span { start: 1, end: 2 };
-    let both = Span { start: 0, end: 2 };
-    let head = Area {
-        columns: both,
-        rows: top,
-    };
-    let nav = Area {
-        columns: top,
-        rows: bottom,
-    };
-    Ok(Areas {
-        columns: 2,
-        rows: 2,
-        named: Sequence::from_slice(
-            alloc,
-            &[(Name::read(b"h")?, head), (Name::read(b"n")?, nav)],
-        )?,
-    })
-}
-
-/// A value of each form that stands for lists.
-fn lists(alloc: Global) -> Result<Vec<(Prop, Value)>, Fail> {
-    let mut names = Sequence::new(alloc);
-    names.push(NameSet::new(alloc))?;
-    let subgrid = Template::Subgrid(names);
-    let template = tracks(alloc)?;
-    let areas = areas(alloc)?;
-    let fit = TrackFn {
-        least: Breadth::Auto,
-        most: Breadth::MaxContent,
-        fit: Some(Breadth::Percent(20_000)),
-    };
-    let rows = Sequence::from_slice(alloc, &[fit])?;
-    Ok(vec![in alloc;
-        (Prop::GridTemplateColumns, Value::Template(template)),
-        (Prop::GridTemplateRows, Value::Template(subgrid)),
-        (Prop::GridTemplateAreas, Value::Areas(Some(areas))),
-        (Prop::GridAutoRows, Value::Sizes(rows)),
-    ]?)
-}
-
-/// A value of each other form.
-fn words(alloc: Global) -> Result<Vec<(Prop, Value)>, Fail> {
-    let line = LineValue::Line(-1, Some(Name::read(b"a")?));
-    Ok(vec![in alloc;
-        (
-            Prop::GridAutoFlow,
-            Value::Flow {
-                column: true,
-                dense: false
+/// Each property is set to its declared value.
+fn holds(style: &Style, all: &[(Prop, DeclaredValue)]) -> bool {
+    for (p, declared) in all {
+        match style.get(*p) {
+            Some(value) => {
+                if *value != declared.value {
+                    return false;
+                }
             }
-        ),
-        (Prop::GridRowEnd, Value::Line(line)),
-        (Prop::Order, Value::Order(-3)),
-        (Prop::Height, Value::Size(Size::Percent(50_000))),
-        (Prop::BoxSizing, Value::BorderBox(true)),
-        (Prop::Overflow, Value::Overflow(Scroll::Hidden)),
-        (
-            Prop::AlignSelf,
-            Value::Align(Align {
-                mode: AlignMode::Center,
-                safe: Some(true)
-            })
-        ),
-        (Prop::FlexDirection, Value::Column(true)),
-        (Prop::FlexWrap, Value::Wrap(true)),
-        (Prop::FlexGrow, Value::Factor(250)),
-    ]?)
+            None => return false,
+        }
+    }
+    !all.is_empty()
 }
 
-/// Sets all of these, and finds each in the style and in its copy.
-fn sets(rt: &impl Abort, alloc: Global, values: &[(Prop, Value)]) -> Result<(), NoMemory> {
-    let mut style = Style::new(alloc);
-    for (p, value) in values {
-        style.set(*p, value.copy(alloc)?)?;
-    }
-    let copy = style.copy(alloc)?;
-    for (p, value) in values {
-        assert!(rt; holds(&style, *p, value), "{p:?} is set");
-        assert!(rt; holds(&copy, *p, value), "{p:?} is copied");
-    }
-    Ok(())
+/// Both styles hold what is declared.
+fn both_hold(alloc: Global, style: &Style, copy: &Style, text: &[u8]) -> Result<bool, Fail> {
+    let all = read_decl(alloc, text, AT, 1)?;
+    Ok(holds(style, all.as_slice()) && holds(copy, all.as_slice()))
 }
 
 #[test]
 fn each_form_of_value_is_set_and_copied(rt: HostRuntime) -> Result<(), Fail> {
-    let alloc = rt.alloc();
-    sets(&rt, alloc, lists(alloc)?.as_slice())?;
-    sets(&rt, alloc, words(alloc)?.as_slice())?;
+    static TEXTS: &[&[u8]] = &[
+        b"grid-template-columns: [a b] 10px repeat(auto-fit, [c] minmax(5%, 1px)) 20px",
+        b"grid-template-rows: subgrid [a] [b c]",
+        b"grid-template-areas: \"h h\" \"n .\"",
+        b"grid-auto-rows: fit-content(20%) 1fr",
+        b"grid-auto-flow: column",
+        b"grid-row-end: -1 a",
+        b"order: -3",
+        b"height: 50%",
+        b"box-sizing: border-box",
+        b"overflow: hidden",
+        b"align-self: safe center",
+        b"flex-direction: column",
+        b"flex-wrap: wrap",
+        b"flex-grow: 0.25",
+    ];
+    let mut style = Style::new(rt.alloc());
+    set_texts(&mut style, rt.alloc(), TEXTS)?;
+    let copy = style.copy(rt.alloc())?;
+    for text in TEXTS {
+        assert!(rt; both_hold(rt.alloc(), &style, &copy, text)?, "{text:?}");
+    }
     Ok(())
+}
+
+/// The order and the flex grow factor that are set.
+fn order_and_growth(style: &Style) -> (Option<i32>, Option<u32>) {
+    let order = match style.get(Prop::Order) {
+        Some(Value::Order(order)) => Some(*order),
+        _ => None,
+    };
+    let growth = match style.get(Prop::FlexGrow) {
+        Some(Value::Factor(factor)) => Some(*factor),
+        _ => None,
+    };
+    (order, growth)
 }
 
 #[test]
 fn the_last_value_counts_until_it_is_unset(rt: HostRuntime) -> Result<(), Fail> {
-    let alloc = rt.alloc();
-    let mut style = Style::new(alloc);
-    assert!(rt; style.get(Prop::Order).is_none());
+    let mut style = Style::new(rt.alloc());
+    let bare = order_and_growth(&style);
     style.set(Prop::Order, Value::Order(1))?;
     style.set(Prop::FlexGrow, Value::Factor(500))?;
     style.set(Prop::Order, Value::Order(2))?;
-    assert!(rt; holds(&style, Prop::Order, &Value::Order(2)));
+    let set = order_and_growth(&style);
     style.unset(Prop::Order);
-    assert!(rt; style.get(Prop::Order).is_none());
-    assert!(rt; holds(&style, Prop::FlexGrow, &Value::Factor(500)));
     style.unset(Prop::Width);
-    assert!(rt; holds(&style, Prop::FlexGrow, &Value::Factor(500)));
+    let unset = order_and_growth(&style);
+    assert!(rt; bare == (None, None) && set == (Some(2), Some(500)) && unset == (None, Some(500)));
     Ok(())
 }

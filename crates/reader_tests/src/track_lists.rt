@@ -1,6 +1,6 @@
 //! Values of the two templates, worked by hand.
 
-use lunit::{Lu, NameSet, NoMemory};
+use lunit::{Lu, NameSet};
 use std::alloc::Global;
 use std::process::Abort;
 use std::test::Fail;
@@ -13,23 +13,40 @@ const AT: Place = Place {
     column: 14,
 };
 
-/// Writes the names with a space after each.
-fn spell_set(out: &mut Vec<u8>, set: &NameSet) -> Result<(), NoMemory> {
-    for name in set.as_slice() {
-        out.extend_from_slice(name.bytes())?;
-        out.push(b' ')?;
+/// The set has these names.
+fn is_set(set: &NameSet, due: &[&[u8]]) -> bool {
+    if set.as_slice().len() != due.len() {
+        return false;
     }
-    Ok(())
+    for (name, bytes) in set.as_slice().iter().zip(due) {
+        if name.bytes() != *bytes {
+            return false;
+        }
+    }
+    true
 }
 
-/// Writes the names of each line with a bar after the line.
-fn spelled(alloc: Global, sets: &[NameSet]) -> Result<Vec<u8>, NoMemory> {
-    let mut out = Vec::new(alloc);
-    for set in sets {
-        spell_set(&mut out, set)?;
-        out.push(b'|')?;
+/// The lines have these names.
+fn are_sets(sets: &[NameSet], due: &[&[&[u8]]]) -> bool {
+    if sets.len() != due.len() {
+        return false;
     }
-    Ok(out)
+    for (set, names) in sets.iter().zip(due) {
+        if !is_set(set, names) {
+            return false;
+        }
+    }
+    true
+}
+
+/// The template is a list of these tracks, whose lines have these names.
+fn is_list(template: &Template, tracks: &[TrackFn], names: &[&[&[u8]]]) -> bool {
+    match template {
+        Template::Tracks(list) => {
+            list.sizes.as_slice() == tracks && are_sets(list.names.as_slice(), names)
+        }
+        _ => false,
+    }
 }
 
 /// The value is a list of these tracks, whose lines have these names.
@@ -38,16 +55,10 @@ fn lists(
     alloc: Global,
     text: &[u8],
     tracks: &[TrackFn],
-    names: &[u8],
+    names: &[&[&[u8]]],
 ) -> Result<(), Fail> {
     let (template, _) = read_tracks(alloc, text, AT, 1)?;
-    let list = match template {
-        Template::Tracks(list) => Some(list),
-        _ => None,
-    };
-    let list = list.ok_or("no track list")?;
-    assert_eq!(rt; list.sizes.as_slice(), tracks);
-    assert_eq!(rt; spelled(alloc, list.names.as_slice())?.as_slice(), names);
+    assert!(rt; is_list(&template, tracks, names), "{text:?}");
     Ok(())
 }
 
@@ -82,9 +93,9 @@ fn flexible(thousandths: u32) -> TrackFn {
 #[test]
 fn repeats_are_written_out(rt: HostRuntime) -> Result<(), Fail> {
     let text = b"[a] 10px repeat(2, 1fr [b]) [c]";
+    static NAMES: &[&[&[u8]]] = &[&[b"a"], &[], &[b"b"], &[b"b", b"c"]];
     let tracks = [fixed(640), flexible(1000), flexible(1000)];
-    lists(&rt, rt.alloc(), text, &tracks, b"a ||b |b c |")?;
-    Ok(())
+    lists(&rt, rt.alloc(), text, &tracks, NAMES)
 }
 
 #[test]
@@ -100,8 +111,7 @@ fn both_sides_of_a_track(rt: HostRuntime) -> Result<(), Fail> {
         fit: Some(Breadth::Length(Lu::of(64))),
     };
     let text = b"minmax(min-content, 50%) fit-content(1px)";
-    lists(&rt, rt.alloc(), text, &[between, capped], b"|||")?;
-    Ok(())
+    lists(&rt, rt.alloc(), text, &[between, capped], &[&[], &[], &[]])
 }
 
 #[test]
