@@ -1,12 +1,12 @@
 //! Declarations, worked by hand: each sets these properties, or has this fault.
 
+use crate::texts::{READS, Told, must_be, told};
 use lunit::{LineValue, Lu, Name};
 use std::alloc::Global;
 use std::process::Abort;
 use std::test::Fail;
 use style_types::{Align, AlignMode, DeclaredValue, Prop, Scroll, Size, Unit, Value};
-use text_scan::{Fault, Place};
-use track_text::ReadError;
+use text_scan::Place;
 use value_text::read_decl;
 
 const AT: Place = Place { line: 3, column: 1 };
@@ -60,22 +60,21 @@ fn sets_lengths(
     Ok(())
 }
 
-/// Declarations with a fault each: the text, the version, the number and the column.
-fn are_refused(rt: &impl Abort, alloc: Global, rows: &[(&[u8], u8, u8, u32)]) {
-    for (text, version, number, column) in rows {
-        let fault = Fault {
-            number: *number,
-            place: Place {
-                line: 3,
-                column: *column,
-            },
-        };
-        let is_due = match read_decl(alloc, text, AT, *version) {
-            Ok(_) => false,
-            Err(error) => error == ReadError::Fault(fault),
-        };
-        assert!(rt; is_due, "fault {number} of {text:?}");
+/// What is told of a declaration.
+fn declaration_told(alloc: Global, text: &[u8], version: u8) -> Result<Told, Fail> {
+    match read_decl(alloc, text, AT, version) {
+        Ok(_) => Ok(READS),
+        Err(error) => told(error),
     }
+}
+
+/// Of these declarations of a version this is told.
+fn are_told(rt: &impl Abort, alloc: Global, rows: &[(&[u8], u8, Told)]) -> Result<(), Fail> {
+    for (text, version, due) in rows {
+        let found = declaration_told(alloc, text, *version)?;
+        must_be(rt, found, *due, text);
+    }
+    Ok(())
 }
 
 #[test]
@@ -123,16 +122,17 @@ fn sides_and_gaps(rt: HostRuntime) -> Result<(), Fail> {
 }
 
 #[test]
-fn faults_at_their_places(rt: HostRuntime) {
-    static ROWS: &[(&[u8], u8, u8, u32)] = &[
-        (b"colour: red", 1, 8, 1),
-        (b" float: left", 1, 11, 2),
-        (b"width: 1em", 1, 11, 8),
-        (b"width: -1em", 2, 9, 8),
-        (b"width: ", 1, 9, 8),
-        (b"width 1px", 1, 9, 7),
-        (b"font-size: 1px", 1, 11, 1),
-        (b"grid-column: 1 / 2 / 3", 1, 9, 14),
+fn faults_at_their_places(rt: HostRuntime) -> Result<(), Fail> {
+    static ROWS: &[(&[u8], u8, Told)] = &[
+        (b"colour: red", 1, (8, 3, 1)),
+        (b" float: left", 1, (11, 3, 2)),
+        (b"width: 1em", 1, (11, 3, 8)),
+        (b"width: -1em", 2, (9, 3, 8)),
+        (b"width: ", 1, (9, 3, 8)),
+        (b"width 1px", 1, (9, 3, 7)),
+        (b"font-size: 1px", 1, (11, 3, 1)),
+        (b"font-size: 1px", 2, READS),
+        (b"grid-column: 1 / 2 / 3", 1, (9, 3, 14)),
     ];
-    are_refused(&rt, rt.alloc(), ROWS);
+    are_told(&rt, rt.alloc(), ROWS)
 }

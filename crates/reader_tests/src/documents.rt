@@ -50,26 +50,27 @@ fn is_root(root: &Plain) -> bool {
     }
 }
 
-fn document(alloc: Global, text: &[u8]) -> Result<Doc, Fail> {
+/// The document has these sizes, and this root.
+fn is_due(doc: &Doc) -> bool {
+    doc.version == 2
+        && doc.width == Lu::of(6400)
+        && doc.height == Lu::of(3200)
+        && is_root(&doc.root)
+}
+
+fn reads_as_due(alloc: Global, text: &[u8]) -> Result<bool, Fail> {
     let lines = lines_of(alloc, Vec::from_slice(alloc, text)?)?;
     let end = Place { line: 7, column: 1 };
-    Ok(read_doc(alloc, lines.as_slice(), end)?)
+    let doc = read_doc(alloc, lines.as_slice(), end)?;
+    Ok(is_due(&doc))
 }
 
 #[test]
 fn a_document_is_read(rt: HostRuntime) -> Result<(), Fail> {
     static TEXT: &[u8] =
         b"gridlay 2\nviewport 100 50\nmain grid { font-size: 2em; order: 1 }\n  a flex # first\n    b words 10 .5 3px\n  c leaf 4 5px";
-    let doc = document(rt.alloc(), TEXT)?;
-    let size = (doc.version, doc.width, doc.height);
-    assert!(rt; size == (2, Lu::of(6400), Lu::of(3200)) && is_root(&doc.root));
+    assert!(rt; reads_as_due(rt.alloc(), TEXT)?);
     Ok(())
-}
-
-fn edit(alloc: Global, text: &[u8]) -> Result<Edit, Fail> {
-    let lines = lines_of(alloc, Vec::from_slice(alloc, text)?)?;
-    let line = lines.as_slice().first().ok_or("no line")?;
-    Ok(read_edit(alloc, line, 1)?)
 }
 
 /// The edit moves `b` under `main` as child number 2, which stand at columns 6, 8 and 13.
@@ -84,9 +85,15 @@ fn is_move(edit: &Edit) -> bool {
     }
 }
 
+fn reads_as_move(alloc: Global, text: &[u8]) -> Result<bool, Fail> {
+    let lines = lines_of(alloc, Vec::from_slice(alloc, text)?)?;
+    let line = lines.as_slice().first().ok_or("no line")?;
+    let edit = read_edit(alloc, line, 1)?;
+    Ok(is_move(&edit))
+}
+
 #[test]
 fn an_edit_is_read_with_its_places(rt: HostRuntime) -> Result<(), Fail> {
-    let edit = edit(rt.alloc(), b"move b main 2")?;
-    assert!(rt; is_move(&edit));
+    assert!(rt; reads_as_move(rt.alloc(), b"move b main 2")?);
     Ok(())
 }

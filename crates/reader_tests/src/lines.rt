@@ -4,6 +4,7 @@ ghost use Rattle.line_names.specs.Repeats.{are_counted};
 ghost use Rattle.line_names.specs.Sides.{has_edges};
 ghost use Rattle.line_names.specs.Tables.{are_areas, is_area};
 
+use Due::{Free, Lies};
 use line_names::{LineTable, RepeatSpace, repetitions};
 use lunit::{LineValue, Lu, Name, NameSet, Sequence, Span, Spot};
 use std::alloc::Global;
@@ -166,35 +167,31 @@ fn must_stand(rt: &impl Abort, found: Option<Spot>, due: Spot, text: &[u8]) {
     assert!(rt; found == Some(due), "place of {text:?}");
 }
 
-/// With these declarations items lie between these lines.
-fn lie(
-    rt: &impl Abort,
-    alloc: Global,
-    table: LineTable,
-    automatic: u32,
-    rows: &[(&[u8], i32, i32)],
-) -> Result<(), Fail> {
-    for (text, start, end) in rows {
-        let due = Spot::At(Span {
-            start: *start,
-            end: *end,
-        });
-        must_stand(rt, spot(alloc, &table, automatic, text)?, due, text);
-    }
-    Ok(())
+/// Where an item stands: between two lines, or free, over so many tracks.
+#[derive(Clone, Copy)]
+enum Due {
+    Lies(i32, i32),
+    Free(u32),
 }
 
-/// With these declarations items are free, over so many tracks.
-fn are_free(
-    rt: &impl Abort,
-    alloc: Global,
-    table: LineTable,
-    automatic: u32,
-    rows: &[(&[u8], u32)],
-) -> Result<(), Fail> {
-    for (text, tracks) in rows {
-        let due = Spot::Free(*tracks);
-        must_stand(rt, spot(alloc, &table, automatic, text)?, due, text);
+fn spot_of(due: &Due) -> Spot {
+    match due {
+        Lies(start, end) => Spot::At(Span {
+            start: *start,
+            end: *end,
+        }),
+        Free(tracks) => Spot::Free(*tracks),
+    }
+}
+
+/// An automatic span, a declaration, and where it puts an item.
+type Row<'a> = (u32, &'a [u8], Due);
+
+/// With these declarations items stand so.
+fn stand(rt: &impl Abort, alloc: Global, table: LineTable, rows: &[Row]) -> Result<(), Fail> {
+    for (automatic, text, due) in rows {
+        let found = spot(alloc, &table, *automatic, text)?;
+        must_stand(rt, found, spot_of(due), text);
     }
     Ok(())
 }
@@ -209,87 +206,83 @@ fn three(alloc: Global) -> Result<LineTable, Fail> {
 #[test]
 fn numbers_and_names_stand_for_lines(rt: HostRuntime) -> Result<(), Fail> {
     let alloc = rt.alloc();
-    static ROWS: &[(&[u8], i32, i32)] = &[
+    static ROWS: &[Row] = &[
         // above 0 the line one less, below 0 so many from line 3 + 1
-        (b"grid-column: 1 / auto", 0, 1),
-        (b"grid-column: -1 / auto", 3, 4),
-        (b"grid-column: -4 / auto", 0, 1),
-        (b"grid-column: -5 / auto", -1, 0),
+        (1, b"grid-column: 1 / auto", Lies(0, 1)),
+        (1, b"grid-column: -1 / auto", Lies(3, 4)),
+        (1, b"grid-column: -4 / auto", Lies(0, 1)),
+        (1, b"grid-column: -5 / auto", Lies(-1, 0)),
         // of the three lines `a` the last is 2; past them lines are counted from 3, and back from 0
-        (b"grid-column: 3 a / auto", 2, 3),
-        (b"grid-column: -1 a / auto", 2, 3),
-        (b"grid-column: -3 a / auto", 0, 1),
-        (b"grid-column: 5 a / auto", 5, 6),
-        (b"grid-column: -5 a / auto", -2, -1),
-        (b"grid-column: 2 z / auto", 4, 5),
+        (1, b"grid-column: 3 a / auto", Lies(2, 3)),
+        (1, b"grid-column: -1 a / auto", Lies(2, 3)),
+        (1, b"grid-column: -3 a / auto", Lies(0, 1)),
+        (1, b"grid-column: 5 a / auto", Lies(5, 6)),
+        (1, b"grid-column: -5 a / auto", Lies(-2, -1)),
+        (1, b"grid-column: 2 z / auto", Lies(4, 5)),
         // a bare name is the first of the name, here for both sides; line 4 where there is none
-        (b"grid-column: z / z", 3, 4),
-        (b"grid-column: q / q", 4, 5),
-        (b"grid-column: a / -1 z", 0, 3),
+        (1, b"grid-column: z / z", Lies(3, 4)),
+        (1, b"grid-column: q / q", Lies(4, 5)),
+        (1, b"grid-column: a / -1 z", Lies(0, 3)),
     ];
-    lie(&rt, alloc, three(alloc)?, 1, ROWS)
+    stand(&rt, alloc, three(alloc)?, ROWS)
 }
 
 #[test]
 fn spans_reach_lines(rt: HostRuntime) -> Result<(), Fail> {
     let alloc = rt.alloc();
-    static REACHES: &[(&[u8], i32, i32)] = &[
-        (b"grid-column: 2 / span 3", 1, 4),
-        (b"grid-column: span 3 / 4", 0, 3),
+    static ROWS: &[Row] = &[
+        (1, b"grid-column: 2 / span 3", Lies(1, 4)),
+        (1, b"grid-column: span 3 / 4", Lies(0, 3)),
         // `a` after line 0 stands on 1 and 2; after line 4 nowhere, which counts on from 4; after line -1 on 0
-        (b"grid-column: 1 / span 2 a", 0, 2),
-        (b"grid-column: 1 / span 4 a", 0, 5),
-        (b"grid-column: 5 / span 1 a", 4, 5),
-        (b"grid-column: -5 / span 1 a", -1, 0),
+        (1, b"grid-column: 1 / span 2 a", Lies(0, 2)),
+        (1, b"grid-column: 1 / span 4 a", Lies(0, 5)),
+        (1, b"grid-column: 5 / span 1 a", Lies(4, 5)),
+        (1, b"grid-column: -5 / span 1 a", Lies(-1, 0)),
         // before line 3 it stands on 2, 1 and 0; `z` before line 1 nowhere, which counts back from 0, or from -5
-        (b"grid-column: span 1 a / 4", 2, 3),
-        (b"grid-column: span 3 a / 4", 0, 3),
-        (b"grid-column: span 2 z / 2", -2, 1),
-        (b"grid-column: span 2 a / -9", -7, -5),
+        (1, b"grid-column: span 1 a / 4", Lies(2, 3)),
+        (1, b"grid-column: span 3 a / 4", Lies(0, 3)),
+        (1, b"grid-column: span 2 z / 2", Lies(-2, 1)),
+        (1, b"grid-column: span 2 a / -9", Lies(-7, -5)),
+        // `auto` beside a line is the automatic span, back from an end
+        (3, b"grid-column: 2 / auto", Lies(1, 4)),
+        (3, b"grid-column: auto / 4", Lies(0, 3)),
     ];
-    lie(&rt, alloc, three(alloc)?, 1, REACHES)?;
-    // `auto` beside a line is the automatic span, back from an end
-    static AUTOMATIC: &[(&[u8], i32, i32)] = &[
-        (b"grid-column: 2 / auto", 1, 4),
-        (b"grid-column: auto / 4", 0, 3),
-    ];
-    lie(&rt, alloc, three(alloc)?, 3, AUTOMATIC)
+    stand(&rt, alloc, three(alloc)?, ROWS)
 }
 
 #[test]
 fn conflicts_are_settled(rt: HostRuntime) -> Result<(), Fail> {
     let alloc = rt.alloc();
-    static ROWS: &[(&[u8], i32, i32)] = &[
+    static ROWS: &[Row] = &[
         // two lines are put in order, and of equal ones the end is dropped
-        (b"grid-column: 3 / 1", 0, 2),
-        (b"grid-column: 2 / 2", 1, 2),
+        (1, b"grid-column: 3 / 1", Lies(0, 2)),
+        (1, b"grid-column: 2 / 2", Lies(1, 2)),
+        (3, b"grid-column: 2 / 2", Lies(1, 4)),
         // the limit is from -10,000 to 10,000
-        (b"grid-column: 1 / 20000", 0, 10000),
-        (b"grid-column: 20000 / auto", 9999, 10000),
-        (b"grid-column: -20000 / auto", -10000, -9999),
-        (b"grid-column: -20000 / 1", -10000, 0),
+        (1, b"grid-column: 1 / 20000", Lies(0, 10000)),
+        (1, b"grid-column: 20000 / auto", Lies(9999, 10000)),
+        (1, b"grid-column: -20000 / auto", Lies(-10000, -9999)),
+        (1, b"grid-column: -20000 / 1", Lies(-10000, 0)),
     ];
-    lie(&rt, alloc, three(alloc)?, 1, ROWS)?;
-    static AUTOMATIC: &[(&[u8], i32, i32)] = &[(b"grid-column: 2 / 2", 1, 4)];
-    lie(&rt, alloc, three(alloc)?, 3, AUTOMATIC)
+    stand(&rt, alloc, three(alloc)?, ROWS)
 }
 
 #[test]
 fn without_a_line_items_are_free(rt: HostRuntime) -> Result<(), Fail> {
     let alloc = rt.alloc();
-    static ROWS: &[(&[u8], u32)] = &[
+    static ROWS: &[Row] = &[
         // of two spans the end's is dropped, and one with a name counts as 1
-        (b"grid-column: span 2 / span 3", 2),
-        (b"grid-column: span 2 / auto", 2),
-        (b"grid-column: auto / span 2", 2),
-        (b"grid-column: span 3 a / auto", 1),
-        (b"grid-column: auto / span 3 a", 1),
-        (b"grid-column: span 3 a / span 7", 1),
-        (b"grid-column: auto / auto", 4),
+        (4, b"grid-column: span 2 / span 3", Free(2)),
+        (4, b"grid-column: span 2 / auto", Free(2)),
+        (4, b"grid-column: auto / span 2", Free(2)),
+        (4, b"grid-column: span 3 a / auto", Free(1)),
+        (4, b"grid-column: auto / span 3 a", Free(1)),
+        (4, b"grid-column: span 3 a / span 7", Free(1)),
+        (4, b"grid-column: auto / auto", Free(4)),
         // the limit has 20,000 tracks
-        (b"grid-column: span 30000 / auto", 20000),
+        (4, b"grid-column: span 30000 / auto", Free(20000)),
     ];
-    are_free(&rt, alloc, three(alloc)?, 4, ROWS)
+    stand(&rt, alloc, three(alloc)?, ROWS)
 }
 
 /// Two tracks with the area `h` over both and `m` over the second, and these names of lines.
@@ -305,23 +298,23 @@ fn with_areas(alloc: Global, names: &[&[&[u8]]]) -> Result<LineTable, Fail> {
 #[test]
 fn areas_name_lines(rt: HostRuntime) -> Result<(), Fail> {
     let alloc = rt.alloc();
-    static AREAS: &[(&[u8], i32, i32)] = &[
-        (b"grid-column: h / h", 0, 2),
-        (b"grid-column: m / m", 1, 2),
-        (b"grid-column: m / h", 1, 2),
+    static AREAS: &[Row] = &[
+        (1, b"grid-column: h / h", Lies(0, 2)),
+        (1, b"grid-column: m / m", Lies(1, 2)),
+        (1, b"grid-column: m / h", Lies(1, 2)),
         // there is one line `m-start`, so the second is 2 + 1
-        (b"grid-column: 2 m-start / auto", 3, 4),
+        (1, b"grid-column: 2 m-start / auto", Lies(3, 4)),
     ];
-    lie(&rt, alloc, with_areas(alloc, &[])?, 1, AREAS)?;
+    stand(&rt, alloc, with_areas(alloc, &[])?, AREAS)?;
     static NAMES: &[&[&[u8]]] = &[&[b"m-start", b"k", b"k"]];
-    static NAMED: &[(&[u8], i32, i32)] = &[
+    static NAMED: &[Row] = &[
         // now `m-start` stands on 0 and 1
-        (b"grid-column: m / m", 0, 2),
-        (b"grid-column: 2 m-start / auto", 1, 2),
+        (1, b"grid-column: m / m", Lies(0, 2)),
+        (1, b"grid-column: 2 m-start / auto", Lies(1, 2)),
         // a name that stands twice on a line makes it one line: the second `k` is 2 + 1
-        (b"grid-column: 2 k / auto", 3, 4),
+        (1, b"grid-column: 2 k / auto", Lies(3, 4)),
     ];
-    lie(&rt, alloc, with_areas(alloc, NAMES)?, 1, NAMED)
+    stand(&rt, alloc, with_areas(alloc, NAMES)?, NAMED)
 }
 
 /// Four tracks with the area `b` over lines 0 to 3 and `c` over 3 to 4, and the lines `x`, `x`, none, `y`, none.
@@ -358,25 +351,22 @@ fn over_two(alloc: Global) -> Result<LineTable, Fail>
 #[test]
 fn subgrids_take_names_over(rt: HostRuntime) -> Result<(), Fail> {
     let alloc = rt.alloc();
-    static LINES: &[(&[u8], i32, i32)] = &[
-        (b"grid-column: b / b", 0, 2),
-        (b"grid-column: 1 x / auto", 0, 1),
-        (b"grid-column: 1 p / 2 p", 0, 2),
+    static ROWS: &[Row] = &[
+        (1, b"grid-column: b / b", Lies(0, 2)),
+        (1, b"grid-column: 1 x / auto", Lies(0, 1)),
+        (1, b"grid-column: 1 p / 2 p", Lies(0, 2)),
         // the last `p` is on line 2, since the fourth set is spare; from there all is past the limit, which is 0 to 2
-        (b"grid-column: -1 p / auto", 1, 2),
-        (b"grid-column: 1 y / auto", 1, 2),
-        (b"grid-column: auto / 1 y", 1, 2),
+        (1, b"grid-column: -1 p / auto", Lies(1, 2)),
+        (1, b"grid-column: 1 y / auto", Lies(1, 2)),
+        (1, b"grid-column: auto / 1 y", Lies(1, 2)),
         // `c` shares no track, but its `c-start` is a name of line 2
-        (b"grid-column: auto / 1 c-start", 1, 2),
-        (b"grid-column: 5 / auto", 1, 2),
-        (b"grid-column: -9 / auto", 0, 1),
+        (1, b"grid-column: auto / 1 c-start", Lies(1, 2)),
+        (1, b"grid-column: 5 / auto", Lies(1, 2)),
+        (1, b"grid-column: -9 / auto", Lies(0, 1)),
+        (2, b"grid-column: span 7 / auto", Free(2)),
+        (2, b"grid-column: auto / auto", Free(2)),
     ];
-    lie(&rt, alloc, over_two(alloc)?, 1, LINES)?;
-    static FREE: &[(&[u8], u32)] = &[
-        (b"grid-column: span 7 / auto", 2),
-        (b"grid-column: auto / auto", 2),
-    ];
-    are_free(&rt, alloc, over_two(alloc)?, 2, FREE)
+    stand(&rt, alloc, over_two(alloc)?, ROWS)
 }
 
 /// A subgrid of that subgrid, over its first track, with an area `y` of its own that reaches past it.
@@ -389,11 +379,11 @@ fn over_one(alloc: Global) -> Result<LineTable, Fail> {
 #[test]
 fn subgrids_of_subgrids_take_over_what_is_left(rt: HostRuntime) -> Result<(), Fail> {
     let alloc = rt.alloc();
-    static ROWS: &[(&[u8], i32, i32)] = &[
-        (b"grid-column: b / b", 0, 1),
-        (b"grid-column: y / y", 0, 1),
+    static ROWS: &[Row] = &[
+        (1, b"grid-column: b / b", Lies(0, 1)),
+        (1, b"grid-column: y / y", Lies(0, 1)),
     ];
-    lie(&rt, alloc, over_one(alloc)?, 1, ROWS)
+    stand(&rt, alloc, over_one(alloc)?, ROWS)
 }
 
 /// A subgrid over the lines -2 to 1: the parent's lines 0 and 1 are its lines 2 and 3, and `b` is cut to the track between.
@@ -405,11 +395,11 @@ fn before_the_first(alloc: Global) -> Result<LineTable, Fail> {
 #[test]
 fn subgrids_lie_before_the_first_line_too(rt: HostRuntime) -> Result<(), Fail> {
     let alloc = rt.alloc();
-    static ROWS: &[(&[u8], i32, i32)] = &[
-        (b"grid-column: b / b", 2, 3),
-        (b"grid-column: 1 x / -1 x", 2, 3),
+    static ROWS: &[Row] = &[
+        (1, b"grid-column: b / b", Lies(2, 3)),
+        (1, b"grid-column: 1 x / -1 x", Lies(2, 3)),
     ];
-    lie(&rt, alloc, before_the_first(alloc)?, 1, ROWS)
+    stand(&rt, alloc, before_the_first(alloc)?, ROWS)
 }
 
 fn are_counted(lengths: &[Lu]) -> bool

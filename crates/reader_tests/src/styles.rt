@@ -194,13 +194,18 @@ fn order_and_growth(style: &Style) -> (Option<i32>, Option<u32>) {
     (order, growth)
 }
 
+/// Sets the order twice, and the flex grow factor between.
+fn set_twice(style: &mut Style) -> Result<(), NoMemory> {
+    style.set(Prop::Order, Value::Order(1))?;
+    style.set(Prop::FlexGrow, Value::Factor(500))?;
+    style.set(Prop::Order, Value::Order(2))
+}
+
 #[test]
 fn the_last_value_counts_until_it_is_unset(rt: HostRuntime) -> Result<(), Fail> {
     let mut style = Style::new(rt.alloc());
     let bare = order_and_growth(&style);
-    style.set(Prop::Order, Value::Order(1))?;
-    style.set(Prop::FlexGrow, Value::Factor(500))?;
-    style.set(Prop::Order, Value::Order(2))?;
+    set_twice(&mut style)?;
     let set = order_and_growth(&style);
     style.unset(Prop::Order);
     style.unset(Prop::Width);

@@ -47,7 +47,8 @@ fn end_of(lines: &[Line]) -> Place {
     Place { line, column: 1 }
 }
 
-fn told(error: ReadError) -> Result<Told, Fail> {
+/// What is told of a text that is not read.
+pub(crate) fn told(error: ReadError) -> Result<Told, Fail> {
     match error {
         ReadError::Fault(Fault { number, place }) => Ok((number, place.line, place.column)),
         ReadError::NoMemory => Err(Fail::new("want of memory")),

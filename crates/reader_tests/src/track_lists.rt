@@ -1,12 +1,13 @@
 //! Values of the two templates, worked by hand.
 
+use crate::texts::{READS, Told, must_be, told};
 use lunit::{Lu, NameSet};
 use std::alloc::Global;
 use std::process::Abort;
 use std::test::Fail;
 use style_types::{Breadth, Template, TrackFn};
-use text_scan::{Fault, Place};
-use track_text::{ReadError, read_tracks};
+use text_scan::Place;
+use track_text::read_tracks;
 
 const AT: Place = Place {
     line: 3,
@@ -62,16 +63,21 @@ fn lists(
     Ok(())
 }
 
-/// Values with a fault of this number each, at their first byte.
-fn are_refused(rt: &impl Abort, alloc: Global, number: u8, rows: &[&[u8]]) {
-    for text in rows {
-        let fault = Fault { number, place: AT };
-        let is_due = match read_tracks(alloc, text, AT, 1) {
-            Ok(_) => false,
-            Err(error) => error == ReadError::Fault(fault),
-        };
-        assert!(rt; is_due, "fault {number} of {text:?}");
+/// What is told of a value.
+fn value_told(alloc: Global, text: &[u8]) -> Result<Told, Fail> {
+    match read_tracks(alloc, text, AT, 1) {
+        Ok(_) => Ok(READS),
+        Err(error) => told(error),
     }
+}
+
+/// Of these values this is told.
+fn are_told(rt: &impl Abort, alloc: Global, rows: &[(&[u8], Told)]) -> Result<(), Fail> {
+    for (text, due) in rows {
+        let found = value_told(alloc, text)?;
+        must_be(rt, found, *due, text);
+    }
+    Ok(())
 }
 
 fn fixed(units: i64) -> TrackFn {
@@ -115,9 +121,15 @@ fn both_sides_of_a_track(rt: HostRuntime) -> Result<(), Fail> {
 }
 
 #[test]
-fn values_that_are_refused(rt: HostRuntime) {
-    static MALFORMED: &[&[u8]] = &[b"10", b"1fr,", b"minmax(1fr, 1px)", b"[a]", b"none 1px"];
-    static UNSUPPORTED: &[&[u8]] = &[b"masonry", b"1em"];
-    are_refused(&rt, rt.alloc(), 9, MALFORMED);
-    are_refused(&rt, rt.alloc(), 11, UNSUPPORTED);
+fn values_that_are_refused(rt: HostRuntime) -> Result<(), Fail> {
+    static ROWS: &[(&[u8], Told)] = &[
+        (b"10", (9, 3, 14)),
+        (b"1fr,", (9, 3, 14)),
+        (b"minmax(1fr, 1px)", (9, 3, 14)),
+        (b"[a]", (9, 3, 14)),
+        (b"none 1px", (9, 3, 14)),
+        (b"masonry", (11, 3, 14)),
+        (b"1em", (11, 3, 14)),
+    ];
+    are_told(&rt, rt.alloc(), ROWS)
 }
