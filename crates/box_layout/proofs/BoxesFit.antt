@@ -171,6 +171,17 @@ module _ (s : Seen) (fine : IsFineSeen s) (q : Query) (inline_fits : IsGivenFor 
 
 -- ---- of an arena
 
+-- what a child is given by its frame
+pub frames_given : (t : NodeTrees) (n : NodeId) → AreReadable (bare t) → IsNumbered t → IsTree (bare t) → (q : Query) → q ≡ frames_asked q.reps q.inline q.block → Fits (sight_at (bare t) n) q
+    → (index : ℕ) (c : NodeId) (f : Frame) (rest : List Frame) → child_at (bare t) n index ≡ Some c → drop index (((answers_of (sight_at (bare t) n)).down q.reps q.inline).frames q.block) ≡ f ∷ rest
+    → IsGivenRight (pairs_below (sight_at (bare t) n).label.kind (sight_at (bare t) n).label (sight_at (bare t) n).chain (kids_at (bare t) n) q) (kid_at (bare t) c) f
+frames_given t n readable numbered is_tree q framed fits index c f rest child next =
+    let s : Seen = sight_at (bare t) n in
+    let fine : IsFineSeen s = sight_fine (bare t) n (nodes_styled t readable numbered) in
+    let below : IsNext (bare t) n index c = is_tree.next n c index child in
+    let same : Fits s (frames_asked q.reps q.inline q.block) = subst (Fits s) framed fits in
+    right_by s fine q same.inline same.block same.reps s.label.kind refl index (kid_at (bare t) c) (drop (index + 1) (kids_at (bare t) n)) f rest below.chain below.kids next
+
 pub frames_fit : (t : NodeTrees) (n : NodeId) → AreReadable (bare t) → IsNumbered t → IsTree (bare t) → (reps : List Pair) (inline block : Given) → Fits (sight_at (bare t) n) (frames_asked reps inline block)
     → (index : ℕ) (c : NodeId) (f : Frame) (rest : List Frame) → child_at (bare t) n index ≡ Some c → drop index (((answers_of (sight_at (bare t) n)).down reps inline).frames block) ≡ f ∷ rest → is_container (sight_at (bare t) c).label.kind ≡ true
     → Fits (sight_at (bare t) c) (frames_asked (pairs_for (kid_at (bare t) c) (pairs_below (sight_at (bare t) n).label.kind (sight_at (bare t) n).label (sight_at (bare t) n).chain (kids_at (bare t) n) (frames_asked reps inline block))) f.inline f.block)

@@ -34,10 +34,10 @@ use Rattle.box_layout.proofs.BelowSteps.{IsTurn}
 
 -- ---- a list of one item, and one of none
 
-none_there : {A : Type 0} (x : A) → Contains [] x → ⊥
+pub none_there : {A : Type 0} (x : A) → Contains [] x → ⊥
 none_there x h = absurd (omega (arith, h.1))
 
-one_there : {A : Type 0} (t x : A) → Contains (t ∷ []) x → t ≡ x
+pub one_there : {A : Type 0} (t x : A) → Contains (t ∷ []) x → t ≡ x
 one_there {A} t x h = go h.0 h.1 h.2
   where
     go : (k : ℕ) → k < length (t ∷ []) → slice_index_or (t ∷ []) k x ≡ x → t ≡ x
@@ -76,7 +76,7 @@ later_passed : (pairs : List Pair) (x : Kid) (xs : List Kid) (g : Frame) (gs : L
 later_passed pairs x xs g gs n m r p =
     record { index = suc p.index; number = omega (arith, p.number); kid = p.kid; frame = p.frame; more = p.more; after = p.after; kids_are = p.kids_are; frames_are = p.frames_are; container = p.container; question = p.question }
 
-passed_out : (pairs : List Pair) (kids : List Kid) (frames : List Frame) (n m : ℕ) (r : Query) → Contains (all_of (zipped (passed_to pairs) (numbered_from n kids) frames)) (m, r) → IsPassed pairs kids frames n m r
+pub passed_out : (pairs : List Pair) (kids : List Kid) (frames : List Frame) (n m : ℕ) (r : Query) → Contains (all_of (zipped (passed_to pairs) (numbered_from n kids) frames)) (m, r) → IsPassed pairs kids frames n m r
 passed_out pairs [] frames n m r h = absurd (none_there _ h)
 passed_out pairs (x ∷ xs) [] n m r h = absurd (none_there _ h)
 passed_out pairs (x ∷ xs) (g ∷ gs) n m r h =
@@ -92,7 +92,7 @@ pub record IsOnly (b : BareTrees) (c : NodeId) (reps : List Pair) (f : Frame) (r
   pub container : is_container (sight_at b c).label.kind ≡ true
   pub question : r ≡ frames_asked reps f.inline f.block
 
-first_is : {A : Type 0} (x y : A) (xs ys : List A) → x ∷ xs ≡ y ∷ ys → x ≡ y
+pub first_is : {A : Type 0} (x y : A) (xs ys : List A) → x ∷ xs ≡ y ∷ ys → x ≡ y
 first_is x y xs ys e = cc
 
 pub only_passed : (b : BareTrees) (n c : NodeId) (reps outer : List Pair) (inline block : Given) (i : ℕ) (f : Frame) (rest : List Kid) (after : List Frame) (r : Query)

@@ -24,7 +24,11 @@ pub mod GridNear
 pub mod InPlaces
 mod KeptPaths
 mod KidFrames
+mod KidLeaves
 mod LaidWalks
+mod LeafFrames
+mod LeafSteps
+mod LeafWalks
 pub mod Named
 pub mod Near
 mod NearBoxes
@@ -47,3 +51,4 @@ pub mod Starts
 pub mod Steps
 pub mod Sums
 pub mod TrackSizes
+mod Unframed

@@ -5,6 +5,7 @@ pub mod BoxesSeen
 pub mod FlexFrames
 pub mod GridFrames
 pub mod KidBoxes
+pub mod LeafHeights
 pub mod Near
 pub mod Paths
 pub mod Places

@@ -16,9 +16,11 @@ ghost use Rattle.inline_sizes.specs.Calls.{Found, Keeps};
 ghost use Rattle.block_sizes.specs.Spread.{IsSpread};
 ghost use Rattle.block_sizes.specs.Wides.{farthest};
 ghost use Rattle.box_layout.specs.Asking.{frames_asked};
+ghost use Rattle.box_layout.specs.LeafHeights.{AreLeavesKept, MeasuresLeaves};
 
 use crate::flex_anew::flex_frames_anew;
 use crate::gridded::grid_frames;
+use crate::leaves::{ask_leaves, stands};
 use crate::queries::{copied_frames, frames_query, kept_frames};
 use crate::row_views::rows_of;
 use block_sizes::wide_at;
@@ -85,6 +87,45 @@ fn grid_frames_anew<R: Ruler, L: Ledger>(
     Ok(told)
 }
 
+/// The frames of a grid in its seat that keeps none for this question: they are found, and kept last. Then each leaf among its children
+/// keeps its block size at the content width of its rectangle.
+fn grid_frames_kept<R: Ruler, L: Ledger>(
+    alloc: Global,
+    tree: &mut Arena<Node>,
+    id: NodeId,
+    query: Query,
+    above: &Above,
+    area: Area,
+    ruler: &mut R,
+    tally: &mut Tally,
+    passes: &mut Steps<L>,
+) -> Result<Sequence<Frame>, NoMemory>
+    requires live { IsLive (bare tree.old.tree) id }
+    requires right { IsRight tree.old.tree }
+    requires readable { AreReadable (bare tree.old.tree) }
+    requires grid { (sight_at (bare tree.old.tree) id).label.kind ≡ kind.Grid }
+    requires query { query ≡ frames_asked query.reps query.inline query.block }
+    requires fits { Fits (sight_at (bare tree.old.tree) id) query }
+    requires absent { IsAbsent query (kept_at tree.old.tree id) }
+    requires seat { IsSeat (sight_at (bare tree.old.tree) id) query.reps above.now area }
+    requires columns { IsSpread (farthest (level_at (bare tree.old.tree) id)) query.inline }
+    requires rows { IsSpread (farthest (level_at (bare tree.old.tree) id)) query.block }
+    ensures value { IfOk result (λ frames. child_frames (map frame_of frames) ≡ answer_of (sight_at (bare tree.old.tree) id) query) }
+    ensures children { IfOk result (λ frames. map (λ (f : NodeFrame). f.child) frames ≡ children_at (bare tree.old.tree) id) }
+    ensures right { IsRight tree.new.tree }
+    ensures walked { OnOk result (Walked id query (state tree.old tally.old passes.old (R.log ruler.old)) (state tree.new tally.new passes.new (R.log ruler.new))) }
+    ensures stopped { OnErr result (Stopped id query (state tree.old tally.old passes.old (R.log ruler.old)) (state tree.new tally.new passes.new (R.log ruler.new))) }
+    ensures own { IfOk result (λ frames. kept_at tree.new.tree id ≡ kept_with (kept_at tree.old.tree id) ((query, answer.Frames frames) ∷ [])) }
+    ensures leaves { OnOk result ((sight_at (bare tree.old.tree) id).label.kind ≡ kind.Grid → AreLeavesKept (bare tree.old.tree) id query (state tree.new tally.new passes.new (R.log ruler.new))) }
+{
+    root(tree);
+    stands(tree);
+    let frames = grid_frames_anew(alloc, tree, id, query, above, area, ruler, tally, passes)?;
+    let listed = frames.as_slice();
+    ask_leaves(alloc, tree, id, listed, ruler, tally, passes)?;
+    Ok(frames)
+}
+
 /// The frames of a container in its seat that keeps none for this question: they are found, and kept last.
 fn frames_anew<R: Ruler, L: Ledger>(
     alloc: Global,
@@ -112,9 +153,10 @@ fn frames_anew<R: Ruler, L: Ledger>(
     ensures walked { OnOk result (Walked id query (state tree.old tally.old passes.old (R.log ruler.old)) (state tree.new tally.new passes.new (R.log ruler.new))) }
     ensures stopped { OnErr result (Stopped id query (state tree.old tally.old passes.old (R.log ruler.old)) (state tree.new tally.new passes.new (R.log ruler.new))) }
     ensures own { IfOk result (λ frames. kept_at tree.new.tree id ≡ kept_with (kept_at tree.old.tree id) ((query, answer.Frames frames) ∷ [])) }
+    ensures leaves { OnOk result ((sight_at (bare tree.old.tree) id).label.kind ≡ kind.Grid → AreLeavesKept (bare tree.old.tree) id query (state tree.new tally.new passes.new (R.log ruler.new))) }
 {
     if is_grid(&node_at(tree, id).kind) {
-        return grid_frames_anew(alloc, tree, id, query, above, area, ruler, tally, passes);
+        return grid_frames_kept(alloc, tree, id, query, above, area, ruler, tally, passes);
     }
     flex_frames_anew(alloc, tree, id, query, ruler, tally, passes)
 }
@@ -148,6 +190,7 @@ pub fn frames_at<R: Ruler, L: Ledger>(
     ensures stopped { OnErr result (Stopped id (frames_asked reps.now inline.now block.now) (state tree.old tally.old passes.old (R.log ruler.old)) (state tree.new tally.new passes.new (R.log ruler.new))) }
     ensures found { Found id (frames_asked reps.now inline.now block.now) (state tree.old tally.old passes.old (R.log ruler.old)) (state tree.new tally.new passes.new (R.log ruler.new)) }
     ensures own { IfOk result (λ frames. Keeps id (frames_asked reps.now inline.now block.now) (state tree.old tally.old passes.old (R.log ruler.old)) (state tree.new tally.new passes.new (R.log ruler.new)) (answer.Frames frames)) }
+    ensures leaves { OnOk result (MeasuresLeaves (bare tree.old.tree) id (frames_asked reps.now inline.now block.now) (state tree.old tally.old passes.old (R.log ruler.old)) (state tree.new tally.new passes.new (R.log ruler.new))) }
 {
     let query = frames_query(alloc, reps, inline, block)?;
     if let Some(frames) = kept_frames(tree, id, &query) {
@@ -161,8 +204,9 @@ pub fn frames_at<R: Ruler, L: Ledger>(
 /// child is given. `reps` holds the counts of the automatic repeats of the grids above it that it sees, columns first, the topmost
 /// grid first. The edges of given tracks differ from 0 and from each other by at most 2^54, and 2^33 more for each level.
 ///
-/// Kept frames are taken as they are, and then nothing changes; else they are found, and kept last. `NoMemory` where memory is
-/// wanting; what was kept by then is right.
+/// Kept frames are taken as they are, and then nothing changes; else they are found, and kept last, and each leaf among the children of
+/// a grid then keeps its block size at the content width of its rectangle. `NoMemory` where memory is wanting; what was kept by then is
+/// right.
 pub fn frames_of<R: Ruler, L: Ledger>(
     alloc: Global,
     tree: &mut Arena<Node>,
@@ -187,6 +231,7 @@ pub fn frames_of<R: Ruler, L: Ledger>(
     ensures stopped { OnErr result (Stopped id (frames_asked reps.now inline.now block.now) (state tree.old tally.old passes.old (R.log ruler.old)) (state tree.new tally.new passes.new (R.log ruler.new))) }
     ensures found { Found id (frames_asked reps.now inline.now block.now) (state tree.old tally.old passes.old (R.log ruler.old)) (state tree.new tally.new passes.new (R.log ruler.new)) }
     ensures own { IfOk result (λ frames. Keeps id (frames_asked reps.now inline.now block.now) (state tree.old tally.old passes.old (R.log ruler.old)) (state tree.new tally.new passes.new (R.log ruler.new)) (answer.Frames frames)) }
+    ensures leaves { OnOk result (MeasuresLeaves (bare tree.old.tree) id (frames_asked reps.now inline.now block.now) (state tree.old tally.old passes.old (R.log ruler.old)) (state tree.new tally.new passes.new (R.log ruler.new))) }
 {
     let query = frames_query(alloc, reps, inline, block)?;
     if let Some(frames) = kept_frames(tree, id, &query) {

@@ -6,6 +6,7 @@ ghost use Rattle.placing.specs.Nodes.{bare};
 ghost use Rattle.placing.specs.Ranges.{AreReadable};
 ghost use Rattle.placing.specs.Walks.{state, Walk};
 ghost use Rattle.box_layout.specs.BoxesSeen.{AreNear, bare_boxes};
+ghost use Rattle.box_layout.specs.LeafHeights.{AreMeasured};
 ghost use Rattle.box_layout.specs.Paths.{IsAllKept, IsAsked, IsCutShort, IsPathKept};
 
 use crate::root_frame::root_frame;
@@ -27,8 +28,9 @@ const NO_AREA: Area = Area {
 /// of the viewport, in document order (CSS Grid 2, section 6; CSS Flexbox 1, section 9; that the root is an item in the viewport is
 /// an own rule). No number of a box is beyond 2^56.
 ///
-/// Each container is asked once for its frames; the answers that the nodes keep are taken as they are, and what is found is kept.
-/// Where all of that is kept, nothing changes. `NoMemory` where memory is wanting; what was kept by then is right.
+/// Each container is asked once for its frames; the answers that the nodes keep are taken as they are, and what is found is kept. Each
+/// leaf among the children of a grid whose frames are found then keeps its block size at the content width of its box. Where all of
+/// that is kept, nothing changes. `NoMemory` where memory is wanting; what was kept by then is right.
 pub fn walk_boxes<R: Ruler, L: Ledger>(
     alloc: Global,
     tree: &mut Arena<Node>,
@@ -47,6 +49,7 @@ pub fn walk_boxes<R: Ruler, L: Ledger>(
     ensures laid { OnOk result (Walk (IsAsked (bare tree.old.tree) width height) 0 [] (state tree.old tally.old passes.old (R.log ruler.old)) (state tree.new tally.new passes.new (R.log ruler.new))) }
     ensures cut { OnErr result (IsCutShort (bare tree.old.tree) width height (state tree.old tally.old passes.old (R.log ruler.old)) (state tree.new tally.new passes.new (R.log ruler.new))) }
     ensures paths { OnOk result (IsPathKept (bare tree.old.tree) width height (state tree.new tally.new passes.new (R.log ruler.new))) }
+    ensures leaves { OnOk result (AreMeasured (bare tree.old.tree) width height (state tree.old tally.old passes.old (R.log ruler.old)) (state tree.new tally.new passes.new (R.log ruler.new))) }
     ensures quiet { IsAllKept (bare tree.old.tree) width height (state tree.old tally.old passes.old (R.log ruler.old)) → state tree.new tally.new passes.new (R.log ruler.new) ≡ state tree.old tally.old passes.old (R.log ruler.old) }
 {
     let id = root(tree);

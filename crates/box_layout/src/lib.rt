@@ -17,6 +17,7 @@ mod grids;
 mod items;
 mod laws;
 mod layout;
+mod leaves;
 mod line;
 mod lines;
 mod queries;

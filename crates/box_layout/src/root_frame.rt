@@ -1,8 +1,9 @@
 //! The frame of the root of a tree in the viewport, by what the root answers.
 
-ghost use Rattle.std.specs.Prelude.{◌≡◌, ◌∷◌, ◌^◌, ◌≤◌, ◌≤ℤ◌, [], ℕ, false, pos, true, IfOk, OnErr, OnOk, IsSome};
+ghost use Rattle.std.specs.Prelude.{◌≡◌, ◌∷◌, ◌^◌, ◌≤◌, ◌≤ℤ◌, [], ℕ, None, false, pos, true, IfOk, OnErr, OnOk, IsSome};
 ghost use Rattle.layout_cache.specs.Kept.{answer_to};
 ghost use Rattle.node_arena.specs.Numbers.{top_numbers};
+ghost use Rattle.node_arena.specs.declared.number.NodeId.{NodeId};
 ghost use Rattle.placing.specs.Kept.{frame_of, kept_at, IsRight};
 ghost use Rattle.placing.specs.Nodes.{bare, sight_at, IsLive};
 ghost use Rattle.placing.specs.Ranges.{AreReadable};
@@ -12,6 +13,8 @@ ghost use Rattle.tree_rules.specs.Boxes.{root_framed, root_inline, root_of, root
 ghost use Rattle.tree_rules.specs.Frames.{given_box};
 ghost use Rattle.tree_rules.specs.NodeSizes.{inner};
 ghost use Rattle.tree_rules.specs.Queries.{is_container, Fits, IsGivenFor};
+ghost use Rattle.tree_rules.specs.declared.query.Ask.TheVariants as ask;
+ghost use Rattle.tree_rules.specs.declared.query.Query.{Query};
 ghost use Rattle.box_layout.specs.Asking.{frames_asked};
 ghost use Rattle.box_layout.specs.BoxesSeen.{IsNearAt};
 ghost use Rattle.box_layout.specs.Paths.{IsAsked, IsCutShort};
@@ -100,6 +103,7 @@ pub(crate) fn root_frame<R: Ruler, L: Ledger>(
     ensures bare { bare tree.new.tree ≡ bare tree.old.tree }
     ensures laid { OnOk result (Walk (IsAsked (bare tree.old.tree) width height) 0 [] (state tree.old tally.old passes.old (R.log ruler.old)) (state tree.new tally.new passes.new (R.log ruler.new))) }
     ensures cut { OnErr result (IsCutShort (bare tree.old.tree) width height (state tree.old tally.old passes.old (R.log ruler.old)) (state tree.new tally.new passes.new (R.log ruler.new))) }
+    ensures frames { OnOk result ((m : NodeId) (p : Query) → p.ask ≡ ask.Frames → answer_to p (kept_at tree.old.tree m) ≡ None → answer_to p (kept_at tree.new.tree m) ≡ None) }
     ensures quiet { IsSome (answer_to (inline_query false []) (kept_at tree.old.tree id)) → IsSome (answer_to (block_query false [] (root_inline (root_of (sight_at (bare tree.old.tree) id).label (sight_at (bare tree.old.tree) id).below) (root_width width (root_of (sight_at (bare tree.old.tree) id).label (sight_at (bare tree.old.tree) id).below)))) (kept_at tree.old.tree id)) → state tree.new tally.new passes.new (R.log ruler.new) ≡ state tree.old tally.old passes.old (R.log ruler.old) }
 {
     let sizes = inline_of(alloc, tree, id, &[], ruler, tally, passes)?;

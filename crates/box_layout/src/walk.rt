@@ -11,6 +11,7 @@ ghost use Rattle.placing.specs.Walks.{state};
 ghost use Rattle.tree_rules.specs.Queries.{is_container, Fits};
 ghost use Rattle.box_layout.specs.Asking.{frames_asked};
 ghost use Rattle.box_layout.specs.BoxesSeen.{AreNear, IsNearAt, boxes_seen, boxes_with, reach};
+ghost use Rattle.box_layout.specs.LeafHeights.{MeasuresBelow};
 ghost use Rattle.box_layout.specs.Paths.{AreKeptBelow, IsChildLaid, IsChildPart, IsLaidOut, IsLaidPart};
 ghost use Rattle.box_layout.specs.Ranges.{IsWithin};
 ghost use Rattle.box_layout.specs.Stands.{IsGivenNear};
@@ -84,6 +85,7 @@ pub(crate) fn boxes_of<R: Ruler, L: Ledger>(
     ensures right { IsRight tree.new.tree }
     ensures laid { OnOk result (IsChildLaid (bare tree.old.tree) id (frames_asked reps.now frame.now.inline frame.now.block) (state tree.old tally.old passes.old (R.log ruler.old)) (state tree.new tally.new passes.new (R.log ruler.new))) }
     ensures part { OnErr result (IsChildPart (bare tree.old.tree) id (frames_asked reps.now frame.now.inline frame.now.block) (state tree.old tally.old passes.old (R.log ruler.old)) (state tree.new tally.new passes.new (R.log ruler.new))) }
+    ensures leaves { OnOk result (is_container (sight_at (bare tree.old.tree) id).label.kind ≡ true → MeasuresBelow (bare tree.old.tree) id (frames_asked reps.now frame.now.inline frame.now.block) (state tree.old tally.old passes.old (R.log ruler.old)) (state tree.new tally.new passes.new (R.log ruler.new))) }
     ensures paths { OnOk result (is_container (sight_at (bare tree.old.tree) id).label.kind ≡ true → AreKeptBelow (bare tree.old.tree) id (frames_asked reps.now frame.now.inline frame.now.block) (state tree.new tally.new passes.new (R.log ruler.new))) }
     ensures quiet { (is_container (sight_at (bare tree.old.tree) id).label.kind ≡ true → AreKeptBelow (bare tree.old.tree) id (frames_asked reps.now frame.now.inline frame.now.block) (state tree.old tally.old passes.old (R.log ruler.old))) → state tree.new tally.new passes.new (R.log ruler.new) ≡ state tree.old tally.old passes.old (R.log ruler.old) }
 {
@@ -148,6 +150,7 @@ fn boxes_below<R: Ruler, L: Ledger>(
     ensures right { IsRight tree.new.tree }
     ensures laid { OnOk result (IsLaidOut id (frames_asked reps.now inline.now block.now) (state tree.old tally.old passes.old (R.log ruler.old)) (state tree.new tally.new passes.new (R.log ruler.new))) }
     ensures part { OnErr result (IsLaidPart id (frames_asked reps.now inline.now block.now) (state tree.old tally.old passes.old (R.log ruler.old)) (state tree.new tally.new passes.new (R.log ruler.new))) }
+    ensures leaves { OnOk result (MeasuresBelow (bare tree.old.tree) id (frames_asked reps.now inline.now block.now) (state tree.old tally.old passes.old (R.log ruler.old)) (state tree.new tally.new passes.new (R.log ruler.new))) }
     ensures paths { OnOk result (AreKeptBelow (bare tree.old.tree) id (frames_asked reps.now inline.now block.now) (state tree.new tally.new passes.new (R.log ruler.new))) }
     ensures quiet { AreKeptBelow (bare tree.old.tree) id (frames_asked reps.now inline.now block.now) (state tree.old tally.old passes.old (R.log ruler.old)) → state tree.new tally.new passes.new (R.log ruler.new) ≡ state tree.old tally.old passes.old (R.log ruler.old) }
 {

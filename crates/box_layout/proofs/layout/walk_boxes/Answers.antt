@@ -6,10 +6,12 @@ use Rattle.placing.proofs.Leaves.{on_err}
 use Rattle.box_layout.specs.Asking.{frames_asked}
 use Rattle.box_layout.specs.BoxesSeen.{IsNearAt}
 use Rattle.tree_rules.specs.Queries.{is_container}
+use Rattle.box_layout.specs.LeafHeights.{MeasuresBelow}
 use Rattle.box_layout.specs.Paths.{AreKeptBelow, IsAllKept, IsChildLaid, IsChildPart}
 use Rattle.box_layout.proofs.BelowSteps.{child_same, part_same}
 use Rattle.box_layout.proofs.KeptPaths.{path_of_root}
 use Rattle.box_layout.proofs.LaidWalks.{cut_boxes, walk_boxes}
+use Rattle.box_layout.proofs.LeafSteps.{measured_root}
 use Rattle.box_layout.proofs.RootBoxes.{first_of_root, level_some, quiet_all, value_all}
 use Rattle.box_layout.proofs.layout.walk_boxes.Goals as goal
 
@@ -57,3 +59,8 @@ pub returns-clause-paths : goal.returns-clause-paths
 returns-clause-paths g c =
     path_of_root (bare c.args.tree.now.tree) c.root-id.result c.args.width c.args.height (frame_of c.in_ok-frame.frame) (state c.boxes_of.new.tree c.boxes_of.new.tally c.boxes_of.new.passes (g.R.Ruler.log c.boxes_of.new.ruler)) c.root-id.ensures.root c.in_ok-frame.ensures.value
     (subst (λ (z : BareTrees). is_container (sight_at z c.root-id.result).label.kind ≡ true → AreKeptBelow z c.root-id.result (frames_asked [] c.in_ok-frame.frame.inline c.in_ok-frame.frame.block) (state c.boxes_of.new.tree c.boxes_of.new.tally c.boxes_of.new.passes (g.R.Ruler.log c.boxes_of.new.ruler))) c.root_frame.ensures.bare c.in_ok-boxes_of.ensures.paths)
+
+pub returns-clause-leaves : goal.returns-clause-leaves
+returns-clause-leaves g c =
+    measured_root (bare c.args.tree.now.tree) c.root-id.result c.args.width c.args.height (frame_of c.in_ok-frame.frame) (state c.args.tree.now c.args.tally.now c.args.passes.now (g.R.Ruler.log c.args.ruler.now)) (state c.root_frame.new.tree c.root_frame.new.tally c.root_frame.new.passes (g.R.Ruler.log c.root_frame.new.ruler)) (state c.boxes_of.new.tree c.boxes_of.new.tally c.boxes_of.new.passes (g.R.Ruler.log c.boxes_of.new.ruler)) c.root-id.ensures.root c.in_ok-frame.ensures.value c.in_ok-frame.ensures.frames
+    (subst (λ (z : BareTrees). is_container (sight_at z c.root-id.result).label.kind ≡ true → MeasuresBelow z c.root-id.result (frames_asked [] c.in_ok-frame.frame.inline c.in_ok-frame.frame.block) (state c.root_frame.new.tree c.root_frame.new.tally c.root_frame.new.passes (g.R.Ruler.log c.root_frame.new.ruler)) (state c.boxes_of.new.tree c.boxes_of.new.tally c.boxes_of.new.passes (g.R.Ruler.log c.boxes_of.new.ruler))) c.root_frame.ensures.bare c.in_ok-boxes_of.ensures.leaves)

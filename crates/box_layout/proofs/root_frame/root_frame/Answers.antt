@@ -1,4 +1,4 @@
-use Rattle.std.proofs.Common.{◌≡◌, ◌∙◌, [], false, true, rules, sym, ap, subst}
+use Rattle.std.proofs.Common.{◌≡◌, ◌∙◌, [], false, true, rules, refl, sym, ap, subst}
 use Rattle.placing.proofs.Leaves.{on_err}
 use Rattle.placing.specs.Kept.{frame_of}
 use Rattle.placing.specs.Nodes.{BareTrees, IsLive, bare, level_at, sight_at}
@@ -16,6 +16,7 @@ use Rattle.box_layout.proofs.RootFramed.{block_fits, framed_root, given_root, in
 use Rattle.box_layout.proofs.RootFits.{frames_fit_alone}
 use Rattle.box_layout.proofs.RootNear.{near_root}
 use Rattle.box_layout.proofs.RootWalks.{both_quiet, both_walked, first_cut, second_cut}
+use Rattle.box_layout.proofs.Unframed.{sizes_only}
 use Rattle.box_layout.proofs.root_frame.root_frame.Goals as goal
 
 pub inline_of-requires : goal.inline_of-requires
@@ -107,3 +108,7 @@ returns-in_err-content-clause-cut g c =
 pub returns-in_err-content-clause-quiet : goal.returns-in_err-content-clause-quiet
 returns-in_err-content-clause-quiet g c =
     both_quiet c.args.id (state c.args.tree.now c.args.tally.now c.args.passes.now (g.R.Ruler.log c.args.ruler.now)) (state c.inline_of.new.tree c.inline_of.new.tally c.inline_of.new.passes (g.R.Ruler.log c.inline_of.new.ruler)) (state c.block_of.new.tree c.block_of.new.tally c.block_of.new.passes (g.R.Ruler.log c.block_of.new.ruler)) c.root_given-inline.result _ (given_root (bare c.args.tree.now.tree) (bare c.inline_of.new.tree.tree) c.args.id c.in_ok-sizes.ensures.walked.walk.bare_same c.requires.alone c.args.width c.in_ok-sizes.sizes c.root_box-across.result c.in_ok-sizes.ensures.value c.root_box-across.ensures.value c.root_given-inline.result c.root_given-inline.ensures) c.in_ok-sizes.ensures.found c.in_err-content.ensures.found
+
+pub returns-clause-frames : goal.returns-clause-frames
+returns-clause-frames g c =
+    λ m p framed none. sizes_only c.args.id (block_query false [] c.root_given-inline.result) (state c.inline_of.new.tree c.inline_of.new.tally c.inline_of.new.passes (g.R.Ruler.log c.inline_of.new.ruler)) (state c.block_of.new.tree c.block_of.new.tally c.block_of.new.passes (g.R.Ruler.log c.block_of.new.ruler)) c.in_ok-content.ensures.walked refl m p framed (sizes_only c.args.id (inline_query false []) (state c.args.tree.now c.args.tally.now c.args.passes.now (g.R.Ruler.log c.args.ruler.now)) (state c.inline_of.new.tree c.inline_of.new.tally c.inline_of.new.passes (g.R.Ruler.log c.inline_of.new.ruler)) c.in_ok-sizes.ensures.walked refl m p framed none)

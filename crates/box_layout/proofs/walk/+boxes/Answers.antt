@@ -12,6 +12,7 @@ use Rattle.tree_rules.specs.Queries.{Fits, is_container}
 use Rattle.box_layout.specs.Asking.{frames_asked}
 use Rattle.box_layout.specs.Beneath.{AreSeats, HasPairs}
 use Rattle.box_layout.specs.BoxesSeen.{AreNear, IsNearAt, frames_seen, pairs_seen, reach}
+use Rattle.box_layout.specs.LeafHeights.{MeasuresBelow}
 use Rattle.box_layout.specs.Paths.{AreKeptBelow, IsChildLaid, its_own}
 use Rattle.box_layout.specs.Ranges.{IsWithin}
 use Rattle.box_layout.specs.Stands.{IsGivenNear}
@@ -20,6 +21,7 @@ use Rattle.box_layout.proofs.BoxSteps.{boxes_all, boxes_are, frames_told}
 use Rattle.box_layout.proofs.KeptPaths.{all_done, asked_kept, done_next, none_done, outside_same, own_next}
 use Rattle.box_layout.proofs.Seating.{number_there}
 use Rattle.box_layout.proofs.LaidWalks.{laid_first, part_first, part_laid}
+use Rattle.box_layout.proofs.LeafSteps.{absent_next, all_absent, all_measured, measured_next, none_measured, own_measured, untold}
 use Rattle.box_layout.proofs.NearBoxes.{given_spread, long, stand_seen}
 use Rattle.box_layout.proofs.walk.+boxes.Goals as goal
 
@@ -115,6 +117,9 @@ boxes_below-loop-index-init g t c =
       };
       own = asked_kept c.args.id (frames_asked c.args.reps.now c.args.inline.now c.args.block.now) (state c.args.tree.now c.args.tally.now c.args.passes.now (g.R.Ruler.log c.args.ruler.now)) (state c.frames_at.new.tree c.frames_at.new.tally c.frames_at.new.passes (g.R.Ruler.log c.frames_at.new.ruler)) _ c.frames_at.ensures.found c.in_ok-frames.ensures.own;
       done = none_done (bare c.args.tree.now.tree) c.args.id (frames_asked c.args.reps.now c.args.inline.now c.args.block.now) (state c.frames_at.new.tree c.frames_at.new.tally c.frames_at.new.passes (g.R.Ruler.log c.frames_at.new.ruler));
+      leaves = c.in_ok-frames.ensures.leaves;
+      measured = none_measured (bare c.args.tree.now.tree) c.args.id (frames_asked c.args.reps.now c.args.inline.now c.args.block.now) (state c.args.tree.now c.args.tally.now c.args.passes.now (g.R.Ruler.log c.args.ruler.now)) (state c.frames_at.new.tree c.frames_at.new.tally c.frames_at.new.passes (g.R.Ruler.log c.frames_at.new.ruler));
+      absent = all_absent (bare c.args.tree.now.tree) c.differ.ensures c.args.id (frames_asked c.args.reps.now c.args.inline.now c.args.block.now) (state c.args.tree.now c.args.tally.now c.args.passes.now (g.R.Ruler.log c.args.ruler.now)) (state c.frames_at.new.tree c.frames_at.new.tally c.frames_at.new.passes (g.R.Ruler.log c.frames_at.new.ruler)) c.in_ok-frames.ensures.walked;
       near = λ h. h;
       quiet = λ kept. c.frames_at.ensures.found (kept c.args.id (frames_asked c.args.reps.now c.args.inline.now c.args.block.now) (its_own c.args.id (frames_asked c.args.reps.now c.args.inline.now c.args.block.now)));
     }
@@ -174,6 +179,10 @@ boxes_below-loop-index-preserved g t c =
       own = own_next (bare c.args.tree.now.tree) c.differ.ensures c.args.id c.args.reps.now c.args.inline.now c.args.block.now c.args.x c.args.y c.loop-index.index c.child-child.result c.pairs_for.result.now c.above_for.result.now c.area_for.result c.index-listed-index.result (subst (λ (z : BareTrees). IsTurn z c.args.id (frames_asked c.args.reps.now c.args.inline.now c.args.block.now) c.args.x c.args.y c.loop-index.index c.child-child.result c.pairs_for.result.now c.above_for.result.now c.area_for.result c.index-listed-index.result) c.loop-index.invariant.same turn) (state c.loop-index.tree c.loop-index.tally c.loop-index.passes (g.R.Ruler.log c.loop-index.ruler)) (state c.boxes_of.new.tree c.boxes_of.new.tally c.boxes_of.new.passes (g.R.Ruler.log c.boxes_of.new.ruler)) (outside_same (bare c.args.tree.now.tree) c.child-child.result (frames_asked c.pairs_for.result.now c.index-listed-index.result.inline c.index-listed-index.result.block) (state c.loop-index.tree c.loop-index.tally c.loop-index.passes (g.R.Ruler.log c.loop-index.ruler)) (state c.boxes_of.new.tree c.boxes_of.new.tally c.boxes_of.new.passes (g.R.Ruler.log c.boxes_of.new.ruler)) c.loop-index.invariant.same (subst (λ (z : BareTrees). IsChildLaid z c.child-child.result (frames_asked c.pairs_for.result.now c.index-listed-index.result.inline c.index-listed-index.result.block) (state c.loop-index.tree c.loop-index.tally c.loop-index.passes (g.R.Ruler.log c.loop-index.ruler)) (state c.boxes_of.new.tree c.boxes_of.new.tally c.boxes_of.new.passes (g.R.Ruler.log c.boxes_of.new.ruler))) c.loop-index.invariant.same c.in_ok-boxes_of.ensures.laid)) (frames_asked c.args.reps.now c.args.inline.now c.args.block.now) c.loop-index.invariant.own;
       done = done_next (bare c.args.tree.now.tree) c.differ.ensures c.args.id c.args.reps.now c.args.inline.now c.args.block.now c.args.x c.args.y c.loop-index.index c.child-child.result c.pairs_for.result.now c.above_for.result.now c.area_for.result c.index-listed-index.result (subst (λ (z : BareTrees). IsTurn z c.args.id (frames_asked c.args.reps.now c.args.inline.now c.args.block.now) c.args.x c.args.y c.loop-index.index c.child-child.result c.pairs_for.result.now c.above_for.result.now c.area_for.result c.index-listed-index.result) c.loop-index.invariant.same turn) (state c.loop-index.tree c.loop-index.tally c.loop-index.passes (g.R.Ruler.log c.loop-index.ruler)) (state c.boxes_of.new.tree c.boxes_of.new.tally c.boxes_of.new.passes (g.R.Ruler.log c.boxes_of.new.ruler)) (outside_same (bare c.args.tree.now.tree) c.child-child.result (frames_asked c.pairs_for.result.now c.index-listed-index.result.inline c.index-listed-index.result.block) (state c.loop-index.tree c.loop-index.tally c.loop-index.passes (g.R.Ruler.log c.loop-index.ruler)) (state c.boxes_of.new.tree c.boxes_of.new.tally c.boxes_of.new.passes (g.R.Ruler.log c.boxes_of.new.ruler)) c.loop-index.invariant.same (subst (λ (z : BareTrees). IsChildLaid z c.child-child.result (frames_asked c.pairs_for.result.now c.index-listed-index.result.inline c.index-listed-index.result.block) (state c.loop-index.tree c.loop-index.tally c.loop-index.passes (g.R.Ruler.log c.loop-index.ruler)) (state c.boxes_of.new.tree c.boxes_of.new.tally c.boxes_of.new.passes (g.R.Ruler.log c.boxes_of.new.ruler))) c.loop-index.invariant.same c.in_ok-boxes_of.ensures.laid)) c.loop-index.invariant.done
           (subst (λ (z : BareTrees). is_container (sight_at z c.child-child.result).label.kind ≡ true → AreKeptBelow z c.child-child.result (frames_asked c.pairs_for.result.now c.index-listed-index.result.inline c.index-listed-index.result.block) (state c.boxes_of.new.tree c.boxes_of.new.tally c.boxes_of.new.passes (g.R.Ruler.log c.boxes_of.new.ruler))) c.loop-index.invariant.same c.in_ok-boxes_of.ensures.paths);
+      leaves = own_measured (bare c.args.tree.now.tree) c.differ.ensures c.args.id c.args.reps.now c.args.inline.now c.args.block.now c.args.x c.args.y c.loop-index.index c.child-child.result c.pairs_for.result.now c.above_for.result.now c.area_for.result c.index-listed-index.result (subst (λ (z : BareTrees). IsTurn z c.args.id (frames_asked c.args.reps.now c.args.inline.now c.args.block.now) c.args.x c.args.y c.loop-index.index c.child-child.result c.pairs_for.result.now c.above_for.result.now c.area_for.result c.index-listed-index.result) c.loop-index.invariant.same turn) (state c.args.tree.now c.args.tally.now c.args.passes.now (g.R.Ruler.log c.args.ruler.now)) (state c.loop-index.tree c.loop-index.tally c.loop-index.passes (g.R.Ruler.log c.loop-index.ruler)) (state c.boxes_of.new.tree c.boxes_of.new.tally c.boxes_of.new.passes (g.R.Ruler.log c.boxes_of.new.ruler)) (outside_same (bare c.args.tree.now.tree) c.child-child.result (frames_asked c.pairs_for.result.now c.index-listed-index.result.inline c.index-listed-index.result.block) (state c.loop-index.tree c.loop-index.tally c.loop-index.passes (g.R.Ruler.log c.loop-index.ruler)) (state c.boxes_of.new.tree c.boxes_of.new.tally c.boxes_of.new.passes (g.R.Ruler.log c.boxes_of.new.ruler)) c.loop-index.invariant.same (subst (λ (z : BareTrees). IsChildLaid z c.child-child.result (frames_asked c.pairs_for.result.now c.index-listed-index.result.inline c.index-listed-index.result.block) (state c.loop-index.tree c.loop-index.tally c.loop-index.passes (g.R.Ruler.log c.loop-index.ruler)) (state c.boxes_of.new.tree c.boxes_of.new.tally c.boxes_of.new.passes (g.R.Ruler.log c.boxes_of.new.ruler))) c.loop-index.invariant.same c.in_ok-boxes_of.ensures.laid)) (untold (bare c.args.tree.now.tree) c.child-child.result (frames_asked c.pairs_for.result.now c.index-listed-index.result.inline c.index-listed-index.result.block) (state c.loop-index.tree c.loop-index.tally c.loop-index.passes (g.R.Ruler.log c.loop-index.ruler)) (state c.boxes_of.new.tree c.boxes_of.new.tally c.boxes_of.new.passes (g.R.Ruler.log c.boxes_of.new.ruler)) (subst (λ (z : BareTrees). IsChildLaid z c.child-child.result (frames_asked c.pairs_for.result.now c.index-listed-index.result.inline c.index-listed-index.result.block) (state c.loop-index.tree c.loop-index.tally c.loop-index.passes (g.R.Ruler.log c.loop-index.ruler)) (state c.boxes_of.new.tree c.boxes_of.new.tally c.boxes_of.new.passes (g.R.Ruler.log c.boxes_of.new.ruler))) c.loop-index.invariant.same c.in_ok-boxes_of.ensures.laid)) c.loop-index.invariant.leaves;
+      measured = measured_next (bare c.args.tree.now.tree) c.differ.ensures c.args.id c.args.reps.now c.args.inline.now c.args.block.now c.args.x c.args.y c.loop-index.index c.child-child.result c.pairs_for.result.now c.above_for.result.now c.area_for.result c.index-listed-index.result (subst (λ (z : BareTrees). IsTurn z c.args.id (frames_asked c.args.reps.now c.args.inline.now c.args.block.now) c.args.x c.args.y c.loop-index.index c.child-child.result c.pairs_for.result.now c.above_for.result.now c.area_for.result c.index-listed-index.result) c.loop-index.invariant.same turn) (state c.args.tree.now c.args.tally.now c.args.passes.now (g.R.Ruler.log c.args.ruler.now)) (state c.loop-index.tree c.loop-index.tally c.loop-index.passes (g.R.Ruler.log c.loop-index.ruler)) (state c.boxes_of.new.tree c.boxes_of.new.tally c.boxes_of.new.passes (g.R.Ruler.log c.boxes_of.new.ruler)) (outside_same (bare c.args.tree.now.tree) c.child-child.result (frames_asked c.pairs_for.result.now c.index-listed-index.result.inline c.index-listed-index.result.block) (state c.loop-index.tree c.loop-index.tally c.loop-index.passes (g.R.Ruler.log c.loop-index.ruler)) (state c.boxes_of.new.tree c.boxes_of.new.tally c.boxes_of.new.passes (g.R.Ruler.log c.boxes_of.new.ruler)) c.loop-index.invariant.same (subst (λ (z : BareTrees). IsChildLaid z c.child-child.result (frames_asked c.pairs_for.result.now c.index-listed-index.result.inline c.index-listed-index.result.block) (state c.loop-index.tree c.loop-index.tally c.loop-index.passes (g.R.Ruler.log c.loop-index.ruler)) (state c.boxes_of.new.tree c.boxes_of.new.tally c.boxes_of.new.passes (g.R.Ruler.log c.boxes_of.new.ruler))) c.loop-index.invariant.same c.in_ok-boxes_of.ensures.laid)) c.loop-index.invariant.measured c.loop-index.invariant.absent
+          (subst (λ (z : BareTrees). is_container (sight_at z c.child-child.result).label.kind ≡ true → MeasuresBelow z c.child-child.result (frames_asked c.pairs_for.result.now c.index-listed-index.result.inline c.index-listed-index.result.block) (state c.loop-index.tree c.loop-index.tally c.loop-index.passes (g.R.Ruler.log c.loop-index.ruler)) (state c.boxes_of.new.tree c.boxes_of.new.tally c.boxes_of.new.passes (g.R.Ruler.log c.boxes_of.new.ruler))) c.loop-index.invariant.same c.in_ok-boxes_of.ensures.leaves);
+      absent = absent_next (bare c.args.tree.now.tree) c.differ.ensures c.args.id c.args.reps.now c.args.inline.now c.args.block.now c.args.x c.args.y c.loop-index.index c.child-child.result c.pairs_for.result.now c.above_for.result.now c.area_for.result c.index-listed-index.result (subst (λ (z : BareTrees). IsTurn z c.args.id (frames_asked c.args.reps.now c.args.inline.now c.args.block.now) c.args.x c.args.y c.loop-index.index c.child-child.result c.pairs_for.result.now c.above_for.result.now c.area_for.result c.index-listed-index.result) c.loop-index.invariant.same turn) (state c.args.tree.now c.args.tally.now c.args.passes.now (g.R.Ruler.log c.args.ruler.now)) (state c.loop-index.tree c.loop-index.tally c.loop-index.passes (g.R.Ruler.log c.loop-index.ruler)) (state c.boxes_of.new.tree c.boxes_of.new.tally c.boxes_of.new.passes (g.R.Ruler.log c.boxes_of.new.ruler)) (outside_same (bare c.args.tree.now.tree) c.child-child.result (frames_asked c.pairs_for.result.now c.index-listed-index.result.inline c.index-listed-index.result.block) (state c.loop-index.tree c.loop-index.tally c.loop-index.passes (g.R.Ruler.log c.loop-index.ruler)) (state c.boxes_of.new.tree c.boxes_of.new.tally c.boxes_of.new.passes (g.R.Ruler.log c.boxes_of.new.ruler)) c.loop-index.invariant.same (subst (λ (z : BareTrees). IsChildLaid z c.child-child.result (frames_asked c.pairs_for.result.now c.index-listed-index.result.inline c.index-listed-index.result.block) (state c.loop-index.tree c.loop-index.tally c.loop-index.passes (g.R.Ruler.log c.loop-index.ruler)) (state c.boxes_of.new.tree c.boxes_of.new.tally c.boxes_of.new.passes (g.R.Ruler.log c.boxes_of.new.ruler))) c.loop-index.invariant.same c.in_ok-boxes_of.ensures.laid)) c.loop-index.invariant.absent;
       near = λ h. c.in_ok-boxes_of.ensures.near (c.loop-index.invariant.near h);
       quiet = quiet_next (bare c.args.tree.now.tree) (bare c.loop-index.tree.tree) c.loop-index.invariant.same c.args.id (frames_asked c.args.reps.now c.args.inline.now c.args.block.now) c.args.x c.args.y c.loop-index.index c.child-child.result c.pairs_for.result.now c.above_for.result.now c.area_for.result c.index-listed-index.result turn (state c.args.tree.now c.args.tally.now c.args.passes.now (g.R.Ruler.log c.args.ruler.now)) (state c.loop-index.tree c.loop-index.tally c.loop-index.passes (g.R.Ruler.log c.loop-index.ruler)) (state c.boxes_of.new.tree c.boxes_of.new.tally c.boxes_of.new.passes (g.R.Ruler.log c.boxes_of.new.ruler)) c.loop-index.invariant.quiet c.boxes_of.ensures.quiet;
     }
@@ -206,3 +215,15 @@ boxes_of-returns-then-not-is_container-clause-paths g t c =
 
 pub boxes_of-returns-clause-paths : goal.boxes_of-returns-clause-paths
 boxes_of-returns-clause-paths g t c = ok_then c.boxes_below.result _ _ (λ kept container. kept) c.boxes_below.ensures.paths
+
+pub boxes_below-returns-clause-leaves : goal.boxes_below-returns-clause-leaves
+boxes_below-returns-clause-leaves g t c =
+    all_measured (bare c.args.tree.now.tree) c.args.id (frames_asked c.args.reps.now c.args.inline.now c.args.block.now) (state c.args.tree.now c.args.tally.now c.args.passes.now (g.R.Ruler.log c.args.ruler.now)) (state c.loop-index.tree c.loop-index.tally c.loop-index.passes (g.R.Ruler.log c.loop-index.ruler)) c.loop-index.invariant.leaves
+    (λ k e r child passed. c.loop-index.invariant.measured k e r (omega (arith, number_there (bare c.args.tree.now.tree) c.args.id e k c.root.ensures.tree child, c.loop-index.invariant.below.counted, c.loop-index-test.false)) child passed)
+
+pub boxes_of-returns-then-not-is_container-clause-leaves : goal.boxes_of-returns-then-not-is_container-clause-leaves
+boxes_of-returns-then-not-is_container-clause-leaves g t c =
+    λ container. absurd (false≢true (sym (kind_is c.node_at.result.now.kind (sight_at (bare c.args.tree.now.tree) c.args.id).label.kind c.is_container.result c.node_at.ensures.kind c.is_container.ensures ∙ c.if-not-is_container.true) ∙ container))
+
+pub boxes_of-returns-clause-leaves : goal.boxes_of-returns-clause-leaves
+boxes_of-returns-clause-leaves g t c = ok_then c.boxes_below.result _ _ (λ kept container. kept) c.boxes_below.ensures.leaves

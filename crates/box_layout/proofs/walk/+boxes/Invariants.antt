@@ -8,9 +8,11 @@ use Rattle.placing.specs.Walks.{kept_in, state}
 use Rattle.box_layout.specs.Asking.{frames_asked}
 use Rattle.box_layout.specs.BoxesSeen.{AreNear, boxes_seen, frames_seen, pairs_seen}
 use Rattle.box_layout.specs.KidBoxes.{boxes_from}
+use Rattle.box_layout.specs.LeafHeights.{MeasuresLeaves}
 use Rattle.box_layout.specs.Paths.{AreKeptBelow, IsLaidOut}
 use Rattle.box_layout.proofs.BelowSteps.{IsBelow}
 use Rattle.box_layout.proofs.KeptPaths.{AreDone}
+use Rattle.box_layout.proofs.LeafSteps.{AreAbsentFrom, AreMeasuredTo}
 use Rattle.box_layout.proofs.walk.+boxes.Given as goal
 
 abbrev pub decreases-boxes_of : goal.decreases-boxes_of
@@ -30,6 +32,9 @@ invariant-boxes_below-loop-index g l =
       below : IsBelow (bare l.fn.tree.tree) l.id (frames_asked l.reps l.inline l.block) l.listed l.seats l.x l.y;
       own : IsSome (answer_to (frames_asked l.reps l.inline l.block) (kept_in (state l.tree l.tally l.passes (g.R.Ruler.log l.ruler)) l.id));
       done : AreDone (bare l.fn.tree.tree) l.id (frames_asked l.reps l.inline l.block) l.index (state l.tree l.tally l.passes (g.R.Ruler.log l.ruler));
+      leaves : MeasuresLeaves (bare l.fn.tree.tree) l.id (frames_asked l.reps l.inline l.block) (state l.fn.tree l.fn.tally l.fn.passes (g.R.Ruler.log l.fn.ruler)) (state l.tree l.tally l.passes (g.R.Ruler.log l.ruler));
+      measured : AreMeasuredTo (bare l.fn.tree.tree) l.id (frames_asked l.reps l.inline l.block) l.index (state l.fn.tree l.fn.tally l.fn.passes (g.R.Ruler.log l.fn.ruler)) (state l.tree l.tally l.passes (g.R.Ruler.log l.ruler));
+      absent : AreAbsentFrom (bare l.fn.tree.tree) l.id (frames_asked l.reps l.inline l.block) l.index (state l.fn.tree l.fn.tally l.fn.passes (g.R.Ruler.log l.fn.ruler)) (state l.tree l.tally l.passes (g.R.Ruler.log l.ruler));
       near : AreNear l.fn.told → AreNear l.told;
       quiet : AreKeptBelow (bare l.fn.tree.tree) l.id (frames_asked l.reps l.inline l.block) (state l.fn.tree l.fn.tally l.fn.passes (g.R.Ruler.log l.fn.ruler)) → state l.tree l.tally l.passes (g.R.Ruler.log l.ruler) ≡ state l.fn.tree l.fn.tally l.fn.passes (g.R.Ruler.log l.fn.ruler);
     }
