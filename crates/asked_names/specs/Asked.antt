@@ -1,0 +1,56 @@
+-- What laying out the tree of an arena asks, by the names of its nodes (own rule).
+use Rattle.std.specs.Prelude.{◌≡◌, ◌≢◌, ◌≤◌, ℕ, ℤ, List, [], ◌∷◌, Contains, length, if◌then◌else◌}
+use Rattle.std.specs.Str.{bytes_eq}
+use Rattle.plain_tree.specs.Trees.{leafless, map_trees, tree}
+use Rattle.node_arena.specs.declared.number.NodeId.{NodeId}
+use Rattle.placing.specs.Nodes.{BareTrees, IsLive, label_in, sight_at}
+use Rattle.placing.specs.Walks.{Entry}
+use Rattle.tree_rules.specs.AskedQueries.{ToNode, asked, path}
+use Rattle.tree_rules.specs.KeptAnswers.{most_kept}
+use Rattle.tree_rules.specs.declared.query.Query.{Query}
+
+-- All that laying out the tree in a viewport of this width and height can ask: the name of each node with each question to it.
+abbrev pub asked_in : ℤ → ℤ → BareTrees → List ToNode
+asked_in width height leafless = []
+asked_in width height (tree x below after) = asked width height (label_in x) (map_trees label_in below)
+
+-- The path: for each container the question for its frames.
+abbrev pub path_in : ℤ → ℤ → BareTrees → List ToNode
+path_in width height leafless = []
+path_in width height (tree x below after) = path width height (label_in x) (map_trees label_in below)
+
+-- the name of a node
+abbrev pub name_in : BareTrees → NodeId → List ℕ
+name_in b n = (sight_at b n).label.name
+
+-- an answer that is kept, as what it answers: the name of the node, with the question
+abbrev pub told_of : BareTrees → Entry → ToNode
+told_of b e = (name_in b e.node, e.query)
+
+-- a question to a node of the tree that is one of these
+pub record IsListed (b : BareTrees) (all : List ToNode) (n : NodeId) (q : Query) : Type 0 where
+  pub live : IsLive b n
+  pub listed : Contains all (name_in b n, q)
+
+-- no two nodes have one name
+abbrev pub AreNamed : BareTrees → Type 0
+AreNamed b = (n m : NodeId) → IsLive b n → IsLive b m → name_in b n ≡ name_in b m → n ≡ m
+
+-- the questions to the node of this name
+abbrev pub questions_to : List ℕ → List ToNode → List Query
+questions_to name [] = []
+questions_to name (t ∷ rest) = if bytes_eq t.0 name then t.1 ∷ questions_to name rest else questions_to name rest
+
+-- to no node are more questions than it keeps answers
+abbrev pub AreFew : List ToNode → Type 0
+AreFew all = (name : List ℕ) → length (questions_to name all) ≤ most_kept
+
+-- none of a list is this item
+abbrev pub IsNone : {A : Type 0} → A → List A → Type 0
+IsNone x [] = Unit {0}
+IsNone x (y ∷ rest) = (y ≢ x) × IsNone x rest
+
+-- no item of a list stands twice
+abbrev pub AllDiffer : {A : Type 0} → List A → Type 0
+AllDiffer [] = Unit {0}
+AllDiffer (x ∷ rest) = IsNone x rest × AllDiffer rest

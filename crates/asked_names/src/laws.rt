@@ -1,0 +1,39 @@
+//! What holds of every layout. Each law is the contract of a function that does next to nothing.
+
+ghost use Rattle.std.specs.Prelude.{◌≡◌, ◌≤◌, [], ℤ, length, map, Contains, List};
+ghost use Rattle.box_layout.specs.Paths.{IsAsked, IsOnPath};
+ghost use Rattle.node_arena.specs.Plain.{IsSound};
+ghost use Rattle.node_arena.specs.declared.number.NodeId.{NodeId};
+ghost use Rattle.placing.specs.Nodes.{bare, BareTrees, IsLive};
+ghost use Rattle.placing.specs.Walks.{AreAsked, AreFresh, Entry};
+ghost use Rattle.placing.specs.declared.node.Answer.{Answer};
+ghost use Rattle.tree_rules.specs.AskedQueries.{ToNode};
+ghost use Rattle.tree_rules.specs.declared.query.Query.{Query};
+ghost use Rattle.asked_names.specs.Asked.{asked_in, name_in, path_in, told_of, AllDiffer, AreFew, AreNamed, IsListed};
+
+use node_arena::{Arena, NodeId};
+use placing::Node;
+
+/// What holds of every arena.
+fn stands(tree: &Arena<Node>) -> NodeId
+    ensures { IsSound tree.now }
+{
+    tree.root()
+}
+
+/// In any viewport each question that laying out a tree may ask goes to one of its nodes, and stands with the name of that node among all
+/// that the definitions ask of the tree; and each one on the path of the boxes stands on their path (own rule).
+pub fn layouts_ask_what_is_listed(tree: &Arena<Node>)
+    ensures asked { (width height : ℤ) (m : NodeId) (q : Query) → IsAsked (bare tree.now.tree) width height m q → IsListed (bare tree.now.tree) (asked_in width height (bare tree.now.tree)) m q }
+    ensures path { (width height : ℤ) (m : NodeId) (q : Query) → IsOnPath (bare tree.now.tree) width height m q → Contains (path_in width height (bare tree.now.tree)) (name_in (bare tree.now.tree) m, q) }
+{
+    stands(tree);
+}
+
+#[tactic(auto, using(crate::proofs::Once::differ_all, crate::proofs::Once::few_all))]
+/// Where no two nodes have one name and a list has for no node more questions than the sixteen whose answers it keeps, answers to
+/// these questions, each of which its node lacked where it was put, are all to different questions, and so no more than there are questions.
+pub fn answers_are_put_once()
+    ensures once { (b : BareTrees) (all : List ToNode) (kept : NodeId → List (Query × Answer)) (entries : List Entry) → AreNamed b → AreFew all → AreAsked (IsListed b all) entries → AreFresh kept [] entries → AllDiffer (map (told_of b) entries) }
+    ensures few { (b : BareTrees) (all : List ToNode) (kept : NodeId → List (Query × Answer)) (entries : List Entry) → AreNamed b → AreFew all → AreAsked (IsListed b all) entries → AreFresh kept [] entries → length entries ≤ length all }
+{}

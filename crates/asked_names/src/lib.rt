@@ -1,0 +1,6 @@
+//! What laying out a tree asks, by the names of its nodes, and how many answers it keeps at most.
+#![tactic(auto)]
+
+mod laws;
+
+pub use laws::{answers_are_put_once, layouts_ask_what_is_listed};
