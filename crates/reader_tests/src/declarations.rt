@@ -47,16 +47,16 @@ fn are_lengths(all: &[(Prop, DeclaredValue)], unit: Unit, due: &[(Prop, i64)]) -
     true
 }
 
-/// A declaration of sizes: each is a length of so many units, declared in this unit.
-fn sets_lengths(
+/// Declarations of sizes: each sets these properties to lengths of so many units, declared in this unit.
+fn set_lengths(
     rt: &impl Abort,
     alloc: Global,
-    text: &[u8],
-    unit: Unit,
-    due: &[(Prop, i64)],
+    rows: &[(&[u8], Unit, &[(Prop, i64)])],
 ) -> Result<(), Fail> {
-    let all = read_decl(alloc, text, AT, 2)?;
-    assert!(rt; are_lengths(all.as_slice(), unit, due), "{text:?}");
+    for (text, unit, due) in rows {
+        let all = read_decl(alloc, text, AT, 2)?;
+        assert!(rt; are_lengths(all.as_slice(), *unit, due), "{text:?}");
+    }
     Ok(())
 }
 
@@ -87,12 +87,7 @@ fn values_without_lengths(rt: HostRuntime) -> Result<(), Fail> {
     let clip = Value::Overflow(Scroll::Clip);
     sets(&rt, alloc, b"overflow: clip", Prop::Overflow, clip)?;
     let quarter = Value::Factor(250);
-    sets(&rt, alloc, b"flex-grow: .25", Prop::FlexGrow, quarter)
-}
-
-#[test]
-fn values_of_lines_and_alignments(rt: HostRuntime) -> Result<(), Fail> {
-    let alloc = rt.alloc();
+    sets(&rt, alloc, b"flex-grow: .25", Prop::FlexGrow, quarter)?;
     let line = Value::Line(LineValue::Named(Name::read(b"a")?));
     sets(&rt, alloc, b"grid-row-start: a", Prop::GridRowStart, line)?;
     let end = Value::Align(Align {
@@ -104,21 +99,36 @@ fn values_of_lines_and_alignments(rt: HostRuntime) -> Result<(), Fail> {
 
 #[test]
 fn sides_and_gaps(rt: HostRuntime) -> Result<(), Fail> {
-    let alloc = rt.alloc();
-    // of three values the left side is the right one
-    let three = [
-        (Prop::MarginTop, 64),
-        (Prop::MarginRight, 128),
-        (Prop::MarginBottom, 192),
-        (Prop::MarginLeft, 128),
+    static ROWS: &[(&[u8], Unit, &[(Prop, i64)])] = &[
+        // of three values the left side is the right one
+        (
+            b"margin: 1px 2px 3px",
+            Unit::Px,
+            &[
+                (Prop::MarginTop, 64),
+                (Prop::MarginRight, 128),
+                (Prop::MarginBottom, 192),
+                (Prop::MarginLeft, 128),
+            ],
+        ),
+        (
+            b"gap: 4px",
+            Unit::Px,
+            &[(Prop::RowGap, 256), (Prop::ColumnGap, 256)],
+        ),
+        // a relative length stands as 0 beside its millionths
+        (
+            b"font-size: 0.5em",
+            Unit::Em(500_000),
+            &[(Prop::FontSize, 0)],
+        ),
+        (
+            b"font-size: 2rem",
+            Unit::Rem(2_000_000),
+            &[(Prop::FontSize, 0)],
+        ),
     ];
-    sets_lengths(&rt, alloc, b"margin: 1px 2px 3px", Unit::Px, &three)?;
-    let gaps = [(Prop::RowGap, 256), (Prop::ColumnGap, 256)];
-    sets_lengths(&rt, alloc, b"gap: 4px", Unit::Px, &gaps)?;
-    // a relative length stands as 0 beside its millionths
-    let size = [(Prop::FontSize, 0)];
-    sets_lengths(&rt, alloc, b"font-size: 0.5em", Unit::Em(500_000), &size)?;
-    sets_lengths(&rt, alloc, b"font-size: 2rem", Unit::Rem(2_000_000), &size)
+    set_lengths(&rt, rt.alloc(), ROWS)
 }
 
 #[test]
@@ -133,6 +143,14 @@ fn faults_at_their_places(rt: HostRuntime) -> Result<(), Fail> {
         (b"font-size: 1px", 1, (11, 3, 1)),
         (b"font-size: 1px", 2, READS),
         (b"grid-column: 1 / 2 / 3", 1, (9, 3, 14)),
+        // track lists
+        (b"grid-template-rows: 10", 1, (9, 3, 21)),
+        (b"grid-template-rows: 1fr,", 1, (9, 3, 21)),
+        (b"grid-template-rows: minmax(1fr, 1px)", 1, (9, 3, 21)),
+        (b"grid-template-rows: [a]", 1, (9, 3, 21)),
+        (b"grid-template-rows: none 1px", 1, (9, 3, 21)),
+        (b"grid-template-rows: masonry", 1, (11, 3, 21)),
+        (b"grid-template-rows: 1em", 1, (11, 3, 21)),
     ];
     are_told(&rt, rt.alloc(), ROWS)
 }

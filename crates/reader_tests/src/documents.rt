@@ -2,7 +2,7 @@
 
 use crate::texts::lines_of;
 use doc_text::{Content, Doc, Edit, Kind, Plain, read_doc, read_edit};
-use lunit::Lu;
+use lunit::{Copied, Lu, NoMemory};
 use std::alloc::Global;
 use std::test::Fail;
 use style_types::Prop;
@@ -58,15 +58,20 @@ fn is_due(doc: &Doc) -> bool {
         && is_root(&doc.root)
 }
 
+fn copies_as_due(alloc: Global, doc: &Doc) -> Result<bool, NoMemory> {
+    let copy = doc.copy(alloc)?;
+    Ok(is_due(&copy))
+}
+
 fn reads_as_due(alloc: Global, text: &[u8]) -> Result<bool, Fail> {
     let lines = lines_of(alloc, Vec::from_slice(alloc, text)?)?;
     let end = Place { line: 7, column: 1 };
     let doc = read_doc(alloc, lines.as_slice(), end)?;
-    Ok(is_due(&doc))
+    Ok(is_due(&doc) && copies_as_due(alloc, &doc)?)
 }
 
 #[test]
-fn a_document_is_read(rt: HostRuntime) -> Result<(), Fail> {
+fn a_document_is_read_and_copied(rt: HostRuntime) -> Result<(), Fail> {
     static TEXT: &[u8] =
         b"gridlay 2\nviewport 100 50\nmain grid { font-size: 2em; order: 1 }\n  a flex # first\n    b words 10 .5 3px\n  c leaf 4 5px";
     assert!(rt; reads_as_due(rt.alloc(), TEXT)?);
@@ -87,9 +92,10 @@ fn is_move(edit: &Edit) -> bool {
 
 fn reads_as_move(alloc: Global, text: &[u8]) -> Result<bool, Fail> {
     let lines = lines_of(alloc, Vec::from_slice(alloc, text)?)?;
-    let line = lines.as_slice().first().ok_or("no line")?;
-    let edit = read_edit(alloc, line, 1)?;
-    Ok(is_move(&edit))
+    match lines.as_slice().first() {
+        Some(line) => Ok(is_move(&read_edit(alloc, line, 1)?)),
+        None => Ok(false),
+    }
 }
 
 #[test]

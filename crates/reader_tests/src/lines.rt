@@ -416,35 +416,38 @@ fn times(fixed: &[Lu], repeated: &[Lu], gap: Lu, space: RepeatSpace) -> Option<u
     Some(repetitions(fixed, repeated, gap, space))
 }
 
-/// Tracks of 6400 repeat so often beside such gaps: up to a size, or to fill one.
-fn repeat(rt: &impl Abort, rows: &[(i64, bool, i64, u32)]) {
-    for (gap, fits, units, expected) in rows {
+/// Tracks of such a size repeat so often beside such gaps: up to a size, or to fill one.
+fn repeat(rt: &impl Abort, rows: &[(i64, i64, bool, i64, u32)]) {
+    for (track, gap, fits, units, expected) in rows {
         let size = Lu::of(*units);
         let space = if *fits {
             RepeatSpace::Fits(size)
         } else {
             RepeatSpace::Fills(size)
         };
-        assert!(rt; times(&[], &[Lu::of(6400)], Lu::of(*gap), space) == Some(*expected));
+        assert!(rt; times(&[], &[Lu::of(*track)], Lu::of(*gap), space) == Some(*expected));
     }
 }
 
 #[test]
 fn repetitions_are_counted(rt: HostRuntime) {
-    static ROWS: &[(i64, bool, i64, u32)] = &[
+    static ROWS: &[(i64, i64, bool, i64, u32)] = &[
         // three tracks of 6400 and two gutters of 640 are 20480, four are 27520
-        (640, true, 22400, 3),
-        (640, true, 20480, 3),
-        (640, true, 20479, 2),
-        (640, true, 100, 1),
-        (0, true, 12800, 2),
-        (0, true, 12799, 1),
+        (6400, 640, true, 22400, 3),
+        (6400, 640, true, 20480, 3),
+        (6400, 640, true, 20479, 2),
+        (6400, 640, true, 100, 1),
+        (6400, 0, true, 12800, 2),
+        (6400, 0, true, 12799, 1),
         // two tracks and a gutter are 13440
-        (640, false, 13440, 2),
-        (640, false, 13441, 3),
-        (640, false, 20480, 3),
-        (640, false, 0, 1),
-        (640, false, -1, 1),
+        (6400, 640, false, 13440, 2),
+        (6400, 640, false, 13441, 3),
+        (6400, 640, false, 20480, 3),
+        (6400, 640, false, 0, 1),
+        (6400, 640, false, -1, 1),
+        // at most 10,000: 2^30 over tracks of 64 would be 16,777,216
+        (64, 0, true, 1_073_741_824, 10_000),
+        (64, 0, false, 1_073_741_824, 10_000),
     ];
     repeat(&rt, ROWS);
 }
@@ -460,14 +463,4 @@ fn pairs_of_tracks_repeat(rt: HostRuntime) {
     let more = times(&fixed, &pair, gap, RepeatSpace::Fills(Lu::of(249)));
     let endless = times(&fixed, &pair, gap, RepeatSpace::Endless);
     assert!(rt; (one, two, more, endless) == (Some(1), Some(2), Some(2), Some(1)));
-}
-
-#[test]
-fn repetitions_end_at_10_000(rt: HostRuntime) {
-    // 2^30 over tracks of 64 would be 16,777,216
-    let track = [Lu::of(64)];
-    let size = Lu::of(1 << 30);
-    let fits = times(&[], &track, Lu::of(0), RepeatSpace::Fits(size));
-    let fills = times(&[], &track, Lu::of(0), RepeatSpace::Fills(size));
-    assert!(rt; (fits, fills) == (Some(10_000), Some(10_000)));
 }

@@ -1,9 +1,10 @@
-//! Styles: classes, initial values, and values set, copied and unset. Values are written as declarations.
+//! Styles: classes, initial values, values set, copied and unset, and lengths in `em` and `rem` computed. Values are written
+//! as declarations.
 
-use lunit::{Copied, NoMemory};
+use lunit::{Copied, Lu, NoMemory};
 use std::alloc::Global;
 use std::test::Fail;
-use style_types::{Class, DeclaredValue, Prop, Style, Value, class_of, initial_of};
+use style_types::{Class, Declared, DeclaredValue, Prop, Size, Style, Value, class_of, initial_of};
 use text_scan::Place;
 use value_text::read_decl;
 
@@ -211,5 +212,99 @@ fn the_last_value_counts_until_it_is_unset(rt: HostRuntime) -> Result<(), Fail> 
     style.unset(Prop::Width);
     let unset = order_and_growth(&style);
     assert!(rt; bare == (None, None) && set == (Some(2), Some(500)) && unset == (None, Some(500)));
+    Ok(())
+}
+
+/// Declares copies of these values, one after another.
+fn declare_all(
+    declared: &mut Declared,
+    alloc: Global,
+    all: &[(Prop, DeclaredValue)],
+) -> Result<(), NoMemory> {
+    for (p, value) in all {
+        declared.set(*p, value.copy(alloc)?)?;
+    }
+    Ok(())
+}
+
+/// Declares what these declarations declare.
+fn declare_texts(declared: &mut Declared, alloc: Global, texts: &[&[u8]]) -> Result<(), Fail> {
+    for text in texts {
+        let all = read_decl(alloc, text, AT, 2)?;
+        declare_all(declared, alloc, all.as_slice())?;
+    }
+    Ok(())
+}
+
+/// The property is set to this length, in units.
+fn has_length(style: &Style, p: Prop, units: i64) -> bool {
+    match style.get(p) {
+        Some(Value::Size(Size::Length(length))) => length.units() == units,
+        _ => false,
+    }
+}
+
+/// Each property is set to its length.
+fn has_lengths(style: &Style, rows: &[(Prop, i64)]) -> bool {
+    for (p, units) in rows {
+        if !has_length(style, *p, *units) {
+            return false;
+        }
+    }
+    true
+}
+
+/// Where an em is 1280 units and a rem 1024 the computed style has these lengths; and so has that of a copy.
+fn computes(alloc: Global, declared: &Declared, rows: &[(Prop, i64)]) -> Result<bool, NoMemory> {
+    let copy = declared.copy(alloc)?;
+    let style = declared.computed(alloc, Lu::of(1280), Lu::of(1024))?;
+    let other = copy.computed(alloc, Lu::of(1280), Lu::of(1024))?;
+    Ok(has_lengths(&style, rows) && has_lengths(&other, rows))
+}
+
+#[test]
+fn relative_lengths_are_computed(rt: HostRuntime) -> Result<(), Fail> {
+    static TEXTS: &[&[u8]] = &[
+        b"font-size: 2em",
+        b"width: 1.5em",
+        b"height: 2rem",
+        b"margin: 3px 0.0015em -1em -0.0004em",
+    ];
+    static LENGTHS: &[(Prop, i64)] = &[
+        (Prop::Width, 1920),
+        (Prop::Height, 2048),
+        (Prop::MarginTop, 192),
+        // 1.92 and -0.512 units, toward zero
+        (Prop::MarginRight, 1),
+        (Prop::MarginBottom, -1280),
+        (Prop::MarginLeft, 0),
+    ];
+    let mut declared = Declared::new(rt.alloc());
+    declare_texts(&mut declared, rt.alloc(), TEXTS)?;
+    assert!(rt; computes(rt.alloc(), &declared, LENGTHS)?);
+    Ok(())
+}
+
+/// The font size in units, of a node that declares this beside a font size of the parent, where the root has 1024.
+fn font_of(alloc: Global, text: &[u8], parent: i64) -> Result<i64, Fail> {
+    let mut declared = Declared::new(alloc);
+    declare_texts(&mut declared, alloc, &[text])?;
+    Ok(declared.font(Lu::of(parent), Lu::of(1024)).units())
+}
+
+#[test]
+fn font_sizes_are_inherited(rt: HostRuntime) -> Result<(), Fail> {
+    static ROWS: &[(&[u8], i64, i64)] = &[
+        (b"order: 1", 640, 640),
+        (b"font-size: 10px", 1280, 640),
+        (b"font-size: 2em", 640, 1280),
+        (b"font-size: 2rem", 640, 2048),
+        // limited to 1,048,576 px
+        (b"font-size: 2em", 67_108_863, 67_108_864),
+    ];
+    for (text, parent, due) in ROWS {
+        let found = font_of(rt.alloc(), text, *parent)?;
+        assert!(rt; found == *due, "{text:?} below {parent}");
+    }
     Ok(())
 }

@@ -1,6 +1,5 @@
-//! Values of the two templates, worked by hand.
+//! Values of the two templates, worked by hand. Values that are refused stand in `declarations`.
 
-use crate::texts::{READS, Told, must_be, told};
 use lunit::{Lu, NameSet};
 use std::alloc::Global;
 use std::process::Abort;
@@ -63,23 +62,6 @@ fn lists(
     Ok(())
 }
 
-/// What is told of a value.
-fn value_told(alloc: Global, text: &[u8]) -> Result<Told, Fail> {
-    match read_tracks(alloc, text, AT, 1) {
-        Ok(_) => Ok(READS),
-        Err(error) => told(error),
-    }
-}
-
-/// Of these values this is told.
-fn are_told(rt: &impl Abort, alloc: Global, rows: &[(&[u8], Told)]) -> Result<(), Fail> {
-    for (text, due) in rows {
-        let found = value_told(alloc, text)?;
-        must_be(rt, found, *due, text);
-    }
-    Ok(())
-}
-
 fn fixed(units: i64) -> TrackFn {
     TrackFn {
         least: Breadth::Length(Lu::of(units)),
@@ -118,18 +100,4 @@ fn both_sides_of_a_track(rt: HostRuntime) -> Result<(), Fail> {
     };
     let text = b"minmax(min-content, 50%) fit-content(1px)";
     lists(&rt, rt.alloc(), text, &[between, capped], &[&[], &[], &[]])
-}
-
-#[test]
-fn values_that_are_refused(rt: HostRuntime) -> Result<(), Fail> {
-    static ROWS: &[(&[u8], Told)] = &[
-        (b"10", (9, 3, 14)),
-        (b"1fr,", (9, 3, 14)),
-        (b"minmax(1fr, 1px)", (9, 3, 14)),
-        (b"[a]", (9, 3, 14)),
-        (b"none 1px", (9, 3, 14)),
-        (b"masonry", (11, 3, 14)),
-        (b"1em", (11, 3, 14)),
-    ];
-    are_told(&rt, rt.alloc(), ROWS)
 }
