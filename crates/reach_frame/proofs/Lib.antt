@@ -1,0 +1,14 @@
+pub mod Frame
+pub mod Forests
+pub mod Frames
+pub mod Rooted
+pub mod Above
+pub mod Reached
+pub mod Unreached
+pub mod Values
+pub mod Grafts
+pub mod Removals
+pub mod Moves
+pub mod Composed
+pub mod Marked
+pub mod Calm

@@ -1,0 +1,2 @@
+//! What an edit leaves as it was.
+#![tactic(auto)]
