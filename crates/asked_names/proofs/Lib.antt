@@ -1,3 +1,4 @@
+pub mod Containers
 pub mod Once
 pub mod Pigeons
 pub mod Spreads

@@ -1,12 +1,14 @@
 -- What laying out the tree of an arena asks, by the names of its nodes (own rule).
-use Rattle.std.specs.Prelude.{◌≡◌, ◌≢◌, ◌≤◌, ℕ, ℤ, List, [], ◌∷◌, Contains, length, if◌then◌else◌}
+use Rattle.std.specs.Prelude.{◌≡◌, ◌≢◌, ◌≤◌, ℕ, ℤ, Bool, true, List, [], ◌∷◌, ◌++◌, Some, Contains, length, if◌then◌else◌}
 use Rattle.std.specs.Str.{bytes_eq}
 use Rattle.plain_tree.specs.Trees.{leafless, map_trees, tree}
 use Rattle.node_arena.specs.declared.number.NodeId.{NodeId}
-use Rattle.placing.specs.Nodes.{BareTrees, IsLive, label_in, sight_at}
-use Rattle.placing.specs.Walks.{Entry}
+use Rattle.node_arena.specs.Numbers.{child_at, value_at}
+use Rattle.placing.specs.Nodes.{Bare, BareTrees, IsLive, label_in, label_of_bare, sight_at}
+use Rattle.placing.specs.Walks.{Entry, State, kept_in}
 use Rattle.tree_rules.specs.AskedQueries.{ToNode, asked, path}
 use Rattle.tree_rules.specs.KeptAnswers.{most_kept}
+use Rattle.tree_rules.specs.Queries.{is_container}
 use Rattle.tree_rules.specs.declared.query.Query.{Query}
 
 -- All that laying out the tree in a viewport of this width and height can ask: the name of each node with each question to it.
@@ -54,3 +56,18 @@ IsNone x (y ∷ rest) = (y ≢ x) × IsNone x rest
 abbrev pub AllDiffer : {A : Type 0} → List A → Type 0
 AllDiffer [] = Unit {0}
 AllDiffer (x ∷ rest) = IsNone x rest × AllDiffer rest
+
+-- ---- nodes of a tree
+
+-- the numbers of the nodes that pass a test, in document order
+abbrev pub chosen : (NodeId × Bare → Bool) → BareTrees → List NodeId
+chosen test leafless = []
+chosen test (tree x below after) = (if test x then x.0 ∷ [] else []) ++ chosen test below ++ chosen test after
+
+-- only containers have children
+abbrev pub LeavesAreBare : BareTrees → Type 0
+LeavesAreBare b = (n c : NodeId) (index : ℕ) → child_at b n index ≡ Some c → is_container (sight_at b n).label.kind ≡ true
+
+-- what passes the test is a container that keeps nothing
+abbrev pub AreEmpty : (NodeId × Bare → Bool) → BareTrees → State → Type 0
+AreEmpty test b s = (m : NodeId) (v : Bare) → Some v ≡ value_at b m → test (m, v) ≡ true → (is_container (label_of_bare v).kind ≡ true) × (kept_in s m ≡ [])

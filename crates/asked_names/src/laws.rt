@@ -1,18 +1,19 @@
 //! What holds of every layout. Each law is the contract of a function that does next to nothing.
 
-ghost use Rattle.std.specs.Prelude.{◌≡◌, ◌≤◌, [], ℤ, length, map, Contains, List};
-ghost use Rattle.box_layout.specs.Paths.{IsAsked, IsOnPath};
+ghost use Rattle.std.specs.Prelude.{◌≡◌, ◌≤◌, [], ℤ, length, map, Bool, Contains, List};
+ghost use Rattle.box_layout.specs.Paths.{IsAsked, IsOnPath, IsPathKept};
 ghost use Rattle.node_arena.specs.Plain.{IsSound};
 ghost use Rattle.node_arena.specs.declared.number.NodeId.{NodeId};
-ghost use Rattle.placing.specs.Nodes.{bare, BareTrees, IsLive};
-ghost use Rattle.placing.specs.Walks.{AreAsked, AreFresh, Entry};
+ghost use Rattle.placing.specs.Kept.{IsRight};
+ghost use Rattle.placing.specs.Nodes.{bare, Bare, BareTrees};
+ghost use Rattle.placing.specs.Walks.{bare_in, entries_of, kept_in, kept_with, AreAsked, AreFresh, Entry, State};
 ghost use Rattle.placing.specs.declared.node.Answer.{Answer};
 ghost use Rattle.tree_rules.specs.AskedQueries.{ToNode};
 ghost use Rattle.tree_rules.specs.declared.query.Query.{Query};
-ghost use Rattle.asked_names.specs.Asked.{asked_in, name_in, path_in, told_of, AllDiffer, AreFew, AreNamed, IsListed};
+ghost use Rattle.asked_names.specs.Asked.{asked_in, chosen, name_in, path_in, told_of, AllDiffer, AreEmpty, AreFew, AreNamed, IsListed, LeavesAreBare};
 
 use node_arena::{Arena, NodeId};
-use placing::Node;
+use placing::{Node, root};
 
 /// What holds of every arena.
 fn stands(tree: &Arena<Node>) -> NodeId
@@ -37,3 +38,12 @@ pub fn answers_are_put_once()
     ensures once { (b : BareTrees) (all : List ToNode) (kept : NodeId → List (Query × Answer)) (entries : List Entry) → AreNamed b → AreFew all → AreAsked (IsListed b all) entries → AreFresh kept [] entries → AllDiffer (map (told_of b) entries) }
     ensures few { (b : BareTrees) (all : List ToNode) (kept : NodeId → List (Query × Answer)) (entries : List Entry) → AreNamed b → AreFew all → AreAsked (IsListed b all) entries → AreFresh kept [] entries → length entries ≤ length all }
 {}
+
+/// Where a layout keeps the question of the path for each container, it kept at least as many answers as there are containers that kept
+/// nothing before: so many as pass a test that only such containers pass.
+pub fn each_container_is_answered(tree: &Arena<Node>)
+    ensures { (test : NodeId × Bare → Bool) (width height : ℤ) (old new : State) (added : List Entry) → LeavesAreBare (bare tree.now.tree) → IsRight new.arena.tree → bare_in new ≡ bare tree.now.tree → IsPathKept (bare tree.now.tree) width height new → ((m : NodeId) → kept_in new m ≡ kept_with (kept_in old m) (entries_of m added)) → AreEmpty test (bare tree.now.tree) old → length (chosen test (bare tree.now.tree)) ≤ length added }
+{
+    root(tree);
+    stands(tree);
+}

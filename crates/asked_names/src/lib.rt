@@ -3,4 +3,4 @@
 
 mod laws;
 
-pub use laws::{answers_are_put_once, layouts_ask_what_is_listed};
+pub use laws::{answers_are_put_once, each_container_is_answered, layouts_ask_what_is_listed};
