@@ -1,0 +1,4 @@
+pub mod Entries
+pub mod Layouts
+pub mod Memory
+pub mod Questions

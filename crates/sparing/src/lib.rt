@@ -1,0 +1,2 @@
+//! When a leaf is measured again.
+#![tactic(auto)]
