@@ -1,0 +1,10 @@
+pub mod Naming
+pub mod Numbers
+pub mod Totals
+pub mod States
+pub mod Chosen
+pub mod Growth
+pub mod Grown
+pub mod Told
+pub mod Made
+pub mod Edited
