@@ -45,7 +45,7 @@ passed_one pairs k f e =
     let asked : ToChild = (k.0, frames_query (pairs_for k.1 pairs) f) in
     subst (λ (t : Bool). Contains (if t then asked ∷ [] else []) asked) (sym e) (in_front asked [])
 
-passed_at : (pairs : List Pair) (kids more : List Kid) (frames others : List Frame) (n i : ℕ) (kid : Kid) (f : Frame) → drop i kids ≡ kid ∷ more → drop i frames ≡ f ∷ others → is_container kid.label.kind ≡ true
+pub passed_at : (pairs : List Pair) (kids more : List Kid) (frames others : List Frame) (n i : ℕ) (kid : Kid) (f : Frame) → drop i kids ≡ kid ∷ more → drop i frames ≡ f ∷ others → is_container kid.label.kind ≡ true
     → Contains (all_of (zipped (passed_to pairs) (numbered_from n kids) frames)) (n + i, frames_query (pairs_for kid pairs) f)
 passed_at pairs [] more frames others n zero kid f e h c = absurd cc
 passed_at pairs [] more frames others n (suc i) kid f e h c = absurd cc
@@ -92,16 +92,16 @@ framed_from ask.Block x chain kids q t h = absurd (none_in t h)
 framed_from ask.LendRows x chain kids q t h = absurd (none_in t h)
 framed_from ask.Frames x chain kids q t h = framed_all _ kids _ 0 t h
 
-passes_framed : (b : BareTrees) (n m : NodeId) (q r : Query) → Passes b n q m r → q.ask ≡ ask.Frames → r.ask ≡ ask.Frames
+pub passes_framed : (b : BareTrees) (n m : NodeId) (q r : Query) → Passes b n q m r → q.ask ≡ ask.Frames → r.ask ≡ ask.Frames
 passes_framed b _ _ _ _ (its_own n q) h = h
 passes_framed b _ _ _ _ (on n c m q r s i is passed rest) h = passes_framed b c m r s rest (framed_from q.ask (sight_at b n).label (sight_at b n).chain (kids_at b n) q (i, r) passed)
 
 -- one step more
-passes_more : (b : BareTrees) (n m c : NodeId) (q r s : Query) (i : ℕ) → Passes b n q m r → child_at b m i ≡ Some c → Contains (passes_at b m r) (i, s) → Passes b n q c s
+pub passes_more : (b : BareTrees) (n m c : NodeId) (q r s : Query) (i : ℕ) → Passes b n q m r → child_at b m i ≡ Some c → Contains (passes_at b m r) (i, s) → Passes b n q c s
 passes_more b _ _ c _ _ s i (its_own n q) is passed = on n c c q s s i is passed (its_own c s)
 passes_more b _ _ c _ _ s i (on n d m q p r j below first rest) is passed = on n d c q p s j below first (passes_more b d m c p r s i rest is passed)
 
-root_framed_first : (width height : ℤ) (x : Label) (below : Trees Label) (q : Query) → Contains (root_query width height x below) (0, q) → q.ask ≡ ask.Frames
+pub root_framed_first : (width height : ℤ) (x : Label) (below : Trees Label) (q : Query) → Contains (root_query width height x below) (0, q) → q.ask ≡ ask.Frames
 root_framed_first width height x below q h = own (is_container x.kind) h
   where
     asked : ToChild
@@ -127,7 +127,7 @@ item_there [] i h = absurd (omega (arith, h))
 item_there (x ∷ xs) zero h = record { item = x; rest = xs; there = refl }
 item_there (x ∷ xs) (suc i) h = let k = item_there xs i (omega (arith, h)) in record { item = k.item; rest = k.rest; there = k.there }
 
-within : {A : Type 0} (xs rest : List A) (i : ℕ) (x : A) → drop i xs ≡ x ∷ rest → i < length xs
+pub within : {A : Type 0} (xs rest : List A) (i : ℕ) (x : A) → drop i xs ≡ x ∷ rest → i < length xs
 within [] rest zero x e = absurd cc
 within [] rest (suc i) x e = absurd cc
 within (y ∷ ys) rest zero x e = omega arith
@@ -151,7 +151,7 @@ top_only (tree x below leafless) root m e h k =
     length_more (y ∷ ys) a = omega (arith, length_more ys a)
 top_only (tree x below (tree y c d)) root m e h k = absurd (omega (arith, ap length e))
 
-parent_live : (b : BareTrees) (n p : NodeId) (index : ℕ) → child_at b p index ≡ Some n → IsLive b p
+pub parent_live : (b : BareTrees) (n p : NodeId) (index : ℕ) → child_at b p index ≡ Some n → IsLive b p
 parent_live b n p index e = at (part_at b p) refl e
   where
     at : (o : Option (Part Bare)) → part_at b p ≡ o → number_of (slice_get (tops (below_of o)) index) ≡ Some n → IsSome (part_at b p)

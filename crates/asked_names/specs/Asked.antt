@@ -4,11 +4,17 @@ use Rattle.std.specs.Str.{bytes_eq}
 use Rattle.plain_tree.specs.Trees.{leafless, map_trees, tree}
 use Rattle.node_arena.specs.declared.number.NodeId.{NodeId}
 use Rattle.node_arena.specs.Numbers.{child_at, value_at}
+use Rattle.outside.specs.declared.event.Event.{Event}
+use Rattle.outside.specs.declared.event.Event.TheVariants.{Measured}
+use Rattle.outside.specs.declared.event.Width.TheVariants.{At}
+use Rattle.placing.specs.Keeping.{is_leaf}
 use Rattle.placing.specs.Nodes.{Bare, BareTrees, IsLive, label_in, label_of_bare, sight_at}
 use Rattle.placing.specs.Walks.{Entry, State, kept_in}
 use Rattle.tree_rules.specs.AskedQueries.{ToNode, asked, path}
 use Rattle.tree_rules.specs.KeptAnswers.{most_kept}
+use Rattle.tree_rules.specs.NodeSizes.{content_of_box, inner}
 use Rattle.tree_rules.specs.Queries.{is_container}
+use Rattle.tree_rules.specs.declared.kind.NodeKind.TheVariants as kind
 use Rattle.tree_rules.specs.declared.query.Query.{Query}
 
 -- All that laying out the tree in a viewport of this width and height can ask: the name of each node with each question to it.
@@ -71,3 +77,18 @@ LeavesAreBare b = (n c : NodeId) (index : ℕ) → child_at b n index ≡ Some c
 -- what passes the test is a container that keeps nothing
 abbrev pub AreEmpty : (NodeId × Bare → Bool) → BareTrees → State → Type 0
 AreEmpty test b s = (m : NodeId) (v : Bare) → Some v ≡ value_at b m → test (m, v) ≡ true → (is_container (label_of_bare v).kind ≡ true) × (kept_in s m ≡ [])
+
+-- ---- what is measured
+
+-- a leaf whose parents are grids, which with it kept nothing
+pub record IsNewLeaf (b : BareTrees) (s : State) (c : NodeId) : Type 0 where
+  pub parent : NodeId
+  pub index : ℕ
+  pub is : child_at b parent index ≡ Some c
+  pub leaf : is_leaf (sight_at b c).label.kind ≡ true
+  pub own : kept_in s c ≡ []
+  pub under : (n : NodeId) (i : ℕ) → child_at b n i ≡ Some c → ((sight_at b n).label.kind ≡ kind.Grid) × (kept_in s n ≡ [])
+
+-- its height at the content width of a border box of this width
+abbrev pub measured_at : BareTrees → NodeId → ℤ → Event
+measured_at b c width = Measured (name_in b c) (At (content_of_box (inner (sight_at b c).label.grid.columns) width))

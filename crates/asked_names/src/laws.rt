@@ -1,16 +1,19 @@
 //! What holds of every layout. Each law is the contract of a function that does next to nothing.
 
 ghost use Rattle.std.specs.Prelude.{◌≡◌, ◌≤◌, [], ℤ, length, map, Bool, Contains, List};
+ghost use Rattle.box_layout.specs.BoxesSeen.{bare_boxes};
+ghost use Rattle.box_layout.specs.LeafHeights.{AreMeasured};
 ghost use Rattle.box_layout.specs.Paths.{IsAsked, IsOnPath, IsPathKept};
 ghost use Rattle.node_arena.specs.Plain.{IsSound};
 ghost use Rattle.node_arena.specs.declared.number.NodeId.{NodeId};
 ghost use Rattle.placing.specs.Kept.{IsRight};
 ghost use Rattle.placing.specs.Nodes.{bare, Bare, BareTrees};
-ghost use Rattle.placing.specs.Walks.{bare_in, entries_of, kept_in, kept_with, AreAsked, AreFresh, Entry, State};
+ghost use Rattle.placing.specs.Walks.{bare_in, entries_of, events_of, kept_in, kept_with, AreAsked, AreFresh, Entry, State};
 ghost use Rattle.placing.specs.declared.node.Answer.{Answer};
+ghost use Rattle.tree_rules.specs.Answers.{Box};
 ghost use Rattle.tree_rules.specs.AskedQueries.{ToNode};
 ghost use Rattle.tree_rules.specs.declared.query.Query.{Query};
-ghost use Rattle.asked_names.specs.Asked.{asked_in, chosen, name_in, path_in, told_of, AllDiffer, AreEmpty, AreFew, AreNamed, IsListed, LeavesAreBare};
+ghost use Rattle.asked_names.specs.Asked.{asked_in, chosen, measured_at, name_in, path_in, told_of, AllDiffer, AreEmpty, AreFew, AreNamed, IsListed, IsNewLeaf, LeavesAreBare};
 
 use node_arena::{Arena, NodeId};
 use placing::{Node, root};
@@ -43,6 +46,15 @@ pub fn answers_are_put_once()
 /// nothing before: so many as pass a test that only such containers pass.
 pub fn each_container_is_answered(tree: &Arena<Node>)
     ensures { (test : NodeId × Bare → Bool) (width height : ℤ) (old new : State) (added : List Entry) → LeavesAreBare (bare tree.now.tree) → IsRight new.arena.tree → bare_in new ≡ bare tree.now.tree → IsPathKept (bare tree.now.tree) width height new → ((m : NodeId) → kept_in new m ≡ kept_with (kept_in old m) (entries_of m added)) → AreEmpty test (bare tree.now.tree) old → length (chosen test (bare tree.now.tree)) ≤ length added }
+{
+    root(tree);
+    stands(tree);
+}
+
+/// Where a layout leaves the leaves of new grids their heights, as `walk_boxes` does, each leaf that is a child of a grid and kept nothing
+/// before, as the grid did, was measured at the content width of its box. Names differ.
+pub fn new_leaves_are_measured(tree: &Arena<Node>)
+    ensures { (width height : ℤ) (old new : State) (added : List Entry) → AreNamed (bare tree.now.tree) → ((m : NodeId) → kept_in new m ≡ kept_with (kept_in old m) (entries_of m added)) → AreMeasured (bare tree.now.tree) width height old new → (c : NodeId) → IsNewLeaf (bare tree.now.tree) old c → (box : Box) → Contains (bare_boxes width height (bare tree.now.tree)) box → box.0 ≡ name_in (bare tree.now.tree) c → Contains (events_of (bare tree.now.tree) added) (measured_at (bare tree.now.tree) c box.1.width) }
 {
     root(tree);
     stands(tree);

@@ -1,4 +1,4 @@
-//! What laying out a tree asks, by the names of its nodes, and how many answers it keeps at most.
+//! What laying out a tree asks, by the names of its nodes, how many answers it keeps at least and at most, and which leaves it measures.
 #![tactic(auto)]
 
 mod laws;
