@@ -140,7 +140,7 @@ module _ (leads : Label → List Link → List Kid → Query → List ToChild) w
 
 -- ---- a child under its parent
 
-below_seen : (b : BareTrees) (n : NodeId) → (sight_at b n).below ≡ map_trees label_in (below_at b n)
+pub below_seen : (b : BareTrees) (n : NodeId) → (sight_at b n).below ≡ map_trees label_in (below_at b n)
 below_seen b n = at (part_at b n) refl
   where
     at : (o : Option (Part Bare)) → part_at b n ≡ o → (sight_at b n).below ≡ map_trees label_in (below_at b n)
@@ -177,10 +177,10 @@ module _ (leads : Label → List Link → List Kid → Query → List ToChild) (
 -- ---- the root
 
 -- what the rules see of it
-record IsRootIn (b : BareTrees) (root : NodeId) (width height : ℤ) : Type 0 where
-  live : IsLive b root
-  asked : asked width height (sight_at b root).label (sight_at b root).below ≡ asked_in width height b
-  path : path width height (sight_at b root).label (sight_at b root).below ≡ path_in width height b
+pub record IsRootIn (b : BareTrees) (root : NodeId) (width height : ℤ) : Type 0 where
+  pub live : IsLive b root
+  pub asked : asked width height (sight_at b root).label (sight_at b root).below ≡ asked_in width height b
+  pub path : path width height (sight_at b root).label (sight_at b root).below ≡ path_in width height b
 
 -- ---- down the tree
 
@@ -208,7 +208,7 @@ module _ (root : NodeId) where
   first_is : (a c : NodeId) (more : List NodeId) → a ∷ more ≡ c ∷ [] → a ≡ c
   first_is a c more e = cc
 
-  root_part : (t : BareTrees) → top_numbers t ≡ root ∷ [] → (width height : ℤ) → IsRootIn t root width height
+  pub root_part : (t : BareTrees) → top_numbers t ≡ root ∷ [] → (width height : ℤ) → IsRootIn t root width height
   root_part leafless e width height = absurd cc
   root_part (tree x below after) e width height =
       let there = part_here x below after root (record { is = same_from x.0 root (first_is x.0 root (top_numbers after) e) }) in

@@ -10,6 +10,7 @@ use Rattle.outside.specs.declared.event.Width.TheVariants.{At}
 use Rattle.placing.specs.Keeping.{is_leaf}
 use Rattle.placing.specs.Nodes.{Bare, BareTrees, IsLive, label_in, label_of_bare, sight_at}
 use Rattle.placing.specs.Walks.{Entry, State, kept_in}
+use Rattle.box_layout.specs.Paths.{IsAsked, IsOnPath}
 use Rattle.tree_rules.specs.AskedQueries.{ToNode, asked, path}
 use Rattle.tree_rules.specs.KeptAnswers.{most_kept}
 use Rattle.tree_rules.specs.NodeSizes.{content_of_box, inner}
@@ -39,6 +40,18 @@ told_of b e = (name_in b e.node, e.query)
 pub record IsListed (b : BareTrees) (all : List ToNode) (n : NodeId) (q : Query) : Type 0 where
   pub live : IsLive b n
   pub listed : Contains all (name_in b n, q)
+
+-- a question that is asked of a node of this name
+pub record IsAskedOf (b : BareTrees) (width height : ℤ) (t : ToNode) : Type 0 where
+  pub node : NodeId
+  pub name : name_in b node ≡ t.0
+  pub asked : IsAsked b width height node t.1
+
+-- one that is on the path
+pub record IsOnPathOf (b : BareTrees) (width height : ℤ) (t : ToNode) : Type 0 where
+  pub node : NodeId
+  pub name : name_in b node ≡ t.0
+  pub on_path : IsOnPath b width height node t.1
 
 -- no two nodes have one name
 abbrev pub AreNamed : BareTrees → Type 0

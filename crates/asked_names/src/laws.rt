@@ -13,7 +13,7 @@ ghost use Rattle.placing.specs.declared.node.Answer.{Answer};
 ghost use Rattle.tree_rules.specs.Answers.{Box};
 ghost use Rattle.tree_rules.specs.AskedQueries.{ToNode};
 ghost use Rattle.tree_rules.specs.declared.query.Query.{Query};
-ghost use Rattle.asked_names.specs.Asked.{asked_in, chosen, measured_at, name_in, path_in, told_of, AllDiffer, AreEmpty, AreFew, AreNamed, IsListed, IsNewLeaf, LeavesAreBare};
+ghost use Rattle.asked_names.specs.Asked.{asked_in, chosen, measured_at, name_in, path_in, told_of, AllDiffer, AreEmpty, AreFew, AreNamed, IsAskedOf, IsListed, IsNewLeaf, IsOnPathOf, LeavesAreBare};
 
 use node_arena::{Arena, NodeId};
 use placing::{Node, root};
@@ -31,6 +31,16 @@ pub fn layouts_ask_what_is_listed(tree: &Arena<Node>)
     ensures asked { (width height : ℤ) (m : NodeId) (q : Query) → IsAsked (bare tree.now.tree) width height m q → IsListed (bare tree.now.tree) (asked_in width height (bare tree.now.tree)) m q }
     ensures path { (width height : ℤ) (m : NodeId) (q : Query) → IsOnPath (bare tree.now.tree) width height m q → Contains (path_in width height (bare tree.now.tree)) (name_in (bare tree.now.tree) m, q) }
 {
+    stands(tree);
+}
+
+/// And each question of these lists is asked of a node of its name, or stands on the path: the lists are all that may be asked, and all
+/// of the path.
+pub fn what_is_listed_is_asked(tree: &Arena<Node>)
+    ensures asked { (width height : ℤ) (t : ToNode) → Contains (asked_in width height (bare tree.now.tree)) t → IsAskedOf (bare tree.now.tree) width height t }
+    ensures path { (width height : ℤ) (t : ToNode) → Contains (path_in width height (bare tree.now.tree)) t → IsOnPathOf (bare tree.now.tree) width height t }
+{
+    root(tree);
     stands(tree);
 }
 
