@@ -3,3 +3,4 @@ pub mod Digits
 pub mod Asked
 pub mod Words
 pub mod Rows
+pub mod Nodes

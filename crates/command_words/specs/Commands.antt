@@ -1,5 +1,5 @@
 -- The commands of the program, and the words that they are (own rules).
-use Rattle.std.specs.Prelude.{ℕ, ◌^◌, ◌&&◌, Bool, false, nat_le, nat_lt, if◌then◌else◌, List, [], ◌∷◌, length, Option, Some, None, option_and_then, codes}
+use Rattle.std.specs.Prelude.{◌<◌, ◌≤◌, ⊤, ℕ, ◌^◌, ◌&&◌, Bool, false, nat_le, nat_lt, if◌then◌else◌, List, [], ◌∷◌, length, Option, Some, None, option_and_then, codes}
 use Rattle.std.specs.Str.{all_ascii_digits, bytes_eq}
 use Rattle.std.specs.Str.Parse.{digits_value}
 use Rattle.clap.specs.Words.{Text}
@@ -61,3 +61,10 @@ unfoldable pub command_of : List Text → Option Command
 command_of [] = None
 command_of (first ∷ rest) = if bytes_eq first (codes "layout") then layout_of rest
     else (if bytes_eq first (codes "make") then make_of rest else None)
+
+-- ---- what holds of a command
+
+-- a document is made of 1 to 20,000 nodes
+abbrev pub HasNodes : Command → Type 0
+HasNodes (Layout stats) = ⊤
+HasNodes (Make seed nodes) = (0 < nodes) × (nodes ≤ 20000)

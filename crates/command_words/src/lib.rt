@@ -3,7 +3,7 @@
 
 ghost use Rattle.std.specs.Prelude.{◌≡◌, None, Some, IfOk, IsErrOf, string_bytes};
 ghost use Rattle.std.specs.Str.{bytes_eq};
-ghost use Rattle.command_words.specs.Commands.{command_of};
+ghost use Rattle.command_words.specs.Commands.{command_of, HasNodes};
 ghost use Rattle.command_words.specs.Options.{texts};
 
 mod layout;
@@ -49,6 +49,7 @@ pub enum WordsError {
 /// - `NoMemory` at want of memory.
 pub fn read_command(alloc: Global, words: &[String]) -> Result<Command, WordsError>
     ensures taken { IfOk result (λ command. command_of (texts words.now) ≡ Some command) }
+    ensures nodes { IfOk result HasNodes }
     ensures bad { IsErrOf result WordsError.BadWords → command_of (texts words.now) ≡ None }
 {
     match words.split_first() {
