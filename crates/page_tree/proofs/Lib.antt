@@ -26,3 +26,11 @@ pub mod ToldAreas
 pub mod ToldValues
 pub mod ToldContents
 pub mod ToldTrees
+pub mod Subgrids
+pub mod Reaching
+pub mod Locals
+pub mod Relabels
+pub mod Properties
+pub mod Shifted
+pub mod Marking
+pub mod Applied

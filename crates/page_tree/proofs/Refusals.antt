@@ -81,6 +81,16 @@ insert_fresh h one parent index at named node none =
     let all = none_comes (refusals (document_of h) (edit.Insert parent index at named node)) none in
     ap (λ u. holds u named.name) (sym (whole h one)) ∙ not_there (holds (tree_of (document_of h)) named.name) named.at all.1.1.1.1.0
 
+-- the parent of an insert is there
+pub insert_known : (h : Held) → count_of h.nodes.tree ≡ 1 → (parent : Named) (index : ℕ) (at : Place) (named : Named) (node : Plain) → first_refusal (refusals (document_of h) (edit.Insert parent index at named node)) ≡ None → holds (trees_in h) parent.name ≡ true
+insert_known h one parent index at named node none =
+    let all = none_comes (refusals (document_of h) (edit.Insert parent index at named node)) none in
+    ap (λ u. holds u parent.name) (sym (whole h one)) ∙ not_not (holds (tree_of (document_of h)) parent.name) (not_there (not (holds (tree_of (document_of h)) parent.name)) parent.at all.0)
+  where
+    not_not : (b : Bool) → not b ≡ false → b ≡ true
+    not_not true e = refl
+    not_not false e = sym e
+
 -- ---- a name that must name a node
 pub unknown : (h : Held) → count_of h.nodes.tree ≡ 1 → (named : Named) (later : Option Fault) → false ≡ holds (trees_in h) named.name → or_later (not (holds (tree_of (document_of h)) named.name)) 21 named.at later ≡ Some (fault_at 21 named.at)
 unknown h one named later e = ap (λ b. or_later (not b) 21 named.at later) (ap (λ u. holds u named.name) (whole h one) ∙ sym e)

@@ -1,5 +1,5 @@
 -- Nodes that are found by their names.
-use Rattle.std.proofs.Common.{◌≡◌, ℕ, zero, suc, ◌+◌, ◌≤◌, Bool, true, false, ◌&&◌, ◌||◌, List, Option, Some, None, IsSome, cond, refl, sym, ap, ◌∙◌, arith}
+use Rattle.std.proofs.Common.{◌≡◌, ℕ, zero, suc, ◌+◌, ◌≤◌, Bool, true, false, ◌&&◌, ◌||◌, List, Option, Some, None, IsSome, cond, refl, sym, ap, subst, ◌∙◌, arith}
 use Rattle.std.specs.Str.{bytes_eq}
 use Rattle.std.specs.BTreeMap.{BTreeMap, IsEmpty, get, is_at, Updates}
 use Rattle.std.specs.Map.{lookup}
@@ -9,8 +9,9 @@ use Rattle.std.proofs.lemmas.Map.Text.{is_eq-slice_cmp}
 use Rattle.plain_tree.specs.Trees.{leafless, tree}
 use Rattle.node_arena.specs.declared.number.NodeId.{NodeId}
 use Rattle.std.specs.Prelude.{if◌then◌else◌}
-use Rattle.node_arena.specs.Numbers.{Part, one, part_at, replaced, same, times}
+use Rattle.node_arena.specs.Numbers.{EachNode, Part, one, part_at, replaced, same, times}
 use Rattle.node_arena.proofs.Changed.{times_mapped}
+use Rattle.node_arena.proofs.Parts.{each_weaker}
 use Rattle.node_arena.specs.Edits.{grafted}
 use Rattle.node_arena.proofs.Same.{part_some, same_from, same_is, same_refl}
 use Rattle.node_arena.proofs.Edited.{graft_summed, summed, times_summed}
@@ -19,7 +20,7 @@ use Rattle.doc_text.proofs.Grown.{not_both, or_join, own_name, same_name}
 use Rattle.placing.specs.declared.node.Node.{Node}
 use Rattle.placing.specs.Nodes.{NodeTrees}
 use Rattle.page_tree.specs.Documents.{plain_trees}
-use Rattle.page_tree.specs.Registers.{Finds, HasName, IsRegister, Tells, named, told}
+use Rattle.page_tree.specs.Registers.{AreNamed, Finds, HasName, IsRegister, Tells, named, told}
 
 one_and : (a b : Bool) → one (a && b) ≤ one a
 one_and true true = omega arith
@@ -123,6 +124,26 @@ found find t name id r e =
       once = omega arith;
       there = named_there name id t (omega arith);
     }
+
+-- each node is the one of its number and of its name
+own_named : (t : NodeTrees) → EachNode (λ x. 1 ≤ named x.1.name x.0 t) t
+own_named leafless = tt
+own_named (tree x below after) = (
+  omega (arith, both_one (same x.0 x.0) (bytes_eq x.1.name x.1.name) (same_refl x.0) (own_name x.1.name)),
+  (
+    each_weaker (λ y. 1 ≤ named y.1.name y.0 below) (λ y. 1 ≤ named y.1.name y.0 (tree x below after)) below (λ y h. omega (arith, h)) (own_named below),
+    each_weaker (λ y. 1 ≤ named y.1.name y.0 after) (λ y. 1 ≤ named y.1.name y.0 (tree x below after)) after (λ y h. omega (arith, h)) (own_named after),
+  ),
+)
+
+pub all_named : (find : List ℕ → Option NodeId) (t : NodeTrees) → IsRegister find t → AreNamed t
+all_named find t r = each_weaker (λ x. 1 ≤ named x.1.name x.0 t) (λ x. Tells x.0 x.1.name t) t (λ x h. at x h (find x.1.name) refl) (own_named t)
+  where
+    at : (x : NodeId × Node) → 1 ≤ named x.1.name x.0 t → (o : Option NodeId) → find x.1.name ≡ o → Tells x.0 x.1.name t
+    at x h None e = absurd (omega (arith, h, r.told x.1.name x.0, ap (λ o. told o x.0) e))
+    at x h (Some id) e =
+        let it : same id x.0 ≡ true = one_some (same id x.0) (omega (arith, h, r.told x.1.name x.0, ap (λ o. told o x.0) e)) in
+        subst (λ k. Tells k x.1.name t) (same_is id x.0 it) (found find t x.1.name id r e).tells
 
 pub not_found : (find : List ℕ → Option NodeId) (t : NodeTrees) (name : List ℕ) → IsRegister find t → find name ≡ None → holds (plain_trees t) name ≡ false
 not_found find t name r e = named_nowhere name t (λ n. r.told name n ∙ ap (λ o. told o n) e)

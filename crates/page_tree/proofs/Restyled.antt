@@ -66,7 +66,7 @@ restyled_leaves styles (tree x below after) h =
     λ i. tree (x.0, record x.1 { style = h x.0 (own_times x below after) x.1.style i }) (restyled_leaves styles below (λ k l. h k (omega arith)) i) (restyled_leaves styles after (λ k l. h k (omega arith)) i)
 
 -- ---- a graft
-restyled_joined : (styles : Styles) (s t : NodeTrees) → restyled styles (joined s t) ≡ joined (restyled styles s) (restyled styles t)
+pub restyled_joined : (styles : Styles) (s t : NodeTrees) → restyled styles (joined s t) ≡ joined (restyled styles s) (restyled styles t)
 restyled_joined styles leafless t = refl
 restyled_joined styles (tree x below after) t = λ i. tree (x.0, record x.1 { style = styled_from styles x.0 x.1.style }) (restyled styles below) (restyled_joined styles after t i)
 
@@ -414,7 +414,7 @@ put_at_number em rem n v styles t page live f s w d = at (part_at t n) refl live
 
 -- ---- children by index
 module _ {A : Type 0} where
-  from_top : (u : Trees (NodeId × A)) (i : ℕ) (top : NodeId × Part A) → slice_get (tops u) i ≡ Some top → from_tree i u ≡ tree (top.0, top.1.0) top.1.1 (from_tree (i + 1) u)
+  pub from_top : (u : Trees (NodeId × A)) (i : ℕ) (top : NodeId × Part A) → slice_get (tops u) i ≡ Some top → from_tree i u ≡ tree (top.0, top.1.0) top.1.1 (from_tree (i + 1) u)
   from_top leafless i top e = absurd cc
   from_top (tree x below after) zero top e =
       let is : (x.0, (x.1, below)) ≡ top = is_some (x.0, (x.1, below)) top e in

@@ -8,3 +8,6 @@ pub mod Boxes
 pub mod Moves
 pub mod Restyled
 pub mod Ranges
+pub mod Reach
+pub mod Shapes
+pub mod Marking

@@ -1,9 +1,9 @@
 -- Documents as the engine holds them, and the plain documents that they stand for.
-use Rattle.std.specs.Prelude.{◌≡◌, refl, ℕ, ℤ, [], Some}
+use Rattle.std.specs.Prelude.{◌≡◌, ◌≤◌, refl, ℕ, ℤ, [], Some}
 use Rattle.std.specs.FinMap as map
 use Rattle.std.specs.Coded.{Coded, code_by, coded×, coded_ℕ}
 use Rattle.lunit.specs.contracts.lu.Lu as lu
-use Rattle.plain_tree.specs.Trees.{Trees, leafless, tree, count_of}
+use Rattle.plain_tree.specs.Trees.{Trees, leafless, tree, count_of, height_of}
 use Rattle.node_arena.specs.Plain.{Nodes, nodes_code}
 use Rattle.placing.specs.declared.node.Node.{Node}
 use Rattle.placing.specs.contracts.node.Node as node
@@ -14,11 +14,12 @@ use Rattle.doc_text.specs.Label.{Label}
 use Rattle.doc_text.specs.View.{label_of as plain_label}
 use Rattle.style_types.specs.Computed.{font_of}
 use Rattle.node_arena.specs.declared.number.NodeId.{NodeId}
-use Rattle.node_arena.specs.Numbers.{EachNode, value_at}
+use Rattle.node_arena.specs.Numbers.{EachNode, IsDistinct, value_at}
 use Rattle.placing.specs.Keeping.{KeepsNone}
 use Rattle.placing.specs.Nodes.{NodeTrees}
 use Rattle.page_tree.specs.Documents.{label_of, plain_trees}
 use Rattle.page_tree.specs.Fonts.{HasFont, HasStyle, IsStyled, root_font_of}
+use Rattle.page_tree.specs.Registers.{AreNamed}
 
 -- the version of the language, the viewport, and the arena of the nodes
 pub record Held : Type 0 where
@@ -53,6 +54,9 @@ pub record Stands (t : NodeTrees) : Type 0 where
   pub rooted : count_of t ≡ 1
   pub styled : IsStyled t
   pub each : EachNode (λ x. value_at t x.0 ≡ Some x.1) t
+  pub named : AreNamed t
+  pub distinct : IsDistinct t
+  pub low : height_of t ≤ 64
 
 -- the same but for the nodes
 pub record IsAround (old new : Held) : Type 0 where

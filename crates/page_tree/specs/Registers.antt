@@ -29,6 +29,10 @@ pub record IsRegister (find : List ℕ → Option NodeId) (t : NodeTrees) : Type
 abbrev pub Tells : NodeId → List ℕ → NodeTrees → Type 0
 Tells id name t = EachNode (λ x. same x.0 id ≡ bytes_eq x.1.name name) t
 
+-- each node is the one of its number and of its name
+abbrev pub AreNamed : NodeTrees → Type 0
+AreNamed t = EachNode (λ x. Tells x.0 x.1.name t) t
+
 -- the number is that of the one node of the name, and there is none exactly where no node has the name
 pub record Finds (t : NodeTrees) (name : List ℕ) (found : Option NodeId) : Type 0 where
   pub live : IfSome found (λ id. IsSome (part_at t id))

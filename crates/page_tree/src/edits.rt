@@ -3,27 +3,33 @@
 ghost use Rattle.std.specs.Prelude.{◌≡◌, None, IfOk, OnOk};
 ghost use Rattle.doc_text.specs.declared.kind.Kind.{Kind};
 ghost use Rattle.track_text.specs.Gives.{fault_at};
-ghost use Rattle.doc_text.specs.Edits.{edited, first_refusal, refusals, without_props};
+ghost use Rattle.doc_text.specs.Edits.{edited, first_refusal, refusals, with_kind, with_set, with_unset, without_props};
 ghost use Rattle.doc_text.specs.NodeText.{with_settings};
 ghost use Rattle.doc_text.specs.declared.edit.Edit.TheVariants as edit;
 ghost use Rattle.doc_text.specs.Laws.{NamesItsNode};
-ghost use Rattle.placing.specs.Keeping.{KeepsNone};
 ghost use Rattle.placing.specs.Kept.{IsRight};
 ghost use Rattle.page_tree.specs.Answered.{Applies};
-ghost use Rattle.page_tree.specs.Pages.{document_of};
+ghost use Rattle.page_tree.specs.Marking.{IsReach};
+ghost use Rattle.page_tree.specs.Pages.{document_of, trees_in};
+ghost use Rattle.page_tree.specs.Reach.{KeepsOthers};
+ghost use Rattle.page_tree.specs.Shapes.{Inserts, IsChanged, MovesUnder, Relabels, Removes};
 
 use crate::error::EditError;
 use crate::node::node_kind;
 use crate::page::Page;
 use crate::refusal;
+use crate::touched::marks_of;
 use doc_text::{Edit, Kind, Named, Plain};
+use layout_cache::reach;
 use lunit::{Copied, NoMemory};
+use node_arena::NodeId;
 use std::alloc::Global;
 use style_types::{Declared, DeclaredValue, Prop};
 use text_scan::{Fault, Place};
 
 impl Page {
-    /// The document after an edit. A list of kept answers that was right is right after it: an edit of a node empties all.
+    /// The document after an edit. The kept answers of the nodes that the edit reaches go, and no others; where all were right
+    /// all are right after it.
     ///
     /// `Refused` exactly where the definition of the edited document refuses the edit, with its fault, the first in the order
     /// of refusals. `NoMemory` where memory is wanting. After either nothing is changed, and no kept answer is lost.
@@ -31,20 +37,32 @@ impl Page {
         requires { NamesItsNode edit }
         ensures applies { Applies result (edited edit (document_of self.old)) self.old self.new }
         ensures right { IsRight self.old.nodes.tree → IsRight self.new.nodes.tree }
+        ensures kept { OnOk result (KeepsOthers edit self.old self.new) }
     {
-        if let Edit::Viewport(width, height) = edit {
-            self.set_viewport(width, height);
-            return Ok(());
-        }
+        let _ = self.stands();
+        let reached = self.reached(&edit)?;
         self.change(&edit)?;
-        self.forget();
+        let _ = self.stands();
+        self.let_go(reached.as_slice());
         Ok(())
+    }
+
+    /// The numbers of the nodes that an edit reaches.
+    fn reached(&self, edit: &Edit) -> Result<Vec<NodeId>, NoMemory>
+        ensures { IfOk result (λ list. IsReach edit.now (trees_in self.now) self.now.nodes.tree list.items) }
+    {
+        let marked = marks_of(self, edit)?;
+        let tree = self.tree();
+        let numbers = marked.numbers.as_slice();
+        let list = reach(self.alloc(), tree, numbers, marked.felt)?;
+        Ok(list)
     }
 
     /// The document after an edit, with kept answers that may no longer be right.
     fn change(&mut self, edit: &Edit) -> Result<(), EditError>
         requires { NamesItsNode edit.now }
-        ensures { Applies result (edited edit.now (document_of self.old)) self.old self.new }
+        ensures applies { Applies result (edited edit.now (document_of self.old)) self.old self.new }
+        ensures changes { OnOk result (IsChanged edit.now self.old.nodes.tree self.new.nodes.tree) }
     {
         match edit {
             Edit::Set(named, settings) => self.set(named, settings.as_slice()),
@@ -77,7 +95,7 @@ impl Page {
     ) -> Result<(), EditError>
         requires { node.now.name ≡ named.now.name }
         ensures applies { Applies result (edited (edit.Insert parent.now index at named.now node.now) (document_of self.old)) self.old self.new }
-        ensures kept { OnOk result (KeepsNone self.old.nodes.tree → KeepsNone self.new.nodes.tree) }
+        ensures changes { OnOk result (Inserts parent.now.name named.now.name self.old.nodes.tree self.new.nodes.tree) }
     {
         let _ = self.stands();
         match refusal::of_insert(self, parent, index, at, named) {
@@ -99,7 +117,7 @@ impl Page {
         settings: &[(Prop, DeclaredValue)],
     ) -> Result<(), EditError>
         ensures applies { Applies result (edited (edit.Set named.now settings.now) (document_of self.old)) self.old self.new }
-        ensures kept { OnOk result (KeepsNone self.old.nodes.tree → KeepsNone self.new.nodes.tree) }
+        ensures changes { OnOk result (Relabels named.now.name (with_set settings.now) self.old.nodes.tree self.new.nodes.tree) }
     {
         let _ = self.stands();
         let id = match self.find(&named.name) {
@@ -123,7 +141,7 @@ impl Page {
     /// wanting. After either nothing is changed.
     pub(crate) fn unset(&mut self, named: &Named, props: &[Prop]) -> Result<(), EditError>
         ensures applies { Applies result (edited (edit.Unset named.now props.now) (document_of self.old)) self.old self.new }
-        ensures kept { OnOk result (KeepsNone self.old.nodes.tree → KeepsNone self.new.nodes.tree) }
+        ensures changes { OnOk result (Relabels named.now.name (with_unset props.now) self.old.nodes.tree self.new.nodes.tree) }
     {
         let _ = self.stands();
         let id = match self.find(&named.name) {
@@ -147,7 +165,7 @@ impl Page {
     /// the first of them. `NoMemory` where memory is wanting. After either nothing is changed.
     pub(crate) fn set_content(&mut self, named: &Named, kind: &Kind) -> Result<(), EditError>
         ensures applies { Applies result (edited (edit.Content named.now kind.now) (document_of self.old)) self.old self.new }
-        ensures kept { OnOk result (KeepsNone self.old.nodes.tree → KeepsNone self.new.nodes.tree) }
+        ensures changes { OnOk result (Relabels named.now.name (with_kind kind.now) self.old.nodes.tree self.new.nodes.tree) }
     {
         let _ = self.stands();
         match refusal::of_content(self, named) {
@@ -160,7 +178,7 @@ impl Page {
     fn replace_content(&mut self, named: &Named, kind: &Kind) -> Result<(), EditError>
         requires { (k : Kind) → first_refusal (refusals (document_of self.old) (edit.Content named.now k)) ≡ None }
         ensures applies { Applies result (edited (edit.Content named.now kind.now) (document_of self.old)) self.old self.new }
-        ensures kept { OnOk result (KeepsNone self.old.nodes.tree → KeepsNone self.new.nodes.tree) }
+        ensures changes { OnOk result (Relabels named.now.name (with_kind kind.now) self.old.nodes.tree self.new.nodes.tree) }
     {
         let _ = self.stands();
         let id = match self.find(&named.name) {
@@ -183,7 +201,8 @@ impl Page {
     /// `Refused` exactly where the definition refuses the edit: for an unknown name (21) and for the root (22). Takes no
     /// memory. After a refusal nothing is changed.
     pub(crate) fn remove(&mut self, named: &Named) -> Result<(), EditError>
-        ensures { Applies result (edited (edit.Remove named.now) (document_of self.old)) self.old self.new }
+        ensures applies { Applies result (edited (edit.Remove named.now) (document_of self.old)) self.old self.new }
+        ensures changes { OnOk result (Removes named.now.name self.old.nodes.tree self.new.nodes.tree) }
     {
         let _ = self.stands();
         let id = match self.find(&named.name) {
@@ -211,7 +230,8 @@ impl Page {
         index: u32,
         at: Place,
     ) -> Result<(), EditError>
-        ensures { Applies result (edited (edit.Move named.now parent.now index at) (document_of self.old)) self.old self.new }
+        ensures applies { Applies result (edited (edit.Move named.now parent.now index at) (document_of self.old)) self.old self.new }
+        ensures changes { OnOk result (MovesUnder named.now.name parent.now.name self.old.nodes.tree self.new.nodes.tree) }
     {
         let _ = self.stands();
         let (id, to) = match refusal::of_move(self, named, parent, index, at) {

@@ -12,7 +12,7 @@ use style_types::Declared;
 
 #[tactic(auto, unfolding(lunit::specs::Units::clamp))]
 /// The font size of a root that declares none: 16px (own rule).
-fn first_font() -> Lu
+pub(crate) fn first_font() -> Lu
     ensures { result ≡ first_font }
 {
     Lu::of(1024)

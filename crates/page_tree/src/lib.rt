@@ -13,6 +13,7 @@ mod page;
 mod refusal;
 mod register;
 mod restyle;
+mod touched;
 
 pub use error::EditError;
 pub use laws::valid_documents_are_readable;

@@ -1,6 +1,6 @@
 //! A document as the engine holds it.
 
-ghost use Rattle.std.specs.Prelude.{◌≡◌, [], false, Ok, Some, IfOk, OnOk, OnErr, IsSome};
+ghost use Rattle.std.specs.Prelude.{◌≡◌, [], true, false, Ok, Some, IfOk, OnOk, OnErr, IsSome};
 ghost use Rattle.plain_tree.specs.Trees.{leafless, tree};
 ghost use Rattle.node_arena.specs.Faults.{is_top};
 ghost use Rattle.node_arena.specs.Numbers.{part_at};
@@ -11,10 +11,12 @@ ghost use Rattle.doc_text.specs.Label.{Label};
 ghost use Rattle.doc_text.specs.Named.{inserted, moved, relabelled, removed, IsDistinct};
 ghost use Rattle.doc_text.specs.View.{label_of};
 ghost use Rattle.box_layout.specs.BoxesSeen.{AreNear};
+ghost use Rattle.box_layout.specs.LeafHeights.{AreMeasured};
 ghost use Rattle.box_layout.specs.Paths.{IsAllKept, IsAsked, IsCutShort, IsPathKept};
 ghost use Rattle.doc_text.specs.Valid.{IsValid};
 ghost use Rattle.placing.specs.Walks.{state, Walk};
-ghost use Rattle.placing.specs.Keeping.{KeepsNone};
+ghost use Rattle.layout_cache.specs.Reach.{all_forgot};
+ghost use Rattle.placing.specs.Keeping.{without_answers, KeepsNone};
 ghost use Rattle.placing.specs.Nodes.{bare};
 ghost use Rattle.page_tree.specs.Boxes.{boxes_of};
 ghost use Rattle.placing.specs.Kept.{IsRight};
@@ -23,6 +25,7 @@ ghost use Rattle.page_tree.specs.Filled.{filled, AreNew};
 ghost use Rattle.page_tree.specs.Moves.{AreApart};
 ghost use Rattle.page_tree.specs.Pages.{document_of, trees_in, IsAround, IsRoot, Stands, StandsUnder};
 ghost use Rattle.page_tree.specs.Registers.{Finds};
+ghost use Rattle.page_tree.specs.Shapes.{Inserts, MovesUnder, Relabels, Removes};
 
 use crate::font::{font_at, font_of_root, root_font};
 use crate::laws::valid_documents_are_readable;
@@ -81,7 +84,7 @@ impl Page {
     pub(crate) fn stands(&self) -> &Arena<Node>
         ensures { Stands self.now.nodes.tree }
     {
-        let tree = self.nodes.tree();
+        let tree = self.nodes.named_tree();
         let _ = tree.root();
         tree
     }
@@ -140,6 +143,7 @@ impl Page {
         ensures nodes { OnOk result (trees_in self.new ≡ inserted parent.now index (label_of plain.now) (trees_in self.old)) }
         ensures around { OnOk result (IsAround self.old self.new) }
         ensures kept { OnOk result (KeepsNone self.old.nodes.tree → KeepsNone self.new.nodes.tree) }
+        ensures changes { OnOk result (holds (trees_in self.old) parent.now ≡ true → Inserts parent.now plain.now.name self.old.nodes.tree self.new.nodes.tree) }
         ensures err { OnErr result (self.new ≡ self.old) }
     {
         if self.nodes.tree().inserted() == u64::MAX {
@@ -166,7 +170,7 @@ impl Page {
         requires { Finds self.old.nodes.tree name.now (Some id) }
         ensures nodes { OnOk result ((change : Label → Label) → Becomes id change (record { name = name.now; kind = kind_of kind; style = declared }) self.old.nodes.tree → trees_in self.new ≡ relabelled name.now change (trees_in self.old)) }
         ensures around { OnOk result (IsAround self.old self.new) }
-        ensures kept { OnOk result (KeepsNone self.old.nodes.tree → KeepsNone self.new.nodes.tree) }
+        ensures changes { OnOk result ((change : Label → Label) → Becomes id change (record { name = name.now; kind = kind_of kind; style = declared }) self.old.nodes.tree → Relabels name.now change self.old.nodes.tree self.new.nodes.tree) }
         ensures err { OnErr result (self.new ≡ self.old) }
     {
         let tree = self.nodes.tree();
@@ -185,6 +189,7 @@ impl Page {
         requires low { is_top self.old.nodes.tree id ≡ false }
         ensures nodes { trees_in self.new ≡ removed name.now (trees_in self.old) }
         ensures around { IsAround self.old self.new }
+        ensures changes { Removes name.now self.old.nodes.tree self.new.nodes.tree }
     {
         self.nodes.remove(id, name);
     }
@@ -202,6 +207,7 @@ impl Page {
         requires { AreApart self.old.nodes.tree name.now parent.now id to }
         ensures nodes { OnOk result (trees_in self.new ≡ moved name.now parent.now index (trees_in self.old)) }
         ensures around { OnOk result (IsAround self.old self.new) }
+        ensures changes { OnOk result (MovesUnder name.now parent.now self.old.nodes.tree self.new.nodes.tree) }
         ensures err { OnErr result (self.new ≡ self.old) }
     {
         let tree = self.nodes.tree();
@@ -232,6 +238,7 @@ impl Page {
         ensures laid { OnOk result (Walk (IsAsked (bare self.old.nodes.tree) self.old.width self.old.height) 0 [] (state self.old.nodes tally.old passes.old (R.log ruler.old)) (state self.new.nodes tally.new passes.new (R.log ruler.new))) }
         ensures cut { OnErr result (IsCutShort (bare self.old.nodes.tree) self.old.width self.old.height (state self.old.nodes tally.old passes.old (R.log ruler.old)) (state self.new.nodes tally.new passes.new (R.log ruler.new))) }
         ensures paths { OnOk result (IsPathKept (bare self.old.nodes.tree) self.old.width self.old.height (state self.new.nodes tally.new passes.new (R.log ruler.new))) }
+        ensures leaves { OnOk result (AreMeasured (bare self.old.nodes.tree) self.old.width self.old.height (state self.old.nodes tally.old passes.old (R.log ruler.old)) (state self.new.nodes tally.new passes.new (R.log ruler.new))) }
         ensures quiet { IsAllKept (bare self.old.nodes.tree) self.old.width self.old.height (state self.old.nodes tally.old passes.old (R.log ruler.old)) → state self.new.nodes tally.new passes.new (R.log ruler.new) ≡ state self.old.nodes tally.old passes.old (R.log ruler.old) }
     {
         let _ = self.stands();
@@ -240,12 +247,12 @@ impl Page {
             .lay_out(self.alloc, self.width, self.height, ruler, tally, passes)
     }
 
-    /// No node keeps an answer. Takes no memory.
-    pub(crate) fn forget(&mut self)
+    /// Lets the answers of these nodes go. Takes no memory.
+    pub(crate) fn let_go(&mut self, reached: &[NodeId])
         ensures document { document_of self.new ≡ document_of self.old }
-        ensures none { KeepsNone self.new.nodes.tree }
+        ensures nodes { self.new.nodes ≡ all_forgot without_answers reached.now self.old.nodes }
     {
-        self.nodes.forget();
+        self.nodes.let_go(reached);
     }
 
     /// Where memory is taken.
@@ -260,6 +267,7 @@ impl Page {
         requires { IsDistinct (tree_of doc.now) }
         ensures document { IfOk result (λ page. document_of page ≡ doc.now) }
         ensures right { IfOk result (λ page. IsRight page.nodes.tree) }
+        ensures none { IfOk result (λ page. KeepsNone page.nodes.tree) }
     {
         let mut page = Page::of_root(alloc, doc)?;
         fill(&mut page, &doc.root)?;

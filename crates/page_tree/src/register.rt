@@ -1,28 +1,28 @@
 //! The arena of the nodes, with their numbers by name.
 
 ghost use Rattle.std.specs.Prelude.{◌≡◌, ◌≤◌, ◌<◌, ◌+◌, ◌^◌, [], false, IfOk, OnErr, OnOk, IsSome, None};
-ghost use Rattle.std.specs.BTreeMap.{values};
 ghost use Rattle.layout_cache.specs.Reach.{all_forgot};
 ghost use Rattle.node_arena.specs.Numbers.{part_at, times};
 ghost use Rattle.node_arena.specs.Faults.{is_top};
 ghost use Rattle.node_arena.specs.Plain.{first_node, with_node, with_move, with_value, without_node};
 ghost use Rattle.node_arena.specs.Edits.{removed};
 ghost use Rattle.doc_text.specs.Growth.{holds};
-ghost use Rattle.placing.specs.Keeping.{without_answers, KeepsNone};
+ghost use Rattle.placing.specs.Keeping.{without_answers};
 ghost use Rattle.box_layout.specs.BoxesSeen.{bare_boxes, AreNear};
+ghost use Rattle.box_layout.specs.LeafHeights.{AreMeasured};
 ghost use Rattle.box_layout.specs.Paths.{IsAllKept, IsAsked, IsCutShort, IsPathKept};
 ghost use Rattle.placing.specs.Ranges.{AreReadable};
 ghost use Rattle.placing.specs.Walks.{state, Walk};
 ghost use Rattle.placing.specs.Kept.{IsRight};
 ghost use Rattle.placing.specs.Nodes.{bare};
 ghost use Rattle.page_tree.specs.Documents.{plain_trees};
-ghost use Rattle.page_tree.specs.Registers.{Finds, HasName};
+ghost use Rattle.page_tree.specs.Registers.{AreNamed, Finds, HasName};
 ghost use Rattle.page_tree.specs.Restyled.{with_styles};
 
 use crate::children::take_names;
 use crate::restyle::write_all;
 use box_layout::walk_boxes;
-use layout_cache::Linked;
+use layout_cache::drop_reached;
 use lunit::{Lu, Name, NoMemory, Rect, Sequence, Steps};
 use node_arena::{Arena, NodeId};
 use outside::{Ruler, Tally};
@@ -185,17 +185,25 @@ impl Register {
         ensures laid { OnOk result (Walk (IsAsked (bare self.old.tree) width height) 0 [] (state self.old tally.old passes.old (R.log ruler.old)) (state self.new tally.new passes.new (R.log ruler.new))) }
         ensures cut { OnErr result (IsCutShort (bare self.old.tree) width height (state self.old tally.old passes.old (R.log ruler.old)) (state self.new tally.new passes.new (R.log ruler.new))) }
         ensures paths { OnOk result (IsPathKept (bare self.old.tree) width height (state self.new tally.new passes.new (R.log ruler.new))) }
+        ensures leaves { OnOk result (AreMeasured (bare self.old.tree) width height (state self.old tally.old passes.old (R.log ruler.old)) (state self.new tally.new passes.new (R.log ruler.new))) }
         ensures quiet { IsAllKept (bare self.old.tree) width height (state self.old tally.old passes.old (R.log ruler.old)) → state self.new tally.new passes.new (R.log ruler.new) ≡ state self.old tally.old passes.old (R.log ruler.old) }
     {
         walk_boxes(alloc, &mut self.tree, width, height, ruler, tally, passes)
     }
 
-    /// No node keeps an answer. Takes no memory.
-    pub(crate) fn forget(&mut self)
-        ensures same { bare self.new.tree ≡ bare self.old.tree }
-        ensures none { KeepsNone self.new.tree }
+    /// Lets the answers of these nodes go, and passes over a number that names no node. Takes no memory.
+    pub(crate) fn let_go(&mut self, reached: &[NodeId])
+        ensures { self.new ≡ all_forgot without_answers reached.now self.old }
     {
-        forget_all(&mut self.tree, &self.numbers);
+        drop_reached(&mut self.tree, reached);
+    }
+
+    /// The arena. Each node is the one of its number and of its name.
+    pub(crate) fn named_tree(&self) -> &Arena<Node>
+        ensures same { result.now ≡ self.now }
+        ensures named { AreNamed self.now.tree }
+    {
+        &self.tree
     }
 
     /// Gives each of these nodes its computed style, and passes over a number that names no node. It takes no memory.
@@ -203,18 +211,5 @@ impl Register {
         ensures { self.new ≡ with_styles styles self.old }
     {
         write_all(&mut self.tree, styles);
-    }
-}
-
-#[tactic(auto, using(crate::proofs::Bares::forgetting))]
-/// Lets the answers of the nodes of these numbers go.
-fn forget_all(tree: &mut Arena<Node>, numbers: &BTreeMap<Name, NodeId>)
-    ensures { tree.new ≡ all_forgot without_answers (values numbers.now) tree.old }
-{
-    for id in numbers.values() {
-        let Some(node) = tree.get_mut(*id) else {
-            continue;
-        };
-        node.forget();
     }
 }

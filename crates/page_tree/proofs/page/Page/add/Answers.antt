@@ -1,7 +1,11 @@
-use Rattle.std.proofs.Common.{ap, sym, subst, ◌∙◌}
+use Rattle.std.proofs.Common.{◌≡◌, Some, None, ap, sym, subst, ◌∙◌}
 use Rattle.plain_tree.specs.Trees.{leafless, tree}
+use Rattle.node_arena.specs.Edits.{grafted}
+use Rattle.node_arena.specs.Numbers.{part_at}
 use Rattle.node_arena.specs.Plain.{Nodes}
-use Rattle.doc_text.specs.Growth.{alone}
+use Rattle.doc_text.specs.Growth.{alone, holds}
+use Rattle.doc_text.specs.Label.{Label}
+use Rattle.doc_text.proofs.Grown.{not_both}
 use Rattle.doc_text.specs.View.{label_of as plain_label}
 use Rattle.doc_text.specs.Named.{grafted as doc_grafted}
 use Rattle.placing.specs.declared.node.Node.{Node}
@@ -10,6 +14,7 @@ use Rattle.page_tree.specs.Documents.{plain_trees}
 use Rattle.style_types.specs.Computed.{font_of}
 use Rattle.page_tree.specs.Fonts.{HasFont, HasStyle, root_font_of}
 use Rattle.page_tree.specs.Pages.{Held, IsPage, trees_in}
+use Rattle.page_tree.specs.Registers.{Finds}
 use Rattle.page_tree.proofs.Changes.{grafted_count, grafted_kept, inserted_nowhere, plain_grafted}
 use Rattle.page_tree.proofs.Fonts.{grafted_styled}
 use Rattle.page_tree.proofs.page.Page.add.Goals as goal
@@ -45,3 +50,20 @@ returns-clause-kept c k =
     let new = tree (c.in_ok-insert.field-0, c.in_ok-node.node) leafless leafless in
     subst (λ (n : Nodes Node). KeepsNone n.tree) (sym c.in_ok-insert.ensures.ok)
     (grafted_kept c.in-Some.id c.args.index new t (c.in_ok-node.ensures.kept, (tt, tt)) (subst (λ (h : Held). KeepsNone h.nodes.tree) (sym c.self.view_is) k))
+
+pub returns-in-None-clause-changes : goal.returns-in-None-clause-changes
+returns-in-None-clause-changes c there = absurd (not_both (holds (plain_trees c.args.self.now.nodes.tree) c.args.parent.now) there (let none = c.in-None.ensures.there in rw (← c.self.view_is) (sym none)))
+
+pub returns-clause-changes : goal.returns-clause-changes
+returns-clause-changes c there =
+    record {
+      upper = c.in-Some.id;
+      found = subst (λ (h : Held). Finds h.nodes.tree c.args.parent.now (Some c.in-Some.id)) c.self.view_is c.in-Some.ensures;
+      id = c.in_ok-insert.field-0;
+      fresh = subst (λ (h : Held). part_at h.nodes.tree c.in_ok-insert.field-0 ≡ None) c.self.view_is c.in_ok-insert.ensures.fresh;
+      value = c.in_ok-node.node;
+      named = ap (λ (l : Label). l.name) c.in_ok-node.ensures.label;
+      kept = c.in_ok-node.ensures.kept;
+      index = c.args.index;
+      is = ap (λ (n : Nodes Node). n.tree) c.in_ok-insert.ensures.ok ∙ ap (λ (h : Held). grafted c.in-Some.id c.args.index (tree (c.in_ok-insert.field-0, c.in_ok-node.node) leafless leafless) h.nodes.tree) c.self.view_is;
+    }

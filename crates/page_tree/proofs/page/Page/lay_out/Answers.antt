@@ -1,5 +1,6 @@
 use Rattle.std.specs.Prelude.{OnOk}
 use Rattle.placing.specs.Walks.{state}
+use Rattle.box_layout.specs.LeafHeights.{AreMeasured}
 use Rattle.box_layout.specs.Paths.{IsPathKept}
 use Rattle.std.proofs.Common.{ap, sym, subst, ◌∙◌}
 use Rattle.placing.specs.Nodes.{bare}
@@ -29,3 +30,7 @@ returns-clause-boxes g c =
 pub returns-clause-paths : goal.returns-clause-paths
 returns-clause-paths g c =
     subst (λ (h : Held). OnOk c.lay_out.result (IsPathKept (bare h.nodes.tree) h.width h.height (state c.lay_out.new.self c.lay_out.new.tally c.lay_out.new.passes (g.R.Ruler.log c.lay_out.new.ruler)))) c.self.view_is c.lay_out.ensures.paths
+
+pub returns-clause-leaves : goal.returns-clause-leaves
+returns-clause-leaves g c =
+    subst (λ (h : Held). OnOk c.lay_out.result (AreMeasured (bare h.nodes.tree) h.width h.height (state h.nodes c.args.tally.now c.args.passes.now (g.R.Ruler.log c.args.ruler.now)) (state c.lay_out.new.self c.lay_out.new.tally c.lay_out.new.passes (g.R.Ruler.log c.lay_out.new.ruler)))) c.self.view_is c.lay_out.ensures.leaves

@@ -3,13 +3,12 @@ use Rattle.node_arena.specs.Numbers.{IsDistinct, below_at, part_at, replaced}
 use Rattle.node_arena.specs.Plain.{Nodes}
 use Rattle.style_types.specs.Computed.{computed_style}
 use Rattle.placing.specs.declared.node.Node.{Node}
-use Rattle.placing.specs.Keeping.{KeepsNone}
 use Rattle.page_tree.specs.Documents.{label_of, plain_trees}
 use Rattle.page_tree.specs.Pages.{Held, IsPage}
 use Rattle.page_tree.specs.Registers.{HasName}
-use Rattle.page_tree.specs.Restyled.{GetsFonts, Restyles, with_styles}
-use Rattle.page_tree.proofs.Changes.{becomes_made, made_label, plain_replaced, replaced_kept, tells_name}
-use Rattle.page_tree.proofs.Restyled.{put_at_number, restyled_kept, restyled_plain}
+use Rattle.page_tree.specs.Restyled.{GetsFonts, Restyles, restyled, with_styles}
+use Rattle.page_tree.proofs.Changes.{becomes_made, made_label, plain_replaced, tells_name}
+use Rattle.page_tree.proofs.Restyled.{put_at_number, restyled_plain}
 use Rattle.page_tree.proofs.page.Page.relabel.Goals as goal
 
 pub styles_below-requires-clause-page : goal.styles_below-requires-clause-page
@@ -43,8 +42,17 @@ returns-clause-nodes c change becomes =
     ∙ ap (λ (h : Held). plain_trees (replaced c.args.id v h.nodes.tree)) c.self.view_is
     ∙ plain_replaced c.args.id c.args.name.now v change t (becomes_made c.args.id change _ (label_of v) t label becomes) (omega (arith, c.requires.once)) c.requires.tells
 
-pub returns-clause-kept : goal.returns-clause-kept
-returns-clause-kept c k =
-    subst (λ (n : Nodes Node). KeepsNone n.tree) (sym (c.restyle.ensures ∙ ap (with_styles c.in_ok-styles.styles) c.put.ensures))
-    (restyled_kept c.in_ok-styles.styles (replaced c.args.id c.in_ok-node.node c.self.inside.nodes.tree)
-    (replaced_kept c.args.id c.in_ok-node.node c.self.inside.nodes.tree c.in_ok-node.ensures.kept (subst (λ (h : Held). KeepsNone h.nodes.tree) (sym c.self.view_is) k)))
+pub returns-clause-changes : goal.returns-clause-changes
+returns-clause-changes c change becomes =
+    let t = c.args.self.now.nodes.tree in
+    let v = c.in_ok-node.node in
+    let label = made_label v c.args.name.now c.args.kind c.args.declared c.in_ok-node.ensures.name c.in_ok-node.ensures.kind c.in_ok-node.ensures.declared in
+    record {
+      id = c.args.id;
+      found = c.requires;
+      value = v;
+      kept = c.in_ok-node.ensures.kept;
+      label = becomes_made c.args.id change _ (label_of v) t label becomes;
+      styles = c.in_ok-styles.styles;
+      is = ap (λ (n : Nodes Node). n.tree) (c.restyle.ensures ∙ ap (with_styles c.in_ok-styles.styles) c.put.ensures) ∙ ap (λ (h : Held). restyled c.in_ok-styles.styles (replaced c.args.id v h.nodes.tree)) c.self.view_is;
+    }

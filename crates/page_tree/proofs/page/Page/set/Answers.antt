@@ -25,3 +25,12 @@ returns-clause-applies c =
     (label_by node c.args.named.now.name c.in_ok-kind.kind c.in_ok-declared.declared (with_settings c.args.settings.now node.declared) c.in_ok-kind.ensures c.in_ok-declared.ensures) in
     not_refused e (document_of c.args.self.now) _ (known c.args.self.now c.stands.ensures.rooted c.args.named.now None c.in-Some.ensures.there)
     (applied_is e c.args.self.now c.relabel.new.self c.stands.ensures.rooted c.stands-2.ensures.rooted (c.in_ok-relabel.ensures.nodes (with_set c.args.settings.now) becomes) c.in_ok-relabel.ensures.around.version (c.args.self.now.width, c.args.self.now.height) refl c.in_ok-relabel.ensures.around.width c.in_ok-relabel.ensures.around.height)
+
+pub returns-clause-changes : goal.returns-clause-changes
+returns-clause-changes c =
+    let t = c.args.self.now.nodes.tree in
+    let node = c.in-Some-get.node.now in
+    let value : value_at t c.in-Some.id ≡ Some node = search rules in
+    let becomes = becomes_from c.in-Some.id node c.args.named.now.name (with_set c.args.settings.now) _ t (declares t c.in-Some.id node value c.stands.ensures.each) (tells_name c.in-Some.id c.args.named.now.name t c.in-Some.ensures.tells)
+    (label_by node c.args.named.now.name c.in_ok-kind.kind c.in_ok-declared.declared (with_settings c.args.settings.now node.declared) c.in_ok-kind.ensures c.in_ok-declared.ensures) in
+    c.in_ok-relabel.ensures.changes (with_set c.args.settings.now) becomes

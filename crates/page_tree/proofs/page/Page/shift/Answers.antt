@@ -7,7 +7,7 @@ use Rattle.placing.specs.declared.node.Node.{Node}
 use Rattle.page_tree.specs.Documents.{plain_trees}
 use Rattle.page_tree.specs.Moves.{AreApart}
 use Rattle.page_tree.specs.Pages.{Held, IsPage, trees_in}
-use Rattle.page_tree.specs.Restyled.{RestylesUnder, with_styles}
+use Rattle.page_tree.specs.Restyled.{RestylesUnder, restyled, with_styles}
 use Rattle.page_tree.proofs.Moves.{live_left, once_left, plain_moved}
 use Rattle.page_tree.proofs.Restyled.{restyled_plain}
 use Rattle.page_tree.proofs.Shifts.{moved_page}
@@ -45,4 +45,16 @@ styles_under-requires c =
       page = subst (λ (n : Nodes Node). IsPage n.tree) (sym c.tree-tree.ensures) c.self.invariant;
       live = subst (λ (n : Nodes Node). IsSome (part_at n.tree c.args.id)) (sym c.tree-tree.ensures) apart.found.live;
       parent = subst (λ (n : Nodes Node). IsSome (part_at n.tree c.args.to)) (sym c.tree-tree.ensures) apart.onto.live;
+    }
+
+pub returns-clause-changes : goal.returns-clause-changes
+returns-clause-changes c =
+    record {
+      id = c.args.id;
+      to = c.args.to;
+      apart = c.requires;
+      index = c.args.index;
+      styles = c.in_ok-styles.styles;
+      under = subst (λ (h : Held). RestylesUnder c.args.to c.in_ok-styles.styles c.args.id h.nodes.tree) c.self.view_is (subst (λ (n : Nodes Node). RestylesUnder c.args.to c.in_ok-styles.styles c.args.id n.tree) c.tree-tree.ensures c.in_ok-styles.ensures);
+      is = ap (λ (n : Nodes Node). n.tree) (c.restyle.ensures ∙ ap (with_styles c.in_ok-styles.styles) c.in_ok-move_to.ensures.ok) ∙ ap (λ (h : Held). restyled c.in_ok-styles.styles (moved c.args.id c.args.to c.args.index h.nodes.tree)) c.self.view_is;
     }

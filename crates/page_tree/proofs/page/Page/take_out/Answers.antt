@@ -1,4 +1,5 @@
 use Rattle.std.proofs.Common.{◌≡◌, false, sym, ap, subst, ◌∙◌}
+use Rattle.node_arena.specs.Edits.{removed as gone}
 use Rattle.node_arena.specs.Faults.{is_top}
 use Rattle.node_arena.specs.Plain.{Nodes}
 use Rattle.doc_text.specs.Named.{removed}
@@ -25,3 +26,12 @@ returns-clause-nodes c =
     ap (λ (n : Nodes Node). plain_trees n.tree) c.remove.ensures
     ∙ plain_removed c.args.id c.args.name.now c.self.inside.nodes.tree (subst (λ (h : Held). Tells c.args.id c.args.name.now h.nodes.tree) (sym c.self.view_is) c.requires.found.tells)
     ∙ ap (λ (h : Held). removed c.args.name.now (trees_in h)) c.self.view_is
+
+pub returns-clause-changes : goal.returns-clause-changes
+returns-clause-changes c =
+    record {
+      id = c.args.id;
+      found = c.requires.found;
+      low = c.requires.low;
+      is = ap (λ (n : Nodes Node). n.tree) c.remove.ensures ∙ ap (λ (h : Held). gone c.args.id h.nodes.tree) c.self.view_is;
+    }

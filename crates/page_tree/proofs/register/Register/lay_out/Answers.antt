@@ -4,10 +4,11 @@ use Rattle.node_arena.specs.Plain.{Nodes}
 use Rattle.placing.specs.declared.node.Node.{Node}
 use Rattle.placing.specs.Nodes.{bare}
 use Rattle.placing.specs.Walks.{state}
-use Rattle.box_layout.specs.Paths.{IsPathKept}
 use Rattle.std.specs.BTreeMap.{get}
 use Rattle.std.specs.Ordering.{nat_cmp}
 use Rattle.std.specs.Cmp.Lexicographic.{slice_cmp}
+use Rattle.box_layout.specs.LeafHeights.{AreMeasured}
+use Rattle.box_layout.specs.Paths.{IsPathKept}
 use Rattle.page_tree.proofs.Bares.{same_registered}
 use Rattle.page_tree.proofs.register.Register.lay_out.Goals as goal
 
@@ -17,3 +18,7 @@ invariant_of-self g c = same_registered (get (slice_cmp nat_cmp) c.self.inside.n
 pub returns-clause-paths : goal.returns-clause-paths
 returns-clause-paths g c =
     subst (λ (n : Nodes Node). OnOk c.walk_boxes.result (IsPathKept (bare n.tree) c.args.width c.args.height (state c.walk_boxes.new.tree c.walk_boxes.new.tally c.walk_boxes.new.passes (g.R.Ruler.log c.walk_boxes.new.ruler)))) c.self.view_is c.walk_boxes.ensures.paths
+
+pub returns-clause-leaves : goal.returns-clause-leaves
+returns-clause-leaves g c =
+    subst (λ (n : Nodes Node). OnOk c.walk_boxes.result (AreMeasured (bare n.tree) c.args.width c.args.height (state n c.args.tally.now c.args.passes.now (g.R.Ruler.log c.args.ruler.now)) (state c.walk_boxes.new.tree c.walk_boxes.new.tally c.walk_boxes.new.passes (g.R.Ruler.log c.walk_boxes.new.ruler)))) c.self.view_is c.walk_boxes.ensures.leaves

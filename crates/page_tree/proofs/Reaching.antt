@@ -1,0 +1,248 @@
+-- What an edit leaves in the kept lists of a page: the lists of the nodes of the reached names are empty, and all others are as they were.
+use Rattle.std.proofs.Common.{◌≡◌, ◌≤◌, Bool, true, false, ◌&&◌, List, [], ◌∷◌, Option, Some, None, IsSome, is_some, cond, refl, sym, ap, subst, ◌∙◌, arith, inl, inr}
+use Rattle.std.specs.Prelude.{◌||◌, ◌⊎◌, if◌then◌else◌}
+use Rattle.std.specs.Str.{bytes_eq}
+use Rattle.std.proofs.lemmas.Bool.{or_left, or_right}
+use Rattle.plain_tree.specs.Trees.{leafless, tree, height_of}
+use Rattle.node_arena.specs.declared.number.NodeId.{NodeId}
+use Rattle.node_arena.specs.Numbers.{EachNode, IsDistinct, Part, is_among, part_at, same, times, top_numbers, value_at, value_of}
+use Rattle.node_arena.proofs.Changed.{height_mapped, times_mapped, tops_mapped}
+use Rattle.node_arena.proofs.Parts.{each_weaker, numbered}
+use Rattle.node_arena.proofs.Same.{by_place, part_after, part_below, part_here, part_some, part_there, same_is}
+use Rattle.layout_cache.specs.Reach.{forgets, forgot, reached_by}
+use Rattle.doc_text.specs.Label.{Label}
+use Rattle.doc_text.specs.Texts.{Word}
+use Rattle.doc_text.proofs.Grown.{own_name}
+use Rattle.tree_rules.specs.declared.query.Query.{Query}
+use Rattle.placing.specs.declared.node.Answer.{Answer}
+use Rattle.placing.specs.declared.node.Node.{Node}
+use Rattle.placing.specs.Keeping.{without_answers}
+use Rattle.placing.specs.Kept.{IsRight, kept_at, kept_of}
+use Rattle.placing.specs.Nodes.{NodeTrees, bare}
+use Rattle.placing.proofs.KeptTrees.{forgets_bare, forgets_kept}
+use Rattle.reach_frame.specs.Local.{IsLocal}
+use Rattle.reach_frame.specs.Marks.{has_mark, is_reached}
+use Rattle.reach_frame.proofs.Calm.{not_later}
+use Rattle.reach_frame.proofs.Frame.{not_both}
+use Rattle.reach_frame.proofs.Marked.{all_found}
+use Rattle.reach_frame.proofs.Unreached.{node_sub, right_after}
+use Rattle.page_tree.specs.Documents.{label_of, plain_trees}
+use Rattle.page_tree.specs.Reach.{KeepsOn, is_subgrid_node}
+use Rattle.page_tree.specs.Registers.{AreNamed, Tells}
+use Rattle.page_tree.proofs.Subgrids.{AreSubgrids}
+
+-- ---- names and numbers
+module _ (name : Word) (k : NodeId) (marks : Word → Bool) (touched : NodeId → Bool) (grid : Bool) where
+  same_marks : (s : NodeTrees) → EachNode (λ x. touched x.0 ≡ marks x.1.name) s → has_mark (λ (l : Label). marks l.name) (plain_trees s) ≡ has_mark (λ (x : NodeId × Node). touched x.0) s
+  same_marks leafless m = refl
+  same_marks (tree x below after) m = λ i. sym m.0 i || (same_marks below m.1.0 i || same_marks after m.1.1 i)
+
+  pub plain_reached : (felt : Bool) (s : NodeTrees) → Tells k name s → EachNode (λ x. touched x.0 ≡ marks x.1.name) s → AreSubgrids s →
+      is_reached (λ (l : Label). bytes_eq l.name name) (λ (l : Label). marks l.name) is_subgrid_node grid felt (plain_trees s)
+      ≡ is_reached (λ (x : NodeId × Node). same x.0 k) (λ (x : NodeId × Node). touched x.0) (λ (x : NodeId × Node). node_sub x.1) grid felt s
+  plain_reached felt leafless n m g = refl
+  plain_reached felt (tree x below after) n m g =
+      (λ i. (sym n.0 i && (sym m.0 i || (same_marks below m.1.0 i || (felt && sym g.0 i))))
+      || (is_reached (λ (l : Label). bytes_eq l.name name) (λ (l : Label). marks l.name) is_subgrid_node grid ((grid && sym m.0 i) || (felt && sym g.0 i)) (plain_trees below)
+      || plain_reached felt after n.1.1 m.1.1 g.1.1 i))
+      ∙ ap (λ b. (same x.0 k && (touched x.0 || (has_mark (λ (y : NodeId × Node). touched y.0) below || (felt && node_sub x.1))))
+      || (b || is_reached (λ (y : NodeId × Node). same y.0 k) (λ (y : NodeId × Node). touched y.0) (λ (y : NodeId × Node). node_sub y.1) grid felt after))
+      (plain_reached ((grid && touched x.0) || (felt && node_sub x.1)) below n.1.0 m.1.0 g.1.0)
+
+-- a marked node is reached
+pub marked_reached : (name : Word) (marks : Word → Bool) (grid felt : Bool) (s : NodeTrees) (k : NodeId) (q : Part Node) → part_at s k ≡ Some q → q.0.name ≡ name → marks name ≡ true →
+    is_reached (λ (l : Label). bytes_eq l.name name) (λ (l : Label). marks l.name) is_subgrid_node grid felt (plain_trees s) ≡ true
+marked_reached name marks grid felt leafless k q e n m = absurd cc
+marked_reached name marks grid felt (tree x below after) k q e n m =
+    by_place x below k
+    (λ h. let is : x.1.name ≡ name = ap (λ (p : Part Node). p.0.name) (some_part (x.1, below) q (sym (part_here x below after k h) ∙ e)) ∙ n in
+    or_left _ _ (both (ap (λ z. bytes_eq z name) is ∙ own_name name) (or_left _ _ (ap marks is ∙ m))))
+    (λ h. or_right _ _ (or_left _ _ (marked_reached name marks grid ((grid && marks x.1.name) || (felt && is_subgrid_node (label_of x.1))) below k q (sym (part_below x below after k h) ∙ e) n m)))
+    (λ h. or_right _ _ (or_right _ _ (marked_reached name marks grid felt after k q (sym (part_after x below after k h) ∙ e) n m)))
+  where
+    some_part : (a b : Part Node) → Some a ≡ Some b → a ≡ b
+    some_part a b e = cc
+
+    both : {a b : Bool} → a ≡ true → b ≡ true → (a && b) ≡ true
+    both e f = λ i. e i && f i
+
+-- ---- facts of each node
+pub there_in : (s : NodeTrees) (k : NodeId) (v : Node) → value_at s k ≡ Some v → IsSome (part_at s k)
+there_in s k v e = at (part_at s k) refl e
+  where
+    at : (o : Option (Part Node)) → part_at s k ≡ o → value_of o ≡ Some v → IsSome (part_at s k)
+    at None f g = absurd cc
+    at (Some q) f g = ap is_some f
+
+pub each_with : (P Q R : NodeId × Node → Type 0) (t : NodeTrees) → ((x : NodeId × Node) → P x → Q x → R x) → EachNode P t → EachNode Q t → EachNode R t
+each_with P Q R leafless h p q = tt
+each_with P Q R (tree x below after) h p q = (h x p.0 q.0, (each_with P Q R below h p.1.0 q.1.0, each_with P Q R after h p.1.1 q.1.1))
+
+pub each_at : (P : NodeId × Node → Type 0) (t : NodeTrees) (k : NodeId) (v : Node) → EachNode P t → value_at t k ≡ Some v → P (k, v)
+each_at P leafless k v p e = absurd cc
+each_at P (tree x below after) k v p e =
+    by_place x below k
+    (λ h. let value : x.1 ≡ v = some_node x.1 v (ap value_of (sym (part_here x below after k h)) ∙ e) in
+    subst P (λ i. (same_is x.0 k h.is i, value i)) p.0)
+    (λ h. each_at P below k v p.1.0 (ap value_of (sym (part_below x below after k h)) ∙ e))
+    (λ h. each_at P after k v p.1.1 (ap value_of (sym (part_after x below after k h)) ∙ e))
+  where
+    some_node : (a b : Node) → Some a ≡ Some b → a ≡ b
+    some_node a b e = cc
+
+-- a fact that holds whatever is kept holds once answers are let go
+each_forgot : (P : NodeId × Node → Type 0) (n : NodeId) (t : NodeTrees) → EachNode (λ x. (ks : List (Query × Answer)) → P (x.0, record x.1 { kept = ks })) t → EachNode (λ x. (ks : List (Query × Answer)) → P (x.0, record x.1 { kept = ks })) (forgot without_answers n t)
+each_forgot P n leafless h = tt
+each_forgot P n (tree x below after) h = (at (same x.0 n), (each_forgot P n below h.1.0, each_forgot P n after h.1.1))
+  where
+    at : (c : Bool) (ks : List (Query × Answer)) → P (x.0, record (cond c (without_answers x.1) x.1) { kept = ks })
+    at true ks = h.0 ks
+    at false ks = h.0 ks
+
+each_forgets : (P : NodeId × Node → Type 0) (ns : List NodeId) (t : NodeTrees) → EachNode (λ x. (ks : List (Query × Answer)) → P (x.0, record x.1 { kept = ks })) t → EachNode P (forgets without_answers ns t)
+each_forgets P [] t h = each_weaker (λ x. (ks : List (Query × Answer)) → P (x.0, record x.1 { kept = ks })) P t (λ x f. f x.1.kept) h
+each_forgets P (n ∷ ns) t h = each_forgets P ns (forgot without_answers n t) (each_forgot P n t h)
+
+own_kept : (t : NodeTrees) → IsDistinct t → EachNode (λ x. x.1.kept ≡ kept_at t x.0) t
+unfolding kept_at
+own_kept t d = each_weaker (λ x. value_at t x.0 ≡ Some x.1) (λ x. x.1.kept ≡ kept_at t x.0) t (λ x e. sym (ap kept_of e)) (numbered t d).each
+
+times_forgets : (ns : List NodeId) (t : NodeTrees) (n : NodeId) → times n (forgets without_answers ns t) ≡ times n t
+times_forgets [] t n = refl
+times_forgets (m ∷ ns) t n = times_forgets ns (forgot without_answers m t) n ∙ times_mapped (λ k v. if same k m then without_answers v else v) n t
+
+tops_forgets : (ns : List NodeId) (t : NodeTrees) → top_numbers (forgets without_answers ns t) ≡ top_numbers t
+tops_forgets [] t = refl
+tops_forgets (m ∷ ns) t = tops_forgets ns (forgot without_answers m t) ∙ tops_mapped (λ k v. if same k m then without_answers v else v) t
+
+height_forgets : (ns : List NodeId) (t : NodeTrees) → height_of (forgets without_answers ns t) ≡ height_of t
+height_forgets [] t = refl
+height_forgets (m ∷ ns) t = height_forgets ns (forgot without_answers m t) ∙ height_mapped (λ k v. if same k m then without_answers v else v) t
+
+-- ---- a changed tree
+-- a node of it is touched and keeps nothing, or it stood in the old one and keeps what it kept there
+abbrev pub IsFrom : List NodeId → NodeTrees → NodeId × Node → Type 0
+IsFrom ts t x =
+    ((is_among x.0 ts ≡ true) × (x.1.kept ≡ []))
+    ⊎ ((v : Node) × ((value_at t x.0 ≡ Some v) × ((v.name ≡ x.1.name) × ((v.kind ≡ x.1.kind) × (x.1.kept ≡ v.kept)))))
+
+pub record IsChange (ts : List NodeId) (grid : Bool) (marks : Word → Bool) (t u : NodeTrees) : Type 0 where
+  pub local : IsLocal (λ n. is_among n ts) grid (bare t) (bare u)
+  pub before : EachNode (λ x. is_among x.0 ts ≡ marks x.1.name) t
+  pub after : EachNode (λ x. is_among x.0 ts ≡ marks x.1.name) u
+  pub nodes : EachNode (IsFrom ts t) u
+
+-- what is needed of both trees
+pub record IsWhole (root : NodeId) (t : NodeTrees) : Type 0 where
+  pub distinct : IsDistinct t
+  pub tops : top_numbers t ≡ root ∷ []
+  pub low : height_of t ≤ 64
+  pub named : AreNamed t
+  pub subgrids : AreSubgrids t
+
+module _ (ts : List NodeId) (grid : Bool) (marks : Word → Bool) (root : NodeId) (t u : NodeTrees) (wt : IsWhole root t) (wu : IsWhole root u) (c : IsChange ts grid marks t u) where
+  abbrev found : List NodeId
+  found = reached_by node_sub t ts grid
+
+  abbrev left : NodeTrees
+  left = forgets without_answers found u
+
+  -- the node of a name is reached
+  abbrev pub reaches_in : NodeTrees → Word → Bool
+  reaches_in s name = is_reached (λ (l : Label). bytes_eq l.name name) (λ (l : Label). marks l.name) is_subgrid_node grid false (plain_trees s)
+
+  abbrev touches : Word → Bool
+  touches name = reaches_in t name || reaches_in u name
+
+  -- a touched node that keeps nothing
+  new_touched : (x : NodeId × Node) → value_at u x.0 ≡ Some x.1 → is_among x.0 ts ≡ marks x.1.name → is_among x.0 ts ≡ true → touches x.1.name ≡ true
+  new_touched x e m h = at (part_at u x.0) refl e
+    where
+      at : (o : Option (Part Node)) → part_at u x.0 ≡ o → value_of o ≡ Some x.1 → touches x.1.name ≡ true
+      at None f g = absurd cc
+      at (Some q) f g = or_right _ _ (marked_reached x.1.name marks grid false u x.0 q f (ap (λ (v : Node). v.name) (some_node q.0 x.1 g)) (sym m ∙ h))
+        where
+          some_node : (a b : Node) → Some a ≡ Some b → a ≡ b
+          some_node a b e = cc
+
+  -- a node that stood there
+  old_reached : (k : NodeId) (v : Node) → value_at t k ≡ Some v → reaches_in t v.name ≡ is_among k found
+  old_reached k v e =
+      plain_reached v.name k marks (λ n. is_among n ts) grid false t (each_at (λ x. Tells x.0 x.1.name t) t k v wt.named e) c.before wt.subgrids
+      ∙ sym (all_found node_sub t ts grid k wt.distinct)
+
+  calm_touched : (x : NodeId × Node) (v : Node) → value_at u x.0 ≡ Some x.1 → value_at t x.0 ≡ Some v → v.name ≡ x.1.name → is_among x.0 found ≡ false → touches x.1.name ≡ false
+  calm_touched x v new old n e =
+      λ i. (ap (reaches_in t) (sym n) ∙ old_reached x.0 v old ∙ e) i
+      || (plain_reached x.1.name x.0 marks (λ m. is_among m ts) grid false u (each_at (λ y. Tells y.0 y.1.name u) u x.0 x.1 wu.named new) c.after wu.subgrids
+      ∙ not_later t u wt.distinct wu.distinct root wt.tops wu.tops wt.low wu.low ts grid c.local x.0 (there_in t x.0 v old) (there_in u x.0 x.1 new) e) i
+
+  kept_left : (k : NodeId) (b : Bool) → is_among k found ≡ b → kept_at left k ≡ (if b then [] else kept_at u k)
+  kept_left k b e = forgets_kept found u k ∙ ap (λ z. cond z [] (kept_at u k)) e
+
+  own_at : (s : NodeTrees) (k : NodeId) (v : Node) → value_at s k ≡ Some v → kept_at s k ≡ v.kept
+  unfolding kept_at
+  own_at s k v e = ap kept_of e
+
+  not_both_ways : {P : Type 0} (b : Bool) → b ≡ true → b ≡ false → P
+  not_both_ways b e f = absurd (not_both b e f)
+
+  keeps : (x : NodeId × Node) → value_at u x.0 ≡ Some x.1 → is_among x.0 ts ≡ marks x.1.name → IsFrom ts t x → (ks : List (Query × Answer)) → ks ≡ kept_at left x.0 → KeepsOn (touches x.1.name) t (x.0, record x.1 { kept = ks })
+  keeps x e m (inl new) ks k =
+      let touched = new_touched x e m new.0 in
+      record {
+        kept = k ∙ at (is_among x.0 found) refl ∙ sym (ap (λ b. cond b [] (kept_at t x.0)) touched);
+        stood = λ f. not_both_ways (touches x.1.name) touched f;
+      }
+    where
+      at : (b : Bool) → is_among x.0 found ≡ b → kept_at left x.0 ≡ []
+      at true f = kept_left x.0 true f
+      at false f = kept_left x.0 false f ∙ own_at u x.0 x.1 e ∙ new.1
+  keeps x e m (inr old) ks k = at (is_among x.0 found) refl
+    where
+      v : Node
+      v = old.0
+
+      at : (b : Bool) → is_among x.0 found ≡ b → KeepsOn (touches x.1.name) t (x.0, record x.1 { kept = ks })
+      at true f =
+          let touched : touches x.1.name ≡ true = or_left _ _ (ap (reaches_in t) (sym old.1.1.0) ∙ old_reached x.0 v old.1.0 ∙ f) in
+          record {
+            kept = k ∙ kept_left x.0 true f ∙ sym (ap (λ b. cond b [] (kept_at t x.0)) touched);
+            stood = λ g. not_both_ways (touches x.1.name) touched g;
+          }
+      at false f =
+          let calm = calm_touched x v e old.1.0 old.1.1.0 f in
+          record {
+            kept = k ∙ kept_left x.0 false f ∙ own_at u x.0 x.1 e ∙ old.1.1.1.1 ∙ sym (own_at t x.0 v old.1.0) ∙ sym (ap (λ b. cond b [] (kept_at t x.0)) calm);
+            stood = λ g. (v, (old.1.0, (old.1.1.0, old.1.1.1.0)));
+          }
+
+  pub kept_after : EachNode (λ x. KeepsOn (touches x.1.name) t x) left
+  kept_after =
+      each_with (λ x. x.1.kept ≡ kept_at left x.0) (λ x. x.1.kept ≡ kept_at left x.0 → KeepsOn (touches x.1.name) t x) (λ x. KeepsOn (touches x.1.name) t x) left (λ x p f. f p)
+      (own_kept left (λ n. omega (arith, times_forgets found u n, wu.distinct n)))
+      (each_forgets (λ x. x.1.kept ≡ kept_at left x.0 → KeepsOn (touches x.1.name) t x) found u
+      (each_with (λ x. (value_at u x.0 ≡ Some x.1) × (is_among x.0 ts ≡ marks x.1.name)) (IsFrom ts t) (λ x. (ks : List (Query × Answer)) → ks ≡ kept_at left x.0 → KeepsOn (touches x.1.name) t (x.0, record x.1 { kept = ks })) u (λ x p f. keeps x p.0 p.1 f)
+      (each_with (λ x. value_at u x.0 ≡ Some x.1) (λ x. is_among x.0 ts ≡ marks x.1.name) (λ x. (value_at u x.0 ≡ Some x.1) × (is_among x.0 ts ≡ marks x.1.name)) u (λ x p q. (p, q)) (numbered u wu.distinct).each c.after) c.nodes))
+
+  pub right_left : IsRight t → IsRight left
+  right_left r =
+      right_after t left wt.distinct (λ n. omega (arith, times_forgets found u n, wu.distinct n)) root wt.tops (tops_forgets found u ∙ wu.tops) wt.low (omega (arith, height_forgets found u, wu.low)) ts grid
+      (subst (λ b. IsLocal (λ n. is_among n ts) grid (bare t) b) (sym (forgets_bare found u)) c.local) r (λ n l. at n (value_at u n) refl (value_there n l))
+    where
+      value_there : (n : NodeId) → IsSome (part_at left n) → IsSome (value_at u n)
+      value_there n l = by (part_at u n) refl
+        where
+          by : (o : Option (Part Node)) → part_at u n ≡ o → IsSome (value_of (part_at u n))
+          by None f = let none : 1 ≤ times n u = omega (arith, part_there left n l, times_forgets found u n) in let some = part_some u n none in absurd cc
+          by (Some q) f = ap (λ o. is_some (value_of o)) f
+
+      or_not : (x : NodeId × Node) → value_at u x.0 ≡ Some x.1 → IsFrom ts t x → (b : Bool) → is_among x.0 found ≡ b →
+          (kept_at left x.0 ≡ []) ⊎ ((IsSome (part_at t x.0) × (is_among x.0 found ≡ false)) × (kept_at left x.0 ≡ kept_at t x.0))
+      or_not x e f true g = inl (kept_left x.0 true g)
+      or_not x e (inl new) false g = inl (kept_left x.0 false g ∙ own_at u x.0 x.1 e ∙ new.1)
+      or_not x e (inr old) false g = inr ((there_in t x.0 old.0 old.1.0, g), kept_left x.0 false g ∙ own_at u x.0 x.1 e ∙ old.1.1.1.1 ∙ sym (own_at t x.0 old.0 old.1.0))
+
+      at : (n : NodeId) (o : Option Node) → value_at u n ≡ o → IsSome o → (kept_at left n ≡ []) ⊎ ((IsSome (part_at t n) × (is_among n found ≡ false)) × (kept_at left n ≡ kept_at t n))
+      at n None e l = absurd cc
+      at n (Some v) e l = or_not (n, v) e (each_at (IsFrom ts t) u n v c.nodes e) (is_among n found) refl
