@@ -1,5 +1,5 @@
 -- What a layout tells its ruler.
-use Rattle.std.proofs.Common.{◌≡◌, refl, subst, ℕ, List, [], ◌∷◌, length, Option, None, Ok}
+use Rattle.std.proofs.Common.{◌≡◌, refl, ap, subst, ◌∙◌, ℕ, Bool, List, [], ◌∷◌, ◌++◌, length, Option, None, Ok}
 use Rattle.outside.specs.Told.{Stays, Adds}
 use Rattle.outside.specs.declared.event.Event.{Event}
 use Rattle.outside.specs.declared.event.Event.TheVariants.{Begin}
@@ -8,6 +8,10 @@ use Rattle.doc_text.specs.declared.document.Doc.{Doc}
 use Rattle.placing.specs.Walks.{rising, state}
 use Rattle.placing.proofs.Walks.{walk_none}
 use Rattle.page_tree.specs.Pages.{Held}
+use Rattle.session.specs.Boxes.{boxes_of}
+use Rattle.session.specs.Printing.{Box, print, counts}
+use Rattle.session.specs.Script.{text_of}
+use Rattle.session.specs.Written.{Prints}
 use Rattle.session.specs.Laying.{Measures, LaysOut, KeepsMore}
 use Rattle.session.specs.Standing.{IsSound}
 use Rattle.session.specs.Logs.{Logs, LogsFront}
@@ -52,4 +56,23 @@ laid_logs a c k doc measured p =
 pub laid_front : (a c : Option (List Event)) (k : ℕ) (doc : Doc) (measured : ℕ) → LaysOut k doc a c measured → LogsFront a c k (Ok doc ∷ [])
 laid_front a c k doc measured p = front_all a c k (Ok doc ∷ []) (laid_logs a c k doc measured p)
 
-pub ruleset laid_text = (laid_logs, laid_front)
+-- its text, with its counts where they are wanted
+pub laid_prints : (stats : Bool) (a c : Option (List Event)) (k : ℕ) (doc : Doc) (measured added : ℕ) (boxes : List Box) (old new : List ℕ) → LaysOut k doc a c measured → boxes ≡ boxes_of doc
+    → old ≡ print k boxes → new ≡ old ++ counts stats measured added → Prints stats a c k (Ok doc) new
+unfolding text_of
+laid_prints stats a c k doc measured added boxes old new p b o n =
+    record {
+      told = Begin k ∷ p.events;
+      log = p.log;
+      each = record {
+        measured = p.events;
+        parts = refl;
+        each = p.each;
+        added = added;
+        text =
+            n ∙ ap (λ (x : List ℕ). x ++ counts stats measured added) (o ∙ ap (print k) b)
+            ∙ ap (λ (m : ℕ). print k (boxes_of doc) ++ counts stats m added) p.count;
+      };
+    }
+
+pub ruleset laid_text = (laid_prints, laid_front)

@@ -1,6 +1,7 @@
 pub mod Options
 pub mod Pieces
 pub mod Logs
+pub mod Written
 pub mod Measured
 pub mod Lain
 pub mod Laid
@@ -16,3 +17,4 @@ pub mod Serving
 pub mod Progress
 pub mod Running
 pub mod Finished
+pub mod Commands

@@ -4,18 +4,16 @@ use Rattle.std.specs.Prelude.{if◌then◌else◌}
 use Rattle.text_scan.specs.declared.line.Fault.{Fault}
 use Rattle.text_scan.specs.declared.line.Line.{Line}
 use Rattle.text_scan.specs.Tokens.{is_skipped}
-use Rattle.outside.specs.Told.{Adds}
 use Rattle.outside.specs.declared.event.Event.{Event}
-use Rattle.outside.proofs.Laws.{adds_more}
 use Rattle.doc_text.specs.declared.document.Doc.{Doc}
-use Rattle.session.specs.Logs.{Logs, LogsFront, LogsFrom}
+use Rattle.session.specs.Written.{Writes, WritesFront, WritesBehind}
 use Rattle.session.specs.Runs.{WritesAll, WritesFrom}
-use Rattle.session.specs.Script.{before_end, after_end, document_of_lines, made_of, made_in, made_from, next_doc, all_made, texts, text_of, is_refused, some_refused}
-use Rattle.session.specs.Outcome.{output_of}
+use Rattle.session.specs.Script.{before_end, after_end, document_of_lines, made_of, made_in, made_from, next_doc, all_made, is_refused, some_refused}
 use Rattle.session.specs.Serving.{Answers, AnswersPrefix, last_doc, IsLaid, HasAnswered}
-use Rattle.session.proofs.Due.{from_after, all_due}
-use Rattle.session.proofs.Logs.{Made, logs_more, from_more}
-use Rattle.session.proofs.Scripts.{one_made, has_more, before_more, after_more, made_push, texts_more, refused_push, last_push}
+use Rattle.session.proofs.Due.{all_due}
+use Rattle.session.proofs.Logs.{Made}
+use Rattle.session.proofs.Written.{writes_more, behind_more}
+use Rattle.session.proofs.Scripts.{one_made, has_more, before_more, after_more, made_push, refused_push, last_push}
 
 -- ---- what is made of one line more
 
@@ -43,12 +41,6 @@ module _ (given : List Line) (doc : Doc) (k : ℕ) (bad : Bool) (p : IsLaid give
       ap (λ (o : Result Doc Fault). made_from o (after_end (given ++ line ∷ []))) document_push
       ∙ ap (λ (m : List Made). Ok p.first ∷ m) script_push
       ∙ ap (λ (m : List Made). m ++ one_made doc line) (sym all_given)
-
-  output_push : output_of (given ++ line ∷ []) ≡ output_of given ++ texts k (one_made doc line)
-  output_push =
-      ap (texts 0) all_push
-      ∙ texts_more 0 (all_made given) (one_made doc line)
-      ∙ ap (λ (n : ℕ). output_of given ++ texts n (one_made doc line)) (omega (arith, p.count))
 
   -- the number of what is made next
   next_number : k ≡ 0 + length (all_made given)
@@ -90,52 +82,44 @@ module _ (given : List Line) (doc : Doc) (k : ℕ) (bad : Bool) (p : IsLaid give
         few = omega (arith, long, p.few);
       }
 
-  module _ (w w' : Option (List ℕ)) (l l' : Option (List Event)) where
-    wrote_skipped : is_skipped line ≡ true → WritesAll w w' l l' given → WritesAll w w' l l' (given ++ line ∷ [])
+  made_edit : is_skipped line ≡ false → all_made (given ++ line ∷ []) ≡ all_made given ++ made_of doc line ∷ []
+  made_edit e = all_push ∙ ap (λ (m : List Made). all_made given ++ m) (edit_one doc line e)
+
+  module _ (stats : Bool) (w w' : Option (List ℕ)) (l l' : Option (List Event)) where
+    wrote_skipped : is_skipped line ≡ true → WritesAll stats w w' l l' given → WritesAll stats w w' l l' (given ++ line ∷ [])
     wrote_skipped e q =
-        record {
-          written = subst (λ (x : List ℕ). Adds w w' x) (sym (output_push ∙ ap (λ (m : List Made). output_of given ++ texts k m) (skipped_one doc line e) ∙ append-nil (output_of given))) q.written;
-          log = subst (λ (m : List Made). Logs l l' 0 m) (sym (all_push ∙ ap (λ (m : List Made). all_made given ++ m) (skipped_one doc line e) ∙ append-nil (all_made given))) q.log;
-        }
+        subst (λ (m : List Made). Writes stats w w' l l' 0 m) (sym (all_push ∙ ap (λ (m : List Made). all_made given ++ m) (skipped_one doc line e) ∙ append-nil (all_made given))) q
 
-    output_edit : is_skipped line ≡ false → output_of (given ++ line ∷ []) ≡ output_of given ++ text_of k (made_of doc line)
-    output_edit e = output_push ∙ ap (λ (m : List Made). output_of given ++ texts k m) (edit_one doc line e) ∙ ap (λ (x : List ℕ). output_of given ++ x) (append-nil (text_of k (made_of doc line)))
-
-    made_edit : is_skipped line ≡ false → all_made (given ++ line ∷ []) ≡ all_made given ++ made_of doc line ∷ []
-    made_edit e = all_push ∙ ap (λ (m : List Made). all_made given ++ m) (edit_one doc line e)
-
-    wrote_edit : (w'' : Option (List ℕ)) (l'' : Option (List Event)) → is_skipped line ≡ false → WritesAll w w' l l' given → Answers w' w'' l' l'' k (made_of doc line) → WritesAll w w'' l l'' (given ++ line ∷ [])
+    wrote_edit : (w'' : Option (List ℕ)) (l'' : Option (List Event)) → is_skipped line ≡ false → WritesAll stats w w' l l' given → Answers stats w' w'' l' l'' k (made_of doc line)
+        → WritesAll stats w w'' l l'' (given ++ line ∷ [])
     wrote_edit w'' l'' e q a =
-        record {
-          written = adds_more w w' w'' (output_of given) (text_of k (made_of doc line)) _ q.written a.written (output_edit e);
-          log = subst (λ (m : List Made). Logs l l'' 0 m) (sym (made_edit e)) (logs_more l l' l'' 0 (all_made given) (made_of doc line ∷ []) q.log (subst (λ (n : ℕ). Logs l' l'' n (made_of doc line ∷ [])) next_number a.log));
-        }
+        subst (λ (m : List Made). Writes stats w w'' l l'' 0 m) (sym (made_edit e))
+        (writes_more stats w w' w'' l l' l'' (all_made given) (made_of doc line ∷ []) 0 q (subst (λ (n : ℕ). Writes stats w' w'' l' l'' n (made_of doc line ∷ [])) next_number a))
 
-    wrote_part : (w'' : Option (List ℕ)) (l'' : Option (List Event)) → is_skipped line ≡ false → WritesAll w w' l l' given → AnswersPrefix w' w'' l' l'' k (made_of doc line) → WritesFrom w w'' l l'' given (given ++ line ∷ [])
+    wrote_part : (w'' : Option (List ℕ)) (l'' : Option (List Event)) → is_skipped line ≡ false → WritesAll stats w w' l l' given → AnswersPrefix stats w' w'' l' l'' k (made_of doc line)
+        → WritesFrom stats w w'' l l'' given (given ++ line ∷ [])
     wrote_part w'' l'' e q a =
-        all_due w w'' l l'' given (given ++ line ∷ []) p.ended
-        (record {
-          written = from_after w w' w'' (output_of given) (text_of k (made_of doc line)) _ q.written a.written (output_edit e);
-          log = subst (λ (m : List Made). LogsFrom l l'' (all_made given) m) (sym (made_edit e)) (from_more l l' l'' (all_made given) (made_of doc line ∷ []) q.log (subst (λ (n : ℕ). LogsFront l' l'' n (made_of doc line ∷ [])) next_number a.log));
-        })
+        all_due stats w w'' l l'' given (given ++ line ∷ []) p.ended
+        (subst (λ (m : List Made). WritesBehind stats w w'' l l'' (all_made given) m) (sym (made_edit e))
+        (behind_more stats w w' w'' l l' l'' (all_made given) (made_of doc line ∷ []) q (subst (λ (n : ℕ). WritesFront stats w' w'' l' l'' n (made_of doc line ∷ [])) next_number a)))
 
 -- ---- how far a run is
 
-module _ (w w' : Option (List ℕ)) (l l' : Option (List Event)) (given : List Line) (doc : Doc) (k : ℕ) (bad : Bool) (line : Line) (p : HasAnswered w w' l l' given doc k bad) where
-  pub skips : is_skipped line ≡ true → HasAnswered w w' l l' (given ++ line ∷ []) doc k bad
-  skips e = record { laid = laid_skipped given doc k bad p.laid line e; output = wrote_skipped given doc k bad p.laid line w w' l l' e p.output }
+module _ (stats : Bool) (w w' : Option (List ℕ)) (l l' : Option (List Event)) (given : List Line) (doc : Doc) (k : ℕ) (bad : Bool) (line : Line) (p : HasAnswered stats w w' l l' given doc k bad) where
+  pub skips : is_skipped line ≡ true → HasAnswered stats w w' l l' (given ++ line ∷ []) doc k bad
+  skips e = record { laid = laid_skipped given doc k bad p.laid line e; output = wrote_skipped given doc k bad p.laid line stats w w' l l' e p.output }
 
   pub answers : (w'' : Option (List ℕ)) (l'' : Option (List Event)) (next : Doc) (refused : Bool) → is_skipped line ≡ false → (next ≡ next_doc doc (made_of doc line)) × (refused ≡ is_refused (made_of doc line))
-      → Answers w' w'' l' l'' k (made_of doc line) → HasAnswered w w'' l l'' (given ++ line ∷ []) next (k + 1) (bad || refused)
+      → Answers stats w' w'' l' l'' k (made_of doc line) → HasAnswered stats w w'' l l'' (given ++ line ∷ []) next (k + 1) (bad || refused)
   answers w'' l'' next refused e n a =
       record {
         laid =
             subst (λ (d : Doc). IsLaid (given ++ line ∷ []) d (k + 1) (bad || refused)) (sym n.0)
             (subst (λ (b : Bool). IsLaid (given ++ line ∷ []) (next_doc doc (made_of doc line)) (k + 1) (bad || b)) (sym n.1) (laid_edit given doc k bad p.laid line e));
-        output = wrote_edit given doc k bad p.laid line w w' l l' w'' l'' e p.output a;
+        output = wrote_edit given doc k bad p.laid line stats w w' l l' w'' l'' e p.output a;
       }
 
-  pub answers_part : (w'' : Option (List ℕ)) (l'' : Option (List Event)) → is_skipped line ≡ false → AnswersPrefix w' w'' l' l'' k (made_of doc line) → WritesFrom w w'' l l'' given (given ++ line ∷ [])
-  answers_part w'' l'' e a = wrote_part given doc k bad p.laid line w w' l l' w'' l'' e p.output a
+  pub answers_part : (w'' : Option (List ℕ)) (l'' : Option (List Event)) → is_skipped line ≡ false → AnswersPrefix stats w' w'' l' l'' k (made_of doc line) → WritesFrom stats w w'' l l'' given (given ++ line ∷ [])
+  answers_part w'' l'' e a = wrote_part given doc k bad p.laid line stats w w' l l' w'' l'' e p.output a
 
 pub ruleset line_answering = (skips, answers, answers_part)

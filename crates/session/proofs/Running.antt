@@ -7,20 +7,21 @@ use Rattle.text_scan.specs.Lines.{is_line_feed, has_line_feed, ends_line, whole_
 use Rattle.text_scan.specs.Stream.{Stream, HasRead}
 use Rattle.text_scan.proofs.Splits.{split_append, numbered_append}
 use Rattle.outside.specs.Faults.{HasCauseOf}
-use Rattle.outside.specs.Told.{Adds, AddsPrefix, Loses}
+use Rattle.outside.specs.Told.{Loses}
 use Rattle.outside.specs.declared.event.Event.{Event}
-use Rattle.outside.proofs.Laws.{stays_same, prefix_all}
+use Rattle.outside.proofs.Laws.{stays_same}
 use Rattle.doc_text.specs.declared.document.Doc.{Doc}
 use Rattle.doc_text.specs.Documents.{document_of}
-use Rattle.session.specs.Logs.{Logs, LogsFront}
+use Rattle.session.specs.Written.{Writes, WritesFront}
 use Rattle.session.specs.Input.{limit, IsFront, AreFirst, HasLastPiece, HasGiven, HasGivenLine, HasGivenAll, Stops}
-use Rattle.session.specs.Script.{is_end_of_document, has_end, before_end, after_end, document_of_lines, made_in, made_from, all_made, texts, text_of, is_refused, some_refused}
-use Rattle.session.specs.Outcome.{output_of, answer_of, verdict_of, early_lines}
+use Rattle.session.specs.Script.{is_end_of_document, has_end, before_end, after_end, document_of_lines, made_in, made_from, all_made, is_refused, some_refused}
+use Rattle.session.specs.Outcome.{answer_of, verdict_of, early_lines}
 use Rattle.session.specs.Runs.{StopsWriting, WritesAll, WritesPrefix, WritesFrom, Stands, HasEndInLast, IsWhole, IsEnded, EndsEarly, Judged, Runs}
 use Rattle.session.specs.Serving.{HasText, HasReadText, StopsInText, Answers, AnswersPrefix, EndsFirst, last_doc, HasAnswered, IsAt, ended}
 use Rattle.session.specs.declared.status.Status.{Status}
 use Rattle.session.specs.declared.status.Status.TheVariants.{Done, BadDocument, SomeRefused, ReadFault, WriteFault, NoMemory, InputLimit, BadWords}
-use Rattle.session.proofs.Logs.{Made, front_all}
+use Rattle.session.proofs.Logs.{Made}
+use Rattle.session.proofs.Written.{front_all}
 use Rattle.session.proofs.Scripts.{has_more, before_none, after_none}
 use Rattle.session.proofs.Pieces.{first_given}
 use Rattle.session.proofs.Due.{none_due, prefix_due}
@@ -73,15 +74,12 @@ module _ (given lines : List Line) (p : IsJust given lines) where
       one_made (Err fault) = refl
       one_made (Ok doc) = refl
 
-  just_output : output_of given ≡ text_of 0 (document_of_lines lines)
-  just_output = ap (texts 0) just_made ∙ append-nil (text_of 0 (document_of_lines lines))
+  module _ (stats : Bool) (w w' : Option (List ℕ)) (l l' : Option (List Event)) where
+    wrote_first : Answers stats w w' l l' 0 (document_of_lines lines) → WritesAll stats w w' l l' given
+    wrote_first a = subst (λ (m : List Made). Writes stats w w' l l' 0 m) (sym just_made) a
 
-  module _ (w w' : Option (List ℕ)) (l l' : Option (List Event)) where
-    wrote_first : Answers w w' l l' 0 (document_of_lines lines) → WritesAll w w' l l' given
-    wrote_first a = record { written = subst (λ (x : List ℕ). Adds w w' x) (sym just_output) a.written; log = subst (λ (m : List Made). Logs l l' 0 m) (sym just_made) a.log }
-
-    wrote_first_part : AnswersPrefix w w' l l' 0 (document_of_lines lines) → WritesPrefix w w' l l' given
-    wrote_first_part a = record { written = subst (λ (x : List ℕ). AddsPrefix w w' x) (sym just_output) a.written; log = subst (λ (m : List Made). LogsFront l l' 0 m) (sym just_made) a.log }
+    wrote_first_part : AnswersPrefix stats w w' l l' 0 (document_of_lines lines) → WritesPrefix stats w w' l l' given
+    wrote_first_part a = subst (λ (m : List Made). WritesFront stats w w' l l' 0 m) (sym just_made) a
 
 -- ---- the lines that are whole in the first bytes of a longer input
 
@@ -154,16 +152,16 @@ module _ (left left' : Option (List ℕ)) where
   ended_or_whole taken given (inl e) = inl e.0
   ended_or_whole taken given (inr w) = inr w
 
-module _ (left left' w w' : Option (List ℕ)) (l l' : Option (List Event)) where
-  part_of_all : (given : List Line) → WritesAll w w' l l' given → WritesPrefix w w' l l' given
-  part_of_all given a = record { written = prefix_all w w' (output_of given) a.written; log = front_all l l' 0 (all_made given) a.log }
+module _ (stats : Bool) (left left' w w' : Option (List ℕ)) (l l' : Option (List Event)) where
+  part_of_all : (given : List Line) → WritesAll stats w w' l l' given → WritesPrefix stats w w' l l' given
+  part_of_all given a = front_all stats w w' l l' 0 (all_made given) a
 
   -- reading stopped
-  wanted : (taken : List ℕ) (given : List Line) → Stands w w' l l' given → Judged left left' w w' l l' taken given NoMemory
+  wanted : (taken : List ℕ) (given : List Line) → Stands stats w w' l l' given → Judged stats left left' w w' l l' taken given NoMemory
   wanted taken given (inl s) = inl s.1
   wanted taken given (inr s) = inr (record { input = inl s.0; output = part_of_all given s.2 })
 
-  stopped : (given : List Line) (status : Status) → Stops left left' given status → Stands w w' l l' given → Runs left left' w w' l l' status
+  stopped : (given : List Line) (status : Status) → Stops left left' given status → Stands stats w w' l l' given → Runs stats left left' w w' l l' status
   stopped given Done s q = absurd s
   stopped given BadDocument s q = absurd s
   stopped given SomeRefused s q = absurd s
@@ -175,33 +173,33 @@ module _ (left left' w w' : Option (List ℕ)) (l l' : Option (List Event)) wher
 
   -- the document was refused, or its first layout was not written
   ends_first : (taken : List ℕ) (given lines : List Line) (status : Status) → IsJust given lines → Loses left left' taken → AreFirst left given → IsEnded left left' taken given
-      → (WritesPrefix w w' l l' given → Judged left left' w w' l l' taken given WriteFault)
-      → EndsFirst w w' l l' (document_of_lines lines) status → Runs left left' w w' l l' status
+      → (WritesPrefix stats w w' l l' given → Judged stats left left' w w' l l' taken given WriteFault)
+      → EndsFirst stats w w' l l' (document_of_lines lines) status → Runs stats left left' w w' l l' status
   ends_first taken given lines status j t f e s p = record { taken = taken; given = given; took = t; first = f; judged = judged_first status p }
     where
-      judged_first : (status : Status) → EndsFirst w w' l l' (document_of_lines lines) status → Judged left left' w w' l l' taken given status
+      judged_first : (status : Status) → EndsFirst stats w w' l l' (document_of_lines lines) status → Judged stats left left' w w' l l' taken given status
       judged_first Done p = absurd p
-      judged_first BadDocument p = record { input = e; answer = ap (λ (l : List Line). is_refused (document_of_lines l)) j.before ∙ p.0; output = wrote_first given lines j w w' l l' p.1 }
+      judged_first BadDocument p = record { input = e; answer = ap (λ (l : List Line). is_refused (document_of_lines l)) j.before ∙ p.0; output = wrote_first given lines j stats w w' l l' p.1 }
       judged_first SomeRefused p = absurd p
       judged_first ReadFault p = absurd p
-      judged_first WriteFault p = s (wrote_first_part given lines j w w' l l' p)
-      judged_first NoMemory p = inr (record { input = ended_or_whole left left' taken given e; output = wrote_first_part given lines j w w' l l' p })
+      judged_first WriteFault p = s (wrote_first_part given lines j stats w w' l l' p)
+      judged_first NoMemory p = inr (record { input = ended_or_whole left left' taken given e; output = wrote_first_part given lines j stats w w' l l' p })
       judged_first InputLimit p = absurd p
       judged_first BadWords p = absurd p
 
   -- writing stopped at a line of the script
   pub part_written : (earlier : List Line) (line : Line) (stream : Stream) (ended : Bool) (status : Status) → HasGivenLine left left' earlier line stream ended → has_end earlier ≡ true → StopsWriting status
-      → WritesFrom w w' l l' earlier (earlier ++ line ∷ []) → Runs left left' w w' l l' status
+      → WritesFrom stats w w' l l' earlier (earlier ++ line ∷ []) → Runs stats left left' w w' l l' status
   part_written earlier line stream ended status p e s q =
       record { taken = p.all.bytes; given = earlier ++ line ∷ []; took = p.all.taken; first = first_given left left' (earlier ++ line ∷ []) stream ended p.all; judged = judged_part status s }
     where
       more : has_end (earlier ++ line ∷ []) ≡ true
       more = has_more earlier (line ∷ []) e
 
-      early : EndsEarly left left' w w' l l' p.all.bytes (earlier ++ line ∷ [])
-      early = record { input = inl more; output = prefix_due w w' l l' earlier (earlier ++ line ∷ []) q }
+      early : EndsEarly stats left left' w w' l l' p.all.bytes (earlier ++ line ∷ [])
+      early = record { input = inl more; output = prefix_due stats w w' l l' earlier (earlier ++ line ∷ []) q }
 
-      judged_part : (status : Status) → StopsWriting status → Judged left left' w w' l l' p.all.bytes (earlier ++ line ∷ []) status
+      judged_part : (status : Status) → StopsWriting status → Judged stats left left' w w' l l' p.all.bytes (earlier ++ line ∷ []) status
       judged_part Done s = absurd s
       judged_part BadDocument s = absurd s
       judged_part SomeRefused s = absurd s
@@ -212,11 +210,11 @@ module _ (left left' w w' : Option (List ℕ)) (l l' : Option (List Event)) wher
       judged_part BadWords s = absurd s
 
   -- all lines were answered
-  judged_all : (bad : Bool) (taken : List ℕ) (given : List Line) → IsWhole left left' taken given → verdict_of given ≡ ended bad → WritesAll w w' l l' given → Judged left left' w w' l l' taken given (ended bad)
+  judged_all : (bad : Bool) (taken : List ℕ) (given : List Line) → IsWhole left left' taken given → verdict_of given ≡ ended bad → WritesAll stats w w' l l' given → Judged stats left left' w w' l l' taken given (ended bad)
   judged_all true taken given i v q = record { input = i; answer = v; output = q }
   judged_all false taken given i v q = record { input = i; answer = v; output = q }
 
-  all_answered : (bad : Bool) (given : List Line) → HasGivenAll left left' given → verdict_of given ≡ ended bad → WritesAll w w' l l' given → Runs left left' w w' l l' (ended bad)
+  all_answered : (bad : Bool) (given : List Line) → HasGivenAll left left' given → verdict_of given ≡ ended bad → WritesAll stats w w' l l' given → Runs stats left left' w w' l l' (ended bad)
   all_answered bad given p v q =
       record { taken = p.bytes; given = given; took = p.taken; first = whole_first left left' given p; judged = judged_all bad p.bytes given (is_whole left left' given p) v q }
 
@@ -232,34 +230,34 @@ unended_front first lines f o = by_end (has_end first) refl
 end_in_last : (bytes : List ℕ) (lines : List Line) → has_end lines ≡ false → HasLastPiece bytes lines → HasEndInLast bytes
 end_in_last bytes lines o p = record { front = p.front; piece = p.piece; split = p.split; short = p.short; unended = unended_front (lines_of (whole_lines p.front)) lines p.before o }
 
-pub stopped_in_text : (left left' w : Option (List ℕ)) (l : Option (List Event)) (status : Status) → StopsInText left left' status → Runs left left' w w l l status
-stopped_in_text left left' w l status p = stopped left left' w w l l p.given status p.stops (inl (p.unended, record { written = stays_same w; log = stays_same l }))
+pub stopped_in_text : (stats : Bool) (left left' w : Option (List ℕ)) (l : Option (List Event)) (status : Status) → StopsInText left left' status → Runs stats left left' w w l l status
+stopped_in_text stats left left' w l status p = stopped stats left left' w w l l p.given status p.stops (inl (p.unended, record { written = stays_same w; log = stays_same l }))
 
-module _ (left left' w w' : Option (List ℕ)) (l l' : Option (List Event)) (stream : Stream) (ended : Bool) (lines : List Line) (o : has_end lines ≡ false) where
-  ended_first : (b : Bool) (status : Status) → HasText left left' stream ended lines b → EndsFirst w w' l l' (document_of_lines lines) status → Runs left left' w w' l l' status
+module _ (stats : Bool) (left left' w w' : Option (List ℕ)) (l l' : Option (List Event)) (stream : Stream) (ended : Bool) (lines : List Line) (o : has_end lines ≡ false) where
+  ended_first : (b : Bool) (status : Status) → HasText left left' stream ended lines b → EndsFirst stats w w' l l' (document_of_lines lines) status → Runs stats left left' w w' l l' status
   ended_first true status t p =
       let all = t.given.all in
-      ends_first left left' w w' l l' all.bytes (lines ++ t.last ∷ []) lines status (just_ended lines t.last o t.end) all.taken
+      ends_first stats left left' w w' l l' all.bytes (lines ++ t.last ∷ []) lines status (just_ended lines t.last o t.end) all.taken
       (first_given left left' (lines ++ t.last ∷ []) stream ended all)
       (inl (has_push lines t.last t.end, early_front left left' (lines ++ t.last ∷ []) stream ended all, end_in_last all.bytes lines o t.given.last))
-      (λ q. inl (record { earlier = lines; line = t.last; parts = refl; ended = has_push lines t.last t.end; last = t.given.last; output = none_due w w' l l' lines (lines ++ t.last ∷ []) o q })) p
+      (λ q. inl (record { earlier = lines; line = t.last; parts = refl; ended = has_push lines t.last t.end; last = t.given.last; output = none_due stats w w' l l' lines (lines ++ t.last ∷ []) o q })) p
   ended_first false status t p =
       let whole : IsWhole left left' t.bytes lines = is_whole left left' lines t in
-      ends_first left left' w w' l l' t.bytes lines lines status (just_whole lines o) t.taken (whole_first left left' lines t) (inr whole) (λ q. inr (record { unended = o; input = whole; output = q })) p
+      ends_first stats left left' w w' l l' t.bytes lines lines status (just_whole lines o) t.taken (whole_first left left' lines t) (inr whole) (λ q. inr (record { unended = o; input = whole; output = q })) p
 
-  first_answers : (doc : Doc) → document_of_lines lines ≡ Ok doc → Answers w w' l l' 0 (Ok doc) → Answers w w' l l' 0 (document_of_lines lines)
-  first_answers doc f a = subst (λ (made : Made). Answers w w' l l' 0 made) (sym f) a
+  first_answers : (doc : Doc) → document_of_lines lines ≡ Ok doc → Answers stats w w' l l' 0 (Ok doc) → Answers stats w w' l l' 0 (document_of_lines lines)
+  first_answers doc f a = subst (λ (made : Made). Answers stats w w' l l' 0 made) (sym f) a
 
-  ended_alone : (b : Bool) (doc : Doc) → b ≡ false → HasText left left' stream ended lines b → (document_of_lines lines ≡ Ok doc) × Answers w w' l l' 0 (Ok doc) → Runs left left' w w' l l' Done
+  ended_alone : (b : Bool) (doc : Doc) → b ≡ false → HasText left left' stream ended lines b → (document_of_lines lines ≡ Ok doc) × Answers stats w w' l l' 0 (Ok doc) → Runs stats left left' w w' l l' Done
   ended_alone true doc e t p = absurd (false≢true (sym e))
   ended_alone false doc e t p =
       let just : IsJust lines lines = just_whole lines o in
-      all_answered left left' w w' l l' false lines t
+      all_answered stats left left' w w' l l' false lines t
       (ap (λ (l : List Line). answer_of (document_of_lines l) (after_end lines)) just.before ∙ ap (λ (made : Made). answer_of made (after_end lines)) p.0 ∙ ap (answer_of (Ok doc)) just.after)
-      (wrote_first lines lines just w w' l l' (first_answers doc p.0 p.1))
+      (wrote_first lines lines just stats w w' l l' (first_answers doc p.0 p.1))
 
-  ended_at : (b : Bool) (doc : Doc) → b ≡ true → HasText left left' stream ended lines b → (document_of_lines lines ≡ Ok doc) × Answers w w' l l' 0 (Ok doc)
-      → IsAt left left' w w' l l' stream ended doc 1 false
+  ended_at : (b : Bool) (doc : Doc) → b ≡ true → HasText left left' stream ended lines b → (document_of_lines lines ≡ Ok doc) × Answers stats w w' l l' 0 (Ok doc)
+      → IsAt stats left left' w w' l l' stream ended doc 1 false
   ended_at false doc e t p = absurd (false≢true e)
   ended_at true doc e t p =
       let given = lines ++ t.last ∷ [] in
@@ -279,35 +277,35 @@ module _ (left left' w w' : Option (List ℕ)) (l l' : Option (List Event)) (str
             refused = ap some_refused (sym nothing);
             few = omega (arith, length-append lines (t.last ∷ []));
           };
-          output = wrote_first given lines just w w' l l' (first_answers doc p.0 p.1);
+          output = wrote_first given lines just stats w w' l l' (first_answers doc p.0 p.1);
         };
       }
 
-module _ (left left' w w' : Option (List ℕ)) (l l' : Option (List Event)) (stream : Stream) (ended : Bool) (text : Text) (t : HasReadText left left' stream ended text) where
+module _ (stats : Bool) (left left' w w' : Option (List ℕ)) (l l' : Option (List Event)) (stream : Stream) (ended : Bool) (text : Text) (t : HasReadText left left' stream ended text) where
   read_ok : (doc : Doc) → document_of text.lines text.end ≡ Ok doc → document_of_lines t.given ≡ Ok doc
   read_ok doc f = sym t.same ∙ f
 
-  pub text_refused : (status : Status) → EndsFirst w w' l l' (document_of text.lines text.end) status → Runs left left' w w' l l' status
+  pub text_refused : (status : Status) → EndsFirst stats w w' l l' (document_of text.lines text.end) status → Runs stats left left' w w' l l' status
   text_refused status p =
-      ended_first left left' w w' l l' stream ended t.given t.unended text.has_script status t.input (subst (λ (made : Made). EndsFirst w w' l l' made status) t.same p)
+      ended_first stats left left' w w' l l' stream ended t.given t.unended text.has_script status t.input (subst (λ (made : Made). EndsFirst stats w w' l l' made status) t.same p)
 
-  pub text_alone : (doc : Doc) → text.has_script ≡ false → (document_of text.lines text.end ≡ Ok doc) × Answers w w' l l' 0 (Ok doc) → Runs left left' w w' l l' Done
-  text_alone doc e p = ended_alone left left' w w' l l' stream ended t.given t.unended text.has_script doc e t.input (read_ok doc p.0, p.1)
+  pub text_alone : (doc : Doc) → text.has_script ≡ false → (document_of text.lines text.end ≡ Ok doc) × Answers stats w w' l l' 0 (Ok doc) → Runs stats left left' w w' l l' Done
+  text_alone doc e p = ended_alone stats left left' w w' l l' stream ended t.given t.unended text.has_script doc e t.input (read_ok doc p.0, p.1)
 
-  pub text_at : (doc : Doc) → text.has_script ≡ true → (document_of text.lines text.end ≡ Ok doc) × Answers w w' l l' 0 (Ok doc) → IsAt left left' w w' l l' stream ended doc 1 false
-  text_at doc e p = ended_at left left' w w' l l' stream ended t.given t.unended text.has_script doc e t.input (read_ok doc p.0, p.1)
+  pub text_at : (doc : Doc) → text.has_script ≡ true → (document_of text.lines text.end ≡ Ok doc) × Answers stats w w' l l' 0 (Ok doc) → IsAt stats left left' w w' l l' stream ended doc 1 false
+  text_at doc e p = ended_at stats left left' w w' l l' stream ended t.given t.unended text.has_script doc e t.input (read_ok doc p.0, p.1)
 
 pub ruleset starting = (stopped_in_text, text_refused, text_alone, text_at)
 
 -- ---- between two lines of the script
 
-module _ (left left' w w' : Option (List ℕ)) (l l' : Option (List Event)) (given : List Line) (doc : Doc) (k : ℕ) (bad : Bool) (p : HasAnswered w w' l l' given doc k bad) where
-  pub script_stopped : (status : Status) → Stops left left' given status → Runs left left' w w' l l' status
-  script_stopped status s = stopped left left' w w' l l' given status s (inr (p.laid.ended, ap is_refused p.laid.read, p.output))
+module _ (stats : Bool) (left left' w w' : Option (List ℕ)) (l l' : Option (List Event)) (given : List Line) (doc : Doc) (k : ℕ) (bad : Bool) (p : HasAnswered stats w w' l l' given doc k bad) where
+  pub script_stopped : (status : Status) → Stops left left' given status → Runs stats left left' w w' l l' status
+  script_stopped status s = stopped stats left left' w w' l l' given status s (inr (p.laid.ended, ap is_refused p.laid.read, p.output))
 
-  pub script_ended : HasGivenAll left left' given → Runs left left' w w' l l' (ended bad)
+  pub script_ended : HasGivenAll left left' given → Runs stats left left' w w' l l' (ended bad)
   script_ended q =
-      all_answered left left' w w' l l' bad given q
+      all_answered stats left left' w w' l l' bad given q
       (ap (λ (made : Made). answer_of made (after_end given)) p.laid.read ∙ ap ended (sym p.laid.refused))
       p.output
 

@@ -1,11 +1,11 @@
 -- Scripts, one line after another.
-use Rattle.std.proofs.Common.{◌≡◌, refl, ap, sym, ◌∙◌, ℕ, suc, ◌+◌, ◌||◌, Bool, true, false, List, [], ◌∷◌, ◌++◌, length, append_assoc, arith}
+use Rattle.std.proofs.Common.{◌≡◌, refl, ap, sym, ◌∙◌, ℕ, suc, ◌+◌, ◌||◌, Bool, true, false, List, [], ◌∷◌, ◌++◌}
 use Rattle.std.proofs.lemmas.Bool.{false≢true}
 use Rattle.std.specs.Prelude.{if◌then◌else◌}
 use Rattle.text_scan.specs.declared.line.Line.{Line}
 use Rattle.text_scan.specs.Tokens.{is_skipped}
 use Rattle.doc_text.specs.declared.document.Doc.{Doc}
-use Rattle.session.specs.Script.{is_end_of_document, has_end, before_end, after_end, made_of, made_in, next_doc, texts, text_of, is_refused, some_refused}
+use Rattle.session.specs.Script.{is_end_of_document, has_end, before_end, after_end, made_of, made_in, next_doc, is_refused, some_refused}
 use Rattle.session.specs.Serving.{last_doc}
 use Rattle.session.proofs.Logs.{Made}
 
@@ -86,15 +86,7 @@ pub made_more : (doc : Doc) (script more : List Line) → MadeMore doc script mo
 made_more doc [] more = (made_in doc more, refl)
 made_more doc (line ∷ script) more = made_more_step (is_skipped line) doc (made_of doc line) script more (made_more doc script more) (made_more (next_doc doc (made_of doc line)) script more)
 
--- ---- texts
-
-pub texts_more : (k : ℕ) (made rest : List Made) → texts k (made ++ rest) ≡ texts k made ++ texts (k + length made) rest
-texts_more k [] rest = ap (λ (n : ℕ). texts n rest) (omega arith)
-texts_more k (first ∷ made) rest =
-    let n : k + 1 + length made ≡ k + suc (length made) = omega arith in
-    ap (λ (l : List ℕ). text_of k first ++ l) (texts_more (k + 1) made rest)
-    ∙ sym (append_assoc (text_of k first) (texts (k + 1) made) (texts (k + 1 + length made) rest))
-    ∙ ap (λ (n : ℕ). (text_of k first ++ texts (k + 1) made) ++ texts n rest) n
+-- ---- refusals, and the last document
 
 pub refused_push : (made : List Made) (last : Made) → some_refused (made ++ last ∷ []) ≡ (some_refused made || is_refused last)
 refused_push [] last = or_false (is_refused last)

@@ -9,7 +9,7 @@ use Rattle.doc_text.specs.View.{label_of}
 use Rattle.value_text.specs.ValueText.{Settings}
 use Rattle.page_tree.specs.declared.error.EditError.{EditError}
 use Rattle.page_tree.specs.declared.error.EditError.TheVariants as error
-use Rattle.session.specs.Script.{next_doc, text_of, is_refused}
+use Rattle.session.specs.Script.{next_doc, is_refused}
 
 -- each value is one that a declaration of the version sets
 abbrev pub AreDeclared : ℕ → Settings → Type 0
@@ -32,8 +32,7 @@ Applies (Ok done) made old new = made ≡ Ok new
 Applies (Err (error.Refused fault)) made old new = (made ≡ Err fault) × (new ≡ old)
 Applies (Err error.NoMemory) made old new = new ≡ old
 
--- what was made of a document, as it is answered: its text, the document that it leaves, and whether it is a refusal
-pub record IsAnswered (k : ℕ) (made : Result Doc Fault) (old new : Doc) (written : List ℕ) (bad : Bool) : Type 0 where
-  pub text : written ≡ text_of k made
+-- what was made of a document: the document that it leaves, and whether it is a refusal
+pub record IsAnswered (made : Result Doc Fault) (old new : Doc) (bad : Bool) : Type 0 where
   pub next : new ≡ next_doc old made
   pub refused : bad ≡ is_refused made

@@ -1,3 +1,4 @@
+pub use Rattle.command_words.specs.Commands as Commands
 pub use Rattle.outside.specs.Faults as Faults
 pub use Rattle.outside.specs.Told as Told
 pub use Rattle.text_scan.specs.Lines as Lines
@@ -16,6 +17,7 @@ pub mod FaultNames
 pub mod Script
 pub mod ScriptExamples
 pub mod Logs
+pub mod Written
 pub mod Laying
 pub mod Input
 pub mod Outcome

@@ -1,5 +1,5 @@
 -- The text that is written: boxes and refusals.
-use Rattle.std.specs.Prelude.{ℕ, ℤ, List, [], ◌∷◌, ◌++◌, ◌^◌, ◌≤◌, unsigned_abs, codes, decimal}
+use Rattle.std.specs.Prelude.{ℕ, ℤ, Bool, if◌then◌else◌, List, [], ◌∷◌, ◌++◌, ◌^◌, ◌≤◌, unsigned_abs, codes, decimal}
 use Rattle.lunit.specs.declared.geometry.Rect.{Rect}
 use Rattle.lunit.specs.Printed.{printed}
 use Rattle.text_scan.specs.declared.line.Place.{Place}
@@ -39,6 +39,14 @@ print k boxes = layout_line k ++ box_lines boxes
 -- the line of a refusal: `refused k L:C name`, with the place in the input and the name of the fault (own rule)
 abbrev pub refusal : ℕ → Place → List ℕ → List ℕ
 refusal k place name = codes "refused " ++ decimal k ++ 32 ∷ decimal place.line ++ 58 ∷ decimal place.column ++ 32 ∷ name ++ 10 ∷ []
+
+-- the line of the counts of a layout: `stats M A`, how often leaves were measured and how many answers were kept (own rule)
+unfoldable pub stats_line : ℕ → ℕ → List ℕ
+stats_line measured added = codes "stats " ++ decimal measured ++ 32 ∷ decimal added ++ 10 ∷ []
+
+-- this line, where it is wanted
+abbrev pub counts : Bool → ℕ → ℕ → List ℕ
+counts stats measured added = if stats then stats_line measured added else []
 
 -- a number of units that can be printed
 abbrev pub IsPrintable : ℤ → Type 0

@@ -1,18 +1,18 @@
 -- How a run ends, and what it took, wrote and logged until then.
-use Rattle.std.specs.Prelude.{◌≡◌, ◌≢◌, ℕ, ◌+◌, ◌≤◌, ◌<◌, true, false, if◌then◌else◌, List, [], ◌∷◌, length, ◌++◌, ◌⊎◌, Option, Result, Ok, IfSome, ⊤}
+use Rattle.std.specs.Prelude.{◌≡◌, ◌≢◌, ℕ, ◌+◌, ◌≤◌, ◌<◌, Bool, true, false, if◌then◌else◌, List, [], ◌∷◌, length, ◌++◌, ◌⊎◌, Option, Result, Ok, IfSome, ⊤}
 use Rattle.outside.specs.Faults.{Rose}
-use Rattle.outside.specs.Told.{Stays, Adds, Loses, AddsPrefix}
+use Rattle.outside.specs.Told.{Stays, Adds, Loses}
 use Rattle.outside.specs.declared.event.Event.{Event}
 use Rattle.text_scan.specs.declared.line.Line.{Line}
 use Rattle.text_scan.specs.Lines.{lines_of, whole_lines}
 use Rattle.text_scan.specs.declared.line.Fault.{Fault}
 use Rattle.doc_text.specs.declared.document.Doc.{Doc}
 use Rattle.session.specs.Boxes.{boxes_of}
-use Rattle.session.specs.Logs.{Logs, LogsFront, LogsFrom}
+use Rattle.session.specs.Written.{Writes, WritesFront, WritesBehind}
 use Rattle.session.specs.Input.{limit, IsReadToEnd, IsFront, AreFirst, HasLastPiece}
 use Rattle.session.specs.Printing.{print}
 use Rattle.session.specs.Script.{has_end, before_end, after_end, document_of_lines, texts, made_in, all_made, is_refused}
-use Rattle.session.specs.Outcome.{document_in, output_of, verdict_of, out, verdict, early_lines, IsEarlyFault}
+use Rattle.session.specs.Outcome.{document_in, verdict_of, verdict, early_lines, IsEarlyFault}
 use Rattle.session.specs.declared.status.Status.{Status}
 use Rattle.session.specs.declared.status.Status.TheVariants.{Done, BadDocument, SomeRefused, ReadFault, WriteFault, NoMemory, InputLimit}
 
@@ -22,44 +22,31 @@ StopsWriting WriteFault = ⊤
 StopsWriting NoMemory = ⊤
 StopsWriting status = ⊥
 
--- a list grew by all of the least list, and then by a prefix of what the whole one has behind that
-pub record AddsFrom {A : Type 0} (before after : Option (List A)) (least whole : List A) : Type 0 where
-  pub part : List A
-  pub rest : List A
-  pub added : Adds before after (least ++ part)
-  pub parts : (least ++ part) ++ rest ≡ whole
-
 -- what is due for lines while more may come: nothing until one of them ends the document
 abbrev pub due_made : List Line → List (Result Doc Fault)
 due_made lines = if has_end lines then all_made lines else []
 
-abbrev pub due_output : List Line → List ℕ
-due_output lines = texts 0 (due_made lines)
+-- nothing was written or told
+pub record IsSilent (held held' : Option (List ℕ)) (events events' : Option (List Event)) : Type 0 where
+  pub written : Stays held held'
+  pub log : Stays events events'
 
-module _ (held held' : Option (List ℕ)) (events events' : Option (List Event)) where
+module _ (stats : Bool) (held held' : Option (List ℕ)) (events events' : Option (List Event)) where
   -- all that is due for the lines was written, and the ruler was told of all of it
-  pub record WritesAll (given : List Line) : Type 0 where
-    pub written : Adds held held' (output_of given)
-    pub log : Logs events events' 0 (all_made given)
+  abbrev pub WritesAll : List Line → Type 0
+  WritesAll given = Writes stats held held' events events' 0 (all_made given)
 
-  -- a prefix of it was
-  pub record WritesPrefix (given : List Line) : Type 0 where
-    pub written : AddsPrefix held held' (output_of given)
-    pub log : LogsFront events events' 0 (all_made given)
+  -- a front of it was
+  abbrev pub WritesPrefix : List Line → Type 0
+  WritesPrefix given = WritesFront stats held held' events events' 0 (all_made given)
 
-  -- all that was due for the earlier lines was, and a prefix of what is due for the lines behind that
-  pub record WritesFrom (earlier given : List Line) : Type 0 where
-    pub written : AddsFrom held held' (due_output earlier) (output_of given)
-    pub log : LogsFrom events events' (due_made earlier) (all_made given)
-
-  -- nothing was
-  pub record IsSilent : Type 0 where
-    pub written : Stays held held'
-    pub log : Stays events events'
+  -- all that was due for the earlier lines was, and a front of what is due for the lines behind that
+  abbrev pub WritesFrom : List Line → List Line → Type 0
+  WritesFrom earlier given = WritesBehind stats held held' events events' (due_made earlier) (all_made given)
 
   -- what is due for the lines so far: all of it where one of them ends the document, which then has no fault, else nothing
   abbrev pub Stands : List Line → Type 0
-  Stands given = ((has_end given ≡ false) × IsSilent) ⊎ ((has_end given ≡ true) × (is_refused (document_of_lines (before_end given)) ≡ false) × WritesAll given)
+  Stands given = ((has_end given ≡ false) × IsSilent held held' events events') ⊎ ((has_end given ≡ true) × (is_refused (document_of_lines (before_end given)) ≡ false) × WritesAll given)
 
 -- no line that is whole in the bytes before the last piece ends the document: a piece has at most 65,536 bytes
 pub record HasEndInLast (taken : List ℕ) : Type 0 where
@@ -81,20 +68,20 @@ module _ (left left' : Option (List ℕ)) where
   abbrev pub IsEnded : List ℕ → List Line → Type 0
   IsEnded taken given = ((has_end given ≡ true) × IfSome left (λ b. limit < length b → IsFront given (early_lines b)) × HasEndInLast taken) ⊎ IsWhole taken given
 
-module _ (left left' held held' : Option (List ℕ)) (events events' : Option (List Event)) where
+module _ (stats : Bool) (left left' held held' : Option (List ℕ)) (events events' : Option (List Event)) where
   pub record EndsAll (taken : List ℕ) (given : List Line) (status : Status) : Type 0 where
     pub input : IsWhole left left' taken given
     pub answer : verdict_of given ≡ status
-    pub output : WritesAll held held' events events' given
+    pub output : WritesAll stats held held' events events' given
 
   pub record EndsBad (taken : List ℕ) (given : List Line) : Type 0 where
     pub input : IsEnded left left' taken given
     pub answer : is_refused (document_of_lines (before_end given)) ≡ true
-    pub output : WritesAll held held' events events' given
+    pub output : WritesAll stats held held' events events' given
 
   pub record EndsEarly (taken : List ℕ) (given : List Line) : Type 0 where
     pub input : (has_end given ≡ true) ⊎ IsWhole left left' taken given
-    pub output : WritesPrefix held held' events events' given
+    pub output : WritesPrefix stats held held' events events' given
 
   -- writing stopped in the answer that the last of the lines completed. No piece was taken after the one that completed this
   -- line, and the answers to the lines before it were written
@@ -104,13 +91,13 @@ module _ (left left' held held' : Option (List ℕ)) (events events' : Option (L
     pub parts : earlier ++ line ∷ [] ≡ given
     pub ended : has_end given ≡ true
     pub last : HasLastPiece taken earlier
-    pub output : WritesFrom held held' events events' earlier given
+    pub output : WritesFrom stats held held' events events' earlier given
 
   -- writing stopped in the answer to a document that ended with the input, which was read to its end
   pub record StopsAtEnd (taken : List ℕ) (given : List Line) : Type 0 where
     pub unended : has_end given ≡ false
     pub input : IsWhole left left' taken given
-    pub output : WritesPrefix held held' events events' given
+    pub output : WritesPrefix stats held held' events events' given
 
   -- what is known of the bytes that were taken and of the lines of them that were given, by the status
   abbrev pub Judged : List ℕ → List Line → Status → Type 0
@@ -119,11 +106,11 @@ module _ (left left' held held' : Option (List ℕ)) (events events' : Option (L
   Judged taken given BadDocument = EndsBad taken given
   Judged taken given WriteFault = StopsAtLine taken given ⊎ StopsAtEnd taken given
   Judged taken given NoMemory = IsSilent held held' events events' ⊎ EndsEarly taken given
-  Judged taken given ReadFault = (length taken ≤ limit) × (given ≡ lines_of (whole_lines taken)) × Stands held held' events events' given
-  Judged taken given InputLimit = (length taken ≡ limit + 1) × (given ≡ early_lines taken) × Stands held held' events events' given
+  Judged taken given ReadFault = (length taken ≤ limit) × (given ≡ lines_of (whole_lines taken)) × Stands stats held held' events events' given
+  Judged taken given InputLimit = (length taken ≡ limit + 1) × (given ≡ early_lines taken) × Stands stats held held' events events' given
   Judged taken given status = ⊥
 
-  -- a run under the words `layout` took some bytes, was given some of their lines, which are the first of the input's, and this
+  -- a run took some bytes, was given some of their lines, which are the first of the input's, and this
   -- is known of them
   pub record Runs (status : Status) : Type 0 where
     pub taken : List ℕ
@@ -133,31 +120,44 @@ module _ (left left' held held' : Option (List ℕ)) (events events' : Option (L
     pub judged : Judged taken given status
 
 -- the answers to all bytes of an input that is not too long: its verdict with all of its output written, want of memory, or a fault
-abbrev pub Permits : Option (List ℕ) → Option (List ℕ) → List ℕ → Status → Type 0
-Permits held held' bytes ReadFault = ⊤
-Permits held held' bytes WriteFault = ⊤
-Permits held held' bytes NoMemory = ⊤
-Permits held held' bytes status = (status ≡ verdict bytes) × Adds held held' (out bytes)
+abbrev pub Permits : Type 0 → List ℕ → Status → Type 0
+Permits wrote bytes ReadFault = ⊤
+Permits wrote bytes WriteFault = ⊤
+Permits wrote bytes NoMemory = ⊤
+Permits wrote bytes status = (status ≡ verdict bytes) × wrote
 
 -- the answers to an input that is too long: that it is, unless the document ended early and has a fault; then that
-abbrev pub PermitsOver : Option (List ℕ) → Option (List ℕ) → List ℕ → Status → Type 0
-PermitsOver held held' bytes InputLimit = ¬ IsEarlyFault (early_lines bytes)
-PermitsOver held held' bytes BadDocument = IsEarlyFault (early_lines bytes) × Adds held held' (out bytes)
-PermitsOver held held' bytes ReadFault = ⊤
-PermitsOver held held' bytes WriteFault = ⊤
-PermitsOver held held' bytes NoMemory = ⊤
-PermitsOver held held' bytes status = ⊥
+abbrev pub PermitsOver : Type 0 → List ℕ → Status → Type 0
+PermitsOver wrote bytes InputLimit = ¬ IsEarlyFault (early_lines bytes)
+PermitsOver wrote bytes BadDocument = IsEarlyFault (early_lines bytes) × wrote
+PermitsOver wrote bytes ReadFault = ⊤
+PermitsOver wrote bytes WriteFault = ⊤
+PermitsOver wrote bytes NoMemory = ⊤
+PermitsOver wrote bytes status = ⊥
 
 -- where no count rose and the input is not too long: its verdict with all of its output written, or want of memory
-abbrev pub IsComplete : (left held held' : Option (List ℕ)) (reads reads' writes writes' : ℕ) → Status → Type 0
-IsComplete left held held' reads reads' writes writes' status =
-    IfSome left (λ b. length b ≤ limit → ¬ Rose reads reads' → ¬ Rose writes writes' → (status ≡ NoMemory) ⊎ ((status ≡ verdict b) × Adds held held' (out b)))
+abbrev pub IsComplete : (left : Option (List ℕ)) (wrote : List ℕ → Type 0) (reads reads' writes writes' : ℕ) → Status → Type 0
+IsComplete left wrote reads reads' writes writes' status =
+    IfSome left (λ b. length b ≤ limit → ¬ Rose reads reads' → ¬ Rose writes writes' → (status ≡ NoMemory) ⊎ ((status ≡ verdict b) × wrote b))
 
 -- where no count rose and the input is too long: the answer for that or for an early fault, or want of memory
 abbrev pub IsOverComplete : (left : Option (List ℕ)) (reads reads' writes writes' : ℕ) → Status → Type 0
 IsOverComplete left reads reads' writes writes' status =
     IfSome left (λ b. limit < length b → ¬ Rose reads reads' → ¬ Rose writes writes' → (status ≡ NoMemory)
     ⊎ (((status ≡ InputLimit) × ¬ IsEarlyFault (early_lines b)) ⊎ ((status ≡ BadDocument) × IsEarlyFault (early_lines b))))
+
+-- what is known of a run over all bytes of its input, with the counts of each layout or without
+pub record HasRun (stats : Bool) (left left' held held' : Option (List ℕ)) (events events' : Option (List Event)) (reads reads' writes writes' : ℕ) (status : Status) : Type 0 where
+  -- what was taken, written and logged, by the answer
+  pub runs : Runs stats left left' held held' events events' status
+  -- at every exit what was written is a prefix of the output
+  pub prefix : IfSome left (λ b. WritesPrefix stats held held' events events' (lines_of b))
+  -- the answers to an input that is not too long, and to one that is
+  pub permits : IfSome left (λ b. length b ≤ limit → Permits (WritesAll stats held held' events events' (lines_of b)) b status)
+  pub over : IfSome left (λ b. limit < length b → PermitsOver (WritesAll stats held held' events events' (lines_of b)) b status)
+  -- where no count rose: the verdict with all of the output written, or want of memory
+  pub complete : IsComplete left (λ b. WritesAll stats held held' events events' (lines_of b)) reads reads' writes writes' status
+  pub over_complete : IsOverComplete left reads reads' writes writes' status
 
 -- where the bytes hold a document, no count rose and no memory was wanting: the boxes of that document were written, then what
 -- each edit line gives, and nothing else

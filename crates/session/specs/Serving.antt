@@ -4,16 +4,15 @@ use Rattle.text_scan.specs.declared.line.Line.{Line}
 use Rattle.text_scan.specs.declared.line.Fault.{Fault}
 use Rattle.text_scan.specs.declared.line.Place.{Place}
 use Rattle.text_scan.specs.Stream.{Stream}
-use Rattle.outside.specs.Told.{Adds, AddsPrefix}
 use Rattle.outside.specs.declared.event.Event.{Event}
 use Rattle.doc_text.specs.declared.document.Doc.{Doc}
 use Rattle.doc_text.specs.Documents.{document_of}
-use Rattle.session.specs.Logs.{Logs, LogsFront}
+use Rattle.session.specs.Written.{Writes, WritesFront}
 use Rattle.session.specs.Standing.{Standing, doc_of}
 use Rattle.session.specs.declared.text.Held.{Held}
 use Rattle.session.specs.declared.text.Text.{Text}
 use Rattle.session.specs.Input.{HasGiven, HasGivenLine, HasGivenAll, Stops}
-use Rattle.session.specs.Script.{is_end_of_document, has_end, before_end, after_end, document_of_lines, made_in, next_doc, all_made, is_refused, some_refused, text_of}
+use Rattle.session.specs.Script.{is_end_of_document, has_end, before_end, after_end, document_of_lines, made_in, next_doc, all_made, is_refused, some_refused}
 use Rattle.session.specs.Runs.{WritesAll, Runs}
 use Rattle.session.specs.declared.answer.Progress.{Progress}
 use Rattle.session.specs.declared.status.Status.{Status}
@@ -61,16 +60,14 @@ ReadsText before now stream ended (Err status) = StopsInText before now status
 
 -- ---- one answer
 
-module _ (held held' : Option (List ℕ)) (events events' : Option (List Event)) where
+module _ (stats : Bool) (held held' : Option (List ℕ)) (events events' : Option (List Event)) where
   -- the answer with the number k to what was made
-  pub record Answers (k : ℕ) (made : Result Doc Fault) : Type 0 where
-    pub written : Adds held held' (text_of k made)
-    pub log : Logs events events' k (made ∷ [])
+  abbrev pub Answers : ℕ → Result Doc Fault → Type 0
+  Answers k made = Writes stats held held' events events' k (made ∷ [])
 
-  -- a prefix of it
-  pub record AnswersPrefix (k : ℕ) (made : Result Doc Fault) : Type 0 where
-    pub written : AddsPrefix held held' (text_of k made)
-    pub log : LogsFront events events' k (made ∷ [])
+  -- a front of it
+  abbrev pub AnswersPrefix : ℕ → Result Doc Fault → Type 0
+  AnswersPrefix k made = WritesFront stats held held' events events' k (made ∷ [])
 
   -- the document has a fault, or writing stopped
   abbrev pub EndsFirst : Result Doc Fault → Status → Type 0
@@ -102,20 +99,20 @@ pub record IsLaid (given : List Line) (doc : Doc) (k : ℕ) (bad : Bool) : Type 
   pub few : k ≤ length given
 
 -- and all of these answers were written and logged
-pub record HasAnswered (held held' : Option (List ℕ)) (events events' : Option (List Event)) (given : List Line) (doc : Doc) (k : ℕ) (bad : Bool) : Type 0 where
+pub record HasAnswered (stats : Bool) (held held' : Option (List ℕ)) (events events' : Option (List Event)) (given : List Line) (doc : Doc) (k : ℕ) (bad : Bool) : Type 0 where
   pub laid : IsLaid given doc k bad
-  pub output : WritesAll held held' events events' given
+  pub output : WritesAll stats held held' events events' given
 
 -- these lines were given and answered, and nothing else was written or logged
-pub record IsAt (before now held held' : Option (List ℕ)) (events events' : Option (List Event)) (stream : Stream) (ended : Bool) (doc : Doc) (k : ℕ) (bad : Bool) : Type 0 where
+pub record IsAt (stats : Bool) (before now held held' : Option (List ℕ)) (events events' : Option (List Event)) (stream : Stream) (ended : Bool) (doc : Doc) (k : ℕ) (bad : Bool) : Type 0 where
   pub given : List Line
   pub input : HasGiven before now given stream ended
-  pub answered : HasAnswered held held' events events' given doc k bad
+  pub answered : HasAnswered stats held held' events events' given doc k bad
 
 -- a script follows the document, or the run ended before
-abbrev pub Starts : (before now held held' : Option (List ℕ)) (events events' : Option (List Event)) → Stream → Bool → Result Progress Status → Type 0
-Starts before now held held' events events' stream ended (Ok progress) = IsAt before now held held' events events' stream ended (doc_of progress.engine) progress.number progress.refused
-Starts before now held held' events events' stream ended (Err status) = Runs before now held held' events events' status
+abbrev pub Starts : (stats : Bool) (before now held held' : Option (List ℕ)) (events events' : Option (List Event)) → Stream → Bool → Result Progress Status → Type 0
+Starts stats before now held held' events events' stream ended (Ok progress) = IsAt stats before now held held' events events' stream ended (doc_of progress.engine) progress.number progress.refused
+Starts stats before now held held' events events' stream ended (Err status) = Runs stats before now held held' events events' status
 
 -- the answer once all lines were answered
 abbrev pub ended : Bool → Status

@@ -1,15 +1,29 @@
 -- The words that the program is started with, and the statuses that it ends with.
-use Rattle.std.specs.Prelude.{ℕ, Bool, false, List, [], ◌∷◌, String, string_bytes, codes}
-use Rattle.std.specs.Str.{bytes_eq}
+use Rattle.std.specs.Prelude.{ℕ, Bool, true, false, List, String, Option, Some, None, ⊤}
+use Rattle.command_words.specs.Commands.{command_of}
+use Rattle.command_words.specs.Options.{texts}
+use Rattle.command_words.specs.declared.Command.{Command}
+use Rattle.command_words.specs.declared.Command.TheVariants.{Layout, Make}
 use Rattle.outside.specs.declared.sink.SinkError.{SinkError}
 use Rattle.outside.specs.declared.sink.SinkError.TheVariants as sink
 use Rattle.session.specs.declared.status.Status.{Status}
 use Rattle.session.specs.declared.status.Status.TheVariants.{Done, BadDocument, SomeRefused, ReadFault, WriteFault, NoMemory, InputLimit, BadWords}
 
--- the one word `layout`, and no other list of words (own rule)
-abbrev pub is_layout : {A : Type 0} → List (String A) → Bool
-is_layout (word ∷ []) = bytes_eq (string_bytes word) (codes "layout")
-is_layout _ = false
+-- the command that the words are, where they are one
+abbrev pub asked : {A : Type 0} → List (String A) → Option Command
+asked words = command_of (texts words)
+
+-- the program does it
+abbrev pub is_served : Option Command → Bool
+is_served None = false
+is_served (Some (Layout stats)) = true
+is_served (Some (Make seed nodes)) = false
+
+-- how a run ends that does nothing: its words are not served, or memory was wanting
+abbrev pub IsUnserved : Status → Type 0
+IsUnserved BadWords = ⊤
+IsUnserved NoMemory = ⊤
+IsUnserved status = ⊥
 
 -- the number that the program ends with (own rule)
 abbrev pub code_of : Status → ℕ

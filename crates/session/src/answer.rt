@@ -1,4 +1,4 @@
-ghost use Rattle.std.specs.Prelude.{◌≡◌, ◌≤◌, ◌∷◌, ◌++◌, [], ℕ, List, Option, Ok, Err, IfOk, IfErr, OnOk, OnErr};
+ghost use Rattle.std.specs.Prelude.{◌≡◌, ◌≤◌, ◌∷◌, ◌++◌, [], ℕ, List, Option, Ok, Err, IfOk, IfErr, OnOk, OnErr, Bool};
 ghost use Rattle.outside.specs.Faults.{HasCauseOf};
 ghost use Rattle.outside.specs.Told.{Adds, AddsPrefix};
 ghost use Rattle.outside.specs.declared.event.Event.{Event};
@@ -46,6 +46,7 @@ fn write<K: Sink>(sink: &mut K, text: &[u8]) -> Result<(), Status>
 /// Lays the document out, with the number 0, and writes its boxes.
 fn first_layout<K: Sink, R: Ruler, L: Ledger>(
     alloc: Global,
+    stats: bool,
     doc: Doc,
     sink: &mut K,
     ruler: &mut R,
@@ -53,13 +54,13 @@ fn first_layout<K: Sink, R: Ruler, L: Ledger>(
 ) -> Result<Engine, Status>
     requires { IsValid doc }
     ensures engine { IfOk result (λ engine. doc_of engine ≡ doc) }
-    ensures answers { OnOk result (Answers (K.written sink.old) (K.written sink.new) (R.log ruler.old) (R.log ruler.new) 0 (Ok doc)) }
-    ensures prefix { OnErr result (AnswersPrefix (K.written sink.old) (K.written sink.new) (R.log ruler.old) (R.log ruler.new) 0 (Ok doc)) }
+    ensures answers { OnOk result (Answers stats (K.written sink.old) (K.written sink.new) (R.log ruler.old) (R.log ruler.new) 0 (Ok doc)) }
+    ensures prefix { OnErr result (AnswersPrefix stats (K.written sink.old) (K.written sink.new) (R.log ruler.old) (R.log ruler.new) 0 (Ok doc)) }
     ensures stops { IfErr result StopsWriting }
     ensures cause { HasCauseOf (K.faults sink.old) (K.faults sink.new) (result ≡ Err Status.WriteFault) }
 {
     let mut engine = Engine::new(alloc, doc)?;
-    let text = layout_text(alloc, &mut engine, 0, ruler, passes)?;
+    let text = layout_text(alloc, stats, &mut engine, 0, ruler, passes)?;
     write(sink, &text)?;
     Ok(engine)
 }
@@ -67,7 +68,7 @@ fn first_layout<K: Sink, R: Ruler, L: Ledger>(
 #[tactic(auto, using(crate::proofs::Serving::document_refusing))]
 /// Writes the line of the refusal of a document.
 fn refuse_document<K: Sink>(alloc: Global, fault: Fault, sink: &mut K) -> Status
-    ensures refused { (events : Option (List Event)) → EndsFirst (K.written sink.old) (K.written sink.new) events events (Err fault) result }
+    ensures refused { (stats : Bool) (events : Option (List Event)) → EndsFirst stats (K.written sink.old) (K.written sink.new) events events (Err fault) result }
     ensures cause { HasCauseOf (K.faults sink.old) (K.faults sink.new) (result ≡ Status.WriteFault) }
 {
     match refusal_text(alloc, 0, fault) {
@@ -83,6 +84,7 @@ fn refuse_document<K: Sink>(alloc: Global, fault: Fault, sink: &mut K) -> Status
 /// Answers the lines of the document, whose text ends at this place: lays it out, or writes the line of its refusal.
 pub(crate) fn begin<K: Sink, R: Ruler, L: Ledger>(
     alloc: Global,
+    stats: bool,
     lines: &[Line],
     end: Place,
     sink: &mut K,
@@ -90,11 +92,11 @@ pub(crate) fn begin<K: Sink, R: Ruler, L: Ledger>(
     passes: &mut Steps<L>,
 ) -> Result<Engine, Status>
     requires { AreShort lines.now }
-    ensures begins { Begins (K.written sink.old) (K.written sink.new) (R.log ruler.old) (R.log ruler.new) (document_of lines.now end) result }
+    ensures begins { Begins stats (K.written sink.old) (K.written sink.new) (R.log ruler.old) (R.log ruler.new) (document_of lines.now end) result }
     ensures cause { HasCauseOf (K.faults sink.old) (K.faults sink.new) (result ≡ Err Status.WriteFault) }
 {
     match read_doc(alloc, lines, end) {
-        Ok(doc) => first_layout(alloc, doc, sink, ruler, passes),
+        Ok(doc) => first_layout(alloc, stats, doc, sink, ruler, passes),
         Err(ReadError::Fault(fault)) => Err(refuse_document(alloc, fault, sink)),
         Err(ReadError::NoMemory) => Err(Status::NoMemory),
     }
@@ -104,6 +106,7 @@ pub(crate) fn begin<K: Sink, R: Ruler, L: Ledger>(
 /// Writes the answer to the edit line with the number k, and says whether the edit was refused.
 fn write_answer<K: Sink, R: Ruler, L: Ledger>(
     alloc: Global,
+    stats: bool,
     engine: &mut Engine,
     k: u32,
     line: &Line,
@@ -113,12 +116,12 @@ fn write_answer<K: Sink, R: Ruler, L: Ledger>(
 ) -> Result<bool, Status>
     requires { IsShort line.now }
     ensures next { IfOk result (λ refused. (doc_of engine.new ≡ next_doc (doc_of engine.old) (made_of (doc_of engine.old) line.now)) × (refused ≡ is_refused (made_of (doc_of engine.old) line.now))) }
-    ensures answers { OnOk result (Answers (K.written sink.old) (K.written sink.new) (R.log ruler.old) (R.log ruler.new) k (made_of (doc_of engine.old) line.now)) }
-    ensures prefix { OnErr result (AnswersPrefix (K.written sink.old) (K.written sink.new) (R.log ruler.old) (R.log ruler.new) k (made_of (doc_of engine.old) line.now)) }
+    ensures answers { OnOk result (Answers stats (K.written sink.old) (K.written sink.new) (R.log ruler.old) (R.log ruler.new) k (made_of (doc_of engine.old) line.now)) }
+    ensures prefix { OnErr result (AnswersPrefix stats (K.written sink.old) (K.written sink.new) (R.log ruler.old) (R.log ruler.new) k (made_of (doc_of engine.old) line.now)) }
     ensures stops { IfErr result StopsWriting }
     ensures cause { HasCauseOf (K.faults sink.old) (K.faults sink.new) (result ≡ Err Status.WriteFault) }
 {
-    let answer = answer_to_edit(alloc, engine, k, line, ruler, passes)?;
+    let answer = answer_to_edit(alloc, stats, engine, k, line, ruler, passes)?;
     write(sink, &answer.text)?;
     Ok(answer.refused)
 }
@@ -127,6 +130,7 @@ fn write_answer<K: Sink, R: Ruler, L: Ledger>(
 /// Goes on by the next line of the script: writes the answer to an edit, and nothing for a line that is skipped.
 pub(crate) fn handle_line<K: Sink, R: Ruler, L: Ledger>(
     alloc: Global,
+    stats: bool,
     progress: &mut Progress,
     line: &Line,
     sink: &mut K,
@@ -135,8 +139,8 @@ pub(crate) fn handle_line<K: Sink, R: Ruler, L: Ledger>(
 ) -> Result<(), Status>
     requires few { progress.old.number ≤ 67108864 }
     requires short { IsShort line.now }
-    ensures ok { (held : Option (List ℕ)) (events : Option (List Event)) (given : List Line) → HasAnswered held (K.written sink.old) events (R.log ruler.old) given (doc_of progress.old.engine) progress.old.number progress.old.refused → OnOk result (HasAnswered held (K.written sink.new) events (R.log ruler.new) (given ++ line.now ∷ []) (doc_of progress.new.engine) progress.new.number progress.new.refused) }
-    ensures err { (held : Option (List ℕ)) (events : Option (List Event)) (given : List Line) → HasAnswered held (K.written sink.old) events (R.log ruler.old) given (doc_of progress.old.engine) progress.old.number progress.old.refused → OnErr result (WritesFrom held (K.written sink.new) events (R.log ruler.new) given (given ++ line.now ∷ [])) }
+    ensures ok { (held : Option (List ℕ)) (events : Option (List Event)) (given : List Line) → HasAnswered stats held (K.written sink.old) events (R.log ruler.old) given (doc_of progress.old.engine) progress.old.number progress.old.refused → OnOk result (HasAnswered stats held (K.written sink.new) events (R.log ruler.new) (given ++ line.now ∷ []) (doc_of progress.new.engine) progress.new.number progress.new.refused) }
+    ensures err { (held : Option (List ℕ)) (events : Option (List Event)) (given : List Line) → HasAnswered stats held (K.written sink.old) events (R.log ruler.old) given (doc_of progress.old.engine) progress.old.number progress.old.refused → OnErr result (WritesFrom stats held (K.written sink.new) events (R.log ruler.new) given (given ++ line.now ∷ [])) }
     ensures stops { IfErr result StopsWriting }
     ensures cause { HasCauseOf (K.faults sink.old) (K.faults sink.new) (result ≡ Err Status.WriteFault) }
 {
@@ -146,6 +150,7 @@ pub(crate) fn handle_line<K: Sink, R: Ruler, L: Ledger>(
     let number = progress.number;
     match write_answer(
         alloc,
+        stats,
         &mut progress.engine,
         number,
         line,

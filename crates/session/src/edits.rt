@@ -1,10 +1,10 @@
-ghost use Rattle.std.specs.Prelude.{◌≡◌, ◌≤◌, ◌∷◌, [], Ok, IfOk, OnOk, OnErr};
+ghost use Rattle.std.specs.Prelude.{◌≡◌, ◌≤◌, ◌∷◌, [], Ok, IfOk, OnErr};
 ghost use Rattle.doc_text.specs.Valid.{IsShort};
 ghost use Rattle.page_tree.specs.Answered.{Applies};
-ghost use Rattle.session.specs.Boxes.{boxes_of};
 ghost use Rattle.session.specs.Engine.{IsAnswered};
-ghost use Rattle.session.specs.Logs.{Logs, LogsFront};
-ghost use Rattle.session.specs.Printing.{print, refusal};
+ghost use Rattle.session.specs.Logs.{LogsFront};
+ghost use Rattle.session.specs.Written.{Prints};
+ghost use Rattle.session.specs.Printing.{refusal};
 ghost use Rattle.session.specs.Script.{made_of};
 ghost use Rattle.session.specs.Standing.{doc_of};
 ghost use Rattle.session.specs.FaultNames.{fault_name};
@@ -12,6 +12,7 @@ ghost use Rattle.session.specs.FaultNames.{fault_name};
 use crate::engine::Engine;
 use crate::faults::fault_name;
 use crate::print::{print_boxes, print_refusal};
+use crate::stats::append_counts;
 use doc_text::{ReadError, read_edit};
 use lunit::{NoMemory, Steps};
 use outside::Ruler;
@@ -35,21 +36,23 @@ pub(crate) fn refusal_text(alloc: Global, k: u32, fault: Fault) -> Result<Vec<u8
 }
 
 #[tactic(auto, using(crate::proofs::Laid::laid_text))]
-/// The text of the layout of an engine, with the number k.
+/// The text of the layout of an engine, with the number k, and with its counts where they are wanted.
 pub(crate) fn layout_text<R: Ruler, L: Ledger>(
     alloc: Global,
+    stats: bool,
     engine: &mut Engine,
     k: u32,
     ruler: &mut R,
     passes: &mut Steps<L>,
 ) -> Result<Vec<u8>, NoMemory>
-    ensures text { IfOk result (λ text. text.items ≡ print k (boxes_of (doc_of engine.old))) }
-    ensures log { OnOk result (Logs (R.log ruler.old) (R.log ruler.new) k (Ok (doc_of engine.old) ∷ [])) }
+    ensures prints { IfOk result (λ text. Prints stats (R.log ruler.old) (R.log ruler.new) k (Ok (doc_of engine.old)) text.items) }
     ensures err { OnErr result (LogsFront (R.log ruler.old) (R.log ruler.new) k (Ok (doc_of engine.old) ∷ [])) }
     ensures document { doc_of engine.new ≡ doc_of engine.old }
 {
     let layout = engine.layout(k, ruler, passes)?;
-    print_boxes(alloc, k, layout.boxes.as_slice())
+    let mut text = print_boxes(alloc, k, layout.boxes.as_slice())?;
+    append_counts(&mut text, stats, layout.measured, layout.added)?;
+    Ok(text)
 }
 
 #[tactic(auto, using(crate::proofs::EditLines::line_applying))]
@@ -69,6 +72,7 @@ fn apply_line(alloc: Global, engine: &mut Engine, line: &Line) -> Result<(), Edi
 /// The answer to the edit line with the number k, which is applied, or refused.
 pub(crate) fn answer_to_edit<R: Ruler, L: Ledger>(
     alloc: Global,
+    stats: bool,
     engine: &mut Engine,
     k: u32,
     line: &Line,
@@ -76,13 +80,13 @@ pub(crate) fn answer_to_edit<R: Ruler, L: Ledger>(
     passes: &mut Steps<L>,
 ) -> Result<Answer, NoMemory>
     requires { IsShort line.now }
-    ensures answered { IfOk result (λ answer. IsAnswered k (made_of (doc_of engine.old) line.now) (doc_of engine.old) (doc_of engine.new) answer.text.items answer.refused) }
-    ensures log { OnOk result (Logs (R.log ruler.old) (R.log ruler.new) k (made_of (doc_of engine.old) line.now ∷ [])) }
+    ensures answered { IfOk result (λ answer. IsAnswered (made_of (doc_of engine.old) line.now) (doc_of engine.old) (doc_of engine.new) answer.refused) }
+    ensures prints { IfOk result (λ answer. Prints stats (R.log ruler.old) (R.log ruler.new) k (made_of (doc_of engine.old) line.now) answer.text.items) }
     ensures err { OnErr result (LogsFront (R.log ruler.old) (R.log ruler.new) k (made_of (doc_of engine.old) line.now ∷ [])) }
 {
     match apply_line(alloc, engine, line) {
         Ok(()) => Ok(Answer {
-            text: layout_text(alloc, engine, k, ruler, passes)?,
+            text: layout_text(alloc, stats, engine, k, ruler, passes)?,
             refused: false,
         }),
         Err(EditError::Refused(fault)) => Ok(Answer {

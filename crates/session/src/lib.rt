@@ -9,6 +9,7 @@ mod input;
 mod laying;
 mod print;
 mod serve;
+mod stats;
 mod status;
 mod text;
 mod top_call;

@@ -18,6 +18,7 @@ use std::sync::ledger::Ledger;
 /// Reads the document and lays it out. Gives how far the run is where a script follows, or else how it ended.
 fn start<S: Source, K: Sink, R: Ruler, L: Ledger>(
     alloc: Global,
+    stats: bool,
     source: &mut S,
     room: &mut [u8; PIECE],
     reader: &mut Reader,
@@ -26,7 +27,7 @@ fn start<S: Source, K: Sink, R: Ruler, L: Ledger>(
     passes: &mut Steps<L>,
 ) -> Result<Progress, Status>
     requires new { (reader.old.lines ≡ empty_stream) × (reader.old.count ≡ 0) × (reader.old.ended ≡ false) }
-    ensures starts { Starts (S.left source.old) (S.left source.new) (K.written sink.old) (K.written sink.new) (R.log ruler.old) (R.log ruler.new) reader.new.lines reader.new.ended result }
+    ensures starts { Starts stats (S.left source.old) (S.left source.new) (K.written sink.old) (K.written sink.new) (R.log ruler.old) (R.log ruler.new) reader.new.lines reader.new.ended result }
     ensures count { OnOk result (reader.new.lines.fed ≡ reader.new.count) }
     ensures within { OnOk result (reader.new.count ≤ limit) }
     ensures read { HasCauseOf (S.faults source.old) (S.faults source.new) (result ≡ Err Status.ReadFault) }
@@ -36,7 +37,15 @@ fn start<S: Source, K: Sink, R: Ruler, L: Ledger>(
         Ok(text) => text,
         Err(status) => return Err(status),
     };
-    let engine = match begin(alloc, text.lines.as_slice(), text.end, sink, ruler, passes) {
+    let engine = match begin(
+        alloc,
+        stats,
+        text.lines.as_slice(),
+        text.end,
+        sink,
+        ruler,
+        passes,
+    ) {
         Ok(engine) => engine,
         Err(status) => return Err(status),
     };
@@ -54,25 +63,35 @@ fn start<S: Source, K: Sink, R: Ruler, L: Ledger>(
 /// Answers an input: its document, and then each line of its script as soon as the line is whole.
 pub(crate) fn serve<S: Source, K: Sink, R: Ruler, L: Ledger>(
     alloc: Global,
+    stats: bool,
     source: &mut S,
     sink: &mut K,
     ruler: &mut R,
     passes: &mut Steps<L>,
 ) -> Status
-    ensures runs { Runs (S.left source.old) (S.left source.new) (K.written sink.old) (K.written sink.new) (R.log ruler.old) (R.log ruler.new) result }
+    ensures runs { Runs stats (S.left source.old) (S.left source.new) (K.written sink.old) (K.written sink.new) (R.log ruler.old) (R.log ruler.new) result }
     ensures read { HasCauseOf (S.faults source.old) (S.faults source.new) (result ≡ Status.ReadFault) }
     ensures write { HasCauseOf (K.faults sink.old) (K.faults sink.new) (result ≡ Status.WriteFault) }
 {
     let mut room = [0; PIECE];
     let mut reader = Reader::new(alloc);
-    let mut progress = match start(alloc, source, &mut room, &mut reader, sink, ruler, passes) {
+    let mut progress = match start(
+        alloc,
+        stats,
+        source,
+        &mut room,
+        &mut reader,
+        sink,
+        ruler,
+        passes,
+    ) {
         Ok(progress) => progress,
         Err(status) => return status,
     };
     loop {
         match next_line(source, &mut room, &mut reader) {
             Ok(Some(line)) => {
-                match handle_line(alloc, &mut progress, &line, sink, ruler, passes) {
+                match handle_line(alloc, stats, &mut progress, &line, sink, ruler, passes) {
                     Ok(()) => (),
                     Err(status) => return status,
                 }

@@ -1,54 +1,58 @@
-ghost use Rattle.std.specs.Prelude.{◌≡◌, ◌≢◌, ◌↔◌, ◌≤◌, ◌<◌, length, IsTrue, IfSome};
+ghost use Rattle.std.specs.Prelude.{◌≡◌, ◌≤◌, Bool, false, length, Some, IfOk, IfErr, IfSome};
 ghost use Rattle.outside.specs.Faults.{HasCauseOf};
-ghost use Rattle.outside.specs.Told.{AddsPrefix};
+ghost use Rattle.outside.specs.Told.{Adds, AddsPrefix};
+ghost use Rattle.command_words.specs.declared.Command.TheVariants.{Layout};
 ghost use Rattle.session.specs.Outcome.{out};
 ghost use Rattle.session.specs.Input.{limit};
-ghost use Rattle.session.specs.Runs.{Runs, Permits, PermitsOver, IsComplete, IsOverComplete, IsHeadline};
-ghost use Rattle.session.specs.Words.{is_layout};
+ghost use Rattle.session.specs.Runs.{HasRun, Permits, IsComplete, IsHeadline};
+ghost use Rattle.session.specs.Words.{asked, is_served, IsUnserved};
 
 use crate::Status;
 use crate::serve::serve;
+use command_words::{Command, WordsError, read_command};
 use lunit::Steps;
 use outside::{Ruler, Sink, Source};
 use std::alloc::Global;
 use std::sync::ledger::Ledger;
 
-#[tactic(auto, using(crate::proofs::Finished::following))]
 /// A run under the word `layout`, with what follows of all bytes of the input.
 fn run_layout<S: Source, K: Sink, R: Ruler, L: Ledger>(
     alloc: Global,
+    stats: bool,
     source: &mut S,
     sink: &mut K,
     ruler: &mut R,
     passes: &mut Steps<L>,
 ) -> Status
-    ensures runs { Runs (S.left source.old) (S.left source.new) (K.written sink.old) (K.written sink.new) (R.log ruler.old) (R.log ruler.new) result }
+    ensures run { HasRun stats (S.left source.old) (S.left source.new) (K.written sink.old) (K.written sink.new) (R.log ruler.old) (R.log ruler.new) (S.faults source.old) (S.faults source.new) (K.faults sink.old) (K.faults sink.new) result }
     ensures read { HasCauseOf (S.faults source.old) (S.faults source.new) (result ≡ Status.ReadFault) }
     ensures write { HasCauseOf (K.faults sink.old) (K.faults sink.new) (result ≡ Status.WriteFault) }
-    ensures prefix { IfSome (S.left source.old) (λ b. AddsPrefix (K.written sink.old) (K.written sink.new) (out b)) }
-    ensures permits { IfSome (S.left source.old) (λ b. length b ≤ limit → Permits (K.written sink.old) (K.written sink.new) b result) }
-    ensures over { IfSome (S.left source.old) (λ b. limit < length b → PermitsOver (K.written sink.old) (K.written sink.new) b result) }
-    ensures complete { IsComplete (S.left source.old) (K.written sink.old) (K.written sink.new) (S.faults source.old) (S.faults source.new) (K.faults sink.old) (K.faults sink.new) result }
-    ensures over_complete { IsOverComplete (S.left source.old) (S.faults source.old) (S.faults source.new) (K.faults sink.old) (K.faults sink.new) result }
-    ensures headline { IsHeadline (S.left source.old) (K.written sink.old) (K.written sink.new) (S.faults source.old) (S.faults source.new) (K.faults sink.old) (K.faults sink.new) result }
 {
-    serve(alloc, source, sink, ruler, passes)
+    serve(alloc, stats, source, sink, ruler, passes)
 }
 
-fn is_layout(words: &[String]) -> bool
-    ensures { result ≡ is_layout words.now }
+/// Whether the words ask for the counts of each layout, or how the run ends whose words are none that it does.
+fn served(alloc: Global, words: &[String]) -> Result<bool, Status>
+    ensures stats { IfOk result (λ stats. asked words.now ≡ Some (Layout stats)) }
+    ensures bad { IfErr result (λ status. status ≡ Status.BadWords → is_served (asked words.now) ≡ false) }
+    ensures stops { IfErr result IsUnserved }
 {
-    match words {
-        [word] => word.as_str() == "layout",
-        _ => false,
+    match read_command(alloc, words) {
+        Ok(Command::Layout { stats }) => Ok(stats),
+        Ok(Command::Make { seed: _, nodes: _ }) => Err(Status::BadWords),
+        Err(WordsError::BadWords) => Err(Status::BadWords),
+        Err(WordsError::NoMemory) => Err(Status::NoMemory),
     }
 }
 
-/// The top call. Under the one word `layout` it reads a document and the script of edits that follows a line `---`. It writes
+/// The top call. Under the word `layout` it reads a document and the script of edits that follows a line `---`. It writes
 /// the boxes of the document, and then for each edit line, numbered from 1, the boxes of the edited document or the line of the
 /// refusal; a refused edit changes nothing. Each line is answered as soon as it is whole, before more is read.
 ///
-/// - `BadWords` exactly where the words are others; then nothing is read, written or logged.
+/// Under `layout --stats` a line `stats M A` follows each layout: M events of measuring after its begin, and A answers that it
+/// kept, each of these up to 2^64 - 1.
+///
+/// - `BadWords` exactly where the words are others, or want of memory; then nothing is read, written or logged.
 /// - `Done` where the input, of at most 2^26 bytes, holds a document and no edit was refused: the input was read to its end.
 /// - `SomeRefused` where at least one edit was refused, else as `Done`.
 /// - `BadDocument` where the text before the line `---`, or all of it, has a fault: the line `refused 0 L:C name` of its first
@@ -69,27 +73,24 @@ pub fn run<S: Source, K: Sink, R: Ruler, L: Ledger>(
     ruler: &mut R,
     passes: &mut Steps<L>,
 ) -> Status
-    ensures words { IsTrue (is_layout words.items) ↔ (result ≢ Status.BadWords) }
-    ensures untouched { result ≡ Status.BadWords → (source.new ≡ source.old) × (sink.new ≡ sink.old) × (ruler.new ≡ ruler.old) }
-    // What was taken, written and logged, by the answer.
-    ensures runs { IsTrue (is_layout words.items) → Runs (S.left source.old) (S.left source.new) (K.written sink.old) (K.written sink.new) (R.log ruler.old) (R.log ruler.new) result }
+    ensures words { result ≡ Status.BadWords → is_served (asked words.items) ≡ false }
+    ensures unserved { is_served (asked words.items) ≡ false → IsUnserved result }
+    ensures untouched { is_served (asked words.items) ≡ false → (source.new ≡ source.old) × (sink.new ≡ sink.old) × (ruler.new ≡ ruler.old) }
+    // What was taken, written and logged, by the answer, and what follows of it for all bytes of the source: with counts or not.
+    ensures run { (stats : Bool) → asked words.items ≡ Some (Layout stats) → HasRun stats (S.left source.old) (S.left source.new) (K.written sink.old) (K.written sink.new) (R.log ruler.old) (R.log ruler.new) (S.faults source.old) (S.faults source.new) (K.faults sink.old) (K.faults sink.new) result }
     ensures read { HasCauseOf (S.faults source.old) (S.faults source.new) (result ≡ Status.ReadFault) }
     ensures write { HasCauseOf (K.faults sink.old) (K.faults sink.new) (result ≡ Status.WriteFault) }
-    // At every exit what was written is a prefix of the output of the source's bytes.
-    ensures prefix { IsTrue (is_layout words.items) → IfSome (S.left source.old) (λ b. AddsPrefix (K.written sink.old) (K.written sink.new) (out b)) }
-    // The answers to an input that is not too long, and to one that is.
-    ensures permits { IsTrue (is_layout words.items) → IfSome (S.left source.old) (λ b. length b ≤ limit → Permits (K.written sink.old) (K.written sink.new) b result) }
-    ensures over { IsTrue (is_layout words.items) → IfSome (S.left source.old) (λ b. limit < length b → PermitsOver (K.written sink.old) (K.written sink.new) b result) }
+    // Without counts what is written at every exit is a prefix of the output of the source's bytes.
+    ensures prefix { asked words.items ≡ Some (Layout false) → IfSome (S.left source.old) (λ b. AddsPrefix (K.written sink.old) (K.written sink.new) (out b)) }
+    ensures permits { asked words.items ≡ Some (Layout false) → IfSome (S.left source.old) (λ b. length b ≤ limit → Permits (Adds (K.written sink.old) (K.written sink.new) (out b)) b result) }
     // Where no count rose: the verdict with all of the output written, or want of memory.
-    ensures complete { IsTrue (is_layout words.items) → IsComplete (S.left source.old) (K.written sink.old) (K.written sink.new) (S.faults source.old) (S.faults source.new) (K.faults sink.old) (K.faults sink.new) result }
-    ensures over_complete { IsTrue (is_layout words.items) → IsOverComplete (S.left source.old) (S.faults source.old) (S.faults source.new) (K.faults sink.old) (K.faults sink.new) result }
+    ensures complete { asked words.items ≡ Some (Layout false) → IsComplete (S.left source.old) (λ b. Adds (K.written sink.old) (K.written sink.new) (out b)) (S.faults source.old) (S.faults source.new) (K.faults sink.old) (K.faults sink.new) result }
     // The boxes written are those of the document that the source's bytes hold, and then, for each edit line, those of the edited
     // document or the line of the refusal.
-    ensures headline { IsTrue (is_layout words.items) → IsHeadline (S.left source.old) (K.written sink.old) (K.written sink.new) (S.faults source.old) (S.faults source.new) (K.faults sink.old) (K.faults sink.new) result }
+    ensures headline { asked words.items ≡ Some (Layout false) → IsHeadline (S.left source.old) (K.written sink.old) (K.written sink.new) (S.faults source.old) (S.faults source.new) (K.faults sink.old) (K.faults sink.new) result }
 {
-    if is_layout(&words) {
-        run_layout(alloc, source, sink, ruler, passes)
-    } else {
-        Status::BadWords
+    match served(alloc, words.as_slice()) {
+        Ok(stats) => run_layout(alloc, stats, source, sink, ruler, passes),
+        Err(status) => status,
     }
 }

@@ -7,7 +7,7 @@ use Rattle.session.proofs.answer.begin.Goals as goal
 
 pub returns-in-Err-Fault-clause-begins : goal.returns-in-Err-Fault-clause-begins
 returns-in-Err-Fault-clause-begins g c =
-    begins_refused (g.K.Sink.written c.args.sink.now) (g.K.Sink.written c.refuse_document.new.sink) (g.R.Ruler.log c.args.ruler.now) (document_of c.args.lines.now c.args.end) c.in-Err-Fault.fault c.refuse_document.result (subst (λ (e : ReadError). Reads (Err e) (document_of c.args.lines.now c.args.end)) c.in-Err-Fault.field-0-is c.in-Err-Fault.ensures.document) (c.refuse_document.ensures.refused (g.R.Ruler.log c.args.ruler.now))
+    begins_refused c.args.stats (g.K.Sink.written c.args.sink.now) (g.K.Sink.written c.refuse_document.new.sink) (g.R.Ruler.log c.args.ruler.now) (document_of c.args.lines.now c.args.end) c.in-Err-Fault.fault c.refuse_document.result (subst (λ (e : ReadError). Reads (Err e) (document_of c.args.lines.now c.args.end)) c.in-Err-Fault.field-0-is c.in-Err-Fault.ensures.document) (c.refuse_document.ensures.refused c.args.stats (g.R.Ruler.log c.args.ruler.now))
 
 pub returns-in-Err-NoMemory-clause-begins : goal.returns-in-Err-NoMemory-clause-begins
-returns-in-Err-NoMemory-clause-begins g c = begins_not (g.K.Sink.written c.args.sink.now) (g.R.Ruler.log c.args.ruler.now) (document_of c.args.lines.now c.args.end)
+returns-in-Err-NoMemory-clause-begins g c = begins_not c.args.stats (g.K.Sink.written c.args.sink.now) (g.R.Ruler.log c.args.ruler.now) (document_of c.args.lines.now c.args.end)

@@ -5,12 +5,12 @@ use Rattle.session.proofs.answer.handle_line.Goals as goal
 
 pub returns-then-is_skipped-clause-ok : goal.returns-then-is_skipped-clause-ok
 returns-then-is_skipped-clause-ok g c =
-    λ held events given p. skips held (g.K.Sink.written c.args.sink.now) events (g.R.Ruler.log c.args.ruler.now) given (doc_of c.args.progress.now.engine) c.args.progress.now.number c.args.progress.now.refused c.args.line.now p (sym c.is_skipped.ensures ∙ c.if-is_skipped.true)
+    λ held events given p. skips c.args.stats held (g.K.Sink.written c.args.sink.now) events (g.R.Ruler.log c.args.ruler.now) given (doc_of c.args.progress.now.engine) c.args.progress.now.number c.args.progress.now.refused c.args.line.now p (sym c.is_skipped.ensures ∙ c.if-is_skipped.true)
 
 pub returns-in-Ok-clause-ok : goal.returns-in-Ok-clause-ok
 returns-in-Ok-clause-ok g c =
-    λ held events given p. answers held (g.K.Sink.written c.args.sink.now) events (g.R.Ruler.log c.args.ruler.now) given (doc_of c.args.progress.now.engine) c.args.progress.now.number c.args.progress.now.refused c.args.line.now p (g.K.Sink.written c.write_answer.new.sink) (g.R.Ruler.log c.write_answer.new.ruler) (doc_of c.write_answer.new.engine) c.in-Ok.refused (sym c.is_skipped.ensures ∙ c.if-is_skipped.false) c.in-Ok.ensures.next c.in-Ok.ensures.answers
+    λ held events given p. answers c.args.stats held (g.K.Sink.written c.args.sink.now) events (g.R.Ruler.log c.args.ruler.now) given (doc_of c.args.progress.now.engine) c.args.progress.now.number c.args.progress.now.refused c.args.line.now p (g.K.Sink.written c.write_answer.new.sink) (g.R.Ruler.log c.write_answer.new.ruler) (doc_of c.write_answer.new.engine) c.in-Ok.refused (sym c.is_skipped.ensures ∙ c.if-is_skipped.false) c.in-Ok.ensures.next c.in-Ok.ensures.answers
 
 pub returns-in-Err-clause-err : goal.returns-in-Err-clause-err
 returns-in-Err-clause-err g c =
-    λ held events given p. answers_part held (g.K.Sink.written c.args.sink.now) events (g.R.Ruler.log c.args.ruler.now) given (doc_of c.args.progress.now.engine) c.args.progress.now.number c.args.progress.now.refused c.args.line.now p (g.K.Sink.written c.write_answer.new.sink) (g.R.Ruler.log c.write_answer.new.ruler) (sym c.is_skipped.ensures ∙ c.if-is_skipped.false) c.in-Err.ensures.prefix
+    λ held events given p. answers_part c.args.stats held (g.K.Sink.written c.args.sink.now) events (g.R.Ruler.log c.args.ruler.now) given (doc_of c.args.progress.now.engine) c.args.progress.now.number c.args.progress.now.refused c.args.line.now p (g.K.Sink.written c.write_answer.new.sink) (g.R.Ruler.log c.write_answer.new.ruler) (sym c.is_skipped.ensures ∙ c.if-is_skipped.false) c.in-Err.ensures.prefix

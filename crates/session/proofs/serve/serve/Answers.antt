@@ -19,7 +19,7 @@ returns-in-Err-handle_line-clause-runs g c =
     let events = g.R.Ruler.log c.args.ruler.now in
     let at = c.loop-line.invariant.at in
     let line = line_given left now at.given c.in-Ok-Some.line c.next_line.new.reader.lines c.next_line.new.reader.ended c.in-Ok-Some.field-0 c.in-Ok-Some.field-0-is (c.in-Ok-Some.ensures.next left at.given at.input) in
-    part_written left now held (g.K.Sink.written c.handle_line.new.sink) events (g.R.Ruler.log c.handle_line.new.ruler) at.given c.in-Ok-Some.line c.next_line.new.reader.lines c.next_line.new.reader.ended c.in-Err-handle_line.status line at.answered.laid.ended c.in-Err-handle_line.ensures.stops (c.in-Err-handle_line.ensures.err held events at.given at.answered)
+    part_written c.args.stats left now held (g.K.Sink.written c.handle_line.new.sink) events (g.R.Ruler.log c.handle_line.new.ruler) at.given c.in-Ok-Some.line c.next_line.new.reader.lines c.next_line.new.reader.ended c.in-Err-handle_line.status line at.answered.laid.ended c.in-Err-handle_line.ensures.stops (c.in-Err-handle_line.ensures.err held events at.given at.answered)
 
 pub loop-line-smaller : goal.loop-line-smaller
 loop-line-smaller g c =
@@ -56,13 +56,13 @@ returns-in-Ok-None-clause-runs g c =
     let events = g.R.Ruler.log c.args.ruler.now in
     let events' = g.R.Ruler.log c.loop-line.ruler in
     let at = c.loop-line.invariant.at in
-    subst (λ (status : Status). Runs left now held held' events events' status) (sym c.ended.ensures) (script_ended left now held held' events events' at.given (doc_of c.loop-line.progress.engine) c.loop-line.progress.number c.loop-line.progress.refused at.answered (end_given left now at.given c.next_line.new.reader.lines c.next_line.new.reader.ended c.in-Ok-None.field-0 c.in-Ok-None.field-0-is (c.in-Ok-None.ensures.next left at.given at.input)))
+    subst (λ (status : Status). Runs c.args.stats left now held held' events events' status) (sym c.ended.ensures) (script_ended c.args.stats left now held held' events events' at.given (doc_of c.loop-line.progress.engine) c.loop-line.progress.number c.loop-line.progress.refused at.answered (end_given left now at.given c.next_line.new.reader.lines c.next_line.new.reader.ended c.in-Ok-None.field-0 c.in-Ok-None.field-0-is (c.in-Ok-None.ensures.next left at.given at.input)))
 
 pub returns-in-Err-next_line-clause-runs : goal.returns-in-Err-next_line-clause-runs
 returns-in-Err-next_line-clause-runs g c =
     let left = g.S.Source.left c.args.source.now in
     let at = c.loop-line.invariant.at in
-    script_stopped left (g.S.Source.left c.next_line.new.source) (g.K.Sink.written c.args.sink.now) (g.K.Sink.written c.loop-line.sink) (g.R.Ruler.log c.args.ruler.now) (g.R.Ruler.log c.loop-line.ruler) at.given (doc_of c.loop-line.progress.engine) c.loop-line.progress.number c.loop-line.progress.refused at.answered c.in-Err-next_line.status (c.in-Err-next_line.ensures.next left at.given at.input)
+    script_stopped c.args.stats left (g.S.Source.left c.next_line.new.source) (g.K.Sink.written c.args.sink.now) (g.K.Sink.written c.loop-line.sink) (g.R.Ruler.log c.args.ruler.now) (g.R.Ruler.log c.loop-line.ruler) at.given (doc_of c.loop-line.progress.engine) c.loop-line.progress.number c.loop-line.progress.refused at.answered c.in-Err-next_line.status (c.in-Err-next_line.ensures.next left at.given at.input)
 
 pub returns-in-Err-next_line-clause-write : goal.returns-in-Err-next_line-clause-write
 returns-in-Err-next_line-clause-write g c =
