@@ -18,3 +18,4 @@ pub mod Progress
 pub mod Running
 pub mod Finished
 pub mod Commands
+pub mod BoxTexts

@@ -2,6 +2,7 @@
 #![tactic(auto)]
 
 mod answer;
+mod box_text;
 mod edits;
 mod engine;
 mod faults;
@@ -19,6 +20,3 @@ pub use page_tree::EditError as ApplyError;
 pub use print::print_boxes;
 pub use status::Status;
 pub use top_call::run;
-
-#[cfg(test)]
-mod tests;

@@ -1,9 +1,10 @@
-ghost use Rattle.std.specs.Prelude.{◌≡◌, ◌++◌, ◌∷◌, [], OnOk, OnErr, IfOk, codes, decimal, take, ◌≤◌};
+ghost use Rattle.std.specs.Prelude.{◌≡◌, ◌++◌, OnOk, IfOk, decimal};
 ghost use Rattle.std.specs.List.{All};
-ghost use Rattle.session.specs.Printing.{IsPrintable, IsPrintableBox, px_of, spaced, spaced_pair, box_line, box_lines, layout_line, print, refusal};
+ghost use Rattle.session.specs.Printing.{IsPrintableBox, box_line, print, refusal};
 
+use crate::box_text::{ROOM, put_box};
 use itoa::Buffer;
-use lunit::{Along, BLOCK, INLINE, Name, NoMemory, Rect, px_text};
+use lunit::{Name, NoMemory, Rect};
 use std::alloc::Global;
 use text_scan::Place;
 
@@ -21,61 +22,17 @@ fn append_number(out: &mut Vec<u8>, number: u32) -> Result<(), NoMemory>
     append(out, buffer.format(number).as_bytes())
 }
 
-#[tactic(auto, unfolding(crate::specs::Printing::px_of))]
-/// Writes a number of px at the front of the room, and answers its length.
-fn write_px(room: &mut [u8; 32], units: i64) -> usize
-    requires { IsPrintable units }
-    ensures short { result ≤ 28 }
-    ensures text { take result room.new ≡ px_of units }
-{
-    px_text(units, room)
-}
-
-#[tactic(auto, unfolding(crate::specs::Printing::spaced))]
-/// Adds a space and a number of px.
-fn append_px(out: &mut Vec<u8>, units: i64) -> Result<(), NoMemory>
-    requires { IsPrintable units }
-    ensures ok { OnOk result (out.new.items ≡ out.old.items ++ spaced units) }
-{
-    let mut room = [0; 32];
-    let count = write_px(&mut room, units);
-    append(out, b" ")?;
-    append(out, &room[..count])
-}
-
-fn append_along<const AXIS: u8>(out: &mut Vec<u8>, length: Along<AXIS>) -> Result<(), NoMemory>
-    requires { IsPrintable length }
-    ensures ok { OnOk result (out.new.items ≡ out.old.items ++ spaced length.entry) }
-{
-    append_px(out, length.units())
-}
-
-#[tactic(auto, unfolding(crate::specs::Printing::spaced_pair))]
-/// Adds two numbers of px, each after a space.
-fn append_pair(
+/// Adds the line of a box, which is made in the room.
+fn append_box(
     out: &mut Vec<u8>,
-    inline: Along<INLINE>,
-    block: Along<BLOCK>,
+    room: &mut [u8; ROOM],
+    name: &Name,
+    rect: Rect,
 ) -> Result<(), NoMemory>
-    requires inline { IsPrintable inline }
-    requires block { IsPrintable block }
-    ensures ok { OnOk result (out.new.items ≡ out.old.items ++ spaced_pair inline block) }
-{
-    append_along(out, inline)?;
-    append_along(out, block)?;
-    Ok(())
-}
-
-#[tactic(auto, unfolding(crate::specs::Printing::box_line))]
-fn append_box(out: &mut Vec<u8>, name: &Name, rect: Rect) -> Result<(), NoMemory>
-    requires { IsPrintableBox (name.now, rect) }
     ensures ok { OnOk result (out.new.items ≡ out.old.items ++ box_line (name.now, rect)) }
 {
-    append(out, name.bytes())?;
-    append_pair(out, rect.x, rect.y)?;
-    append_pair(out, rect.width, rect.height)?;
-    append(out, b"\n")?;
-    Ok(())
+    let start = put_box(room, name, rect);
+    append(out, &room[start..])
 }
 
 /// The text of a layout with its number k: a line `layout k`, then for each box in order a line `name x y width height`
@@ -88,8 +45,9 @@ pub fn print_boxes(alloc: Global, k: u32, boxes: &[(Name, Rect)]) -> Result<Vec<
     append(&mut out, b"layout ")?;
     append_number(&mut out, k)?;
     append(&mut out, b"\n")?;
+    let mut room = [0; ROOM];
     for (name, rect) in boxes {
-        append_box(&mut out, name, *rect)?;
+        append_box(&mut out, &mut room, name, *rect)?;
     }
     Ok(out)
 }
