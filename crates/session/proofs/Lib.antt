@@ -17,5 +17,9 @@ pub mod Serving
 pub mod Progress
 pub mod Running
 pub mod Finished
-pub mod Commands
 pub mod BoxTexts
+pub mod Commands
+pub mod Follows
+pub mod LeafNames
+pub mod Spares
+pub mod Walks

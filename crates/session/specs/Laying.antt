@@ -1,12 +1,14 @@
 -- What one layout measures, keeps and counts.
-use Rattle.std.specs.Prelude.{◌≡◌, ℕ, ◌+◌, ◌*◌, ◌≤◌, List, [], ◌∷◌, length, Option}
+use Rattle.std.specs.Prelude.{◌≡◌, ℕ, ◌+◌, ◌*◌, ◌≤◌, List, [], ◌∷◌, length, Option, None}
 use Rattle.outside.specs.Told.{Adds}
 use Rattle.outside.specs.declared.event.Event.{Event}
 use Rattle.outside.specs.declared.event.Event.TheVariants.{Begin}
 use Rattle.doc_text.specs.declared.document.Doc.{Doc}
 use Rattle.node_arena.specs.declared.number.NodeId.{NodeId}
 use Rattle.placing.specs.Kept.{kept_at}
-use Rattle.placing.specs.Walks.{Entry, entries_of, kept_with, AreFresh, rising}
+use Rattle.box_layout.specs.Paths.{IsAllKept, IsAsked, IsPathKept}
+use Rattle.placing.specs.Nodes.{bare}
+use Rattle.placing.specs.Walks.{AreAsked, AreFresh, Entry, State, entries_of, events_of, kept_with, rising, state}
 use Rattle.page_tree.specs.Pages.{Held}
 use Rattle.session.specs.Logs.{AreMeasuring}
 
@@ -35,3 +37,34 @@ pub record Keeps (old new : Held) (before after passes passes' : ℕ) : Type 0 w
   pub more : KeepsMore old new
   pub count : after ≡ rising before (length more.entries)
   pub ticks : passes' ≤ passes + 4 * length more.entries
+
+-- a layout with the number k: it began, and then the events of the answers that were kept were told, in their order, and no others; each answers a question that laying out the page may ask
+pub record Walks (k : ℕ) (old new : Held) (told told' : Option (List Event)) (measured added passes passes' : ℕ) : Type 0 where
+  pub entries : List Entry
+  pub log : Adds told told' (Begin k ∷ events_of (bare old.nodes.tree) entries)
+  pub kept : (n : NodeId) → kept_at new.nodes.tree n ≡ kept_with (kept_at old.nodes.tree n) (entries_of n entries)
+  pub fresh : AreFresh (kept_at old.nodes.tree) [] entries
+  pub asked : AreAsked (IsAsked (bare old.nodes.tree) old.width old.height) entries
+  pub events : measured ≡ rising 0 (length (events_of (bare old.nodes.tree) entries))
+  pub count : added ≡ rising 0 (length entries)
+  pub ticks : passes' ≤ passes + 4 * length entries
+
+-- what is kept of a page alone
+abbrev pub kept_state : Held → State
+kept_state page = state page.nodes (record { measured = 0; added = 0 }) 0 None
+
+-- each container of the page keeps the question for its frames that its boxes give it
+abbrev pub KeepsPath : Held → Held → Type 0
+KeepsPath old new = IsPathKept (bare old.nodes.tree) old.width old.height (kept_state new)
+
+-- so, and the root keeps its inline sizes and its block size
+abbrev pub KeepsAll : Held → Type 0
+KeepsAll page = IsAllKept (bare page.nodes.tree) page.width page.height (kept_state page)
+
+-- a layout that only began: nothing was kept, measured or sized
+pub record IsQuiet (k : ℕ) (old new : Held) (told told' : Option (List Event)) (measured added passes passes' : ℕ) : Type 0 where
+  pub nodes : new.nodes ≡ old.nodes
+  pub log : Adds told told' (Begin k ∷ [])
+  pub events : measured ≡ 0
+  pub count : added ≡ 0
+  pub ticks : passes' ≡ passes

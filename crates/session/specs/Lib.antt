@@ -25,3 +25,7 @@ pub mod Runs
 pub mod Serving
 pub mod Standing
 pub mod Engine
+pub mod Touched
+pub mod Spares
+pub use Rattle.sparing.specs.Memory as Memory
+pub use Rattle.sparing.specs.Sparing as Sparing

@@ -1,4 +1,8 @@
-ghost use Rattle.std.specs.Prelude.{◌≡◌, ◌≤◌, ◌∷◌, [], Ok, IfOk, OnErr};
+ghost use Rattle.std.specs.Prelude.{◌≡◌, ◌≤◌, ◌∷◌, [], List, Option, Ok, IfOk, OnOk, OnErr};
+ghost use Rattle.outside.specs.declared.event.Event.{Event};
+ghost use Rattle.sparing.specs.Sparing.{Touches};
+ghost use Rattle.session.specs.Spares.{KeepsUntouched, SparesAfter, SparesDue, SparesPage};
+ghost use Rattle.session.specs.Touched.{Agrees, touched_by};
 ghost use Rattle.doc_text.specs.Valid.{IsShort};
 ghost use Rattle.page_tree.specs.Answered.{Applies};
 ghost use Rattle.session.specs.Engine.{IsAnswered};
@@ -35,7 +39,7 @@ pub(crate) fn refusal_text(alloc: Global, k: u32, fault: Fault) -> Result<Vec<u8
     print_refusal(alloc, k, fault.place, fault_name(fault.number))
 }
 
-#[tactic(auto, using(crate::proofs::Laid::laid_text))]
+#[tactic(auto, using(crate::proofs::Laid::laid_text, crate::proofs::Spares::sparing))]
 /// The text of the layout of an engine, with the number k, and with its counts where they are wanted.
 pub(crate) fn layout_text<R: Ruler, L: Ledger>(
     alloc: Global,
@@ -48,6 +52,7 @@ pub(crate) fn layout_text<R: Ruler, L: Ledger>(
     ensures prints { IfOk result (λ text. Prints stats (R.log ruler.old) (R.log ruler.new) k (Ok (doc_of engine.old)) text.items) }
     ensures err { OnErr result (LogsFront (R.log ruler.old) (R.log ruler.new) k (Ok (doc_of engine.old) ∷ [])) }
     ensures document { doc_of engine.new ≡ doc_of engine.old }
+    ensures spares { (touches : Touches) (before : Option (List Event)) → SparesDue touches before (R.log ruler.old) k engine.old.page → SparesAfter touches before (R.log ruler.new) engine.new.page result }
 {
     let layout = engine.layout(k, ruler, passes)?;
     let mut text = print_boxes(alloc, k, layout.boxes.as_slice())?;
@@ -55,11 +60,12 @@ pub(crate) fn layout_text<R: Ruler, L: Ledger>(
     Ok(text)
 }
 
-#[tactic(auto, using(crate::proofs::EditLines::line_applying))]
+#[tactic(auto, using(crate::proofs::EditLines::line_applying, crate::proofs::Spares::sparing))]
 /// Reads the edit that a line is, and applies it.
 fn apply_line(alloc: Global, engine: &mut Engine, line: &Line) -> Result<(), EditError>
     requires { IsShort line.now }
-    ensures { Applies result (made_of (doc_of engine.old) line.now) engine.old.page engine.new.page }
+    ensures applies { Applies result (made_of (doc_of engine.old) line.now) engine.old.page engine.new.page }
+    ensures kept { OnOk result (KeepsUntouched (touched_by (doc_of engine.old) line.now) engine.old.page engine.new.page) }
 {
     match read_edit(alloc, line, engine.version()) {
         Ok(edit) => engine.apply(edit),
@@ -83,6 +89,7 @@ pub(crate) fn answer_to_edit<R: Ruler, L: Ledger>(
     ensures answered { IfOk result (λ answer. IsAnswered (made_of (doc_of engine.old) line.now) (doc_of engine.old) (doc_of engine.new) answer.refused) }
     ensures prints { IfOk result (λ answer. Prints stats (R.log ruler.old) (R.log ruler.new) k (made_of (doc_of engine.old) line.now) answer.text.items) }
     ensures err { OnErr result (LogsFront (R.log ruler.old) (R.log ruler.new) k (made_of (doc_of engine.old) line.now ∷ [])) }
+    ensures spares { (touches : Touches) (before : Option (List Event)) → Agrees touches k (doc_of engine.old) line.now → SparesPage touches before (R.log ruler.old) engine.old.page → SparesAfter touches before (R.log ruler.new) engine.new.page result }
 {
     match apply_line(alloc, engine, line) {
         Ok(()) => Ok(Answer {

@@ -1,11 +1,16 @@
-ghost use Rattle.std.specs.Prelude.{◌≡◌, ◌+◌, ◌-◌, ◌^◌, ◌≤◌, ◌∷◌, [], Ok, min, IfOk, OnErr};
+ghost use Rattle.std.specs.Prelude.{◌≡◌, ◌+◌, ◌-◌, ◌^◌, ◌≤◌, ◌∷◌, [], List, Option, Ok, min, IfOk, OnOk, OnErr};
+ghost use Rattle.outside.specs.declared.event.Event.{Event};
+ghost use Rattle.placing.specs.Keeping.{KeepsNone};
+ghost use Rattle.sparing.specs.Sparing.{Touches};
+ghost use Rattle.page_tree.specs.Reach.{KeepsOthers};
+ghost use Rattle.session.specs.Spares.{SparesDue, SparesAfter};
 ghost use Rattle.doc_text.specs.Edits.{edited};
 ghost use Rattle.doc_text.specs.Laws.{NamesItsNode};
 ghost use Rattle.doc_text.specs.Valid.{IsValid};
 ghost use Rattle.page_tree.specs.Answered.{Applies};
 ghost use Rattle.session.specs.Boxes.{boxes_of};
 ghost use Rattle.session.specs.Engine.{IsToldEdit};
-ghost use Rattle.session.specs.Laying.{LaysOut, Keeps, KeepsMore};
+ghost use Rattle.session.specs.Laying.{IsQuiet, LaysOut, Keeps, KeepsAll, KeepsMore, KeepsPath, Walks};
 ghost use Rattle.std.specs.List.{All};
 ghost use Rattle.session.specs.Logs.{LogsFront};
 ghost use Rattle.session.specs.Printing.{IsPrintableBox};
@@ -57,6 +62,7 @@ impl Engine {
         requires { IsValid doc }
         ensures document { IfOk result (λ engine. doc_of engine ≡ doc) }
         ensures calls { IfOk result (λ engine. engine.calls ≡ 0) }
+        ensures none { IfOk result (λ engine. KeepsNone engine.page.nodes.tree) }
     {
         let page = Page::new(alloc, &doc)?;
         Ok(Engine { page, calls: 0 })
@@ -89,13 +95,14 @@ impl Engine {
         requires named { NamesItsNode edit }
         requires told { IsToldEdit (doc_of self.old).version edit }
         ensures applies { Applies result (edited edit (doc_of self.old)) self.old.page self.new.page }
+        ensures kept { OnOk result (KeepsOthers edit self.old.page self.new.page) }
         ensures calls { self.new.calls ≡ min (self.old.calls + 1) (2 ^ 32 - 1) }
     {
         self.calls = self.calls.saturating_add(1);
         self.page.apply(edit)
     }
 
-    #[tactic(auto, using(crate::proofs::Laid::laying))]
+    #[tactic(auto, using(crate::proofs::Laid::laying, crate::proofs::Walks::walking))]
     /// Lays the document out: the ruler is told that the layout with the number `k` begins, and then measures leaves. Or
     /// `NoMemory`; then a front of that was told. The document is as before, and every answer that is kept is right.
     pub fn layout<R: Ruler, L: Ledger>(
@@ -112,6 +119,10 @@ impl Engine {
         ensures calls { self.new.calls ≡ self.old.calls }
         ensures kept { IfOk result (λ layout. Keeps self.old.page self.new.page 0 layout.added passes.old passes.new) }
         ensures kept_some { OnErr result (KeepsMore self.old.page self.new.page) }
+        ensures walks { IfOk result (λ layout. Walks k self.old.page self.new.page (R.log ruler.old) (R.log ruler.new) layout.measured layout.added passes.old passes.new) }
+        ensures paths { OnOk result (KeepsPath self.old.page self.new.page) }
+        ensures quiet { KeepsAll self.old.page → IfOk result (λ layout. IsQuiet k self.old.page self.new.page (R.log ruler.old) (R.log ruler.new) layout.measured layout.added passes.old passes.new) }
+        ensures spares { (touches : Touches) (before : Option (List Event)) → SparesDue touches before (R.log ruler.old) k self.old.page → SparesAfter touches before (R.log ruler.new) self.new.page result }
     {
         let page = &mut self.page;
         ruler.begin(k)?;

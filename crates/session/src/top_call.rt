@@ -6,6 +6,9 @@ ghost use Rattle.session.specs.Outcome.{out};
 ghost use Rattle.session.specs.Input.{limit};
 ghost use Rattle.session.specs.Runs.{HasRun, Permits, IsComplete, IsHeadline};
 ghost use Rattle.session.specs.Words.{asked, is_served, IsUnserved};
+ghost use Rattle.text_scan.specs.Lines.{lines_of};
+ghost use Rattle.session.specs.Spares.{Spares};
+ghost use Rattle.session.specs.Touched.{touched_lines};
 
 use crate::Status;
 use crate::serve::serve;
@@ -27,6 +30,7 @@ fn run_layout<S: Source, K: Sink, R: Ruler, L: Ledger>(
     ensures run { HasRun stats (S.left source.old) (S.left source.new) (K.written sink.old) (K.written sink.new) (R.log ruler.old) (R.log ruler.new) (S.faults source.old) (S.faults source.new) (K.faults sink.old) (K.faults sink.new) result }
     ensures read { HasCauseOf (S.faults source.old) (S.faults source.new) (result ≡ Status.ReadFault) }
     ensures write { HasCauseOf (K.faults sink.old) (K.faults sink.new) (result ≡ Status.WriteFault) }
+    ensures spares { IfSome (S.left source.old) (λ b. Spares (touched_lines (lines_of b)) (R.log ruler.old) (R.log ruler.new)) }
 {
     serve(alloc, stats, source, sink, ruler, passes)
 }
@@ -88,6 +92,8 @@ pub fn run<S: Source, K: Sink, R: Ruler, L: Ledger>(
     // The boxes written are those of the document that the source's bytes hold, and then, for each edit line, those of the edited
     // document or the line of the refusal.
     ensures headline { asked words.items ≡ Some (Layout false) → IsHeadline (S.left source.old) (K.written sink.old) (K.written sink.new) (S.faults source.old) (S.faults source.new) (K.faults sink.old) (K.faults sink.new) result }
+    // No leaf was measured again at a width unless an edit reached it or sixteen other widths followed.
+    ensures spares { (stats : Bool) → asked words.items ≡ Some (Layout stats) → IfSome (S.left source.old) (λ b. Spares (touched_lines (lines_of b)) (R.log ruler.old) (R.log ruler.new)) }
 {
     match served(alloc, words.as_slice()) {
         Ok(stats) => run_layout(alloc, stats, source, sink, ruler, passes),

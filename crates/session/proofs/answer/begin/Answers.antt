@@ -3,6 +3,7 @@ use Rattle.track_text.specs.Gives.{Reads}
 use Rattle.track_text.specs.declared.errors.ReadError.{ReadError}
 use Rattle.doc_text.specs.Documents.{document_of}
 use Rattle.session.proofs.Serving.{begins_refused, begins_not}
+use Rattle.session.proofs.Spares.{spares_none}
 use Rattle.session.proofs.answer.begin.Goals as goal
 
 pub returns-in-Err-Fault-clause-begins : goal.returns-in-Err-Fault-clause-begins
@@ -11,3 +12,9 @@ returns-in-Err-Fault-clause-begins g c =
 
 pub returns-in-Err-NoMemory-clause-begins : goal.returns-in-Err-NoMemory-clause-begins
 returns-in-Err-NoMemory-clause-begins g c = begins_not c.args.stats (g.K.Sink.written c.args.sink.now) (g.R.Ruler.log c.args.ruler.now) (document_of c.args.lines.now c.args.end)
+
+pub returns-in-Err-Fault-clause-spares : goal.returns-in-Err-Fault-clause-spares
+returns-in-Err-Fault-clause-spares g c = λ touches. spares_none touches (g.R.Ruler.log c.args.ruler.now)
+
+pub returns-in-Err-NoMemory-clause-spares : goal.returns-in-Err-NoMemory-clause-spares
+returns-in-Err-NoMemory-clause-spares g c = λ touches. spares_none touches (g.R.Ruler.log c.args.ruler.now)

@@ -14,3 +14,12 @@ returns-in-Ok-clause-ok g c =
 pub returns-in-Err-clause-err : goal.returns-in-Err-clause-err
 returns-in-Err-clause-err g c =
     λ held events given p. answers_part c.args.stats held (g.K.Sink.written c.args.sink.now) events (g.R.Ruler.log c.args.ruler.now) given (doc_of c.args.progress.now.engine) c.args.progress.now.number c.args.progress.now.refused c.args.line.now p (g.K.Sink.written c.write_answer.new.sink) (g.R.Ruler.log c.write_answer.new.ruler) (sym c.is_skipped.ensures ∙ c.if-is_skipped.false) c.in-Err.ensures.prefix
+
+pub returns-then-is_skipped-clause-spares : goal.returns-then-is_skipped-clause-spares
+returns-then-is_skipped-clause-spares g c = λ touches before agrees p. p
+
+pub returns-in-Ok-clause-spares : goal.returns-in-Ok-clause-spares
+returns-in-Ok-clause-spares g c = λ touches before agrees p. c.in-Ok.ensures.spares touches before (agrees (sym c.is_skipped.ensures ∙ c.if-is_skipped.false)) p
+
+pub returns-in-Err-clause-spares : goal.returns-in-Err-clause-spares
+returns-in-Err-clause-spares g c = λ touches before agrees p. c.in-Err.ensures.spares touches before (agrees (sym c.is_skipped.ensures ∙ c.if-is_skipped.false)) p

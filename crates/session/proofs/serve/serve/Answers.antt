@@ -4,6 +4,9 @@ use Rattle.session.specs.declared.status.Status.{Status}
 use Rattle.session.proofs.Texts.{line_given, end_given}
 use Rattle.session.proofs.Running.{part_written, script_stopped, script_ended, few_answers, closer, unwritten_stop}
 use Rattle.session.specs.Standing.{doc_of}
+use Rattle.session.proofs.Follows.{agrees_line, follows_given}
+use Rattle.session.proofs.Pieces.{first_given}
+use Rattle.session.proofs.Spares.{input_none, spares_some}
 use Rattle.session.proofs.serve.serve.Goals as goal
 
 pub handle_line-requires-clause-few : goal.handle_line-requires-clause-few
@@ -41,6 +44,10 @@ loop-line-preserved g c =
         input = line.all;
         answered = c.in-Ok-handle_line.ensures.ok (g.K.Sink.written c.args.sink.now) (g.R.Ruler.log c.args.ruler.now) at.given at.answered;
       };
+      spared = λ touches f.
+          c.in-Ok-handle_line.ensures.spares touches (g.R.Ruler.log c.args.ruler.now)
+          (agrees_line touches at.given (doc_of c.loop-line.progress.engine) c.loop-line.progress.number c.loop-line.progress.refused at.answered.laid c.in-Ok-Some.line f)
+          (c.loop-line.invariant.spared touches (follows_given touches at.given (doc_of c.loop-line.progress.engine) c.loop-line.progress.number c.loop-line.progress.refused at.answered.laid c.in-Ok-Some.line f));
       count = search rules;
       within = search rules;
       read = search rules;
@@ -69,3 +76,41 @@ returns-in-Err-next_line-clause-write g c =
     let left = g.S.Source.left c.args.source.now in
     let at = c.loop-line.invariant.at in
     unwritten_stop left (g.S.Source.left c.next_line.new.source) at.given c.in-Err-next_line.status (g.K.Sink.faults c.args.sink.now) (g.K.Sink.faults c.loop-line.sink) (c.in-Err-next_line.ensures.next left at.given at.input) c.loop-line.invariant.written
+
+pub returns-in-Err-handle_line-clause-spares : goal.returns-in-Err-handle_line-clause-spares
+returns-in-Err-handle_line-clause-spares g c =
+    let left = g.S.Source.left c.args.source.now in
+    let now = g.S.Source.left c.next_line.new.source in
+    let at = c.loop-line.invariant.at in
+    let line = line_given left now at.given c.in-Ok-Some.line c.next_line.new.reader.lines c.next_line.new.reader.ended c.in-Ok-Some.field-0 c.in-Ok-Some.field-0-is (c.in-Ok-Some.ensures.next left at.given at.input) in
+    record {
+      given = at.given ++ c.in-Ok-Some.line ∷ [];
+      first = first_given left now (at.given ++ c.in-Ok-Some.line ∷ []) c.next_line.new.reader.lines c.next_line.new.reader.ended line.all;
+      spared = λ touches f.
+          c.in-Err-handle_line.ensures.spares touches (g.R.Ruler.log c.args.ruler.now)
+          (agrees_line touches at.given (doc_of c.loop-line.progress.engine) c.loop-line.progress.number c.loop-line.progress.refused at.answered.laid c.in-Ok-Some.line f)
+          (c.loop-line.invariant.spared touches (follows_given touches at.given (doc_of c.loop-line.progress.engine) c.loop-line.progress.number c.loop-line.progress.refused at.answered.laid c.in-Ok-Some.line f));
+    }
+
+pub returns-in-Ok-None-clause-spares : goal.returns-in-Ok-None-clause-spares
+returns-in-Ok-None-clause-spares g c =
+    let left = g.S.Source.left c.args.source.now in
+    let at = c.loop-line.invariant.at in
+    record {
+      given = at.given;
+      first = first_given left (g.S.Source.left c.loop-line.source) at.given c.loop-line.reader.lines c.loop-line.reader.ended at.input;
+      spared = λ touches f. spares_some touches (g.R.Ruler.log c.args.ruler.now) (g.R.Ruler.log c.loop-line.ruler) c.loop-line.progress.engine.page (c.loop-line.invariant.spared touches f);
+    }
+
+pub returns-in-Err-next_line-clause-spares : goal.returns-in-Err-next_line-clause-spares
+returns-in-Err-next_line-clause-spares g c =
+    let left = g.S.Source.left c.args.source.now in
+    let at = c.loop-line.invariant.at in
+    record {
+      given = at.given;
+      first = first_given left (g.S.Source.left c.loop-line.source) at.given c.loop-line.reader.lines c.loop-line.reader.ended at.input;
+      spared = λ touches f. spares_some touches (g.R.Ruler.log c.args.ruler.now) (g.R.Ruler.log c.loop-line.ruler) c.loop-line.progress.engine.page (c.loop-line.invariant.spared touches f);
+    }
+
+pub returns-in-Err-clause-spares : goal.returns-in-Err-clause-spares
+returns-in-Err-clause-spares g c = input_none (g.S.Source.left c.args.source.now) (g.R.Ruler.log c.args.ruler.now) (g.R.Ruler.log c.start.new.ruler) (λ touches. c.in-Err.ensures.spares touches)

@@ -3,6 +3,7 @@ use Rattle.session.specs.Runs.{HasRun}
 use Rattle.session.specs.Words.{asked, is_served}
 use Rattle.session.proofs.Commands.{by_stats, unserved_run}
 use Rattle.session.proofs.Finished.{plain_prefix, plain_permits, plain_complete, headline}
+use Rattle.session.proofs.Spares.{spares_unread}
 use Rattle.session.proofs.top_call.run.Goals as goal
 
 pub returns-in-Ok-clause-prefix : goal.returns-in-Ok-clause-prefix
@@ -26,3 +27,9 @@ returns-clause-run g c = unserved_run (g.S.Source.left c.args.source.now) (g.K.S
 
 pub returns-clause-prefix : goal.returns-clause-prefix
 returns-clause-prefix g c = λ e. plain_prefix (g.S.Source.left c.args.source.now) (g.S.Source.left c.args.source.now) (g.K.Sink.written c.args.sink.now) (g.K.Sink.written c.args.sink.now) (g.R.Ruler.log c.args.ruler.now) (g.R.Ruler.log c.args.ruler.now) (g.S.Source.faults c.args.source.now) (g.S.Source.faults c.args.source.now) (g.K.Sink.faults c.args.sink.now) (g.K.Sink.faults c.args.sink.now) c.in-Err.status (returns-clause-run g c false e)
+
+pub returns-in-Ok-clause-spares : goal.returns-in-Ok-clause-spares
+returns-in-Ok-clause-spares g c = λ stats e. c.run_layout.ensures.spares
+
+pub returns-clause-spares : goal.returns-clause-spares
+returns-clause-spares g c = λ stats e. spares_unread (g.S.Source.left c.args.source.now) (g.R.Ruler.log c.args.ruler.now)
