@@ -3,7 +3,7 @@
 ghost use Rattle.doc_text.specs.Valid.{IsValid};
 ghost use Rattle.placing.specs.Nodes.{bare};
 ghost use Rattle.placing.specs.Ranges.{AreReadable};
-ghost use Rattle.page_tree.specs.Pages.{document_of};
+ghost use Rattle.page_tree.specs.Pages.{document_of, Stands};
 
 use crate::page::Page;
 
@@ -12,6 +12,14 @@ use crate::page::Page;
 /// computed value of it, is in the range that layout asks, and no node has more than 65,536 children.
 pub fn valid_documents_are_readable(page: &Page)
     ensures { IsValid (document_of page.now) → AreReadable (bare page.now.nodes.tree) }
+{
+    let _ = page.stands();
+}
+
+/// What holds of every page: it has one root and at most 64 levels, each node has its computed style, and each name and each number is
+/// that of one node.
+pub fn pages_stand(page: &Page)
+    ensures { Stands page.now.nodes.tree }
 {
     let _ = page.stands();
 }

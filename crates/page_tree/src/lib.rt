@@ -16,6 +16,6 @@ mod restyle;
 mod touched;
 
 pub use error::EditError;
-pub use laws::valid_documents_are_readable;
+pub use laws::{pages_stand, valid_documents_are_readable};
 pub use page::Page;
 pub use register::Register;
