@@ -1,4 +1,6 @@
+use Step::{Add, Move, Put, Remove};
 use node_arena::{Arena, ArenaError, NodeId};
+use std::process::Abort;
 use std::test::Fail;
 
 /// Makes a node, while there are numbers left.
@@ -14,6 +16,58 @@ fn add(
     arena.insert(parent, index, value)
 }
 
+/// A call, with nodes by their places in the order in which they are made, the root first.
+#[derive(Clone, Copy)]
+enum Step {
+    /// A parent, an index and a value.
+    Add(usize, usize, u32),
+    /// A node, its new parent and an index.
+    Move(usize, usize, usize),
+    /// A node and a value.
+    Put(usize, u32),
+    /// A node.
+    Remove(usize),
+}
+
+/// A call and its answer.
+type Done = (Step, Result<(), ArenaError>);
+
+/// The number of the node that was made at this place.
+fn number(made: &[NodeId], place: usize) -> Result<NodeId, ArenaError> {
+    match made.get(place) {
+        Some(id) => Ok(*id),
+        None => Err(ArenaError::Stale),
+    }
+}
+
+/// Does a step, and notes the number of a new node.
+fn take(arena: &mut Arena<u32>, made: &mut Vec<NodeId>, step: &Step) -> Result<(), ArenaError> {
+    match step {
+        Add(parent, index, value) => {
+            let id = add(arena, number(made, *parent)?, *index, *value)?;
+            if made.push(id).is_err() {
+                return Err(ArenaError::NoMemory);
+            }
+            Ok(())
+        }
+        Move(node, parent, index) => {
+            arena.move_to(number(made, *node)?, number(made, *parent)?, *index)
+        }
+        Put(node, value) => match arena.put(number(made, *node)?, *value) {
+            Ok(_) => Ok(()),
+            Err(error) => Err(error),
+        },
+        Remove(node) => arena.remove(number(made, *node)?),
+    }
+}
+
+/// Each step has its answer.
+fn follow(rt: &impl Abort, arena: &mut Arena<u32>, made: &mut Vec<NodeId>, steps: &[Done]) {
+    for (step, answer) in steps {
+        assert_eq!(rt; take(arena, made, step), *answer);
+    }
+}
+
 /// The values of the first four children, with 0 where there are fewer.
 fn children(arena: &Arena<u32>, id: NodeId) -> [u32; 4] {
     let mut values = [0; 4];
@@ -27,27 +81,41 @@ fn children(arena: &Arena<u32>, id: NodeId) -> [u32; 4] {
     values
 }
 
+/// A number that names no node.
+fn is_stale(rt: &impl Abort, arena: &Arena<u32>, id: NodeId) {
+    assert_eq!(rt; arena.get(id), None);
+    assert_eq!(rt; arena.parent(id), None);
+    assert_eq!(rt; arena.child(id, 0), None);
+    assert_eq!(rt; (arena.count(id), arena.level(id)), (0, 0));
+}
+
 #[test]
 fn a_removed_number_is_stale_for_good(rt: HostRuntime) -> Result<(), Fail> {
+    static STEPS: &[Done] = &[
+        (Add(0, 0, 2), Ok(())),
+        (Add(1, 0, 3), Ok(())),
+        (Remove(1), Ok(())),
+        // the two slots are used again
+        (Add(0, 0, 4), Ok(())),
+        (Add(3, 0, 5), Ok(())),
+        (Put(1, 9), Err(ArenaError::Stale)),
+        (Remove(1), Err(ArenaError::Stale)),
+        (Move(1, 0, 0), Err(ArenaError::Stale)),
+        (Move(3, 1, 0), Err(ArenaError::Stale)),
+        (Add(1, 0, 9), Err(ArenaError::Stale)),
+        (Put(2, 9), Err(ArenaError::Stale)),
+        (Remove(2), Err(ArenaError::Stale)),
+        (Move(2, 0, 0), Err(ArenaError::Stale)),
+        (Move(3, 2, 0), Err(ArenaError::Stale)),
+        (Add(2, 0, 9), Err(ArenaError::Stale)),
+    ];
     let (mut arena, root) = Arena::new(rt.alloc(), 1, 9, 4)?;
-    let old = add(&mut arena, root, 0, 2)?;
-    let below = add(&mut arena, old, 0, 3)?;
-    assert_eq!(rt; arena.remove(old), Ok(()));
-    assert_eq!(rt; arena.len(), 1);
-    // the two slots are used again
-    let new = add(&mut arena, root, 0, 4)?;
-    let other = add(&mut arena, new, 0, 5)?;
-    for stale in [old, below] {
-        assert_eq!(rt; arena.get(stale), None);
-        assert_eq!(rt; arena.parent(stale), None);
-        assert_eq!(rt; arena.child(stale, 0), None);
-        assert_eq!(rt; (arena.count(stale), arena.level(stale)), (0, 0));
-        assert_eq!(rt; arena.put(stale, 9), Err(ArenaError::Stale));
-        assert_eq!(rt; arena.remove(stale), Err(ArenaError::Stale));
-        assert_eq!(rt; arena.move_to(stale, root, 0), Err(ArenaError::Stale));
-        assert_eq!(rt; arena.move_to(new, stale, 0), Err(ArenaError::Stale));
-        assert_eq!(rt; add(&mut arena, stale, 0, 9), Err(ArenaError::Stale));
-    }
+    let mut made = Vec::new(rt.alloc());
+    made.push(root)?;
+    follow(&rt, &mut arena, &mut made, STEPS);
+    is_stale(&rt, &arena, number(&made, 1)?);
+    is_stale(&rt, &arena, number(&made, 2)?);
+    let other = number(&made, 4)?;
     assert_eq!(rt; arena.get(other), Some(&5));
     assert_eq!(rt; arena.put(other, 6), Ok(5));
     assert_eq!(rt; (arena.get(other), arena.level(other)), (Some(&6), 3));
@@ -58,25 +126,30 @@ fn a_removed_number_is_stale_for_good(rt: HostRuntime) -> Result<(), Fail> {
 #[test]
 fn the_first_error_that_holds_is_answered(rt: HostRuntime) -> Result<(), Fail> {
     // four nodes and two children of one node at most
+    static STEPS: &[Done] = &[
+        (Add(0, 0, 2), Ok(())),
+        (Add(0, 1, 3), Ok(())),
+        (Add(0, 3, 9), Err(ArenaError::BadIndex)),
+        // more children than there may be
+        (Add(0, 2, 9), Err(ArenaError::Full)),
+        (Add(1, 0, 4), Ok(())),
+        // more nodes than there may be
+        (Add(3, 1, 9), Err(ArenaError::BadIndex)),
+        (Add(3, 0, 9), Err(ArenaError::Full)),
+        (Remove(0), Err(ArenaError::Root)),
+        (Move(0, 3, 7), Err(ArenaError::Root)),
+        (Move(1, 3, 7), Err(ArenaError::Cycle)),
+        (Move(1, 1, 0), Err(ArenaError::Cycle)),
+        (Move(3, 0, 3), Err(ArenaError::BadIndex)),
+        (Move(3, 0, 2), Err(ArenaError::Full)),
+        // the root has one other child
+        (Move(2, 0, 2), Err(ArenaError::BadIndex)),
+        (Move(2, 0, 0), Ok(())),
+    ];
     let (mut arena, root) = Arena::new(rt.alloc(), 1, 4, 2)?;
-    let first = add(&mut arena, root, 0, 2)?;
-    let second = add(&mut arena, root, 1, 3)?;
-    assert_eq!(rt; add(&mut arena, root, 3, 9), Err(ArenaError::BadIndex));
-    // more children than there may be
-    assert_eq!(rt; add(&mut arena, root, 2, 9), Err(ArenaError::Full));
-    let third = add(&mut arena, first, 0, 4)?;
-    // more nodes than there may be
-    assert_eq!(rt; add(&mut arena, third, 1, 9), Err(ArenaError::BadIndex));
-    assert_eq!(rt; add(&mut arena, third, 0, 9), Err(ArenaError::Full));
-    assert_eq!(rt; arena.remove(root), Err(ArenaError::Root));
-    assert_eq!(rt; arena.move_to(root, third, 7), Err(ArenaError::Root));
-    assert_eq!(rt; arena.move_to(first, third, 7), Err(ArenaError::Cycle));
-    assert_eq!(rt; arena.move_to(first, first, 0), Err(ArenaError::Cycle));
-    assert_eq!(rt; arena.move_to(third, root, 3), Err(ArenaError::BadIndex));
-    assert_eq!(rt; arena.move_to(third, root, 2), Err(ArenaError::Full));
-    // the root has one other child
-    assert_eq!(rt; arena.move_to(second, root, 2), Err(ArenaError::BadIndex));
-    assert_eq!(rt; arena.move_to(second, root, 0), Ok(()));
+    let mut made = Vec::new(rt.alloc());
+    made.push(root)?;
+    follow(&rt, &mut arena, &mut made, STEPS);
     assert_eq!(rt; children(&arena, root), [3, 2, 0, 0]);
     assert_eq!(rt; (arena.len(), arena.inserted()), (4, 4));
     Ok(())
@@ -84,24 +157,33 @@ fn the_first_error_that_holds_is_answered(rt: HostRuntime) -> Result<(), Fail> {
 
 #[test]
 fn no_node_stands_on_level_65(rt: HostRuntime) -> Result<(), Fail> {
+    // node n stands on level n + 1; a tree of two levels fits below level 62, and not below level 63
+    static STEPS: &[Done] = &[
+        (Add(63, 1, 9), Err(ArenaError::BadIndex)),
+        (Add(63, 0, 9), Err(ArenaError::TooDeep)),
+        (Add(0, 0, 70), Ok(())),
+        (Add(64, 0, 71), Ok(())),
+        (Move(64, 62, 0), Err(ArenaError::TooDeep)),
+        (Move(64, 61, 1), Ok(())),
+    ];
     let (mut arena, root) = Arena::new(rt.alloc(), 0, 100, 100)?;
-    let mut lowest = root;
-    for level in 2..65 {
-        lowest = add(&mut arena, lowest, 0, level)?;
+    let mut made = Vec::new(rt.alloc());
+    made.push(root)?;
+    for level in 1..64 {
+        assert_eq!(rt;
+            take(&mut arena, &mut made, &Add(level - 1, 0, level as u32)),
+            Ok(())
+        );
     }
-    assert_eq!(rt; arena.level(lowest), 64);
-    assert_eq!(rt; add(&mut arena, lowest, 1, 9), Err(ArenaError::BadIndex));
-    assert_eq!(rt; add(&mut arena, lowest, 0, 9), Err(ArenaError::TooDeep));
-    // a tree of two levels fits below level 62, and not below level 63
-    let pair = add(&mut arena, root, 0, 70)?;
-    add(&mut arena, pair, 0, 71)?;
-    let deep = arena.parent(lowest).unwrap_or(root);
-    let higher = arena.parent(deep).unwrap_or(root);
-    assert_eq!(rt; arena.move_to(pair, deep, 0), Err(ArenaError::TooDeep));
-    assert_eq!(rt; arena.move_to(pair, higher, 1), Ok(()));
-    assert_eq!(rt; children(&arena, higher), [63, 70, 0, 0]);
+    assert_eq!(rt; arena.level(number(&made, 63)?), 64);
+    follow(&rt, &mut arena, &mut made, STEPS);
+    assert_eq!(rt; children(&arena, number(&made, 61)?), [62, 70, 0, 0]);
     assert_eq!(rt;
-        (arena.count(root), arena.len(), arena.level(pair)),
+        (
+            arena.count(root),
+            arena.len(),
+            arena.level(number(&made, 64)?)
+        ),
         (1, 66, 63)
     );
     Ok(())

@@ -22,20 +22,36 @@ fn keep(kept: &mut Kept<i64>, query: Query, answer: i64) {
     }
 }
 
+/// The kept answer to a question.
+fn answer(
+    kept: &Kept<i64>,
+    alloc: Global,
+    width: i64,
+    counts: &[(u32, u32)],
+) -> Result<Option<i64>, Fail> {
+    let query = question(alloc, width, counts)?;
+    Ok(kept.find(&query).copied())
+}
+
 #[test]
 fn seventeen_answers_push_the_oldest_out(rt: HostRuntime) -> Result<(), Fail> {
+    static ANSWERS: &[(i64, &[(u32, u32)], Option<i64>)] = &[
+        (0, &[(2, 1)], None),
+        (1, &[(2, 1)], Some(1)),
+        (16, &[(2, 1)], Some(16)),
+        // other counts of repetitions are another question
+        (16, &[(2, 2)], None),
+        (16, &[], None),
+    ];
     let mut kept = Kept::new(rt.alloc())?;
     for width in 0..17 {
         keep(&mut kept, question(rt.alloc(), width, &[(2, 1)])?, width);
     }
-    assert_eq!(rt; kept.find(&question(rt.alloc(), 0, &[(2, 1)])?), None);
-    assert_eq!(rt; kept.find(&question(rt.alloc(), 1, &[(2, 1)])?), Some(&1));
-    assert_eq!(rt; kept.find(&question(rt.alloc(), 16, &[(2, 1)])?), Some(&16));
-    // other counts of repetitions are another question
-    assert_eq!(rt; kept.find(&question(rt.alloc(), 16, &[(2, 2)])?), None);
-    assert_eq!(rt; kept.find(&question(rt.alloc(), 16, &[])?), None);
+    for (width, counts, due) in ANSWERS {
+        assert_eq!(rt; answer(&kept, rt.alloc(), *width, counts)?, *due);
+    }
     kept.clear();
-    assert_eq!(rt; kept.find(&question(rt.alloc(), 16, &[(2, 1)])?), None);
+    assert_eq!(rt; answer(&kept, rt.alloc(), 16, &[(2, 1)])?, None);
     Ok(())
 }
 
@@ -98,44 +114,83 @@ fn names(arena: &Arena<Cell>, numbers: &[NodeId]) -> [u32; 5] {
     names
 }
 
-#[test]
-fn an_edit_reaches_what_it_can_change(rt: HostRuntime) -> Result<(), Fail> {
-    // 1 holds the leaf 2 and the subgrid 3, which holds the subgrid 4, which holds the leaf 5
+/// The number of the node that was made at this place.
+fn number(made: &[NodeId], place: usize) -> Result<NodeId, ArenaError> {
+    match made.get(place) {
+        Some(id) => Ok(*id),
+        None => Err(ArenaError::Stale),
+    }
+}
+
+/// 1 holds the leaf 2 and the subgrid 3, which holds the subgrid 4, which holds the leaf 5; and their numbers in this order.
+fn five(alloc: Global) -> Result<(Arena<Cell>, Vec<NodeId>), Fail> {
+    static NODES: &[(usize, usize, u32, bool)] = &[
+        (0, 0, 2, false),
+        (0, 1, 3, true),
+        (2, 0, 4, true),
+        (3, 0, 5, false),
+    ];
     let top = Cell {
         name: 1,
         subgrid: false,
         keeps: true,
     };
-    let (mut arena, main) = Arena::new(rt.alloc(), top, 9, 9)?;
-    let b = add(&mut arena, main, 0, 2, false)?;
-    let s = add(&mut arena, main, 1, 3, true)?;
-    let t = add(&mut arena, s, 0, 4, true)?;
-    let p = add(&mut arena, t, 0, 5, false)?;
-    // the touched nodes, whether subgrids feel the edit, and what is reached
-    let rows = [
-        // a value of b that the subgrids beside it see, and one that they do not
-        ([b, main], true, [1, 2, 3, 4, 0]),
-        ([b, b], false, [1, 2, 0, 0, 0]),
-        ([p, t], true, [1, 3, 4, 5, 0]),
-        ([t, s], true, [1, 3, 4, 0, 0]),
+    let (mut arena, main) = Arena::new(alloc, top, 9, 9)?;
+    let mut made = Vec::new(alloc);
+    made.push(main)?;
+    for (parent, index, name, subgrid) in NODES {
+        let parent = number(&made, *parent)?;
+        let id = add(&mut arena, parent, *index, *name, *subgrid)?;
+        made.push(id)?;
+    }
+    Ok((arena, made))
+}
+
+#[test]
+fn an_edit_reaches_what_it_can_change(rt: HostRuntime) -> Result<(), Fail> {
+    // the places of the touched nodes, whether subgrids feel the edit, and what is reached
+    static EDITS: &[(usize, usize, bool, [u32; 5])] = &[
+        // a value of 2 that the subgrids beside it see, and one that they do not
+        (1, 0, true, [1, 2, 3, 4, 0]),
+        (1, 1, false, [1, 2, 0, 0, 0]),
+        (4, 3, true, [1, 3, 4, 5, 0]),
+        (3, 2, true, [1, 3, 4, 0, 0]),
         // a grid that is none itself, and its parent
-        ([s, main], true, [1, 3, 4, 0, 0]),
-        ([main, main], false, [1, 0, 0, 0, 0]),
+        (2, 0, true, [1, 3, 4, 0, 0]),
+        (0, 0, false, [1, 0, 0, 0, 0]),
     ];
-    for (touched, grid, expected) in rows {
-        let found = reach(rt.alloc(), &arena, &touched, grid)?;
-        assert_eq!(rt; names(&arena, &found), expected);
+    let (arena, made) = five(rt.alloc())?;
+    for (first, second, grid, due) in EDITS {
+        let touched = [number(&made, *first)?, number(&made, *second)?];
+        let found = reach(rt.alloc(), &arena, &touched, *grid)?;
+        assert_eq!(rt; names(&arena, &found), *due);
     }
     let none = reach(rt.alloc(), &arena, &[], true)?;
     assert_eq!(rt; none.len(), 0);
-    let found = reach(rt.alloc(), &arena, &[b], false)?;
-    assert_eq!(rt; arena.remove(p), Ok(()));
-    drop_reached(&mut arena, &found);
-    drop_reached(&mut arena, &[p]);
-    for (id, keeps) in [(main, false), (b, false), (s, true), (t, true)] {
-        if let Some(cell) = arena.get(id) {
-            assert_eq!(rt; cell.keeps, keeps);
+    Ok(())
+}
+
+/// Whether the first four nodes keep answers.
+fn keeping(arena: &Arena<Cell>, made: &[NodeId]) -> [bool; 4] {
+    let mut keeping = [false; 4];
+    for index in 0..4 {
+        if index < made.len() {
+            if let Some(cell) = arena.get(made[index]) {
+                keeping[index] = cell.keeps;
+            }
         }
     }
+    keeping
+}
+
+#[test]
+fn what_is_reached_keeps_nothing(rt: HostRuntime) -> Result<(), Fail> {
+    let (mut arena, made) = five(rt.alloc())?;
+    let found = reach(rt.alloc(), &arena, &[number(&made, 1)?], false)?;
+    let leaf = number(&made, 4)?;
+    assert_eq!(rt; arena.remove(leaf), Ok(()));
+    drop_reached(&mut arena, &found);
+    drop_reached(&mut arena, &[leaf]);
+    assert_eq!(rt; keeping(&arena, &made), [false, false, true, true]);
     Ok(())
 }

@@ -4,6 +4,7 @@ ghost use Rattle.placing.specs.Ranges.{IsGridStyle};
 ghost use Rattle.subgrid_view.specs.Ranges.{AreNear, IsNearTrack};
 ghost use Rattle.tree_rules.specs.Labels.{grid_of};
 
+use Declared::{Absent, Auto, Percent, Px};
 use inline_sizes::{
     Bounds, block_used, child_item, content_of_box, empty_item, flex_item, inline_used, view_in,
 };
@@ -108,18 +109,42 @@ fn an_item_of_a_subgrid_has_extra_margins(rt: HostRuntime) -> Result<(), Fail> {
     Ok(())
 }
 
+/// A declared size: a length, or a percentage in thousandths.
+enum Declared {
+    Auto,
+    Absent,
+    Px(i64),
+    Percent(u32),
+}
+
 /// A declared size, minimum and maximum; whether it is stretched; the room; and the border-box size in the inline and in the block
 /// axis, with borders and paddings of 10, margins of 3, and contents of 20 and 30, of which the block axis has the second.
-type Used = (Size, Size, Size, bool, i64, i64, i64);
+type Used = (Declared, Declared, Declared, bool, i64, i64, i64);
+
+fn size_of(declared: &Declared) -> Size {
+    match declared {
+        Auto => Size::Auto,
+        Absent => Size::Absent,
+        Px(units) => Size::Length(Lu::of(*units)),
+        Percent(part) => Size::Percent(*part),
+    }
+}
 
 fn is_used(rt: &impl Abort, row: &Used) {
-    let (size, least, most, stretched, room, inline, block) = *row;
-    let room = Lu::of(room);
-    let bounds = Bounds::of(false, edge(10), Some(room), &size, &least, &most);
-    let width = inline_used(&bounds, stretched, Lu::of(3), room, contents());
-    assert_eq!(rt; width, Lu::of(inline));
-    let height = block_used(&bounds, stretched, Lu::of(3), room, Lu::of(30));
-    assert_eq!(rt; height, Lu::of(block));
+    let (size, least, most, stretched, room, inline, block) = row;
+    let room = Lu::of(*room);
+    let bounds = Bounds::of(
+        false,
+        edge(10),
+        Some(room),
+        &size_of(size),
+        &size_of(least),
+        &size_of(most),
+    );
+    let width = inline_used(&bounds, *stretched, Lu::of(3), room, contents());
+    assert_eq!(rt; width, Lu::of(*inline));
+    let height = block_used(&bounds, *stretched, Lu::of(3), room, Lu::of(30));
+    assert_eq!(rt; height, Lu::of(*block));
     assert_eq!(rt;
         content_of_box(bounds.inner(), width),
         Lu::of(inline.saturating_sub(10))
@@ -128,53 +153,21 @@ fn is_used(rt: &impl Abort, row: &Used) {
 
 #[test]
 fn sizes_are_used_within_their_limits(rt: HostRuntime) -> Result<(), Fail> {
-    let rows = [
+    static ROWS: &[Used] = &[
         // stretched: 100 less margins of 3
-        (Size::Auto, Size::Auto, Size::Absent, true, 100, 97, 97),
+        (Auto, Auto, Absent, true, 100, 97, 97),
         // fit to contents of 20 and 30 with 10: all of it, what a room of 35 leaves, and no less than 30
-        (Size::Auto, Size::Auto, Size::Absent, false, 100, 40, 40),
-        (Size::Auto, Size::Auto, Size::Absent, false, 35, 32, 40),
-        (Size::Auto, Size::Auto, Size::Absent, false, 10, 30, 40),
+        (Auto, Auto, Absent, false, 100, 40, 40),
+        (Auto, Auto, Absent, false, 35, 32, 40),
+        (Auto, Auto, Absent, false, 10, 30, 40),
         // 50 px, and half of 100, with 10
-        (
-            Size::Length(Lu::of(50)),
-            Size::Auto,
-            Size::Absent,
-            true,
-            100,
-            60,
-            60,
-        ),
-        (
-            Size::Percent(50_000),
-            Size::Auto,
-            Size::Absent,
-            true,
-            100,
-            60,
-            60,
-        ),
+        (Px(50), Auto, Absent, true, 100, 60, 60),
+        (Percent(50_000), Auto, Absent, true, 100, 60, 60),
         // a maximum of 15 with 10, and a minimum of 60 that wins over it
-        (
-            Size::Auto,
-            Size::Auto,
-            Size::Length(Lu::of(15)),
-            false,
-            100,
-            25,
-            25,
-        ),
-        (
-            Size::Auto,
-            Size::Length(Lu::of(60)),
-            Size::Length(Lu::of(15)),
-            false,
-            100,
-            70,
-            70,
-        ),
+        (Auto, Auto, Px(15), false, 100, 25, 25),
+        (Auto, Px(60), Px(15), false, 100, 70, 70),
     ];
-    for row in &rows {
+    for row in ROWS {
         is_used(&rt, row);
     }
     Ok(())
