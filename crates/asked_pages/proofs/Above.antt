@@ -1,0 +1,262 @@
+-- With a leaf of the document after it, an edit touches its parent.
+use Rattle.std.proofs.Common.{◌≡◌, refl, sym, ap, subst, ◌∙◌, ℕ, zero, suc, Bool, true, false, Option, Some, None, Result, Ok, Err, true≢false}
+use Rattle.std.specs.Prelude.{◌||◌, ◌&&◌, if◌then◌else◌, map, List}
+use Rattle.std.specs.Str.{bytes_eq}
+use Rattle.std.proofs.lemmas.Bool.{and_from, and_parts, or_left, or_right}
+use Rattle.text_scan.specs.declared.line.Fault.{Fault}
+use Rattle.style_types.specs.declared.prop.Prop.TheVariants as prop
+use Rattle.std.specs.FinMap as finmap
+use Rattle.plain_tree.specs.Trees.{EachLabel, Trees, joined, leafless, tree}
+use Rattle.plain_tree.proofs.Laws.{each_joined, each_weaker}
+use Rattle.doc_text.specs.declared.document.Doc.{Doc}
+use Rattle.doc_text.specs.declared.edit.Edit.{Edit}
+use Rattle.doc_text.specs.declared.edit.Edit.TheVariants as edit
+use Rattle.doc_text.specs.declared.kind.Kind.{Kind}
+use Rattle.doc_text.specs.declared.kind.Kind.TheVariants as kind
+use Rattle.doc_text.specs.Documents.{is_leaf}
+use Rattle.doc_text.specs.Edits.{applied, edited, edited_trees, first_refusal, refusals, size_after, tree_of, with_kind, with_root, with_set, with_unset}
+use Rattle.doc_text.specs.Growth.{alone, holds}
+use Rattle.doc_text.specs.Label.{Label}
+use Rattle.doc_text.specs.Laws.{NamesItsNode}
+use Rattle.doc_text.specs.Named.{IsDistinct, graft, grafted, nothing, put_at, relabel, relabelled, removed, replaced, tree_at}
+use Rattle.doc_text.specs.Texts.{Word}
+use Rattle.doc_text.specs.Valid.{HasContainers, IsShaped}
+use Rattle.doc_text.specs.View.{label_of}
+use Rattle.doc_text.proofs.Grown.{own_name, same_name}
+use Rattle.doc_text.proofs.Kept.{edited_shaped}
+use Rattle.doc_text.proofs.Told.{ok-not-err, same-ok}
+use Rattle.reach_frame.specs.Marks.{has_mark, is_reached}
+use Rattle.page_tree.specs.Reach.{is_felt, is_grid, is_marked, is_subgrid_node, is_touched, reaches, tells_subgrid}
+use Rattle.asked_pages.specs.Leaves.{PassesUp, has_leaf_by}
+
+by_or : {P : Type 0} (a b : Bool) → (a || b) ≡ true → (a ≡ true → P) → (b ≡ true → P) → P
+by_or true b e f g = f refl
+by_or false b e f g = g e
+
+-- ---- a reached leaf is marked itself
+
+no_subgrid : (x : Label) → is_leaf x.kind ≡ true → is_subgrid_node x ≡ false
+no_subgrid x e = at x.kind (tells_subgrid (finmap.get x.style prop.GridTemplateColumns) || tells_subgrid (finmap.get x.style prop.GridTemplateRows)) e
+  where
+    at : (k : Kind) (b : Bool) → is_leaf k ≡ true → (is_grid k && b) ≡ false
+    at kind.Grid b f = absurd (true≢false (sym f))
+    at kind.Flex b f = refl
+    at (kind.Leaf content) b f = refl
+
+module _ (mark : Word → Bool) (grid : Bool) where
+  marks : Label → Bool
+  marks x = mark x.name
+
+  LeafNamed : Word → Label → Type 0
+  LeafNamed n x = bytes_eq x.name n ≡ true → is_leaf x.kind ≡ true
+
+  leaf_marked : (n : Word) (felt : Bool) (t : Trees Label) → HasContainers t → EachLabel (LeafNamed n) t → is_reached (λ (x : Label). bytes_eq x.name n) marks is_subgrid_node grid felt t ≡ true → mark n ≡ true
+  unfolding marks LeafNamed
+  leaf_marked n felt leafless h l e = absurd (true≢false (sym e))
+  leaf_marked n felt (tree x below after) h l e =
+      by_or _ _ e own
+      (λ r. by_or _ _ r (leaf_marked n ((grid && mark x.name) || (felt && is_subgrid_node x)) below h.1.0 l.1.0) (leaf_marked n felt after h.1.1 l.1.1))
+    where
+      own : (bytes_eq x.name n && (marks x || (has_mark marks below || (felt && is_subgrid_node x)))) ≡ true → mark n ≡ true
+      own r =
+          let two = and_parts (bytes_eq x.name n) _ r in
+          let leaf : is_leaf x.kind ≡ true = l.0 two.0 in
+          by_or (marks x) _ two.1
+          (λ m. ap mark (sym (same_name x.name n two.0)) ∙ m)
+          (λ q. by_or (has_mark marks below) _ q (λ m. absurd (true≢false (sym m ∙ ap (has_mark marks) (h.0 leaf))))
+          (λ m. absurd (true≢false (sym (and_parts felt _ m).1 ∙ no_subgrid x leaf))))
+
+  -- ---- a node above a marked one is reached
+
+  module _ (touched : Word → Bool) where
+    IsMarkedLeaf : Label → Type 0
+    IsMarkedLeaf y = is_leaf y.kind ≡ true → touched y.name ≡ true → mark y.name ≡ true
+
+    top_marked : (t : Trees Label) → EachLabel IsMarkedLeaf t → has_leaf_by touched t ≡ true → has_mark marks t ≡ true
+    unfolding marks IsMarkedLeaf
+    top_marked leafless q e = absurd (true≢false (sym e))
+    top_marked (tree x below after) q e =
+        by_or _ _ e
+        (λ own. let two = and_parts (is_leaf x.kind) _ own in or_left (mark x.name) _ (q.0 two.0 two.1))
+        (λ rest. or_right (mark x.name) _ (or_right (has_mark marks below) _ (top_marked after q.1.1 rest)))
+
+    passes_up : (felt : Bool) (t : Trees Label) → EachLabel IsMarkedLeaf t → ((n : Word) → is_reached (λ (x : Label). bytes_eq x.name n) marks is_subgrid_node grid felt t ≡ true → touched n ≡ true) → PassesUp touched t
+    unfolding marks
+    passes_up felt leafless q r = tt
+    passes_up felt (tree x below after) q r = (
+      (λ has. r x.name (or_left _ _ (and_from (bytes_eq x.name x.name) _ (own_name x.name) (or_right (mark x.name) _ (or_left (has_mark marks below) _ (top_marked below q.1.0 has)))))),
+      (
+        passes_up ((grid && mark x.name) || (felt && is_subgrid_node x)) below q.1.0 (λ n e. r n (or_right (bytes_eq x.name n && (mark x.name || (has_mark marks below || (felt && is_subgrid_node x)))) _ (or_left _ _ e))),
+        passes_up felt after q.1.1 (λ n e. r n (or_right (bytes_eq x.name n && (mark x.name || (has_mark marks below || (felt && is_subgrid_node x)))) _ (or_right (is_reached (λ (y : Label). bytes_eq y.name n) marks is_subgrid_node grid ((grid && mark x.name) || (felt && is_subgrid_node x)) below) _ e))),
+      ),
+    )
+
+-- ---- of one name there is one kind
+
+-- whether the node of this name is a leaf
+leaf_of : Word → Trees Label → Bool
+leaf_of n leafless = false
+leaf_of n (tree x below after) = if bytes_eq x.name n then is_leaf x.kind else (if holds below n then leaf_of n below else leaf_of n after)
+
+abbrev IsLike : Word → Bool → Label → Type 0
+IsLike n b x = bytes_eq x.name n ≡ true → is_leaf x.kind ≡ b
+
+none_named : (n : Word) (b : Bool) (t : Trees Label) → holds t n ≡ false → EachLabel (IsLike n b) t
+none_named n b leafless h = tt
+none_named n b (tree x below after) h = at (bytes_eq x.name n) refl h (none_named n b below) (none_named n b after)
+  where
+    rest : (c d : Bool) → (c || d) ≡ false → (c ≡ false) × (d ≡ false)
+    rest true d e = absurd (true≢false e)
+    rest false d e = (refl, e)
+
+    at : (c : Bool) → bytes_eq x.name n ≡ c → (c || (holds below n || holds after n)) ≡ false → (holds below n ≡ false → EachLabel (IsLike n b) below) → (holds after n ≡ false → EachLabel (IsLike n b) after) → EachLabel (IsLike n b) (tree x below after)
+    at true e f p q = absurd (true≢false f)
+    at false e f p q = let two = rest (holds below n) (holds after n) f in ((λ g. absurd (true≢false (sym g ∙ e))), (p two.0, q two.1))
+
+one_kind : (n : Word) (t : Trees Label) → IsDistinct t → EachLabel (IsLike n (leaf_of n t)) t
+unfolding leaf_of
+one_kind n leafless d = tt
+one_kind n (tree x below after) d = at (bytes_eq x.name n) (holds below n) refl refl (one_kind n below d.1.1.1.0) (one_kind n after d.1.1.1.1)
+  where
+    at : (b c : Bool) → bytes_eq x.name n ≡ b → holds below n ≡ c → EachLabel (IsLike n (leaf_of n below)) below → EachLabel (IsLike n (leaf_of n after)) after → EachLabel (IsLike n (if b then is_leaf x.kind else (if c then leaf_of n below else leaf_of n after))) (tree x below after)
+    at true c e f p q =
+        let is : x.name ≡ n = same_name x.name n e in
+        ((λ g. refl), (none_named n (is_leaf x.kind) below (ap (holds below) (sym is) ∙ d.0), none_named n (is_leaf x.kind) after (ap (holds after) (sym is) ∙ d.1.0)))
+    at false true e f p q = ((λ g. absurd (true≢false (sym g ∙ e))), (p, none_named n (leaf_of n below) after (d.1.1.0 n f)))
+    at false false e f p q = ((λ g. absurd (true≢false (sym g ∙ e))), (none_named n (leaf_of n after) below f, q))
+
+-- ---- an edit leaves the kinds of other nodes
+
+module _ (P : Label → Type 0) where
+  each_replaced : (name : Word) (change : Label → Trees Label → Trees Label) → ((x : Label) (below : Trees Label) → bytes_eq x.name name ≡ true → P x → EachLabel P below → EachLabel P (change x below))
+      → (t : Trees Label) → EachLabel P t → EachLabel P (replaced name change t)
+  each_replaced name change h leafless p = tt
+  each_replaced name change h (tree x below after) p = by_name (bytes_eq x.name name) refl (each_replaced name change h below p.1.0) (each_replaced name change h after p.1.1)
+    where
+      by_name : (b : Bool) → bytes_eq x.name name ≡ b → EachLabel P (replaced name change below) → EachLabel P (replaced name change after)
+          → EachLabel P (if b then joined (change x below) after else tree x (replaced name change below) (replaced name change after))
+      by_name true e q r = each_joined P (change x below) after (h x below e p.0 p.1.0) p.1.1
+      by_name false e q r = (p.0, (q, r))
+
+  each_put : (index : ℕ) (new t : Trees Label) → EachLabel P new → EachLabel P t → EachLabel P (put_at index new t)
+  each_put index new leafless n p = n
+  each_put zero new (tree x below after) n p = each_joined P new (tree x below after) n p
+  each_put (suc index) new (tree x below after) n p = (p.0, (p.1.0, each_put index new after n p.1.1))
+
+  each_at : (name : Word) (t : Trees Label) → EachLabel P t → EachLabel P (tree_at name t)
+  each_at name leafless p = tt
+  each_at name (tree x below after) p = by_name (bytes_eq x.name name) (each_at name below p.1.0) (each_at name after p.1.1)
+    where
+      by_name : (b : Bool) → EachLabel P (tree_at name below) → EachLabel P (tree_at name after) → EachLabel P (if b then tree x below leafless else joined (tree_at name below) (tree_at name after))
+      by_name true q r = (p.0, (p.1.0, tt))
+      by_name false q r = each_joined P (tree_at name below) (tree_at name after) q r
+
+  each_relabelled : (name : Word) (change : Label → Label) → ((x : Label) → bytes_eq x.name name ≡ true → P x → P (change x)) → (t : Trees Label) → EachLabel P t → EachLabel P (relabelled name change t)
+  each_relabelled name change h t p = each_replaced name (relabel change) (λ x below e q r. (h x e q, (r, tt))) t p
+
+  each_grafted : (name : Word) (index : ℕ) (new t : Trees Label) → EachLabel P new → EachLabel P t → EachLabel P (grafted name index new t)
+  each_grafted name index new t n p = each_replaced name (graft index new) (λ x below e q r. (q, (each_put index new below n r, tt))) t p
+
+  each_removed : (name : Word) (t : Trees Label) → EachLabel P t → EachLabel P (removed name t)
+  each_removed name t p = each_replaced name nothing (λ x below e q r. tt) t p
+
+  each_root : (doc : Doc) (e : Edit) (t : Trees Label) → EachLabel P (tree_of doc) → EachLabel P t → EachLabel P (tree_of (with_root doc (size_after e (doc.width, doc.height)) t))
+  each_root doc e leafless p q = p
+  each_root doc e (tree x below after) p q = (q.0, (q.1.0, tt))
+
+-- the first part of what is not marked
+first_not : (a b : Bool) → (a || b) ≡ false → a ≡ false
+first_not true b e = absurd (true≢false e)
+first_not false b e = refl
+
+second_not : (a b : Bool) → (a || b) ≡ false → b ≡ false
+second_not true b e = absurd (true≢false e)
+second_not false b e = e
+
+-- two names that a third one cannot both be
+other_name : {A : Type 0} (x n name : Word) → bytes_eq n name ≡ false → bytes_eq x n ≡ true → bytes_eq x name ≡ true → A
+other_name x n name h e f = absurd (true≢false (sym (ap (λ w. bytes_eq w name) (sym (same_name x n e)) ∙ f) ∙ h))
+
+kinds_kept : (n : Word) (b : Bool) (e : Edit) (t : Trees Label) → NamesItsNode e → is_marked e t n ≡ false → EachLabel (IsLike n b) t → EachLabel (IsLike n b) (edited_trees e t)
+kinds_kept n b (edit.Set named settings) t h m p = each_relabelled (IsLike n b) named.name (with_set settings) (λ x e q. q) t p
+kinds_kept n b (edit.Unset named props) t h m p = each_relabelled (IsLike n b) named.name (with_unset props) (λ x e q. q) t p
+kinds_kept n b (edit.Insert parent index at named node) t h m p =
+    each_grafted (IsLike n b) parent.name index (alone (label_of node)) t
+    ((λ f. other_name node.name n named.name (second_not (bytes_eq n parent.name) _ m) f (ap (λ w. bytes_eq w named.name) h ∙ own_name named.name)), (tt, tt)) p
+kinds_kept n b (edit.Remove named) t h m p = each_removed (IsLike n b) named.name t p
+kinds_kept n b (edit.Move named parent index at) t h m p =
+    each_grafted (IsLike n b) parent.name index (tree_at named.name t) (removed named.name t) (each_at (IsLike n b) named.name t p) (each_removed (IsLike n b) named.name t p)
+kinds_kept n b (edit.Content named new) t h m p =
+    each_relabelled (IsLike n b) named.name (with_kind new) (λ x e q. λ f. other_name x.name n named.name (first_not (bytes_eq n named.name) _ m) f e) t p
+kinds_kept n b (edit.Viewport width height) t h m p = p
+
+-- ---- facts of each label
+
+each_family : {I : Type 0} (P : I → Label → Type 0) (t : Trees Label) → ((i : I) → EachLabel (P i) t) → EachLabel (λ x. (i : I) → P i x) t
+each_family P leafless h = tt
+each_family P (tree x below after) h = ((λ i. (h i).0), (each_family P below (λ i. (h i).1.0), each_family P after (λ i. (h i).1.1)))
+
+each_both : (P Q : Label → Type 0) (t : Trees Label) → EachLabel P t → EachLabel Q t → EachLabel (λ x. P x × Q x) t
+each_both P Q leafless p q = tt
+each_both P Q (tree x below after) p q = ((p.0, q.0), (each_both P Q below p.1.0 q.1.0, each_both P Q after p.1.1 q.1.1))
+
+is_applied : (doc made : Doc) (e : Edit) → edited e doc ≡ Ok made → made ≡ applied e doc
+is_applied doc made e h = by_refusal (first_refusal (refusals doc e)) h
+  where
+    by_refusal : (o : Option Fault) → ◌≡◌ {A = Result Doc Fault} (elim o [ Some fault ↦ Err fault | None ↦ Ok (applied e doc) ]) (Ok made) → made ≡ applied e doc
+    by_refusal (Some fault) g = absurd (ok-not-err made fault g)
+    by_refusal None g = sym (same-ok (applied e doc) made g)
+
+-- ---- the law
+
+module _ (e : Edit) (old new : Doc) (before : IsShaped old.version (tree_of old)) (names : NamesItsNode e) (made : edited e old ≡ Ok new) where
+  after : IsShaped new.version (tree_of new)
+  after = edited_shaped e old new before names made
+
+  abbrev mark : Word → Bool
+  mark = is_marked e (tree_of old)
+
+  abbrev Unmarked : Type 0
+  Unmarked = (n : Word) × (mark n ≡ false)
+
+  abbrev Before : Unmarked → Label → Type 0
+  Before i x = IsLike i.0 (leaf_of i.0 (tree_of old)) x
+
+  abbrev Now : Word → Label → Type 0
+  Now n x = IsLike n (leaf_of n (tree_of new)) x
+
+  stood : EachLabel (λ x. (i : Unmarked) → Before i x) (tree_of new)
+  stood =
+      each_family Before (tree_of new)
+      (λ i. subst (λ (d : Doc). EachLabel (Before i) (tree_of d)) (sym (is_applied old new e made))
+      (each_root (Before i) old e (edited_trees e (tree_of old)) (one_kind i.0 (tree_of old) before.distinct)
+      (kinds_kept i.0 (leaf_of i.0 (tree_of old)) e (tree_of old) names i.1 (one_kind i.0 (tree_of old) before.distinct))))
+
+  stands : EachLabel (λ x. (n : Word) → Now n x) (tree_of new)
+  stands = each_family Now (tree_of new) (λ n. one_kind n (tree_of new) after.distinct)
+
+  marked_leaf : (y : Label) → ((i : Unmarked) → Before i y) × ((n : Word) → Now n y) → is_leaf y.kind ≡ true → is_touched e old new y.name ≡ true → mark y.name ≡ true
+  unfolding marks LeafNamed
+  marked_leaf y facts leaf touched =
+      by_or (reaches e (tree_of old) (tree_of old) y.name) (reaches e (tree_of old) (tree_of new) y.name) touched (in_old (mark y.name) refl) in_new
+    where
+      all_leaves : (b : Bool) (t : Trees Label) → EachLabel (IsLike y.name b) t → b ≡ true → EachLabel (LeafNamed mark (is_felt e (tree_of old)) y.name) t
+      all_leaves b t p q = each_weaker (IsLike y.name b) (λ (x : Label). bytes_eq x.name y.name ≡ true → is_leaf x.kind ≡ true) t (λ x g f. g f ∙ q) p
+
+      in_new : reaches e (tree_of old) (tree_of new) y.name ≡ true → mark y.name ≡ true
+      in_new r =
+          leaf_marked mark (is_felt e (tree_of old)) y.name false (tree_of new) after.containers
+          (all_leaves (leaf_of y.name (tree_of new)) (tree_of new) (one_kind y.name (tree_of new) after.distinct) (sym (facts.1 y.name (own_name y.name)) ∙ leaf)) r
+
+      in_old : (b : Bool) → mark y.name ≡ b → reaches e (tree_of old) (tree_of old) y.name ≡ true → mark y.name ≡ true
+      in_old true m r = m
+      in_old false m r =
+          leaf_marked mark (is_felt e (tree_of old)) y.name false (tree_of old) before.containers
+          (all_leaves (leaf_of y.name (tree_of old)) (tree_of old) (one_kind y.name (tree_of old) before.distinct) (sym (facts.0 (y.name, m) (own_name y.name)) ∙ leaf)) r
+
+  pub touched_up : PassesUp (is_touched e old new) (tree_of new)
+  unfolding marks IsMarkedLeaf
+  touched_up =
+      passes_up mark (is_felt e (tree_of old)) (is_touched e old new) false (tree_of new)
+      (each_weaker _ _ (tree_of new) marked_leaf (each_both _ _ (tree_of new) stood stands))
+      (λ n r. or_right (reaches e (tree_of old) (tree_of old) n) _ r)

@@ -1,0 +1,5 @@
+pub mod Above
+mod AskedOf
+mod Distinct
+mod GridLeaves
+mod Pages

@@ -1,0 +1,3 @@
+pub mod AskedOf
+pub mod Bounds
+pub mod Leaves

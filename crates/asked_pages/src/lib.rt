@@ -1,0 +1,6 @@
+//! What laying out a page asks, keeps and measures, in the words of its document.
+#![tactic(auto)]
+
+mod laws;
+
+pub use laws::{edits_touch_parents, layouts_of_pages};
