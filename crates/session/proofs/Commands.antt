@@ -1,5 +1,5 @@
 -- The words of a run.
-use Rattle.std.proofs.Common.{◌≡◌, refl, ap, sym, subst, ◌∙◌, ℕ, Bool, true, false, List, [], Option, Some, None, inl}
+use Rattle.std.proofs.Common.{◌≡◌, refl, ap, sym, subst, ◌∙◌, ℕ, Bool, false, List, [], Option, Some, None, inl}
 use Rattle.std.proofs.lemmas.Bool.{false≢true}
 use Rattle.std.specs.Prelude.{⊤}
 use Rattle.outside.specs.declared.event.Event.{Event}
@@ -8,21 +8,48 @@ use Rattle.text_scan.specs.Lines.{lines_of}
 use Rattle.command_words.specs.declared.Command.{Command}
 use Rattle.command_words.specs.declared.Command.TheVariants.{Layout, Make}
 use Rattle.session.specs.Input.{AreFirst}
+use Rattle.session.specs.Made.{HasMade}
 use Rattle.session.specs.Runs.{HasRun}
 use Rattle.session.specs.Words.{is_served, IsUnserved}
 use Rattle.session.specs.declared.status.Status.{Status}
 use Rattle.session.specs.declared.status.Status.TheVariants.{Done, BadDocument, SomeRefused, ReadFault, WriteFault, NoMemory, InputLimit, BadWords}
 use Rattle.session.proofs.Finished.{has_run}
+use Rattle.session.proofs.Making.{made_none}
 
 stats_in : Option Command → Bool
 stats_in None = false
 stats_in (Some (Layout stats)) = stats
 stats_in (Some (Make seed nodes)) = false
 
-pub not_served : {A : Type 0} (o : Option Command) (stats : Bool) → o ≡ Some (Layout stats) → is_served o ≡ false → A
-not_served o stats e n = absurd (false≢true (sym n ∙ ap is_served e))
+seed_in : Option Command → ℕ
+seed_in None = 0
+seed_in (Some (Layout stats)) = 0
+seed_in (Some (Make seed nodes)) = seed
+
+nodes_in : Option Command → ℕ
+nodes_in None = 0
+nodes_in (Some (Layout stats)) = 0
+nodes_in (Some (Make seed nodes)) = nodes
+
+-- words that are a command are served
+pub not_served : {A : Type 0} (o : Option Command) (command : Command) → o ≡ Some command → is_served o ≡ false → A
+not_served o command e n = absurd (false≢true (sym n ∙ ap is_served e))
+
+IsLayout : Option Command → Type 0
+IsLayout None = ⊥
+IsLayout (Some (Layout stats)) = ⊤
+IsLayout (Some (Make seed nodes)) = ⊥
+
+-- one command is not the other
+pub not_both : {A : Type 0} (o : Option Command) (stats : Bool) (seed nodes : ℕ) → o ≡ Some (Layout stats) → o ≡ Some (Make seed nodes) → A
+unfolding IsLayout
+not_both o stats seed nodes e f = absurd (subst IsLayout (sym e ∙ f) tt)
 
 -- what is known of the words that were read
+pub by_numbers : (o : Option Command) (found many : ℕ) (P : ℕ → ℕ → Type 0) → o ≡ Some (Make found many) → P found many → (seed nodes : ℕ) → o ≡ Some (Make seed nodes) → P seed nodes
+unfolding seed_in nodes_in
+by_numbers o found many P e p seed nodes f = subst (λ (n : ℕ). P n nodes) (ap seed_in (sym e ∙ f)) (subst (λ (n : ℕ). P found n) (ap nodes_in (sym e ∙ f)) p)
+
 pub by_stats : (o : Option Command) (found : Bool) (P : Bool → Type 0) → o ≡ Some (Layout found) → P found → (stats : Bool) → o ≡ Some (Layout stats) → P stats
 unfolding stats_in
 by_stats o found P e p stats f = subst P (ap stats_in (sym e ∙ f)) p
@@ -51,7 +78,18 @@ module _ (left w : Option (List ℕ)) (l : Option (List Event)) (s k : ℕ) wher
   unserved_run o WriteFault u n stats e = absurd u
   unserved_run o NoMemory u n stats e = none_run stats
   unserved_run o InputLimit u n stats e = absurd u
-  unserved_run o BadWords u n stats e = not_served o stats e (n refl)
+  unserved_run o BadWords u n stats e = not_served o (Layout stats) e (n refl)
+
+module _ (w : Option (List ℕ)) (l : Option (List Event)) (k : ℕ) where
+  pub unserved_made : (o : Option Command) (status : Status) → IsUnserved status → (status ≡ BadWords → is_served o ≡ false) → (seed nodes : ℕ) → o ≡ Some (Make seed nodes) → HasMade seed nodes w w l l k k status
+  unserved_made o Done u n seed nodes e = absurd u
+  unserved_made o BadDocument u n seed nodes e = absurd u
+  unserved_made o SomeRefused u n seed nodes e = absurd u
+  unserved_made o ReadFault u n seed nodes e = absurd u
+  unserved_made o WriteFault u n seed nodes e = absurd u
+  unserved_made o NoMemory u n seed nodes e = made_none seed nodes w l k
+  unserved_made o InputLimit u n seed nodes e = absurd u
+  unserved_made o BadWords u n seed nodes e = not_served o (Make seed nodes) e (n refl)
 
 -- no run under such words answers that they are others
 pub run_knows : {A : Type 0} (stats : Bool) (left left' w w' : Option (List ℕ)) (l l' : Option (List Event)) (s s' k k' : ℕ) (status : Status) → HasRun stats left left' w w' l l' s s' k k' status → status ≡ BadWords → A

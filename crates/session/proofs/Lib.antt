@@ -23,3 +23,6 @@ pub mod Follows
 pub mod LeafNames
 pub mod Spares
 pub mod Walks
+pub mod LogsLeft
+pub mod Draws
+pub mod Making

@@ -137,37 +137,42 @@ spares_new touches log page none =
 
 -- ---- an edit
 
-module _ (touches : Touches) (before now : Option (List Event)) (k : ℕ) (old new : Held) (line : Line) (p : SparesPage touches before now old) (agrees : Agrees touches k (document_of old) line) where
-  leaf_after : KeepsUntouched (touched_by (document_of old) line) old new → (n : NodeId) → IsLeaf (bare new.nodes.tree) n
+module _ (touches : Touches) (before now : Option (List Event)) (k : ℕ) (old new : Held) (touched : List ℕ → Bool) (p : SparesPage touches before now old) (agrees : (name : List ℕ) → touches k name ≡ touched name) where
+  leaf_after : KeepsUntouched touched old new → (n : NodeId) → IsLeaf (bare new.nodes.tree) n
       → IsLeafAfter (touches k (sight_at (bare new.nodes.tree) n).label.name) (bare old.nodes.tree) (bare new.nodes.tree) (kept_at old.nodes.tree) (kept_at new.nodes.tree) n
   unfolding kept_at label_of_bare
   leaf_after kept n leaf =
       let here = leaf_there new.nodes.tree n leaf in
       let v = here.part.0 in
-      let on = each_there (λ x. KeepsOn (touched_by (document_of old) line x.1.name) old.nodes.tree x) new.nodes.tree n here.part kept here.there in
+      let on = each_there (λ x. KeepsOn (touched x.1.name) old.nodes.tree x) new.nodes.tree n here.part kept here.there in
       let name : (sight_at (bare new.nodes.tree) n).label.name ≡ v.name = ap (λ (x : rules.Label). x.name) here.label in
-      let touched : touches k (sight_at (bare new.nodes.tree) n).label.name ≡ touched_by (document_of old) line v.name = ap (touches k) name ∙ agrees v.name in
-      let held : kept_at new.nodes.tree n ≡ (if touched_by (document_of old) line v.name then [] else kept_at old.nodes.tree n) = ap (λ (o : Option (Part Node)). kept_of (value_of o)) here.there ∙ on.kept in (
-        (λ t. held ∙ ap (λ (b : Bool). if b then [] else kept_at old.nodes.tree n) (sym touched ∙ t)),
+      let reached : touches k (sight_at (bare new.nodes.tree) n).label.name ≡ touched v.name = ap (touches k) name ∙ agrees v.name in
+      let held : kept_at new.nodes.tree n ≡ (if touched v.name then [] else kept_at old.nodes.tree n) = ap (λ (o : Option (Part Node)). kept_of (value_of o)) here.there ∙ on.kept in (
+        (λ t. held ∙ ap (λ (b : Bool). if b then [] else kept_at old.nodes.tree n) (sym reached ∙ t)),
         λ t.
-            let stood = on.stood (sym touched ∙ t) in
+            let stood = on.stood (sym reached ∙ t) in
             let before_label = label_there old.nodes.tree n stood.0 stood.1.0 in (
               (
                 ap (λ (x : rules.Label). is_container x.kind) before_label ∙ ap is_container stood.1.1.1 ∙ sym (ap (λ (x : rules.Label). is_container x.kind) here.label) ∙ leaf,
                 ap (λ (x : rules.Label). x.name) before_label ∙ stood.1.1.0 ∙ sym name,
               ),
-              held ∙ ap (λ (b : Bool). if b then [] else kept_at old.nodes.tree n) (sym touched ∙ t),
+              held ∙ ap (λ (b : Bool). if b then [] else kept_at old.nodes.tree n) (sym reached ∙ t),
             ),
       )
 
-  pub spares_due : KeepsUntouched (touched_by (document_of old) line) old new → SparesDue touches before now k new
-  spares_due kept =
+  pub spares_due_by : KeepsUntouched touched old new → SparesDue touches before now k new
+  spares_due_by kept =
       record {
         events = p.events;
         added = p.added;
         sparing = p.sparing;
         recalls = edit_recalls touches (bare old.nodes.tree) (bare new.nodes.tree) (kept_at old.nodes.tree) (kept_at new.nodes.tree) p.events k p.recalls (leaf_after kept);
       }
+
+-- that of a line
+pub spares_due : (touches : Touches) (before now : Option (List Event)) (k : ℕ) (old new : Held) (line : Line) → SparesPage touches before now old → Agrees touches k (document_of old) line
+    → KeepsUntouched (touched_by (document_of old) line) old new → SparesDue touches before now k new
+spares_due touches before now k old new line p agrees kept = spares_due_by touches before now k old new (touched_by (document_of old) line) p agrees kept
 
 -- the line reads as this edit
 touched_same : (doc next : Doc) (line : Line) (e : Edit) → edit_of doc.version line ≡ Ok e → edited e doc ≡ Ok next → (λ (name : List ℕ). is_touched e doc next name) ≡ touched_by doc line

@@ -8,6 +8,9 @@ pub use Rattle.doc_text.specs.EditText as EditText
 pub use Rattle.doc_text.specs.Edits as Edits
 pub use Rattle.doc_text.specs.Laws as Laws
 pub use Rattle.doc_text.specs.Valid as Valid
+pub use Rattle.page_maker.specs.Making as Making
+pub use Rattle.page_maker.specs.Scripts as Scripts
+pub use Rattle.page_maker.specs.Sums as Sums
 pub use Rattle.page_tree.specs.Boxes as DefinedBoxes
 pub use Rattle.page_tree.specs.Pages as Pages
 pub mod Printing
@@ -27,5 +30,6 @@ pub mod Standing
 pub mod Engine
 pub mod Touched
 pub mod Spares
+pub mod Made
 pub use Rattle.sparing.specs.Memory as Memory
 pub use Rattle.sparing.specs.Sparing as Sparing

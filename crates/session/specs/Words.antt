@@ -3,7 +3,6 @@ use Rattle.std.specs.Prelude.{ℕ, Bool, true, false, List, String, Option, Some
 use Rattle.command_words.specs.Commands.{command_of}
 use Rattle.command_words.specs.Options.{texts}
 use Rattle.command_words.specs.declared.Command.{Command}
-use Rattle.command_words.specs.declared.Command.TheVariants.{Layout, Make}
 use Rattle.outside.specs.declared.sink.SinkError.{SinkError}
 use Rattle.outside.specs.declared.sink.SinkError.TheVariants as sink
 use Rattle.session.specs.declared.status.Status.{Status}
@@ -13,13 +12,12 @@ use Rattle.session.specs.declared.status.Status.TheVariants.{Done, BadDocument, 
 abbrev pub asked : {A : Type 0} → List (String A) → Option Command
 asked words = command_of (texts words)
 
--- the program does it
+-- the words are a command
 abbrev pub is_served : Option Command → Bool
 is_served None = false
-is_served (Some (Layout stats)) = true
-is_served (Some (Make seed nodes)) = false
+is_served (Some command) = true
 
--- how a run ends that does nothing: its words are not served, or memory was wanting
+-- how a run ends that does nothing: its words are no command, or memory was wanting
 abbrev pub IsUnserved : Status → Type 0
 IsUnserved BadWords = ⊤
 IsUnserved NoMemory = ⊤

@@ -36,7 +36,7 @@ pub(crate) struct Progress {
 }
 
 /// Writes all of a text.
-fn write<K: Sink>(sink: &mut K, text: &[u8]) -> Result<(), Status>
+pub(crate) fn write<K: Sink>(sink: &mut K, text: &[u8]) -> Result<(), Status>
     ensures ok { OnOk result (Adds (K.written sink.old) (K.written sink.new) text.now) }
     ensures err { OnErr result (AddsPrefix (K.written sink.old) (K.written sink.new) text.now) }
     ensures stops { IfErr result StopsWriting }

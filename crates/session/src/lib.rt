@@ -1,4 +1,5 @@
-//! The top call of the layout tool: it reads a document, lays it out and prints its boxes, and again after each edit.
+//! The top call of the layout tool: it reads a document, lays it out and prints its boxes, and again after each edit. Or it
+//! lays out a document that it generates.
 #![tactic(auto)]
 
 mod answer;
@@ -8,6 +9,7 @@ mod engine;
 mod faults;
 mod input;
 mod laying;
+mod made;
 mod print;
 mod serve;
 mod stats;

@@ -6,14 +6,14 @@ ghost use Rattle.session.specs.Printing.{counts, stats_line};
 use itoa::Buffer;
 use lunit::NoMemory;
 
-fn append(out: &mut Vec<u8>, text: &[u8]) -> Result<(), NoMemory>
+pub(crate) fn append(out: &mut Vec<u8>, text: &[u8]) -> Result<(), NoMemory>
     ensures ok { OnOk result (out.new.items ≡ out.old.items ++ text.now) }
 {
     out.extend_from_slice(text)?;
     Ok(())
 }
 
-fn append_count(out: &mut Vec<u8>, count: u64) -> Result<(), NoMemory>
+pub(crate) fn append_count(out: &mut Vec<u8>, count: u64) -> Result<(), NoMemory>
     ensures ok { OnOk result (out.new.items ≡ out.old.items ++ decimal count) }
 {
     let mut buffer = Buffer::new();

@@ -1,9 +1,11 @@
-ghost use Rattle.std.specs.Prelude.{◌≡◌, ◌≤◌, Bool, false, length, Some, IfOk, IfErr, IfSome};
+ghost use Rattle.std.specs.Prelude.{◌≡◌, ◌≤◌, ℕ, Bool, false, length, Some, IfOk, IfErr, IfSome};
 ghost use Rattle.outside.specs.Faults.{HasCauseOf};
 ghost use Rattle.outside.specs.Told.{Adds, AddsPrefix};
-ghost use Rattle.command_words.specs.declared.Command.TheVariants.{Layout};
+ghost use Rattle.command_words.specs.Commands.{HasNodes};
+ghost use Rattle.command_words.specs.declared.Command.TheVariants.{Layout, Make};
 ghost use Rattle.session.specs.Outcome.{out};
 ghost use Rattle.session.specs.Input.{limit};
+ghost use Rattle.session.specs.Made.{HasMade};
 ghost use Rattle.session.specs.Runs.{HasRun, Permits, IsComplete, IsHeadline};
 ghost use Rattle.session.specs.Words.{asked, is_served, IsUnserved};
 ghost use Rattle.text_scan.specs.Lines.{lines_of};
@@ -11,6 +13,7 @@ ghost use Rattle.session.specs.Spares.{Spares};
 ghost use Rattle.session.specs.Touched.{touched_lines};
 
 use crate::Status;
+use crate::made::make;
 use crate::serve::serve;
 use command_words::{Command, WordsError, read_command};
 use lunit::Steps;
@@ -35,15 +38,15 @@ fn run_layout<S: Source, K: Sink, R: Ruler, L: Ledger>(
     serve(alloc, stats, source, sink, ruler, passes)
 }
 
-/// Whether the words ask for the counts of each layout, or how the run ends whose words are none that it does.
-fn served(alloc: Global, words: &[String]) -> Result<bool, Status>
-    ensures stats { IfOk result (λ stats. asked words.now ≡ Some (Layout stats)) }
+/// The command that the words are, or how the run ends whose words are none.
+fn served(alloc: Global, words: &[String]) -> Result<Command, Status>
+    ensures command { IfOk result (λ command. asked words.now ≡ Some command) }
+    ensures nodes { IfOk result HasNodes }
     ensures bad { IfErr result (λ status. status ≡ Status.BadWords → is_served (asked words.now) ≡ false) }
     ensures stops { IfErr result IsUnserved }
 {
     match read_command(alloc, words) {
-        Ok(Command::Layout { stats }) => Ok(stats),
-        Ok(Command::Make { seed: _, nodes: _ }) => Err(Status::BadWords),
+        Ok(command) => Ok(command),
         Err(WordsError::BadWords) => Err(Status::BadWords),
         Err(WordsError::NoMemory) => Err(Status::NoMemory),
     }
@@ -56,8 +59,13 @@ fn served(alloc: Global, words: &[String]) -> Result<bool, Status>
 /// Under `layout --stats` a line `stats M A` follows each layout: M events of measuring after its begin, and A answers that it
 /// kept, each of these up to 2^64 - 1.
 ///
+/// Under `make --seed N --nodes M` nothing is read. It lays out the document of M nodes that is drawn from N, and again after
+/// each of eight edits that are drawn too, and writes for each layout a line `made k C S`: k counts from 0, C is the number of
+/// boxes, and S the sum of x + 3y + 5 * width + 7 * height in units of 1/64 px over all of them, modulo 2^64 and at least 0.
+///
 /// - `BadWords` exactly where the words are others, or want of memory; then nothing is read, written or logged.
 /// - `Done` where the input, of at most 2^26 bytes, holds a document and no edit was refused: the input was read to its end.
+///   Under `make` where all nine lines were written.
 /// - `SomeRefused` where at least one edit was refused, else as `Done`.
 /// - `BadDocument` where the text before the line `---`, or all of it, has a fault: the line `refused 0 L:C name` of its first
 ///   fault is written, and no more is read.
@@ -82,6 +90,8 @@ pub fn run<S: Source, K: Sink, R: Ruler, L: Ledger>(
     ensures untouched { is_served (asked words.items) ≡ false → (source.new ≡ source.old) × (sink.new ≡ sink.old) × (ruler.new ≡ ruler.old) }
     // What was taken, written and logged, by the answer, and what follows of it for all bytes of the source: with counts or not.
     ensures run { (stats : Bool) → asked words.items ≡ Some (Layout stats) → HasRun stats (S.left source.old) (S.left source.new) (K.written sink.old) (K.written sink.new) (R.log ruler.old) (R.log ruler.new) (S.faults source.old) (S.faults source.new) (K.faults sink.old) (K.faults sink.new) result }
+    // Under `make` nothing is read. At every exit what was written is a prefix of the nine lines, and with `Done` it is all of them.
+    ensures made { (seed nodes : ℕ) → asked words.items ≡ Some (Make seed nodes) → (source.new ≡ source.old) × HasMade seed nodes (K.written sink.old) (K.written sink.new) (R.log ruler.old) (R.log ruler.new) (K.faults sink.old) (K.faults sink.new) result }
     ensures read { HasCauseOf (S.faults source.old) (S.faults source.new) (result ≡ Status.ReadFault) }
     ensures write { HasCauseOf (K.faults sink.old) (K.faults sink.new) (result ≡ Status.WriteFault) }
     // Without counts what is written at every exit is a prefix of the output of the source's bytes.
@@ -96,7 +106,8 @@ pub fn run<S: Source, K: Sink, R: Ruler, L: Ledger>(
     ensures spares { (stats : Bool) → asked words.items ≡ Some (Layout stats) → IfSome (S.left source.old) (λ b. Spares (touched_lines (lines_of b)) (R.log ruler.old) (R.log ruler.new)) }
 {
     match served(alloc, words.as_slice()) {
-        Ok(stats) => run_layout(alloc, stats, source, sink, ruler, passes),
+        Ok(Command::Layout { stats }) => run_layout(alloc, stats, source, sink, ruler, passes),
+        Ok(Command::Make { seed, nodes }) => make(alloc, seed, nodes as usize, sink, ruler, passes),
         Err(status) => status,
     }
 }
