@@ -1,9 +1,9 @@
 -- The table of fractions, and the parts of a line that are put one before another.
-use Rattle.std.proofs.Common.{arith, ap, sym, refl, ◌∙◌, ◌≡◌, ℕ, ℤ, ◌+◌, ◌-◌, ◌/◌, ◌%◌, ◌<◌, ◌≤◌, min, unsigned_abs, List, [], ◌∷◌, ◌++◌, length, take, drop, map, get_or, decimal, append_assoc, zero-add}
-use Rattle.std.proofs.lemmas.List.{get_or-map, drop-append-le, drop-drop, drop_all}
+use Rattle.std.proofs.Common.{arith, ap, sym, refl, ◌∙◌, ◌≡◌, ℕ, ℤ, ◌+◌, ◌-◌, ◌/◌, ◌%◌, ◌<◌, ◌≤◌, min, unsigned_abs, List, [], ◌∷◌, ◌++◌, length, drop, map, get_or, decimal, append_assoc, zero-add}
+use Rattle.std.proofs.lemmas.List.{get_or-map, drop-append-le, drop-drop}
 use Rattle.std.proofs.lemmas.List.FromFn.{get_or-map-range_with_len}
 use Rattle.std.specs.List.{range_with_len}
-use Rattle.lunit.specs.Printed.{fraction_text, minus_of, printed}
+use Rattle.lunit.specs.Printed.{fraction_text, minus_of}
 use Rattle.lunit.specs.declared.geometry.Rect.{Rect}
 use Rattle.session.specs.Printing.{px_of, spaced, spaced_pair, box_line}
 use Rattle.session.specs.declared.box_text.TheConstants.{FRACTIONS}

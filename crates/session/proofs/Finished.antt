@@ -1,5 +1,5 @@
 -- What follows of all bytes of an input from how a run ended.
-use Rattle.std.proofs.Common.{◌≡◌, ◌≢◌, refl, ap, sym, subst, ◌∙◌, ℕ, zero, suc, ◌+◌, ◌≤◌, ◌<◌, Bool, true, false, List, [], ◌∷◌, ◌++◌, length, take, length-append, ◌⊎◌, inl, inr, Option, Some, None, Ok, Err, IfSome, arith}
+use Rattle.std.proofs.Common.{◌≡◌, ◌≢◌, refl, ap, sym, subst, ◌∙◌, ℕ, zero, suc, ◌≤◌, ◌<◌, Bool, true, false, List, [], ◌∷◌, ◌++◌, length, take, length-append, ◌⊎◌, inl, inr, Option, Some, None, Ok, Err, IfSome, arith}
 use Rattle.std.proofs.lemmas.Bool.{false≢true}
 use Rattle.outside.specs.Told.{Adds, Loses, AddsPrefix}
 use Rattle.outside.specs.Faults.{Rose}
@@ -31,7 +31,7 @@ from_more (Ok doc) script rest = some_more (made_more doc script rest)
     some_more : MadeMore doc script rest → (more : List Made) × (Ok doc ∷ made_in doc (script ++ rest) ≡ (Ok doc ∷ made_in doc script) ++ more)
     some_more m = (m.0, ap (λ (l : List Made). Ok doc ∷ l) m.1)
 
-all_more : (given rest : List Line) → has_end given ≡ true → (more : List Made) × (all_made (given ++ rest) ≡ all_made given ++ more)
+pub all_more : (given rest : List Line) → has_end given ≡ true → (more : List Made) × (all_made (given ++ rest) ≡ all_made given ++ more)
 all_more given rest e = with_more (from_more (document_of_lines (before_end given)) (after_end given) rest)
   where
     with_more : (more : List Made) × (made_from (document_of_lines (before_end given)) (after_end given ++ rest) ≡ all_made given ++ more) → (more : List Made) × (all_made (given ++ rest) ≡ all_made given ++ more)

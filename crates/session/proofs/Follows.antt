@@ -1,7 +1,7 @@
 -- The edits of a script, line after line: what is known of the first lines is so of all.
-use Rattle.std.proofs.Common.{◌≡◌, refl, ap, sym, subst, ◌∙◌, ℕ, suc, ◌+◌, ◌≤◌, ◌<◌, Bool, true, false, List, [], ◌∷◌, ◌++◌, length, Option, Some, None, Result, Ok, Err, arith}
+use Rattle.std.proofs.Common.{◌≡◌, refl, ap, sym, subst, ◌∙◌, ℕ, suc, ◌+◌, ◌≤◌, Bool, true, false, List, [], ◌∷◌, ◌++◌, length, Result, Ok, arith}
 use Rattle.std.specs.Prelude.{◌==◌, if◌then◌else◌, ⊤}
-use Rattle.std.proofs.lemmas.Bool.{false≢true, true≢false, eq-eqb, ne_eqb}
+use Rattle.std.proofs.lemmas.Bool.{true≢false, eq-eqb, ne_eqb}
 use Rattle.text_scan.specs.declared.line.Line.{Line}
 use Rattle.text_scan.specs.declared.line.Fault.{Fault}
 use Rattle.text_scan.specs.Tokens.{is_skipped}
@@ -9,7 +9,7 @@ use Rattle.doc_text.specs.declared.document.Doc.{Doc}
 use Rattle.session.specs.Script.{has_end, before_end, after_end, document_of_lines, made_of, made_in, made_from, next_doc, all_made}
 use Rattle.session.specs.Serving.{last_doc, IsLaid}
 use Rattle.session.specs.Touched.{Agrees, Either, Follows, FollowsLines, touched_by, touched_from, touched_in, touched_lines}
-use Rattle.session.proofs.Scripts.{before_more, after_more, before_none, after_none}
+use Rattle.session.proofs.Scripts.{before_more, after_more, after_none}
 use Rattle.sparing.specs.Sparing.{Touches}
 
 -- ---- the first lines of more

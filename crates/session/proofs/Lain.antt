@@ -1,28 +1,54 @@
 -- What a layout of a held document measures and keeps.
-use Rattle.std.proofs.Common.{◌≡◌, sym, subst, ℕ, List, [], ◌∷◌, ◌++◌, Option, Result, Ok, Err, ◌⊎◌, inl, inr, ℤ, pos, ◌≤◌, ◌^◌, ◌≤ℤ◌, arith}
-use Rattle.std.specs.Prelude.{IfOk, OnOk, OnErr, neg_ℤ, unsigned_abs}
+use Rattle.std.proofs.Common.{◌≡◌, refl, sym, subst, ℕ, append-nil, Bool, true, false, List, [], ◌∷◌, ◌++◌, Option, Result, Ok, Err, ◌⊎◌, inl, inr, ℤ, pos, ◌≤◌, ◌^◌, ◌≤ℤ◌, arith}
+use Rattle.std.specs.Prelude.{◌-◌, ◌&&◌, not, IfOk, OnOk, OnErr, neg_ℤ, unsigned_abs}
 use Rattle.std.proofs.lemmas.Int.{ints}
 use Rattle.std.specs.List.{All}
 use Rattle.node_arena.specs.declared.number.NodeId.{NodeId}
-use Rattle.node_arena.specs.Numbers.{top_numbers}
+use Rattle.node_arena.specs.Numbers.{one, top_numbers}
+use Rattle.plain_tree.specs.Trees.{Trees, leafless, size_of, tree}
 use Rattle.outside.specs.declared.event.Event.{Event}
 use Rattle.outside.specs.declared.tally.Tally.{Tally}
 use Rattle.tree_rules.specs.declared.query.Query.{Query}
+use Rattle.placing.specs.Kept.{IsRight}
 use Rattle.placing.specs.Nodes.{bare}
 use Rattle.placing.specs.Walks.{State, state, Walk, events_of}
 use Rattle.placing.proofs.Each.{Each, all_each}
 use Rattle.box_layout.specs.BoxesSeen.{AreNear}
-use Rattle.box_layout.specs.Paths.{IsAsked, IsCutOff, IsCutShort}
+use Rattle.box_layout.specs.LeafHeights.{AreMeasured}
+use Rattle.box_layout.specs.Paths.{IsAsked, IsCutOff, IsCutShort, IsPathKept}
 use Rattle.box_layout.specs.Ranges.{IsWithin}
 use Rattle.page_tree.specs.Pages.{Held, document_of}
 use Rattle.tree_rules.specs.Answers.{Box}
 use Rattle.doc_text.specs.declared.document.Doc.{Doc}
+use Rattle.doc_text.specs.Documents.{is_leaf, node_limit}
+use Rattle.doc_text.specs.Edits.{tree_of}
+use Rattle.doc_text.specs.Label.{Label}
+use Rattle.doc_text.specs.Valid.{IsValid, IsVersion}
+use Rattle.asked_pages.specs.AskedOf.{containers_by}
+use Rattle.asked_pages.specs.Bounds.{IsBounded}
 use Rattle.page_tree.specs.Boxes as defined
 use Rattle.session.specs.Boxes.{boxes_of}
-use Rattle.session.specs.Laying.{Measures, KeepsMore, Keeps}
+use Rattle.session.specs.Laying.{Measures, KeepsMore, Keeps, WalksPage}
 use Rattle.session.specs.Printing.{IsPrintableBox}
 use Rattle.session.specs.Logs.{AreMeasuring}
 use Rattle.session.proofs.Measured.{all_named, each_whole, each_cut}
+
+-- ---- how many containers a document has
+
+some_most : (test : List ℕ → Bool) (t : Trees Label) → containers_by test t ≤ size_of t
+some_most test leafless = omega arith
+some_most test (tree x below after) = omega (arith, one_most (not (is_leaf x.kind) && test x.name), some_most test below, some_most test after)
+  where
+    one_most : (b : Bool) → one b ≤ 1
+    one_most true = omega arith
+    one_most false = omega arith
+
+few_containers : (test : List ℕ → Bool) (doc : Doc) → IsValid doc → containers_by test (tree_of doc) ≤ 2 ^ 64 - 1
+few_containers test doc v = omega (arith, some_most test (tree_of doc), v.shaped.nodes, at doc.version v.version)
+  where
+    at : (n : ℕ) → IsVersion n → node_limit n ≤ 200000
+    at n (inl e) = subst (λ (m : ℕ). node_limit m ≤ 200000) (sym e) (omega arith)
+    at n (inr e) = subst (λ (m : ℕ). node_limit m ≤ 200000) (sym e) (omega arith)
 
 module _ (old new : Held) (tally tally' : Tally) (passes passes' : ℕ) (log log' : Option (List Event)) (root : NodeId) (top : top_numbers old.nodes.tree ≡ root ∷ []) where
   abbrev before : State
@@ -67,6 +93,19 @@ module _ (old new : Held) (tally tally' : Tally) (passes passes' : ℕ) (log log
   pub keeps_some : {T E : Type 0} (r : Result T E) → OnErr r (IsCutShort (bare old.nodes.tree) old.width old.height before after) → OnErr r (KeepsMore old new)
   keeps_some (Ok x) p = tt
   keeps_some (Err e) p = record { entries = p.walk.added; kept = p.walk.kept; fresh = p.walk.fresh }
+
+  pub walks_page : {T E : Type 0} (r : Result T E) → OnOk r (Walk (IsAsked (bare old.nodes.tree) old.width old.height) 0 [] before after) → IsRight new.nodes.tree → OnOk r (IsPathKept (bare old.nodes.tree) old.width old.height after)
+      → OnOk r (AreMeasured (bare old.nodes.tree) old.width old.height before after)
+      → ((s t : State) → s.arena ≡ old.nodes → (walk : Walk (IsAsked (bare old.nodes.tree) old.width old.height) 0 [] s t) → IsRight t.arena.tree → IsPathKept (bare old.nodes.tree) old.width old.height t → AreMeasured (bare old.nodes.tree) old.width old.height s t → IsBounded old walk.added)
+      → IsValid (document_of old) → OnOk r (WalksPage old new tally tally' passes passes' log log')
+  walks_page (Ok x) w right path leaves bounded valid =
+      record {
+        walk = w;
+        bounded = bounded before after refl w right path leaves;
+        each = subst (AreMeasuring (document_of old)) (append-nil (events_of (bare old.nodes.tree) w.added)) (each_whole (document_of old) (bare old.nodes.tree) (all_named old root top) w.added);
+        few = λ test. few_containers test (document_of old) valid;
+      }
+  walks_page (Err e) w right path leaves bounded valid = tt
 
 -- ---- what can be printed
 

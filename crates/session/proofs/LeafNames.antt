@@ -1,5 +1,5 @@
 -- The leaves of a valid document, by their numbers: what is seen of them, and that their names differ.
-use Rattle.std.proofs.Common.{◌≡◌, refl, ap, sym, subst, ◌∙◌, ℕ, ◌+◌, Bool, true, false, ◌||◌, List, [], Option, Some, None}
+use Rattle.std.proofs.Common.{◌≡◌, refl, ap, sym, subst, ◌∙◌, ℕ, ◌+◌, Bool, true, false, ◌||◌, List, Option, Some, None}
 use Rattle.std.specs.Prelude.{⊤, if◌then◌else◌}
 use Rattle.std.specs.Str.{bytes_eq}
 use Rattle.std.proofs.lemmas.Bool.{false≢true, true≢false}
@@ -15,7 +15,6 @@ use Rattle.tree_rules.specs.Queries.{is_container}
 use Rattle.doc_text.specs.Growth.{holds}
 use Rattle.doc_text.specs.Named as plain
 use Rattle.placing.specs.declared.node.Node.{Node}
-use Rattle.placing.specs.Kept.{kept_at}
 use Rattle.placing.specs.Nodes.{Bare, NodeTrees, bare, bare_of, label_in, label_of_bare, seen_or_nothing, sight_at}
 use Rattle.page_tree.specs.Documents.{plain_trees}
 use Rattle.sparing.specs.Memory.{AreNamed, IsLeaf}

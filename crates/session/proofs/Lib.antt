@@ -22,7 +22,9 @@ pub mod Commands
 pub mod Follows
 pub mod LeafNames
 pub mod Spares
+pub mod Counts
 pub mod Walks
 pub mod LogsLeft
 pub mod Draws
 pub mod Making
+pub mod Replies

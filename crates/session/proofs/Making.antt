@@ -27,7 +27,7 @@ use Rattle.session.specs.Runs.{StopsWriting}
 use Rattle.session.specs.Spares.{Spares}
 use Rattle.session.specs.declared.status.Status.{Status}
 use Rattle.session.specs.declared.status.Status.TheVariants.{Done, BadDocument, SomeRefused, ReadFault, WriteFault, NoMemory, InputLimit, BadWords}
-use Rattle.session.proofs.Logs.{Made, front_all, front_none}
+use Rattle.session.proofs.Logs.{front_all, front_none}
 use Rattle.session.proofs.Spares.{spares_none}
 
 -- ---- boxes

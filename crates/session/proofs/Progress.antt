@@ -36,7 +36,7 @@ module _ (given : List Line) (doc : Doc) (k : ℕ) (bad : Bool) (p : IsLaid give
   all_given : all_made given ≡ Ok p.first ∷ made_in p.first (after_end given)
   all_given = ap (λ (o : Result Doc Fault). made_from o (after_end given)) p.read
 
-  all_push : all_made (given ++ line ∷ []) ≡ all_made given ++ one_made doc line
+  pub all_push : all_made (given ++ line ∷ []) ≡ all_made given ++ one_made doc line
   all_push =
       ap (λ (o : Result Doc Fault). made_from o (after_end (given ++ line ∷ []))) document_push
       ∙ ap (λ (m : List Made). Ok p.first ∷ m) script_push

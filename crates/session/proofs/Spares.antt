@@ -1,7 +1,7 @@
 -- What a run tells its ruler spares the leaves, step by step.
-use Rattle.std.proofs.Common.{◌≡◌, refl, ap, sym, subst, ◌∙◌, ℕ, ◌+◌, Bool, true, false, List, [], ◌∷◌, ◌++◌, Option, Some, None, Result, Ok, Err, IfSome, append_assoc, append-nil, ◌⊎◌, inl, inr}
+use Rattle.std.proofs.Common.{◌≡◌, refl, ap, sym, subst, ◌∙◌, ℕ, Bool, List, [], ◌∷◌, ◌++◌, Option, Some, None, Result, Ok, Err, IfSome, append-nil}
 use Rattle.std.proofs.lemmas.Bool.{false≢true}
-use Rattle.std.specs.Prelude.{IfOk, IsErr, OnOk, OnErr, if◌then◌else◌}
+use Rattle.std.specs.Prelude.{IsErr, OnOk, OnErr, if◌then◌else◌}
 use Rattle.text_scan.specs.declared.line.Fault.{Fault}
 use Rattle.text_scan.specs.declared.line.Line.{Line}
 use Rattle.text_scan.specs.Lines.{lines_of}
@@ -11,7 +11,7 @@ use Rattle.outside.specs.declared.event.Event.TheVariants.{Begin}
 use Rattle.outside.specs.declared.tally.Tally.{Tally}
 use Rattle.outside.proofs.Laws.{adds_more, adds_none, adds_stays}
 use Rattle.node_arena.specs.declared.number.NodeId.{NodeId}
-use Rattle.node_arena.specs.Numbers.{EachNode, IsDistinct, Part, part_at, top_numbers, value_at, value_of}
+use Rattle.node_arena.specs.Numbers.{IsDistinct, Part, part_at, top_numbers, value_of}
 use Rattle.tree_rules.specs.Labels as rules
 use Rattle.tree_rules.specs.Queries.{is_container}
 use Rattle.doc_text.specs.declared.document.Doc.{Doc}
@@ -22,24 +22,23 @@ use Rattle.doc_text.specs.Named as plain
 use Rattle.placing.specs.declared.node.Node.{Node}
 use Rattle.placing.specs.Keeping.{KeepsNone}
 use Rattle.placing.specs.Kept.{kept_at, kept_of}
-use Rattle.placing.specs.Nodes.{NodeTrees, bare, bare_of, label_of_bare, sight_at}
-use Rattle.placing.specs.Walks.{State, Walk, bare_in, events_of, kept_in, state}
+use Rattle.placing.specs.Nodes.{bare, label_of_bare, sight_at}
+use Rattle.placing.specs.Walks.{State, Walk, events_of, state}
 use Rattle.placing.proofs.Bares.{distinct_bare}
 use Rattle.box_layout.specs.Paths.{IsAsked, IsCutShort}
 use Rattle.page_tree.specs.Answered.{Applies}
-use Rattle.page_tree.specs.Documents.{plain_trees}
 use Rattle.page_tree.specs.Pages.{Held, document_of}
 use Rattle.page_tree.specs.declared.error.EditError.{EditError}
 use Rattle.page_tree.specs.declared.error.EditError.TheVariants as error
 use Rattle.sparing.specs.Memory.{AreNamed, IsLeaf, Recalls}
-use Rattle.sparing.specs.Sparing.{AreSpared, Touches}
-use Rattle.sparing.proofs.Entries.{SparesOn, spared_more}
+use Rattle.sparing.specs.Sparing.{Touches}
+use Rattle.sparing.proofs.Entries.{spared_more}
 use Rattle.sparing.proofs.Layouts.{IsLeafAfter, edit_recalls, first_recalls, layout_spares, stopped_spares}
 use Rattle.session.specs.Input.{AreFirst}
 use Rattle.page_tree.specs.Reach.{KeepsOn, KeepsOthers, is_touched}
 use Rattle.session.specs.Spares.{KeepsUntouched, Spares, SparesAfter, SparesDue, SparesFirst, SparesInput, SparesPage}
 use Rattle.session.specs.Standing.{Standing, IsSound}
-use Rattle.session.specs.Touched.{Agrees, FollowsLines, touched_by, touched_lines, touched_of, touched_to}
+use Rattle.session.specs.Touched.{Agrees, touched_by, touched_lines, touched_of, touched_to}
 use Rattle.session.proofs.Follows.{follows_all}
 use Rattle.session.proofs.LeafNames.{each_there, label_there, leaf_there, leaves_named}
 use Rattle.session.proofs.Measured.{whole_tree}
@@ -175,7 +174,7 @@ pub spares_due : (touches : Touches) (before now : Option (List Event)) (k : ℕ
 spares_due touches before now k old new line p agrees kept = spares_due_by touches before now k old new (touched_by (document_of old) line) p agrees kept
 
 -- the line reads as this edit
-touched_same : (doc next : Doc) (line : Line) (e : Edit) → edit_of doc.version line ≡ Ok e → edited e doc ≡ Ok next → (λ (name : List ℕ). is_touched e doc next name) ≡ touched_by doc line
+pub touched_same : (doc next : Doc) (line : Line) (e : Edit) → edit_of doc.version line ≡ Ok e → edited e doc ≡ Ok next → (λ (name : List ℕ). is_touched e doc next name) ≡ touched_by doc line
 unfolding touched_by
 touched_same doc next line e read made = (λ i. λ (name : List ℕ). touched_to e doc (sym made i) name) ∙ (λ i. λ (name : List ℕ). touched_of doc (sym read i) name)
 

@@ -1,5 +1,5 @@
 -- What a call that edits an engine asks, answers and leaves.
-use Rattle.std.specs.Prelude.{◌≡◌, ℕ, List, [], ◌∷◌, Result, Ok, Err, Bool, ⊤}
+use Rattle.std.specs.Prelude.{◌≡◌, ℕ, [], ◌∷◌, Result, Ok, Err, Bool, ⊤}
 use Rattle.text_scan.specs.declared.line.Fault.{Fault}
 use Rattle.doc_text.specs.declared.document.Doc.{Doc}
 use Rattle.doc_text.specs.declared.edit.Edit.{Edit}

@@ -31,5 +31,10 @@ pub mod Engine
 pub mod Touched
 pub mod Spares
 pub mod Made
+pub mod Replies
+pub use Rattle.asked_names.specs.Asked as Asked
+pub use Rattle.asked_pages.specs.AskedOf as AskedOf
+pub use Rattle.asked_pages.specs.Bounds as Bounds
+pub use Rattle.asked_pages.specs.Leaves as Leaves
 pub use Rattle.sparing.specs.Memory as Memory
 pub use Rattle.sparing.specs.Sparing as Sparing

@@ -1,5 +1,5 @@
 -- What a ruler was told spares the leaves, and what the leaves of a document keep is the last of it.
-use Rattle.std.specs.Prelude.{◌≡◌, ℕ, Bool, List, [], ◌∷◌, ◌++◌, Option, Result, Ok, Err}
+use Rattle.std.specs.Prelude.{ℕ, Bool, List, [], ◌∷◌, ◌++◌, Option, Result, Ok, Err}
 use Rattle.text_scan.specs.declared.line.Line.{Line}
 use Rattle.outside.specs.Told.{Adds}
 use Rattle.outside.specs.declared.event.Event.{Event}

@@ -3,12 +3,15 @@ ghost use Rattle.outside.specs.declared.event.Event.{Event};
 ghost use Rattle.sparing.specs.Sparing.{Touches};
 ghost use Rattle.session.specs.Spares.{KeepsUntouched, SparesAfter, SparesDue, SparesPage};
 ghost use Rattle.session.specs.Touched.{Agrees, touched_by};
+ghost use Rattle.doc_text.specs.Edits.{tree_of};
 ghost use Rattle.doc_text.specs.Valid.{IsShort};
+ghost use Rattle.asked_pages.specs.Leaves.{IsEmptied, PassesUp};
 ghost use Rattle.page_tree.specs.Answered.{Applies};
 ghost use Rattle.session.specs.Engine.{IsAnswered};
 ghost use Rattle.session.specs.Logs.{LogsFront};
 ghost use Rattle.session.specs.Written.{Prints};
 ghost use Rattle.session.specs.Printing.{refusal};
+ghost use Rattle.session.specs.Replies.{is_new, HasReply};
 ghost use Rattle.session.specs.Script.{made_of};
 ghost use Rattle.session.specs.Standing.{doc_of};
 ghost use Rattle.session.specs.FaultNames.{fault_name};
@@ -52,6 +55,7 @@ pub(crate) fn layout_text<R: Ruler, L: Ledger>(
     ensures prints { IfOk result (λ text. Prints stats (R.log ruler.old) (R.log ruler.new) k (Ok (doc_of engine.old)) text.items) }
     ensures err { OnErr result (LogsFront (R.log ruler.old) (R.log ruler.new) k (Ok (doc_of engine.old) ∷ [])) }
     ensures document { doc_of engine.new ≡ doc_of engine.old }
+    ensures replies { (touches : Touches) → IsEmptied (is_new touches k) engine.old.page → IfOk result (λ text. HasReply stats touches (R.log ruler.old) (R.log ruler.new) passes.old passes.new k (Ok (doc_of engine.old)) text.items) }
     ensures spares { (touches : Touches) (before : Option (List Event)) → SparesDue touches before (R.log ruler.old) k engine.old.page → SparesAfter touches before (R.log ruler.new) engine.new.page result }
 {
     let layout = engine.layout(k, ruler, passes)?;
@@ -60,12 +64,13 @@ pub(crate) fn layout_text<R: Ruler, L: Ledger>(
     Ok(text)
 }
 
-#[tactic(auto, using(crate::proofs::EditLines::line_applying, crate::proofs::Spares::sparing))]
+#[tactic(auto, using(crate::proofs::EditLines::line_applying, crate::proofs::Spares::sparing, crate::proofs::Replies::line_passing))]
 /// Reads the edit that a line is, and applies it.
 fn apply_line(alloc: Global, engine: &mut Engine, line: &Line) -> Result<(), EditError>
     requires { IsShort line.now }
     ensures applies { Applies result (made_of (doc_of engine.old) line.now) engine.old.page engine.new.page }
     ensures kept { OnOk result (KeepsUntouched (touched_by (doc_of engine.old) line.now) engine.old.page engine.new.page) }
+    ensures up { OnOk result (PassesUp (touched_by (doc_of engine.old) line.now) (tree_of (doc_of engine.new))) }
 {
     match read_edit(alloc, line, engine.version()) {
         Ok(edit) => engine.apply(edit),
@@ -89,6 +94,7 @@ pub(crate) fn answer_to_edit<R: Ruler, L: Ledger>(
     ensures answered { IfOk result (λ answer. IsAnswered (made_of (doc_of engine.old) line.now) (doc_of engine.old) (doc_of engine.new) answer.refused) }
     ensures prints { IfOk result (λ answer. Prints stats (R.log ruler.old) (R.log ruler.new) k (made_of (doc_of engine.old) line.now) answer.text.items) }
     ensures err { OnErr result (LogsFront (R.log ruler.old) (R.log ruler.new) k (made_of (doc_of engine.old) line.now ∷ [])) }
+    ensures replies { (touches : Touches) → 1 ≤ k → Agrees touches k (doc_of engine.old) line.now → IfOk result (λ answer. HasReply stats touches (R.log ruler.old) (R.log ruler.new) passes.old passes.new k (made_of (doc_of engine.old) line.now) answer.text.items) }
     ensures spares { (touches : Touches) (before : Option (List Event)) → Agrees touches k (doc_of engine.old) line.now → SparesPage touches before (R.log ruler.old) engine.old.page → SparesAfter touches before (R.log ruler.new) engine.new.page result }
 {
     match apply_line(alloc, engine, line) {

@@ -2,9 +2,10 @@ ghost use Rattle.std.specs.Prelude.{◌≡◌, ◌+◌, ◌-◌, ◌^◌, ◌≤
 ghost use Rattle.outside.specs.declared.event.Event.{Event};
 ghost use Rattle.placing.specs.Keeping.{KeepsNone};
 ghost use Rattle.sparing.specs.Sparing.{Touches};
-ghost use Rattle.page_tree.specs.Reach.{KeepsOthers};
+ghost use Rattle.page_tree.specs.Reach.{is_touched, KeepsOthers};
+ghost use Rattle.asked_pages.specs.Leaves.{PassesUp};
 ghost use Rattle.session.specs.Spares.{SparesDue, SparesAfter};
-ghost use Rattle.doc_text.specs.Edits.{edited};
+ghost use Rattle.doc_text.specs.Edits.{edited, tree_of};
 ghost use Rattle.doc_text.specs.Laws.{NamesItsNode};
 ghost use Rattle.doc_text.specs.Valid.{IsValid};
 ghost use Rattle.page_tree.specs.Answered.{Applies};
@@ -90,12 +91,13 @@ impl Engine {
     /// 22 where the root is removed or moved, 23 where a node is moved below itself, 24 where an index is past the last
     /// child, 6 where a name is there, 12 where a node would stand on level 65, 13 where there would be too many nodes, 14
     /// where a leaf would have children; the first of these. After that and after `NoMemory` the document and all answers
-    /// that are kept are as before.
+    /// that are kept are as before. An edit that touches a leaf of the document after it touches its parent too.
     pub fn apply(&mut self, edit: Edit) -> Result<(), EditError>
         requires named { NamesItsNode edit }
         requires told { IsToldEdit (doc_of self.old).version edit }
         ensures applies { Applies result (edited edit (doc_of self.old)) self.old.page self.new.page }
         ensures kept { OnOk result (KeepsOthers edit self.old.page self.new.page) }
+        ensures up { OnOk result (PassesUp (is_touched edit (doc_of self.old) (doc_of self.new)) (tree_of (doc_of self.new))) }
         ensures calls { self.new.calls ≡ min (self.old.calls + 1) (2 ^ 32 - 1) }
     {
         self.calls = self.calls.saturating_add(1);
@@ -104,7 +106,8 @@ impl Engine {
 
     #[tactic(auto, using(crate::proofs::Laid::laying, crate::proofs::Walks::walking))]
     /// Lays the document out: the ruler is told that the layout with the number `k` begins, and then measures leaves. Or
-    /// `NoMemory`; then a front of that was told. The document is as before, and every answer that is kept is right.
+    /// `NoMemory`; then a front of that was told. The document is as before, and every answer that is kept is right. Each one that
+    /// is added answers a question that laying out the document can ask.
     pub fn layout<R: Ruler, L: Ledger>(
         &mut self,
         k: u32,

@@ -1,19 +1,20 @@
 //! One layout of a held document.
 
-ghost use Rattle.std.specs.Prelude.{◌≡◌, [], List, Option, IfOk, OnOk, OnErr};
-ghost use Rattle.box_layout.specs.Paths.{IsAllKept, IsAsked, IsPathKept};
+ghost use Rattle.std.specs.Prelude.{◌≡◌, List, Option, IfOk, OnOk, OnErr};
+ghost use Rattle.box_layout.specs.Paths.{IsAllKept, IsPathKept};
 ghost use Rattle.placing.specs.Nodes.{bare};
-ghost use Rattle.placing.specs.Walks.{state, Walk};
+ghost use Rattle.placing.specs.Walks.{state};
 ghost use Rattle.std.specs.List.{All};
 ghost use Rattle.outside.specs.declared.event.Event.{Event};
 ghost use Rattle.sparing.specs.Sparing.{Touches};
 ghost use Rattle.session.specs.Spares.{SparesPage, SparesAfter};
 ghost use Rattle.session.specs.Boxes.{boxes_of};
 ghost use Rattle.page_tree.specs.Pages.{document_of};
-ghost use Rattle.session.specs.Laying.{Measures, KeepsMore, Keeps};
+ghost use Rattle.session.specs.Laying.{Measures, KeepsMore, Keeps, WalksPage};
 ghost use Rattle.session.specs.Printing.{IsPrintableBox};
 ghost use Rattle.session.specs.Standing.{IsSound};
 
+use asked_pages::layouts_of_pages;
 use lunit::{Name, NoMemory, Rect, Sequence, Steps};
 use outside::{Ruler, Tally};
 use page_tree::Page;
@@ -35,11 +36,12 @@ pub(crate) fn lay_out<R: Ruler, L: Ledger>(
     ensures measures { Measures (document_of page.old) (R.log ruler.old) (R.log ruler.new) tally.old.measured tally.new.measured }
     ensures keeps { OnOk result (Keeps page.old page.new tally.old.added tally.new.added passes.old passes.new) }
     ensures keeps_some { OnErr result (KeepsMore page.old page.new) }
-    ensures walked { OnOk result (Walk (IsAsked (bare page.old.nodes.tree) page.old.width page.old.height) 0 [] (state page.old.nodes tally.old passes.old (R.log ruler.old)) (state page.new.nodes tally.new passes.new (R.log ruler.new))) }
+    ensures walked { OnOk result (WalksPage page.old page.new tally.old tally.new passes.old passes.new (R.log ruler.old) (R.log ruler.new)) }
     ensures paths { OnOk result (IsPathKept (bare page.old.nodes.tree) page.old.width page.old.height (state page.new.nodes tally.new passes.new (R.log ruler.new))) }
     ensures quiet { IsAllKept (bare page.old.nodes.tree) page.old.width page.old.height (state page.old.nodes tally.old passes.old (R.log ruler.old)) → state page.new.nodes tally.new passes.new (R.log ruler.new) ≡ state page.old.nodes tally.old passes.old (R.log ruler.old) }
     ensures spares { (touches : Touches) (before : Option (List Event)) → SparesPage touches before (R.log ruler.old) page.old → SparesAfter touches before (R.log ruler.new) page.new result }
 {
     let _ = page.tree().root();
+    layouts_of_pages(page);
     page.lay_out(ruler, tally, passes)
 }

@@ -1,7 +1,8 @@
-ghost use Rattle.std.specs.Prelude.{◌≡◌, ◌≤◌, Err, false, OnOk};
+ghost use Rattle.std.specs.Prelude.{◌≡◌, ◌≤◌, Err, false, IfOk, OnOk};
 ghost use Rattle.outside.specs.Faults.{HasCauseOf};
 ghost use Rattle.text_scan.specs.Stream.{empty_stream};
 ghost use Rattle.session.specs.Input.{limit};
+ghost use Rattle.session.specs.Replies.{RepliesStart, RepliesTo};
 ghost use Rattle.session.specs.Runs.{Runs};
 ghost use Rattle.session.specs.Serving.{Starts, ended};
 ghost use Rattle.session.specs.Spares.{SparesInput, SparesStart};
@@ -31,6 +32,8 @@ fn start<S: Source, K: Sink, R: Ruler, L: Ledger>(
     requires new { (reader.old.lines ≡ empty_stream) × (reader.old.count ≡ 0) × (reader.old.ended ≡ false) }
     ensures starts { Starts stats (S.left source.old) (S.left source.new) (K.written sink.old) (K.written sink.new) (R.log ruler.old) (R.log ruler.new) reader.new.lines reader.new.ended result }
     ensures spares { (touches : Touches) → SparesStart touches (R.log ruler.old) (R.log ruler.new) result }
+    ensures replies { RepliesStart stats (K.written sink.old) (K.written sink.new) (R.log ruler.old) (R.log ruler.new) passes.old passes.new (S.left source.old) result }
+    ensures one { IfOk result (λ progress. progress.number ≡ 1) }
     ensures count { OnOk result (reader.new.lines.fed ≡ reader.new.count) }
     ensures within { OnOk result (reader.new.count ≤ limit) }
     ensures read { HasCauseOf (S.faults source.old) (S.faults source.new) (result ≡ Err Status.ReadFault) }
@@ -74,6 +77,7 @@ pub(crate) fn serve<S: Source, K: Sink, R: Ruler, L: Ledger>(
 ) -> Status
     ensures runs { Runs stats (S.left source.old) (S.left source.new) (K.written sink.old) (K.written sink.new) (R.log ruler.old) (R.log ruler.new) result }
     ensures spares { SparesInput (S.left source.old) (R.log ruler.old) (R.log ruler.new) }
+    ensures replies { RepliesTo stats (K.written sink.old) (K.written sink.new) (R.log ruler.old) (R.log ruler.new) passes.old passes.new (S.left source.old) result }
     ensures read { HasCauseOf (S.faults source.old) (S.faults source.new) (result ≡ Status.ReadFault) }
     ensures write { HasCauseOf (K.faults sink.old) (K.faults sink.new) (result ≡ Status.WriteFault) }
 {

@@ -7,6 +7,7 @@ ghost use Rattle.session.specs.Outcome.{out};
 ghost use Rattle.session.specs.Input.{limit};
 ghost use Rattle.session.specs.Made.{HasMade};
 ghost use Rattle.session.specs.Runs.{HasRun, Permits, IsComplete, IsHeadline};
+ghost use Rattle.session.specs.Replies.{HasReplied};
 ghost use Rattle.session.specs.Words.{asked, is_served, IsUnserved};
 ghost use Rattle.text_scan.specs.Lines.{lines_of};
 ghost use Rattle.session.specs.Spares.{Spares};
@@ -34,6 +35,7 @@ fn run_layout<S: Source, K: Sink, R: Ruler, L: Ledger>(
     ensures read { HasCauseOf (S.faults source.old) (S.faults source.new) (result ≡ Status.ReadFault) }
     ensures write { HasCauseOf (K.faults sink.old) (K.faults sink.new) (result ≡ Status.WriteFault) }
     ensures spares { IfSome (S.left source.old) (λ b. Spares (touched_lines (lines_of b)) (R.log ruler.old) (R.log ruler.new)) }
+    ensures replies { IfSome (S.left source.old) (λ b. HasReplied stats (K.written sink.old) (K.written sink.new) (R.log ruler.old) (R.log ruler.new) passes.old passes.new (lines_of b) result) }
 {
     serve(alloc, stats, source, sink, ruler, passes)
 }
@@ -75,8 +77,9 @@ fn served(alloc: Global, words: &[String]) -> Result<Command, Status>
 /// - `WriteFault` only where the sink's count of faults rose in this call: a prefix is written.
 /// - `NoMemory` at want of memory: a prefix is written, or nothing.
 ///
-/// The ruler is told the begin of each layout that is made, with its number, and then measures leaves of its document. `passes`
-/// counts the passes of track sizing and of flex lengths.
+/// The ruler is told the begin of each layout that is made, with its number, and then measures leaves of its document: each leaf that
+/// is the child of a grid at the content width of its box, where it is the first layout or the edit touches the leaf. `passes` counts
+/// the passes of track sizing and of flex lengths, at most four for each answer that is kept.
 pub fn run<S: Source, K: Sink, R: Ruler, L: Ledger>(
     alloc: Global,
     words: Vec<String>,
@@ -104,6 +107,9 @@ pub fn run<S: Source, K: Sink, R: Ruler, L: Ledger>(
     ensures headline { asked words.items ≡ Some (Layout false) → IsHeadline (S.left source.old) (K.written sink.old) (K.written sink.new) (S.faults source.old) (S.faults source.new) (K.faults sink.old) (K.faults sink.new) result }
     // No leaf was measured again at a width unless an edit reached it or sixteen other widths followed.
     ensures spares { (stats : Bool) → asked words.items ≡ Some (Layout stats) → IfSome (S.left source.old) (λ b. Spares (touched_lines (lines_of b)) (R.log ruler.old) (R.log ruler.new)) }
+    // In each layout every new leaf of a grid was measured at the content width of its box. A is at least the number of new containers,
+    // and at most that of all questions where no node has more than sixteen. There are at most four passes for each of the answers.
+    ensures replies { (stats : Bool) → asked words.items ≡ Some (Layout stats) → IfSome (S.left source.old) (λ b. HasReplied stats (K.written sink.old) (K.written sink.new) (R.log ruler.old) (R.log ruler.new) passes.old passes.new (lines_of b) result) }
 {
     match served(alloc, words.as_slice()) {
         Ok(Command::Layout { stats }) => run_layout(alloc, stats, source, sink, ruler, passes),

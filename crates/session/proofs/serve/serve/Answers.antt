@@ -6,6 +6,7 @@ use Rattle.session.proofs.Running.{part_written, script_stopped, script_ended, f
 use Rattle.session.specs.Standing.{doc_of}
 use Rattle.session.proofs.Follows.{agrees_line, follows_given}
 use Rattle.session.proofs.Pieces.{first_given}
+use Rattle.session.proofs.Replies.{ended_replies, first_replies, later_number, more_replies, stopped_replies, unwritten_replies}
 use Rattle.session.proofs.Spares.{input_none, spares_some}
 use Rattle.session.proofs.serve.serve.Goals as goal
 
@@ -48,6 +49,11 @@ loop-line-preserved g c =
           c.in-Ok-handle_line.ensures.spares touches (g.R.Ruler.log c.args.ruler.now)
           (agrees_line touches at.given (doc_of c.loop-line.progress.engine) c.loop-line.progress.number c.loop-line.progress.refused at.answered.laid c.in-Ok-Some.line f)
           (c.loop-line.invariant.spared touches (follows_given touches at.given (doc_of c.loop-line.progress.engine) c.loop-line.progress.number c.loop-line.progress.refused at.answered.laid c.in-Ok-Some.line f));
+      replied = λ touches f.
+          more_replies at.given (doc_of c.loop-line.progress.engine) c.loop-line.progress.number c.loop-line.progress.refused at.answered.laid c.args.stats (g.K.Sink.written c.args.sink.now) (g.K.Sink.written c.loop-line.sink) (g.R.Ruler.log c.args.ruler.now) (g.R.Ruler.log c.loop-line.ruler) c.args.passes.now c.loop-line.passes touches (g.K.Sink.written c.handle_line.new.sink) (g.R.Ruler.log c.handle_line.new.ruler) c.handle_line.new.passes c.in-Ok-Some.line
+          (c.loop-line.invariant.replied touches (follows_given touches at.given (doc_of c.loop-line.progress.engine) c.loop-line.progress.number c.loop-line.progress.refused at.answered.laid c.in-Ok-Some.line f))
+          (c.in-Ok-handle_line.ensures.replies touches (later_number at.given (doc_of c.loop-line.progress.engine) c.loop-line.progress.number c.loop-line.progress.refused at.answered.laid)
+          (agrees_line touches at.given (doc_of c.loop-line.progress.engine) c.loop-line.progress.number c.loop-line.progress.refused at.answered.laid c.in-Ok-Some.line f));
       count = search rules;
       within = search rules;
       read = search rules;
@@ -114,3 +120,37 @@ returns-in-Err-next_line-clause-spares g c =
 
 pub returns-in-Err-clause-spares : goal.returns-in-Err-clause-spares
 returns-in-Err-clause-spares g c = input_none (g.S.Source.left c.args.source.now) (g.R.Ruler.log c.args.ruler.now) (g.R.Ruler.log c.start.new.ruler) (λ touches. c.in-Err.ensures.spares touches)
+
+pub returns-in-Ok-None-clause-replies : goal.returns-in-Ok-None-clause-replies
+returns-in-Ok-None-clause-replies g c =
+    let left = g.S.Source.left c.args.source.now in
+    let now = g.S.Source.left c.next_line.new.source in
+    let at = c.loop-line.invariant.at in
+    ended_replies c.args.stats (g.K.Sink.written c.args.sink.now) (g.K.Sink.written c.loop-line.sink) (g.R.Ruler.log c.args.ruler.now) (g.R.Ruler.log c.loop-line.ruler) c.args.passes.now c.loop-line.passes left now at.given c.loop-line.progress.refused c.ended.result c.ended.ensures
+    (end_given left now at.given c.next_line.new.reader.lines c.next_line.new.reader.ended c.in-Ok-None.field-0 c.in-Ok-None.field-0-is (c.in-Ok-None.ensures.next left at.given at.input)) c.loop-line.invariant.replied
+
+pub returns-in-Err-next_line-clause-replies : goal.returns-in-Err-next_line-clause-replies
+returns-in-Err-next_line-clause-replies g c =
+    let left = g.S.Source.left c.args.source.now in
+    let at = c.loop-line.invariant.at in
+    stopped_replies at.given (doc_of c.loop-line.progress.engine) c.loop-line.progress.number c.loop-line.progress.refused at.answered.laid c.args.stats (g.K.Sink.written c.args.sink.now) (g.K.Sink.written c.loop-line.sink) (g.R.Ruler.log c.args.ruler.now) (g.R.Ruler.log c.loop-line.ruler) c.args.passes.now c.loop-line.passes left (g.S.Source.left c.loop-line.source) c.loop-line.reader.lines c.loop-line.reader.ended c.in-Err-next_line.status at.input c.loop-line.invariant.replied (g.S.Source.left c.next_line.new.source) (c.in-Err-next_line.ensures.next left at.given at.input)
+
+pub returns-in-Err-handle_line-clause-replies : goal.returns-in-Err-handle_line-clause-replies
+returns-in-Err-handle_line-clause-replies g c =
+    unwritten_replies c.args.stats (g.K.Sink.written c.args.sink.now) (g.K.Sink.written c.handle_line.new.sink) (g.R.Ruler.log c.args.ruler.now) (g.R.Ruler.log c.handle_line.new.ruler) c.args.passes.now c.handle_line.new.passes (g.S.Source.left c.args.source.now) c.in-Err-handle_line.status c.in-Err-handle_line.ensures.stops
+
+pub returns-in-Err-clause-replies : goal.returns-in-Err-clause-replies
+returns-in-Err-clause-replies g c = c.in-Err.ensures.replies
+
+pub loop-line-init : goal.loop-line-init
+loop-line-init g c =
+    let at = c.in-Ok.ensures.starts in
+    record {
+      at = at;
+      spared = λ touches f. c.in-Ok.ensures.spares touches;
+      replied = first_replies at.given (doc_of c.in-Ok.progress.engine) c.in-Ok.progress.number c.in-Ok.progress.refused at.answered.laid c.args.stats (g.K.Sink.written c.args.sink.now) (g.K.Sink.written c.start.new.sink) (g.R.Ruler.log c.args.ruler.now) (g.R.Ruler.log c.start.new.ruler) c.args.passes.now c.start.new.passes c.in-Ok.ensures.one c.in-Ok.ensures.replies;
+      count = search rules;
+      within = search rules;
+      read = search rules;
+      written = search rules;
+    }

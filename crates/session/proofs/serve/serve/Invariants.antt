@@ -2,6 +2,7 @@ use Rattle.std.proofs.Common.{◌≡◌, ◌≤◌, ◌+◌, ◌-◌}
 use Rattle.session.specs.Standing.{doc_of}
 use Rattle.session.specs.Input.{limit}
 use Rattle.session.specs.Serving.{IsAt}
+use Rattle.session.specs.Replies.{RepliesLines}
 use Rattle.session.specs.Spares.{SparesPage}
 use Rattle.session.specs.Touched.{FollowsLines}
 use Rattle.sparing.specs.Sparing.{Touches}
@@ -12,6 +13,7 @@ invariant-loop-line g l =
     record {
       at : IsAt l.fn.stats (g.S.Source.left l.fn.source) (g.S.Source.left l.source) (g.K.Sink.written l.fn.sink) (g.K.Sink.written l.sink) (g.R.Ruler.log l.fn.ruler) (g.R.Ruler.log l.ruler) l.reader.lines l.reader.ended (doc_of l.progress.engine) l.progress.number l.progress.refused;
       spared : (touches : Touches) → FollowsLines touches at.given → SparesPage touches (g.R.Ruler.log l.fn.ruler) (g.R.Ruler.log l.ruler) l.progress.engine.page;
+      replied : RepliesLines l.fn.stats (g.K.Sink.written l.fn.sink) (g.K.Sink.written l.sink) (g.R.Ruler.log l.fn.ruler) (g.R.Ruler.log l.ruler) l.fn.passes l.passes at.given;
       count : l.reader.lines.fed ≡ l.reader.count;
       within : l.reader.count ≤ limit;
       read : g.S.Source.faults l.fn.source ≤ g.S.Source.faults l.source;

@@ -1,10 +1,14 @@
 use Rattle.std.proofs.Common.{ap, sym, ◌∙◌, refl, ℕ, Bool, false, Some}
+use Rattle.std.specs.Prelude.{IfSome}
+use Rattle.text_scan.specs.Lines.{lines_of}
 use Rattle.session.specs.Made.{HasMade}
+use Rattle.session.specs.Replies.{HasReplied}
 use Rattle.session.specs.Runs.{HasRun}
 use Rattle.session.specs.Words.{asked, is_served}
 use Rattle.session.proofs.Commands.{by_numbers, by_stats, not_both, unserved_made, unserved_run}
 use Rattle.session.proofs.Finished.{plain_prefix, plain_permits, plain_complete, headline}
 use Rattle.session.proofs.Spares.{spares_unread}
+use Rattle.session.proofs.Replies.{unserved_replied}
 use Rattle.session.proofs.top_call.run.Goals as goal
 
 pub returns-in-Ok-Layout-clause-prefix : goal.returns-in-Ok-Layout-clause-prefix
@@ -45,3 +49,15 @@ returns-in-Ok-Make-clause-made g c = λ seed nodes e. (refl, by_numbers (asked c
 
 pub returns-clause-made : goal.returns-clause-made
 returns-clause-made g c = λ seed nodes e. (refl, unserved_made (g.K.Sink.written c.args.sink.now) (g.R.Ruler.log c.args.ruler.now) (g.K.Sink.faults c.args.sink.now) (asked c.args.words.items) c.in-Err.status c.in-Err.ensures.stops (λ b. ap (λ ws. is_served (asked ws)) (sym c.as_slice.ensures.value) ∙ c.in-Err.ensures.bad b) seed nodes e)
+
+-- ---- replies
+
+pub returns-in-Ok-Layout-clause-replies : goal.returns-in-Ok-Layout-clause-replies
+returns-in-Ok-Layout-clause-replies g c = λ stats e.
+    by_stats (asked c.args.words.items) c.in-Ok-Layout.stats (λ (stats : Bool). IfSome (g.S.Source.left c.args.source.now) (λ b. HasReplied stats (g.K.Sink.written c.args.sink.now) (g.K.Sink.written c.run_layout.new.sink) (g.R.Ruler.log c.args.ruler.now) (g.R.Ruler.log c.run_layout.new.ruler) c.args.passes.now c.run_layout.new.passes (lines_of b) c.run_layout.result)) (ap asked (sym c.as_slice.ensures.value) ∙ c.in-Ok-Layout.ensures.command ∙ ap (λ command. Some command) c.in-Ok-Layout.field-0-is) c.run_layout.ensures.replies stats e
+
+pub returns-in-Ok-Make-clause-replies : goal.returns-in-Ok-Make-clause-replies
+returns-in-Ok-Make-clause-replies g c = λ stats e. not_both (asked c.args.words.items) stats c.in-Ok-Make.seed c.in-Ok-Make.nodes e (ap asked (sym c.as_slice.ensures.value) ∙ c.in-Ok-Make.ensures.command ∙ ap (λ command. Some command) c.in-Ok-Make.field-0-is)
+
+pub returns-clause-replies : goal.returns-clause-replies
+returns-clause-replies g c = λ stats e. unserved_replied stats (g.K.Sink.written c.args.sink.now) (g.R.Ruler.log c.args.ruler.now) c.args.passes.now (g.S.Source.left c.args.source.now) c.in-Err.status c.in-Err.ensures.stops

@@ -1,5 +1,6 @@
 use Rattle.session.proofs.Finished.{has_run}
 use Rattle.session.proofs.Spares.{spares_input}
+use Rattle.session.proofs.Replies.{replied}
 use Rattle.session.proofs.top_call.run_layout.Goals as goal
 
 pub returns-clause-run : goal.returns-clause-run
@@ -7,3 +8,6 @@ returns-clause-run g c = has_run c.args.stats (g.S.Source.left c.args.source.now
 
 pub returns-clause-spares : goal.returns-clause-spares
 returns-clause-spares g c = spares_input (g.S.Source.left c.args.source.now) (g.R.Ruler.log c.args.ruler.now) (g.R.Ruler.log c.serve.new.ruler) c.serve.ensures.spares
+
+pub returns-clause-replies : goal.returns-clause-replies
+returns-clause-replies g c = replied c.args.stats (g.K.Sink.written c.args.sink.now) (g.K.Sink.written c.serve.new.sink) (g.R.Ruler.log c.args.ruler.now) (g.R.Ruler.log c.serve.new.ruler) c.args.passes.now c.serve.new.passes (g.S.Source.left c.args.source.now) c.serve.result c.serve.ensures.replies

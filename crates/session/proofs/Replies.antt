@@ -1,0 +1,378 @@
+-- The replies of a run, one after another.
+use Rattle.std.proofs.Common.{◌≡◌, refl, ap, sym, subst, ◌∙◌, ℕ, suc, ◌+◌, ◌^◌, ◌≤◌, ◌<◌, ◌||◌, Bool, true, false, List, [], ◌∷◌, ◌++◌, length, Option, Some, None, Result, Ok, Err, IfSome, ◌⊎◌, inl, inr, append_assoc, append-nil, arith}
+use Rattle.std.specs.Prelude.{◌-◌, ◌&&◌, if◌then◌else◌, IfErr, IfOk, OnErr, OnOk}
+use Rattle.std.proofs.lemmas.Bool.{false≢true, ne_eqb}
+use Rattle.text_scan.specs.declared.line.Fault.{Fault}
+use Rattle.text_scan.specs.declared.line.Line.{Line}
+use Rattle.text_scan.specs.Lines.{lines_of}
+use Rattle.text_scan.specs.Stream.{Stream}
+use Rattle.text_scan.specs.Tokens.{is_skipped}
+use Rattle.outside.specs.Told.{Adds, Stays}
+use Rattle.outside.specs.declared.event.Event.{Event}
+use Rattle.outside.specs.declared.event.Event.TheVariants.{Begin}
+use Rattle.outside.proofs.Laws.{adds_more, adds_none, adds_stays, stays_same}
+use Rattle.plain_tree.specs.Trees.{Trees, leafless, tree}
+use Rattle.node_arena.specs.declared.number.NodeId.{NodeId}
+use Rattle.node_arena.proofs.Parts.{each_weaker}
+use Rattle.doc_text.specs.declared.document.Doc.{Doc}
+use Rattle.doc_text.specs.declared.edit.Edit.{Edit}
+use Rattle.doc_text.specs.Documents.{document_of as document_of_text, is_leaf}
+use Rattle.doc_text.specs.Edits.{edited, tree_of}
+use Rattle.doc_text.specs.EditText.{edit_of}
+use Rattle.doc_text.specs.Label.{Label}
+use Rattle.placing.specs.declared.node.Node.{Node}
+use Rattle.placing.specs.Keeping.{KeepsNone}
+use Rattle.placing.specs.Kept.{kept_at}
+use Rattle.placing.specs.Nodes.{bare}
+use Rattle.placing.specs.Walks.{events_of}
+use Rattle.page_tree.specs.Answered.{Applies}
+use Rattle.page_tree.specs.Pages.{Held, document_of}
+use Rattle.page_tree.specs.Reach.{KeepsOn, is_touched}
+use Rattle.page_tree.specs.declared.error.EditError.{EditError}
+use Rattle.asked_pages.specs.AskedOf.{asked_of}
+use Rattle.asked_pages.specs.Leaves.{IsEmptied, PassesUp, has_leaf_by}
+use Rattle.sparing.specs.Sparing.{Touches}
+use Rattle.session.specs.Boxes.{boxes_of}
+use Rattle.session.specs.FaultNames.{fault_name}
+use Rattle.session.specs.Input.{HasGiven, HasGivenAll, Stops}
+use Rattle.session.specs.Laying.{Walks}
+use Rattle.session.specs.Printing.{Box, counts, print, refusal}
+use Rattle.session.specs.Replies.{AreExact, AreReplies, HasReplied, HasReply, IsIdle, Replies, RepliesFirst, RepliesFront, RepliesLines, RepliesTo, Reply, is_new, kept_in, texts_in, told_in}
+use Rattle.session.specs.Runs.{StopsWriting}
+use Rattle.session.specs.Script.{after_end, all_made, document_of_lines, made_from, made_in, made_of, text_of}
+use Rattle.session.specs.Serving.{EndsFirst, HasReadText, HasText, IsLaid, last_doc}
+use Rattle.session.specs.Spares.{KeepsUntouched}
+use Rattle.session.specs.Standing.{Standing, doc_of}
+use Rattle.session.specs.Touched.{Agrees, touched_by, touched_lines}
+use Rattle.session.specs.Words.{IsUnserved}
+use Rattle.session.specs.declared.status.Status.{Status}
+use Rattle.session.specs.declared.status.Status.TheVariants.{Done, BadDocument, SomeRefused, ReadFault, WriteFault, NoMemory, InputLimit, BadWords}
+use Rattle.session.specs.declared.text.Text.{Text}
+use Rattle.session.proofs.Counts.{rising_exact, rising_most}
+use Rattle.session.proofs.Finished.{all_more}
+use Rattle.session.proofs.Follows.{follows_all}
+use Rattle.session.proofs.Logs.{Made}
+use Rattle.session.proofs.Pieces.{first_given}
+use Rattle.session.proofs.Progress.{all_push}
+use Rattle.session.proofs.Scripts.{after_none, before_none, one_made}
+use Rattle.session.proofs.Spares.{touched_same}
+
+-- ---- replies, one after another
+
+texts_join : (a b : List Reply) → texts_in (a ++ b) ≡ texts_in a ++ texts_in b
+texts_join [] b = refl
+texts_join (r ∷ a) b = ap (λ (z : List ℕ). r.text ++ z) (texts_join a b) ∙ sym (append_assoc r.text (texts_in a) (texts_in b))
+
+told_join : (a b : List Reply) → told_in (a ++ b) ≡ told_in a ++ told_in b
+told_join [] b = refl
+told_join (r ∷ a) b = ap (λ (z : List Event). r.told ++ z) (told_join a b) ∙ sym (append_assoc r.told (told_in a) (told_in b))
+
+kept_join : (a b : List Reply) → kept_in (a ++ b) ≡ kept_in a + kept_in b
+kept_join [] b = omega arith
+kept_join (r ∷ a) b = omega (arith, kept_join a b)
+
+exact_first : (a b : List Reply) → AreExact (a ++ b) → AreExact a
+exact_first [] b e = tt
+exact_first (r ∷ a) b e = (e.0, exact_first a b e.1)
+
+exact_later : (a b : List Reply) → AreExact (a ++ b) → AreExact b
+exact_later [] b e = e
+exact_later (r ∷ a) b e = exact_later a b e.1
+
+module _ (stats : Bool) (touches : Touches) where
+  replies_join : (k : ℕ) (made rest : List Made) (a b : List Reply) → AreReplies stats touches k made a → AreReplies stats touches (k + length made) rest b → AreReplies stats touches k (made ++ rest) (a ++ b)
+  replies_join k [] rest [] b p q =
+      let none : k + 0 ≡ k = omega arith in
+      subst (λ (n : ℕ). AreReplies stats touches n rest b) none q
+  replies_join k [] rest (r ∷ a) b p q = absurd p
+  replies_join k (m ∷ made) rest [] b p q = absurd p
+  replies_join k (m ∷ made) rest (r ∷ a) b p q =
+      let next : k + suc (length made) ≡ k + 1 + length made = omega arith in
+      (p.0, replies_join (k + 1) made rest a b p.1 (subst (λ (n : ℕ). AreReplies stats touches n rest b) next q))
+
+pub replies_more : (stats : Bool) (touches : Touches) (w w' w'' : Option (List ℕ)) (l l' l'' : Option (List Event)) (p p' p'' k : ℕ) (made rest : List Made) → Replies stats w w' l l' p p' touches k made → Replies stats w' w'' l' l'' p' p'' touches (k + length made) rest
+    → Replies stats w w'' l l'' p p'' touches k (made ++ rest)
+replies_more stats touches w w' w'' l l' l'' p p' p'' k made rest a b =
+    record {
+      all = a.all ++ b.all;
+      each = replies_join stats touches k made rest a.all b.all a.each b.each;
+      written = adds_more w w' w'' (texts_in a.all) (texts_in b.all) (texts_in (a.all ++ b.all)) a.written b.written (texts_join a.all b.all);
+      log = adds_more l l' l'' (told_in a.all) (told_in b.all) (told_in (a.all ++ b.all)) a.log b.log (told_join a.all b.all);
+      ticks = λ e. omega (arith, a.ticks (exact_first a.all b.all e), b.ticks (exact_later a.all b.all e), kept_join a.all b.all);
+    }
+
+pub replies_none : (stats : Bool) (touches : Touches) (w w' : Option (List ℕ)) (l l' : Option (List Event)) (p p' k : ℕ) → Stays w w' → Stays l l' → p' ≡ p → Replies stats w w' l l' p p' touches k []
+replies_none stats touches w w' l l' p p' k s t e =
+    record { all = []; each = tt; written = adds_stays w w w' [] (adds_none w) s; log = adds_stays l l l' [] (adds_none l) t; ticks = λ x. omega (arith, e) }
+
+module _ (stats : Bool) (touches : Touches) (l l' : Option (List Event)) (p p' k : ℕ) (made : Made) (text : List ℕ) (r : HasReply stats touches l l' p p' k made text) where
+  pub reply_written : (w w' : Option (List ℕ)) → Adds w w' text → Replies stats w w' l l' p p' touches k (made ∷ [])
+  reply_written w w' a =
+      record {
+        all = r.reply ∷ [];
+        each = (r.is, tt);
+        written = subst (Adds w w') (sym r.text ∙ sym (append-nil r.reply.text)) a;
+        log = subst (Adds l l') (sym (append-nil r.reply.told)) r.log;
+        ticks = λ e. omega (arith, r.ticks e.0);
+      }
+
+  pub reply_same : (other : Made) → made ≡ other → HasReply stats touches l l' p p' k other text
+  reply_same other e = subst (λ (m : Made). HasReply stats touches l l' p p' k m text) e r
+
+pub refusal_reply : (stats : Bool) (touches : Touches) (l : Option (List Event)) (p k : ℕ) (fault : Fault) (text : List ℕ) → text ≡ refusal k fault.place (fault_name fault.number) → HasReply stats touches l l p p k (Err fault) text
+unfolding text_of
+refusal_reply stats touches l p k fault text t =
+    record { reply = record { text = text; told = []; kept = 0 }; is = record { text = t; told = refl; kept = refl }; text = refl; log = adds_none l; ticks = λ e. omega arith }
+
+pub refused_reply : (stats : Bool) (touches : Touches) (l : Option (List Event)) (p k : ℕ) (made : Made) (old new : Held) (fault : Fault) (text : List ℕ) → (made ≡ Err fault) × (new ≡ old) → text ≡ refusal k fault.place (fault_name fault.number)
+    → HasReply stats touches l l p p k made text
+refused_reply stats touches l p k made old new fault text e t = reply_same stats touches l l p p k (Err fault) text (refusal_reply stats touches l p k fault text t) made (sym e.0)
+
+-- ---- a layout
+
+pub laid_reply : (stats : Bool) (touches : Touches) (l l' : Option (List Event)) (k : ℕ) (old new : Held) (measured added p p' : ℕ) (boxes : List Box) (front text : List ℕ) → Walks k old new l l' measured added p p' → boxes ≡ boxes_of (document_of old) → front ≡ print k boxes
+    → text ≡ front ++ counts stats measured added → IsEmptied (is_new touches k) old → HasReply stats touches l l' p p' k (Ok (document_of old)) text
+unfolding text_of
+laid_reply stats touches l l' k old new measured added p p' boxes front text w b f t empty =
+    let events = events_of (bare old.nodes.tree) w.entries in
+    record {
+      reply = record { text = text; told = Begin k ∷ events; kept = added };
+      is = record {
+        measured = events;
+        parts = refl;
+        each = w.each;
+        text =
+            t ∙ ap (λ (x : List ℕ). x ++ counts stats measured added) (f ∙ ap (print k) b)
+            ∙ ap (λ (m : ℕ). print k (boxes_of (document_of old)) ++ counts stats m added) w.events;
+        leaves = w.bounded.leaves (is_new touches k) empty;
+        least = w.least (is_new touches k) empty;
+        most = λ few. let least : length w.entries ≤ length (asked_of (document_of old)) = w.bounded.most few in omega (arith, w.count, rising_most (length w.entries), least);
+      };
+      text = refl;
+      log = w.log;
+      ticks = λ e. let whole : added ≡ length w.entries = w.count ∙ rising_exact (length w.entries) (subst (λ (n : ℕ). n < 2 ^ 64 - 1) w.count e) in omega (arith, w.ticks, whole);
+    }
+
+-- ---- nodes that keep nothing
+
+passes_all : (test : List ℕ → Bool) → ((name : List ℕ) → test name ≡ true) → (t : Trees Label) → PassesUp test t
+passes_all test h leafless = tt
+passes_all test h (tree x below after) = ((λ e. h x.name), (passes_all test h below, passes_all test h after))
+
+pub first_emptied : (touches : Touches) (page : Held) → KeepsNone page.nodes.tree → IsEmptied (is_new touches 0) page
+first_emptied touches page none =
+    record {
+      each = each_weaker (λ (x : NodeId × Node). x.1.kept ≡ []) (λ (x : NodeId × Node). is_new touches 0 x.1.name ≡ true → x.1.kept ≡ []) page.nodes.tree (λ x e n. e) none;
+      up = passes_all (is_new touches 0) (λ name. refl) (tree_of (document_of page));
+    }
+
+module _ (test other : List ℕ → Bool) (same : (name : List ℕ) → test name ≡ other name) where
+  leaf_same : (t : Trees Label) → has_leaf_by test t ≡ has_leaf_by other t
+  leaf_same leafless = refl
+  leaf_same (tree x below after) = λ i. (is_leaf x.kind && same x.name i) || leaf_same after i
+
+  passes_same : (t : Trees Label) → PassesUp other t → PassesUp test t
+  passes_same leafless p = tt
+  passes_same (tree x below after) p = ((λ e. same x.name ∙ p.0 (sym (leaf_same below) ∙ e)), (passes_same below p.1.0, passes_same after p.1.1))
+
+pub edit_emptied : (touches : Touches) (k : ℕ) (old new : Held) (line : Line) → 1 ≤ k → Agrees touches k (document_of old) line → KeepsUntouched (touched_by (document_of old) line) old new
+    → PassesUp (touched_by (document_of old) line) (tree_of (document_of new)) → IsEmptied (is_new touches k) new
+edit_emptied touches k old new line later agrees kept up =
+    record {
+      each = each_weaker (λ (x : NodeId × Node). KeepsOn (touched_by (document_of old) line x.1.name) old.nodes.tree x) (λ (x : NodeId × Node). is_new touches k x.1.name ≡ true → x.1.kept ≡ []) new.nodes.tree
+          (λ x on e. on.kept ∙ ap (λ (b : Bool). if b then [] else kept_at old.nodes.tree x.0) (sym (same x.1.name) ∙ e)) kept;
+      up = passes_same (is_new touches k) (touched_by (document_of old) line) same (tree_of (document_of new)) up;
+    }
+  where
+    same : (name : List ℕ) → is_new touches k name ≡ touched_by (document_of old) line name
+    same name = ap (λ (b : Bool). b || touches k name) (ne_eqb k 0 (λ e. absurd (omega (arith, later, e)))) ∙ agrees name
+
+-- ---- one line of the script
+
+pub skipped_replies : (stats : Bool) (touches : Touches) (w : Option (List ℕ)) (l : Option (List Event)) (p k : ℕ) (doc : Doc) (line : Line) → is_skipped line ≡ true → Replies stats w w l l p p touches k (if is_skipped line then [] else made_of doc line ∷ [])
+skipped_replies stats touches w l p k doc line e =
+    subst (λ (b : Bool). Replies stats w w l l p p touches k (if b then [] else made_of doc line ∷ [])) (sym e) (replies_none stats touches w w l l p p k (stays_same w) (stays_same l) refl)
+
+pub edit_replies : (stats : Bool) (touches : Touches) (w w' : Option (List ℕ)) (l l' : Option (List Event)) (p p' k : ℕ) (doc : Doc) (line : Line) → is_skipped line ≡ false → Replies stats w w' l l' p p' touches k (made_of doc line ∷ [])
+    → Replies stats w w' l l' p p' touches k (if is_skipped line then [] else made_of doc line ∷ [])
+edit_replies stats touches w w' l l' p p' k doc line e r = subst (λ (b : Bool). Replies stats w w' l l' p p' touches k (if b then [] else made_of doc line ∷ [])) (sym e) r
+
+-- ---- between two lines
+
+module _ (given : List Line) (doc : Doc) (k : ℕ) (bad : Bool) (laid : IsLaid given doc k bad) where
+  all_given : all_made given ≡ Ok laid.first ∷ made_in laid.first (after_end given)
+  all_given = ap (λ (o : Made). made_from o (after_end given)) laid.read
+
+  pub later_number : 1 ≤ k
+  later_number = omega (arith, laid.count, ap length all_given)
+
+  module _ (stats : Bool) (w w' : Option (List ℕ)) (l l' : Option (List Event)) (p p' : ℕ) where
+    -- after the document
+    pub first_replies : k ≡ 1 → ((touches : Touches) → Replies stats w w' l l' p p' touches 0 (Ok doc ∷ [])) → RepliesLines stats w w' l l' p p' given
+    first_replies one r touches f = subst (Replies stats w w' l l' p p' touches 0) (sym (all_given ∙ at (made_in laid.first (after_end given)) refl)) (r touches)
+      where
+        at : (made : List Made) → made_in laid.first (after_end given) ≡ made → Ok laid.first ∷ made_in laid.first (after_end given) ≡ Ok doc ∷ []
+        at [] e = (λ i. Ok laid.first ∷ e i) ∙ ap (λ (d : Doc). Ok d ∷ []) (sym (laid.now ∙ ap (last_doc laid.first) e))
+        at (m ∷ made) e = absurd (omega (arith, one, laid.count, ap length all_given, ap length e))
+
+    -- a line more
+    pub more_replies : (touches : Touches) (w'' : Option (List ℕ)) (l'' : Option (List Event)) (p'' : ℕ) (line : Line) → Replies stats w w' l l' p p' touches 0 (all_made given) → Replies stats w' w'' l' l'' p' p'' touches k (if is_skipped line then [] else made_of doc line ∷ [])
+        → Replies stats w w'' l l'' p p'' touches 0 (all_made (given ++ line ∷ []))
+    more_replies touches w'' l'' p'' line a b =
+        let next : k ≡ 0 + length (all_made given) = omega (arith, laid.count) in
+        subst (Replies stats w w'' l l'' p p'' touches 0) (sym (all_push given doc k bad laid line))
+        (replies_more stats touches w w' w'' l l' l'' p p' p'' 0 (all_made given) (one_made doc line) a (subst (λ (n : ℕ). Replies stats w' w'' l' l'' p' p'' touches n (one_made doc line)) next b))
+
+    -- reading stopped
+    pub stopped_replies : (left now : Option (List ℕ)) (stream : Stream) (ended : Bool) (status : Status) → HasGiven left now given stream ended → RepliesLines stats w w' l l' p p' given → (left' : Option (List ℕ)) → Stops left left' given status → RepliesTo stats w w' l l' p p' left status
+    stopped_replies left now stream ended Done h r left' s = absurd s
+    stopped_replies left now stream ended BadDocument h r left' s = absurd s
+    stopped_replies left now stream ended SomeRefused h r left' s = absurd s
+    stopped_replies left now stream ended ReadFault h r left' s = inr (record { given = given; first = first_given left now given stream ended h; ended = laid.ended; replies = r })
+    stopped_replies left now stream ended WriteFault h r left' s = tt
+    stopped_replies left now stream ended NoMemory h r left' s = tt
+    stopped_replies left now stream ended InputLimit h r left' s = inr (record { given = given; first = first_given left now given stream ended h; ended = laid.ended; replies = r })
+    stopped_replies left now stream ended BadWords h r left' s = tt
+
+all_lines : (left left' : Option (List ℕ)) (given : List Line) → HasGivenAll left left' given → IfSome left (λ b. given ≡ lines_of b)
+all_lines None left' given p = tt
+all_lines (Some told) None given p = absurd p.whole
+all_lines (Some told) (Some rest) given p = p.lines ∙ ap lines_of (sym p.whole.0)
+
+-- all lines had their replies
+pub ended_replies : (stats : Bool) (w w' : Option (List ℕ)) (l l' : Option (List Event)) (p p' : ℕ) (left left' : Option (List ℕ)) (given : List Line) (bad : Bool) (status : Status) → status ≡ (if bad then SomeRefused else Done) → HasGivenAll left left' given → RepliesLines stats w w' l l' p p' given
+    → RepliesTo stats w w' l l' p p' left status
+ended_replies stats w w' l l' p p' left left' given bad status e h r = subst (RepliesTo stats w w' l l' p p' left) (sym e) (at bad)
+  where
+    at : (b : Bool) → RepliesTo stats w w' l l' p p' left (if b then SomeRefused else Done)
+    at true = record { given = given; all = all_lines left left' given h; replies = r }
+    at false = record { given = given; all = all_lines left left' given h; replies = r }
+
+-- writing stopped
+pub unwritten_replies : (stats : Bool) (w w' : Option (List ℕ)) (l l' : Option (List Event)) (p p' : ℕ) (left : Option (List ℕ)) (status : Status) → StopsWriting status → RepliesTo stats w w' l l' p p' left status
+unwritten_replies stats w w' l l' p p' left Done s = absurd s
+unwritten_replies stats w w' l l' p p' left BadDocument s = absurd s
+unwritten_replies stats w w' l l' p p' left SomeRefused s = absurd s
+unwritten_replies stats w w' l l' p p' left ReadFault s = absurd s
+unwritten_replies stats w w' l l' p p' left WriteFault s = tt
+unwritten_replies stats w w' l l' p p' left NoMemory s = tt
+unwritten_replies stats w w' l l' p p' left InputLimit s = absurd s
+unwritten_replies stats w w' l l' p p' left BadWords s = absurd s
+
+-- ---- the document
+
+-- reading stopped before it ended
+pub unread_replies : (stats : Bool) (w : Option (List ℕ)) (l : Option (List Event)) (p : ℕ) (left left' : Option (List ℕ)) (given : List Line) (status : Status) → Stops left left' given status → RepliesTo stats w w l l p p left status
+unread_replies stats w l p left left' given Done s = absurd s
+unread_replies stats w l p left left' given BadDocument s = absurd s
+unread_replies stats w l p left left' given SomeRefused s = absurd s
+unread_replies stats w l p left left' given ReadFault s = inl (record { written = stays_same w; log = stays_same l; ticks = refl })
+unread_replies stats w l p left left' given WriteFault s = tt
+unread_replies stats w l p left left' given NoMemory s = tt
+unread_replies stats w l p left left' given InputLimit s = inl (record { written = stays_same w; log = stays_same l; ticks = refl })
+unread_replies stats w l p left left' given BadWords s = tt
+
+-- it has a fault, or writing stopped
+pub refused_replies : (stats : Bool) (w w' : Option (List ℕ)) (l l' : Option (List Event)) (p p' : ℕ) (left : Option (List ℕ)) (made : Made) (status : Status) → EndsFirst stats w w' l l' made status → (status ≡ BadDocument → p' ≡ p) → RepliesTo stats w w' l l' p p' left status
+refused_replies stats w w' l l' p p' left made Done s e = absurd s
+refused_replies stats w w' l l' p p' left made BadDocument s e = e refl
+refused_replies stats w w' l l' p p' left made SomeRefused s e = absurd s
+refused_replies stats w w' l l' p p' left made ReadFault s e = absurd s
+refused_replies stats w w' l l' p p' left made WriteFault s e = tt
+refused_replies stats w w' l l' p p' left made NoMemory s e = tt
+refused_replies stats w w' l l' p p' left made InputLimit s e = absurd s
+refused_replies stats w w' l l' p p' left made BadWords s e = absurd s
+
+-- it was laid out
+pub begun_replies : {E : Type 0} (stats : Bool) (w w' : Option (List ℕ)) (l l' : Option (List Event)) (p p' : ℕ) (touches : Touches) (doc : Doc) (r : Result Standing E) → IfOk r (λ engine. doc_of engine ≡ doc) → OnOk r (Replies stats w w' l l' p p' touches 0 (Ok doc ∷ []))
+    → IfOk r (λ engine. Replies stats w w' l l' p p' touches 0 (Ok (doc_of engine) ∷ []))
+begun_replies stats w w' l l' p p' touches doc (Ok engine) e q = subst (λ (d : Doc). Replies stats w w' l l' p p' touches 0 (Ok d ∷ [])) (sym e) q
+begun_replies stats w w' l l' p p' touches doc (Err error) e q = tt
+
+-- no stop of writing is a fault of the document
+pub not_bad : {E : Type 0} (p p' : ℕ) (r : Result E Status) → IfErr r StopsWriting → r ≡ Err BadDocument → p' ≡ p
+not_bad p p' (Ok x) s e = absurd cc
+not_bad {E = E} p p' (Err status) s e = at status s e
+  where
+    at : (status : Status) → StopsWriting status → ◌≡◌ {A = Result E Status} (Err status) (Err BadDocument) → p' ≡ p
+    at Done q f = absurd q
+    at BadDocument q f = absurd q
+    at SomeRefused q f = absurd q
+    at ReadFault q f = absurd q
+    at WriteFault q f = absurd cc
+    at NoMemory q f = absurd cc
+    at InputLimit q f = absurd q
+    at BadWords q f = absurd q
+
+-- it is all of the input
+pub alone_replies : (stats : Bool) (w w' : Option (List ℕ)) (l l' : Option (List Event)) (p p' : ℕ) (left left' : Option (List ℕ)) (stream : Stream) (ended : Bool) (text : Text) (t : HasReadText left left' stream ended text) (doc : Doc)
+    → text.has_script ≡ false → document_of_text text.lines text.end ≡ Ok doc → ((touches : Touches) → Replies stats w w' l l' p p' touches 0 (Ok doc ∷ [])) → RepliesTo stats w w' l l' p p' left Done
+alone_replies stats w w' l l' p p' left left' stream ended text t doc none read r = at text.has_script none t.input
+  where
+    once : all_made t.given ≡ Ok doc ∷ []
+    once =
+        ap (λ (lines : List Line). made_from (document_of_lines lines) (after_end t.given)) (before_none t.given t.unended)
+        ∙ ap (λ (m : Made). made_from m (after_end t.given)) (sym t.same ∙ read) ∙ ap (λ (lines : List Line). Ok doc ∷ made_in doc lines) (after_none t.given t.unended)
+
+    at : (b : Bool) → b ≡ false → HasText left left' stream ended t.given b → RepliesTo stats w w' l l' p p' left Done
+    at true e h = absurd (false≢true (sym e))
+    at false e h = record { given = t.given; all = all_lines left left' t.given h; replies = λ touches f. subst (Replies stats w w' l l' p p' touches 0) (sym once) (r touches) }
+
+-- ---- all lines of an input
+
+module _ (stats : Bool) (w w' : Option (List ℕ)) (l l' : Option (List Event)) (p p' : ℕ) where
+  all_replied : (b : List ℕ) (given : List Line) → given ≡ lines_of b → RepliesLines stats w w' l l' p p' given → Replies stats w w' l l' p p' (touched_lines (lines_of b)) 0 (all_made (lines_of b))
+  all_replied b given e r =
+      subst (λ (lines : List Line). Replies stats w w' l l' p p' (touched_lines (lines_of b)) 0 (all_made lines)) e
+      (r (touched_lines (lines_of b)) (follows_all given [] (lines_of b) (append-nil given ∙ e)))
+
+  front_replied : (b : List ℕ) → IsIdle stats w w' l l' p p' ⊎ RepliesFirst stats w w' l l' p p' (Some b) → RepliesFront stats w w' l l' p p' (lines_of b)
+  front_replied b (inl i) =
+      record { made = []; rest = all_made (lines_of b); parts = refl; replies = replies_none stats (touched_lines (lines_of b)) w w' l l' p p' 0 i.written i.log i.ticks }
+  front_replied b (inr r) = with_more (all_more r.given r.first.rest r.ended)
+    where
+      with_more : (more : List Made) × (all_made (r.given ++ r.first.rest) ≡ all_made r.given ++ more) → RepliesFront stats w w' l l' p p' (lines_of b)
+      with_more m =
+          record {
+            made = all_made r.given;
+            rest = m.0;
+            parts = sym m.1 ∙ ap all_made r.first.parts;
+            replies = r.replies (touched_lines (lines_of b)) (follows_all r.given r.first.rest (lines_of b) r.first.parts);
+          }
+
+  pub replied : (left : Option (List ℕ)) (status : Status) → RepliesTo stats w w' l l' p p' left status → IfSome left (λ b. HasReplied stats w w' l l' p p' (lines_of b) status)
+  replied None status r = tt
+  replied (Some b) Done r = all_replied b r.given r.all r.replies
+  replied (Some b) BadDocument r = r
+  replied (Some b) SomeRefused r = all_replied b r.given r.all r.replies
+  replied (Some b) ReadFault r = front_replied b r
+  replied (Some b) WriteFault r = tt
+  replied (Some b) NoMemory r = tt
+  replied (Some b) InputLimit r = front_replied b r
+  replied (Some b) BadWords r = tt
+
+-- the words are others, or memory was wanting
+pub unserved_replied : (stats : Bool) (w : Option (List ℕ)) (l : Option (List Event)) (p : ℕ) (left : Option (List ℕ)) (status : Status) → IsUnserved status → IfSome left (λ b. HasReplied stats w w l l p p (lines_of b) status)
+unserved_replied stats w l p None status s = tt
+unserved_replied stats w l p (Some b) Done s = absurd s
+unserved_replied stats w l p (Some b) BadDocument s = absurd s
+unserved_replied stats w l p (Some b) SomeRefused s = absurd s
+unserved_replied stats w l p (Some b) ReadFault s = absurd s
+unserved_replied stats w l p (Some b) WriteFault s = absurd s
+unserved_replied stats w l p (Some b) NoMemory s = tt
+unserved_replied stats w l p (Some b) InputLimit s = absurd s
+unserved_replied stats w l p (Some b) BadWords s = tt
+
+-- what holds is left where there is an error
+pub on_any : {T E : Type 0} {P : Type 0} (r : Result T E) → P → OnErr r P
+on_any (Ok x) p = tt
+on_any (Err e) p = p
+
+-- ---- an edit
+
+pub passes_next : (r : Result (Unit {0}) EditError) (e : Edit) (old new : Held) (line : Line) → edit_of (document_of old).version line ≡ Ok e → Applies r (edited e (document_of old)) old new
+    → OnOk r (PassesUp (is_touched e (document_of old) (document_of new)) (tree_of (document_of new))) → OnOk r (PassesUp (touched_by (document_of old) line) (tree_of (document_of new)))
+passes_next (Ok done) e old new line read made up = subst (λ (test : List ℕ → Bool). PassesUp test (tree_of (document_of new))) (touched_same (document_of old) (document_of new) line e read made) up
+passes_next (Err error) e old new line read made up = tt
+
+pub ruleset line_passing = (passes_next)
