@@ -1,0 +1,3 @@
+mod Readied
+mod Made
+mod Asking

@@ -1,0 +1,18 @@
+//! Tests of documents from their text to their boxes, as tables of cases: the contexts and areas of grids, the answers that nodes keep
+//! of a layout, and boxes. They stand above the crates that they test, so that none of these is proved twice.
+#![tactic(auto)]
+
+#[cfg(test)]
+mod answers;
+#[cfg(test)]
+mod boxes;
+#[cfg(test)]
+mod calls;
+#[cfg(test)]
+mod grids;
+#[cfg(test)]
+mod pages;
+#[cfg(test)]
+mod repeats;
+#[cfg(test)]
+mod trees;
