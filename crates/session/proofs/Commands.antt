@@ -80,14 +80,14 @@ module _ (left w : Option (List ℕ)) (l : Option (List Event)) (s k : ℕ) wher
   unserved_run o InputLimit u n stats e = absurd u
   unserved_run o BadWords u n stats e = not_served o (Layout stats) e (n refl)
 
-module _ (w : Option (List ℕ)) (l : Option (List Event)) (k : ℕ) where
-  pub unserved_made : (o : Option Command) (status : Status) → IsUnserved status → (status ≡ BadWords → is_served o ≡ false) → (seed nodes : ℕ) → o ≡ Some (Make seed nodes) → HasMade seed nodes w w l l k k status
+module _ (w : Option (List ℕ)) (l : Option (List Event)) (p k : ℕ) where
+  pub unserved_made : (o : Option Command) (status : Status) → IsUnserved status → (status ≡ BadWords → is_served o ≡ false) → (seed nodes : ℕ) → o ≡ Some (Make seed nodes) → HasMade seed nodes w w l l p p k k status
   unserved_made o Done u n seed nodes e = absurd u
   unserved_made o BadDocument u n seed nodes e = absurd u
   unserved_made o SomeRefused u n seed nodes e = absurd u
   unserved_made o ReadFault u n seed nodes e = absurd u
   unserved_made o WriteFault u n seed nodes e = absurd u
-  unserved_made o NoMemory u n seed nodes e = made_none seed nodes w l k
+  unserved_made o NoMemory u n seed nodes e = made_none seed nodes w l p k
   unserved_made o InputLimit u n seed nodes e = absurd u
   unserved_made o BadWords u n seed nodes e = not_served o (Make seed nodes) e (n refl)
 

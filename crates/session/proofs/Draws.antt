@@ -5,14 +5,17 @@ use Rattle.std.specs.Prelude.{if◌then◌else◌}
 use Rattle.outside.specs.declared.event.Event.{Event}
 use Rattle.doc_text.specs.declared.document.Doc.{Doc}
 use Rattle.doc_text.specs.declared.edit.Edit.{Edit}
-use Rattle.doc_text.specs.Edits.{applied}
+use Rattle.doc_text.specs.Edits.{applied, tree_of}
 use Rattle.page_maker.specs.Making.{made_document, last_state}
 use Rattle.page_maker.specs.Scripts.{edit_from}
 use Rattle.page_tree.specs.Pages.{Held, document_of}
 use Rattle.page_tree.specs.Reach.{KeepsOthers, is_touched}
+use Rattle.asked_pages.specs.Leaves.{IsEmptied, PassesUp}
 use Rattle.sparing.specs.Sparing.{Touches}
 use Rattle.session.specs.Made.{AgreesDraw, AgreeDraws, touched_by_draw, touched_drawn, touched_made}
+use Rattle.session.specs.Replies.{is_new}
 use Rattle.session.specs.Spares.{KeepsUntouched, SparesDue, SparesPage}
+use Rattle.session.proofs.Replies.{emptied_by}
 use Rattle.session.proofs.Spares.{spares_due_by}
 
 -- ---- all of them
@@ -59,8 +62,14 @@ unfolding touched_by_draw
 same_touched nodes x e doc new is n =
     (λ i. λ (name : List ℕ). is_touched e doc (n i) name) ∙ (λ i. λ (name : List ℕ). is_touched (is i) doc (applied (is i) doc) name)
 
-module _ (touches : Touches) (before log : Option (List Event)) (k nodes x : ℕ) (e : Edit) (old new : Held) where
-  pub due_after : e ≡ (edit_from nodes x).0 → AgreesDraw touches k nodes (document_of old) x → SparesPage touches before log old → document_of new ≡ applied e (document_of old) → KeepsOthers e old new → SparesDue touches before log k new
-  due_after is agrees p made kept =
-      spares_due_by touches before log k old new (touched_by_draw nodes (document_of old) x) p agrees
-      (subst (λ (f : List ℕ → Bool). KeepsUntouched f old new) (same_touched nodes x e (document_of old) (document_of new) is made) kept)
+module _ (touches : Touches) (k nodes x : ℕ) (e : Edit) (old new : Held) (is : e ≡ (edit_from nodes x).0) (agrees : AgreesDraw touches k nodes (document_of old) x) (made : document_of new ≡ applied e (document_of old)) (kept : KeepsOthers e old new) where
+  untouched : KeepsUntouched (touched_by_draw nodes (document_of old) x) old new
+  untouched = subst (λ (f : List ℕ → Bool). KeepsUntouched f old new) (same_touched nodes x e (document_of old) (document_of new) is made) kept
+
+  pub due_after : (before log : Option (List Event)) → SparesPage touches before log old → SparesDue touches before log k new
+  due_after before log p = spares_due_by touches before log k old new (touched_by_draw nodes (document_of old) x) p agrees untouched
+
+  pub emptied_after : 1 ≤ k → PassesUp (is_touched e (document_of old) (document_of new)) (tree_of (document_of new)) → IsEmptied (is_new touches k) new
+  emptied_after later up =
+      emptied_by touches k old new (touched_by_draw nodes (document_of old) x) later agrees untouched
+      (subst (λ (f : List ℕ → Bool). PassesUp f (tree_of (document_of new))) (same_touched nodes x e (document_of old) (document_of new) is made) up)

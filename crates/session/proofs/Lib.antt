@@ -25,6 +25,7 @@ pub mod Spares
 pub mod Counts
 pub mod Walks
 pub mod LogsLeft
+pub mod LayoutsLeft
 pub mod Draws
 pub mod Making
 pub mod Replies

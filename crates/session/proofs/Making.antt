@@ -22,7 +22,7 @@ use Rattle.session.specs.Boxes.{boxes_of}
 use Rattle.session.specs.Engine.{AreDeclared, IsToldEdit}
 use Rattle.session.specs.Printing.{Box, IsPrintableBox}
 use Rattle.session.specs.Logs.{Logs, LogsFront}
-use Rattle.session.specs.Made.{EndsMaking, HasMade, MakesAll, all_laid, later, layouts_left, lines_left, made_layouts, made_line, made_lines, summary, touched_made}
+use Rattle.session.specs.Made.{EndsMaking, HasMade, MakesAll, TellsLayouts, all_laid, later, layouts_left, lines_left, made_layouts, made_line, made_lines, summary, touched_made}
 use Rattle.session.specs.Runs.{StopsWriting}
 use Rattle.session.specs.Spares.{Spares}
 use Rattle.session.specs.declared.status.Status.{Status}
@@ -125,6 +125,10 @@ pub on_both : {A E P Q R : Type 0} (r : Result A E) → (P → Q → R) → OnOk
 on_both (Ok x) f p q = f p q
 on_both (Err e) f p q = tt
 
+pub on_three : {A E P Q R S : Type 0} (r : Result A E) → (P → Q → R → S) → OnOk r P → OnOk r Q → OnOk r R → OnOk r S
+on_three (Ok x) f p q t = f p q t
+on_three (Err e) f p q t = tt
+
 pub any_ok : {A E P : Type 0} (r : Result A E) → P → OnOk r P
 any_ok (Ok x) p = p
 any_ok (Err e) p = tt
@@ -182,10 +186,10 @@ module _ (nodes x : ℕ) (e : Edit) (is : e ≡ (edit_from nodes x).0) where
 
 -- ---- the end of a run
 
-module _ (seed nodes : ℕ) (w w' : Option (List ℕ)) (l l' : Option (List Event)) (k k' : ℕ) where
-  pub made_all : Adds w w' (summary seed nodes) → Logs l l' 0 (made_layouts seed nodes) → Spares (touched_made seed nodes) l l' → HasMade seed nodes w w' l l' k k' Done
-  made_all a b s =
-      let all : MakesAll seed nodes w w' l l' = record { written = a; log = b } in
+module _ (seed nodes : ℕ) (w w' : Option (List ℕ)) (l l' : Option (List Event)) (p p' k k' : ℕ) where
+  pub made_all : Adds w w' (summary seed nodes) → Logs l l' 0 (made_layouts seed nodes) → TellsLayouts (touched_made seed nodes) l l' p p' 0 (made_layouts seed nodes) → Spares (touched_made seed nodes) l l' → HasMade seed nodes w w' l l' p p' k k' Done
+  made_all a b t s =
+      let all : MakesAll seed nodes w w' l l' p p' = record { written = a; log = b; layouts = t } in
       record {
         ends = all;
         prefix = prefix_all w w' (summary seed nodes) a;
@@ -195,10 +199,10 @@ module _ (seed nodes : ℕ) (w w' : Option (List ℕ)) (l l' : Option (List Even
       }
 
   module _ (a : AddsPrefix w w' (summary seed nodes)) (b : LogsFront l l' 0 (made_layouts seed nodes)) (s : Spares (touched_made seed nodes) l l') where
-    stopped : (status : Status) → EndsMaking seed nodes w w' l l' status → (¬ Rose k k' → status ≡ NoMemory) → HasMade seed nodes w w' l l' k k' status
+    stopped : (status : Status) → EndsMaking seed nodes w w' l l' p p' status → (¬ Rose k k' → status ≡ NoMemory) → HasMade seed nodes w w' l l' p p' k k' status
     stopped status e c = record { ends = e; prefix = a; log = b; spares = s; complete = λ n. inl (c n) }
 
-    pub made_some : (status : Status) → StopsWriting status → (status ≡ WriteFault → Rose k k') → HasMade seed nodes w w' l l' k k' status
+    pub made_some : (status : Status) → StopsWriting status → (status ≡ WriteFault → Rose k k') → HasMade seed nodes w w' l l' p p' k k' status
     made_some Done s cause = absurd s
     made_some BadDocument s cause = absurd s
     made_some SomeRefused s cause = absurd s
@@ -209,8 +213,8 @@ module _ (seed nodes : ℕ) (w w' : Option (List ℕ)) (l l' : Option (List Even
     made_some BadWords s cause = absurd s
 
 -- nothing was done for want of memory
-pub made_none : (seed nodes : ℕ) (w : Option (List ℕ)) (l : Option (List Event)) (k : ℕ) → HasMade seed nodes w w l l k k NoMemory
-made_none seed nodes w l k =
+pub made_none : (seed nodes : ℕ) (w : Option (List ℕ)) (l : Option (List Event)) (p k : ℕ) → HasMade seed nodes w w l l p p k k NoMemory
+made_none seed nodes w l p k =
     record {
       ends = tt;
       prefix = prefix_none w (summary seed nodes);

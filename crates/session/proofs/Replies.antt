@@ -175,17 +175,21 @@ module _ (test other : List ℕ → Bool) (same : (name : List ℕ) → test nam
   passes_same leafless p = tt
   passes_same (tree x below after) p = ((λ e. same x.name ∙ p.0 (sym (leaf_same below) ∙ e)), (passes_same below p.1.0, passes_same after p.1.1))
 
-pub edit_emptied : (touches : Touches) (k : ℕ) (old new : Held) (line : Line) → 1 ≤ k → Agrees touches k (document_of old) line → KeepsUntouched (touched_by (document_of old) line) old new
-    → PassesUp (touched_by (document_of old) line) (tree_of (document_of new)) → IsEmptied (is_new touches k) new
-edit_emptied touches k old new line later agrees kept up =
+pub emptied_by : (touches : Touches) (k : ℕ) (old new : Held) (touched : List ℕ → Bool) → 1 ≤ k → ((name : List ℕ) → touches k name ≡ touched name) → KeepsUntouched touched old new → PassesUp touched (tree_of (document_of new)) → IsEmptied (is_new touches k) new
+emptied_by touches k old new touched later agrees kept up =
     record {
-      each = each_weaker (λ (x : NodeId × Node). KeepsOn (touched_by (document_of old) line x.1.name) old.nodes.tree x) (λ (x : NodeId × Node). is_new touches k x.1.name ≡ true → x.1.kept ≡ []) new.nodes.tree
+      each = each_weaker (λ (x : NodeId × Node). KeepsOn (touched x.1.name) old.nodes.tree x) (λ (x : NodeId × Node). is_new touches k x.1.name ≡ true → x.1.kept ≡ []) new.nodes.tree
           (λ x on e. on.kept ∙ ap (λ (b : Bool). if b then [] else kept_at old.nodes.tree x.0) (sym (same x.1.name) ∙ e)) kept;
-      up = passes_same (is_new touches k) (touched_by (document_of old) line) same (tree_of (document_of new)) up;
+      up = passes_same (is_new touches k) touched same (tree_of (document_of new)) up;
     }
   where
-    same : (name : List ℕ) → is_new touches k name ≡ touched_by (document_of old) line name
+    same : (name : List ℕ) → is_new touches k name ≡ touched name
     same name = ap (λ (b : Bool). b || touches k name) (ne_eqb k 0 (λ e. absurd (omega (arith, later, e)))) ∙ agrees name
+
+-- by the edit of a line
+pub edit_emptied : (touches : Touches) (k : ℕ) (old new : Held) (line : Line) → 1 ≤ k → Agrees touches k (document_of old) line → KeepsUntouched (touched_by (document_of old) line) old new
+    → PassesUp (touched_by (document_of old) line) (tree_of (document_of new)) → IsEmptied (is_new touches k) new
+edit_emptied touches k old new line later agrees kept up = emptied_by touches k old new (touched_by (document_of old) line) later agrees kept up
 
 -- ---- one line of the script
 

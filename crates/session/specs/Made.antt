@@ -1,5 +1,5 @@
 -- What is written and told of a generated document and of its edits (own rule).
-use Rattle.std.specs.Prelude.{◌≡◌, ℕ, zero, suc, ◌+◌, ◌-◌, ◌==◌, Bool, false, if◌then◌else◌, List, [], ◌∷◌, ◌++◌, ◌⊎◌, length, Option, Result, Ok, codes, decimal, ⊤}
+use Rattle.std.specs.Prelude.{◌≡◌, ℕ, zero, suc, ◌+◌, ◌-◌, ◌==◌, Bool, false, if◌then◌else◌, List, [], ◌∷◌, ◌++◌, ◌⊎◌, length, Option, None, Result, Ok, codes, decimal, ⊤}
 use Rattle.outside.specs.Faults.{Rose}
 use Rattle.outside.specs.Told.{Adds, AddsPrefix}
 use Rattle.outside.specs.declared.event.Event.{Event}
@@ -14,6 +14,7 @@ use Rattle.sparing.specs.Sparing.{Touches}
 use Rattle.session.specs.Boxes.{boxes_of}
 use Rattle.session.specs.Logs.{Logs, LogsFront}
 use Rattle.session.specs.Printing.{Box}
+use Rattle.session.specs.Replies.{Replies}
 use Rattle.session.specs.Spares.{Spares}
 use Rattle.session.specs.declared.status.Status.{Status}
 use Rattle.session.specs.declared.status.Status.TheVariants.{Done, WriteFault, NoMemory}
@@ -44,6 +45,11 @@ all_laid (doc ∷ docs) = Ok doc ∷ all_laid docs
 unfoldable pub made_layouts : ℕ → ℕ → List (Result Doc Fault)
 made_layouts seed nodes = all_laid (made_documents seed nodes)
 
+-- These layouts were told, numbered from k on. Of each it holds what holds of a reply under `layout`: which leaves were measured, how many answers it kept, and how
+-- many passes it took. What is written of them stands apart.
+abbrev pub TellsLayouts : Touches → (events events' : Option (List Event)) → (passes passes' : ℕ) → ℕ → List (Result Doc Fault) → Type 0
+TellsLayouts touches events events' passes passes' k made = Replies false None None events events' passes passes' touches k made
+
 -- ---- what the edits touch
 
 -- the edit of a document whose draws begin with this state
@@ -63,11 +69,12 @@ touched_made seed nodes n name = touched_drawn 8 1 nodes (made_document seed nod
 
 -- ---- a run
 
-module _ (seed nodes : ℕ) (held held' : Option (List ℕ)) (events events' : Option (List Event)) where
+module _ (seed nodes : ℕ) (held held' : Option (List ℕ)) (events events' : Option (List Event)) (passes passes' : ℕ) where
   -- the nine lines were written, and the ruler was told of the nine layouts
   pub record MakesAll : Type 0 where
     pub written : Adds held held' (summary seed nodes)
     pub log : Logs events events' 0 (made_layouts seed nodes)
+    pub layouts : TellsLayouts (touched_made seed nodes) events events' passes passes' 0 (made_layouts seed nodes)
 
   -- how a run ends: all was done, or writing stopped
   abbrev pub EndsMaking : Status → Type 0
@@ -117,3 +124,10 @@ pub record LogsAllBut (before after : Option (List Event)) (first next : ℕ) (r
   pub parts : done ++ rest ≡ whole
   pub number : first + length done ≡ next
   pub log : Logs before after first done
+
+-- the same, with what each layout measures, keeps and takes
+pub record TellsAllBut (touches : Touches) (before after : Option (List Event)) (passes passes' : ℕ) (first next : ℕ) (rest whole : List (Result Doc Fault)) : Type 0 where
+  pub done : List (Result Doc Fault)
+  pub parts : done ++ rest ≡ whole
+  pub number : first + length done ≡ next
+  pub told : TellsLayouts touches before after passes passes' first done

@@ -6,16 +6,18 @@ ghost use Rattle.outside.specs.Faults.{HasCauseOf};
 ghost use Rattle.outside.specs.Told.{Adds, AddsPrefix};
 ghost use Rattle.outside.specs.declared.event.Event.{Event};
 ghost use Rattle.sparing.specs.Sparing.{Touches};
-ghost use Rattle.doc_text.specs.Edits.{applied, edited};
+ghost use Rattle.doc_text.specs.Edits.{applied, edited, tree_of};
 ghost use Rattle.doc_text.specs.Laws.{NamesItsNode};
 ghost use Rattle.page_maker.specs.Scripts.{edit_from};
 ghost use Rattle.page_maker.specs.Standing.{IsMade};
-ghost use Rattle.page_tree.specs.Reach.{KeepsOthers};
+ghost use Rattle.asked_pages.specs.Leaves.{IsEmptied, PassesUp};
+ghost use Rattle.page_tree.specs.Reach.{is_touched, KeepsOthers};
 ghost use Rattle.session.specs.Boxes.{boxes_of};
 ghost use Rattle.session.specs.Engine.{IsToldEdit};
 ghost use Rattle.session.specs.Logs.{Logs, LogsFront};
-ghost use Rattle.session.specs.Made.{AgreesDraw, AgreeDraws, HasMade, made_layouts, made_line, layouts_left, lines_left, summary, touched_made};
+ghost use Rattle.session.specs.Made.{AgreesDraw, AgreeDraws, HasMade, TellsLayouts, made_layouts, made_line, layouts_left, lines_left, summary, touched_made};
 ghost use Rattle.session.specs.Printing.{IsPrintableBox};
+ghost use Rattle.session.specs.Replies.{is_new};
 ghost use Rattle.session.specs.Runs.{StopsWriting};
 ghost use Rattle.session.specs.Spares.{Spares, SparesAfter, SparesDue, SparesPage};
 ghost use Rattle.session.specs.Standing.{doc_of};
@@ -61,6 +63,7 @@ fn layout_line<R: Ruler, L: Ledger>(
     ensures text { IfOk result (λ text. text.items ≡ made_line k (boxes_of (doc_of engine.old))) }
     ensures log { OnOk result (Logs (R.log ruler.old) (R.log ruler.new) k (Ok (doc_of engine.old) ∷ [])) }
     ensures stopped { OnErr result (LogsFront (R.log ruler.old) (R.log ruler.new) k (Ok (doc_of engine.old) ∷ [])) }
+    ensures layouts { (touches : Touches) → IsEmptied (is_new touches k) engine.old.page → OnOk result (TellsLayouts touches (R.log ruler.old) (R.log ruler.new) passes.old passes.new k (Ok (doc_of engine.old) ∷ [])) }
     ensures document { doc_of engine.new ≡ doc_of engine.old }
     ensures spares { (touches : Touches) (before : Option (List Event)) → SparesDue touches before (R.log ruler.old) k engine.old.page → SparesAfter touches before (R.log ruler.new) engine.new.page result }
 {
@@ -82,6 +85,7 @@ fn write_line<K: Sink, R: Ruler, L: Ledger>(
     ensures err { OnErr result (AddsPrefix (K.written sink.old) (K.written sink.new) (made_line k (boxes_of (doc_of engine.old)))) }
     ensures log { OnOk result (Logs (R.log ruler.old) (R.log ruler.new) k (Ok (doc_of engine.old) ∷ [])) }
     ensures stopped { OnErr result (LogsFront (R.log ruler.old) (R.log ruler.new) k (Ok (doc_of engine.old) ∷ [])) }
+    ensures layouts { (touches : Touches) → IsEmptied (is_new touches k) engine.old.page → OnOk result (TellsLayouts touches (R.log ruler.old) (R.log ruler.new) passes.old passes.new k (Ok (doc_of engine.old) ∷ [])) }
     ensures document { doc_of engine.new ≡ doc_of engine.old }
     ensures spares { (touches : Touches) (before : Option (List Event)) → SparesDue touches before (R.log ruler.old) k engine.old.page → SparesAfter touches before (R.log ruler.new) engine.new.page result }
     ensures stops { IfErr result StopsWriting }
@@ -99,6 +103,7 @@ fn apply(engine: &mut Engine, edit: Edit) -> Result<(), NoMemory>
     requires accepted { edited edit (doc_of engine.old) ≡ Ok (applied edit (doc_of engine.old)) }
     ensures document { OnOk result (doc_of engine.new ≡ applied edit (doc_of engine.old)) }
     ensures kept { OnOk result (KeepsOthers edit engine.old.page engine.new.page) }
+    ensures up { OnOk result (PassesUp (is_touched edit (doc_of engine.old) (doc_of engine.new)) (tree_of (doc_of engine.new))) }
 {
     match engine.apply(edit) {
         Ok(()) => Ok(()),
@@ -120,6 +125,7 @@ fn edit_once(
     ensures document { OnOk result (doc_of engine.new ≡ applied (edit_from nodes draws.old.state).0 (doc_of engine.old)) }
     ensures state { OnOk result (draws.new.state ≡ (edit_from nodes draws.old.state).1) }
     ensures made { OnOk result (IsMade nodes (doc_of engine.new)) }
+    ensures emptied { (touches : Touches) (k : ℕ) → 1 ≤ k → AgreesDraw touches k nodes (doc_of engine.old) draws.old.state → OnOk result (IsEmptied (is_new touches k) engine.new.page) }
     ensures spares { (touches : Touches) (before log : Option (List Event)) (k : ℕ) → AgreesDraw touches k nodes (doc_of engine.old) draws.old.state → SparesPage touches before log engine.old.page → OnOk result (SparesDue touches before log k engine.new.page) }
 {
     let edit = next_edit(alloc, draws, nodes)?;
@@ -144,6 +150,7 @@ fn write_edits<K: Sink, R: Ruler, L: Ledger>(
     ensures err { OnErr result (AddsPrefix (K.written sink.old) (K.written sink.new) (lines_left 8 nodes (doc_of engine.old) draws.old.state)) }
     ensures log { OnOk result (Logs (R.log ruler.old) (R.log ruler.new) 1 (layouts_left 8 nodes (doc_of engine.old) draws.old.state)) }
     ensures stopped { OnErr result (LogsFront (R.log ruler.old) (R.log ruler.new) 1 (layouts_left 8 nodes (doc_of engine.old) draws.old.state)) }
+    ensures layouts { (touches : Touches) → AgreeDraws touches 8 1 nodes (doc_of engine.old) draws.old.state → OnOk result (TellsLayouts touches (R.log ruler.old) (R.log ruler.new) passes.old passes.new 1 (layouts_left 8 nodes (doc_of engine.old) draws.old.state)) }
     ensures spares { (touches : Touches) (before : Option (List Event)) → AgreeDraws touches 8 1 nodes (doc_of engine.old) draws.old.state → SparesPage touches before (R.log ruler.old) engine.old.page → Spares touches before (R.log ruler.new) }
     ensures stops { IfErr result StopsWriting }
     ensures cause { HasCauseOf (K.faults sink.old) (K.faults sink.new) (result ≡ Err Status.WriteFault) }
@@ -172,6 +179,7 @@ fn write_summary<K: Sink, R: Ruler, L: Ledger>(
     ensures err { OnErr result (AddsPrefix (K.written sink.old) (K.written sink.new) (summary seed nodes)) }
     ensures log { OnOk result (Logs (R.log ruler.old) (R.log ruler.new) 0 (made_layouts seed nodes)) }
     ensures stopped { OnErr result (LogsFront (R.log ruler.old) (R.log ruler.new) 0 (made_layouts seed nodes)) }
+    ensures layouts { OnOk result (TellsLayouts (touched_made seed nodes) (R.log ruler.old) (R.log ruler.new) passes.old passes.new 0 (made_layouts seed nodes)) }
     ensures spares { Spares (touched_made seed nodes) (R.log ruler.old) (R.log ruler.new) }
     ensures stops { IfErr result StopsWriting }
     ensures cause { HasCauseOf (K.faults sink.old) (K.faults sink.new) (result ≡ Err Status.WriteFault) }
@@ -194,7 +202,7 @@ pub(crate) fn make<K: Sink, R: Ruler, L: Ledger>(
 ) -> Status
     requires some { 0 < nodes }
     requires few { nodes ≤ 20000 }
-    ensures made { HasMade seed nodes (K.written sink.old) (K.written sink.new) (R.log ruler.old) (R.log ruler.new) (K.faults sink.old) (K.faults sink.new) result }
+    ensures made { HasMade seed nodes (K.written sink.old) (K.written sink.new) (R.log ruler.old) (R.log ruler.new) passes.old passes.new (K.faults sink.old) (K.faults sink.new) result }
     ensures cause { HasCauseOf (K.faults sink.old) (K.faults sink.new) (result ≡ Status.WriteFault) }
 {
     match write_summary(alloc, seed, nodes, sink, ruler, passes) {

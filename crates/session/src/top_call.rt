@@ -94,7 +94,7 @@ pub fn run<S: Source, K: Sink, R: Ruler, L: Ledger>(
     // What was taken, written and logged, by the answer, and what follows of it for all bytes of the source: with counts or not.
     ensures run { (stats : Bool) → asked words.items ≡ Some (Layout stats) → HasRun stats (S.left source.old) (S.left source.new) (K.written sink.old) (K.written sink.new) (R.log ruler.old) (R.log ruler.new) (S.faults source.old) (S.faults source.new) (K.faults sink.old) (K.faults sink.new) result }
     // Under `make` nothing is read. At every exit what was written is a prefix of the nine lines, and with `Done` it is all of them.
-    ensures made { (seed nodes : ℕ) → asked words.items ≡ Some (Make seed nodes) → (source.new ≡ source.old) × HasMade seed nodes (K.written sink.old) (K.written sink.new) (R.log ruler.old) (R.log ruler.new) (K.faults sink.old) (K.faults sink.new) result }
+    ensures made { (seed nodes : ℕ) → asked words.items ≡ Some (Make seed nodes) → (source.new ≡ source.old) × HasMade seed nodes (K.written sink.old) (K.written sink.new) (R.log ruler.old) (R.log ruler.new) passes.old passes.new (K.faults sink.old) (K.faults sink.new) result }
     ensures read { HasCauseOf (S.faults source.old) (S.faults source.new) (result ≡ Status.ReadFault) }
     ensures write { HasCauseOf (K.faults sink.old) (K.faults sink.new) (result ≡ Status.WriteFault) }
     // Without counts what is written at every exit is a prefix of the output of the source's bytes.

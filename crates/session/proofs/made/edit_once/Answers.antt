@@ -1,6 +1,6 @@
 use Rattle.session.specs.Standing.{doc_of}
-use Rattle.session.proofs.Draws.{due_after}
-use Rattle.session.proofs.Making.{told, named, accepted, still_made, on_ok, on_both}
+use Rattle.session.proofs.Draws.{due_after, emptied_after}
+use Rattle.session.proofs.Making.{told, named, accepted, still_made, on_ok, on_both, on_three}
 use Rattle.session.proofs.made.edit_once.Goals as goal
 
 pub apply-requires-clause-named : goal.apply-requires-clause-named
@@ -21,5 +21,11 @@ returns-clause-made c =
 pub returns-clause-spares : goal.returns-clause-spares
 returns-clause-spares c touches before log k agrees p =
     on_both c.apply.result
-    (λ made kept. due_after touches before log k c.args.nodes c.args.draws.now.state c.in_ok-edit.edit c.args.engine.now.page c.apply.new.engine.page c.in_ok-edit.ensures.edit agrees p made kept)
+    (λ made kept. due_after touches k c.args.nodes c.args.draws.now.state c.in_ok-edit.edit c.args.engine.now.page c.apply.new.engine.page c.in_ok-edit.ensures.edit agrees made kept before log p)
     c.apply.ensures.document c.apply.ensures.kept
+
+pub returns-clause-emptied : goal.returns-clause-emptied
+returns-clause-emptied c touches k later agrees =
+    on_three c.apply.result
+    (λ made kept up. emptied_after touches k c.args.nodes c.args.draws.now.state c.in_ok-edit.edit c.args.engine.now.page c.apply.new.engine.page c.in_ok-edit.ensures.edit agrees made kept later up)
+    c.apply.ensures.document c.apply.ensures.kept c.apply.ensures.up

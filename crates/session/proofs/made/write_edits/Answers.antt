@@ -5,6 +5,7 @@ use Rattle.session.specs.Boxes.{boxes_of}
 use Rattle.session.specs.Made.{made_line, layouts_left, lines_left}
 use Rattle.session.specs.Standing.{doc_of}
 use Rattle.session.proofs.Draws.{first_agrees, later_agree}
+use Rattle.session.proofs.LayoutsLeft.{tells_end, tells_next, tells_start}
 use Rattle.session.proofs.LogsLeft.{but_end, but_next, but_start, but_stays, but_stop}
 use Rattle.session.proofs.Making.{left_next, layouts_end, layouts_next, any_err}
 use Rattle.session.proofs.Spares.{spares_some}
@@ -15,6 +16,7 @@ loop-k-init g c =
     record {
       written = all_but_start (g.K.Sink.written c.args.sink.now) (lines_left 8 c.args.nodes (doc_of c.args.engine.now) c.args.draws.now.state);
       log = but_start (g.R.Ruler.log c.args.ruler.now) 1 (layouts_left 8 c.args.nodes (doc_of c.args.engine.now) c.args.draws.now.state);
+      told = λ touches a. tells_start touches (g.R.Ruler.log c.args.ruler.now) (g.R.Ruler.log c.args.ruler.now) c.args.passes.now c.args.passes.now 1 1 (layouts_left 8 c.args.nodes (doc_of c.args.engine.now) c.args.draws.now.state);
       agree = λ touches a. a;
       spared = λ touches before a p. p;
       made = search rules;
@@ -82,6 +84,12 @@ loop-k-preserved g c =
           (layouts_next c.loop-k.k c.args.nodes (doc_of c.loop-k.engine) edited (doc_of c.write_line.new.engine) c.loop-k.draws.state c.edit_once.new.draws.state c.loop-k-test.true
           c.in_ok-edit_once.ensures.document c.write_line.ensures.document c.in_ok-edit_once.ensures.state)
           c.in_ok-write_line.ensures.log;
+      told = λ touches a.
+          tells_next touches (g.R.Ruler.log c.args.ruler.now) (g.R.Ruler.log c.loop-k.ruler) (g.R.Ruler.log c.write_line.new.ruler) c.args.passes.now c.loop-k.passes c.write_line.new.passes 1 c.loop-k.k edited layouts all_layouts layouts_before (c.loop-k.invariant.told touches a)
+          (layouts_next c.loop-k.k c.args.nodes (doc_of c.loop-k.engine) edited (doc_of c.write_line.new.engine) c.loop-k.draws.state c.edit_once.new.draws.state c.loop-k-test.true
+          c.in_ok-edit_once.ensures.document c.write_line.ensures.document c.in_ok-edit_once.ensures.state)
+          (c.in_ok-write_line.ensures.layouts touches
+          (c.in_ok-edit_once.ensures.emptied touches c.loop-k.k (omega (arith, c.loop-k.invariant.some)) (first_agrees touches c.loop-k.k c.args.nodes (doc_of c.loop-k.engine) c.loop-k.draws.state c.loop-k-test.true (c.loop-k.invariant.agree touches a))));
       agree = λ touches a.
           later_agree touches c.loop-k.k c.args.nodes (doc_of c.loop-k.engine) c.loop-k.draws.state c.loop-k-test.true (c.loop-k.invariant.agree touches a)
           edited (doc_of c.write_line.new.engine) c.edit_once.new.draws.state c.in_ok-edit_once.ensures.document c.write_line.ensures.document c.in_ok-edit_once.ensures.state;
@@ -103,3 +111,9 @@ returns-clause-log g c =
 
 pub returns-clause-spares : goal.returns-clause-spares
 returns-clause-spares g c touches before a p = spares_some touches before (g.R.Ruler.log c.loop-k.ruler) c.loop-k.engine.page (c.loop-k.invariant.spared touches before a p)
+
+pub returns-clause-layouts : goal.returns-clause-layouts
+returns-clause-layouts g c touches a =
+    tells_end touches (g.R.Ruler.log c.args.ruler.now) (g.R.Ruler.log c.loop-k.ruler) c.args.passes.now c.loop-k.passes 1 c.loop-k.k (layouts_left (9 - c.loop-k.k) c.args.nodes (doc_of c.loop-k.engine) c.loop-k.draws.state)
+    (layouts_left 8 c.args.nodes (doc_of c.args.engine.now) c.args.draws.now.state) (c.loop-k.invariant.told touches a)
+    (layouts_end c.loop-k.k c.args.nodes (doc_of c.loop-k.engine) c.loop-k.draws.state (omega (arith, c.loop-k-test.false)))

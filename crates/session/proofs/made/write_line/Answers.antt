@@ -19,3 +19,6 @@ returns-in_err-text-clause-stopped g c = any_err c.from_residual.result c.in_err
 
 pub returns-in_err-text-clause-spares : goal.returns-in_err-text-clause-spares
 returns-in_err-text-clause-spares g c touches before p = spares_err touches before (g.R.Ruler.log c.layout_line.new.ruler) c.layout_line.new.engine.page c.from_residual.result c.from_residual.ensures.0 (c.in_err-text.ensures.spares touches before p)
+
+pub returns-clause-layouts : goal.returns-clause-layouts
+returns-clause-layouts g c touches empty = any_ok c.write.result (c.in_ok-text.ensures.layouts touches empty)

@@ -6,8 +6,10 @@ use Rattle.session.specs.Made.{made_layouts, made_line, layouts_left, lines_left
 use Rattle.session.specs.Standing.{doc_of}
 use Rattle.session.proofs.Draws.{made_agree}
 use Rattle.session.proofs.Logs.{front_none}
+use Rattle.session.proofs.LayoutsLeft.{tells_after}
 use Rattle.session.proofs.LogsLeft.{first_and_all, first_and_some, first_stopped}
 use Rattle.session.proofs.Making.{summary_of, layouts_are, any_err, on_ok, on_err}
+use Rattle.session.proofs.Replies.{first_emptied}
 use Rattle.session.proofs.Spares.{spares_new, spares_none}
 use Rattle.session.proofs.made.write_summary.Goals as goal
 
@@ -78,3 +80,15 @@ returns-clause-spares g c =
     let same : now ≡ made_document c.args.seed c.args.nodes = c.write_line.ensures.document ∙ c.in_ok-engine.ensures.document ∙ c.in_ok-doc.ensures.document in
     c.write_edits.ensures.spares touches log (made_agree c.args.seed c.args.nodes now c.in_ok-doc.draws.state same c.in_ok-doc.ensures.draws)
     (c.in_ok-write_line.ensures.spares touches log (spares_new touches log c.in_ok-engine.engine.page c.in_ok-engine.ensures.none))
+
+pub returns-clause-layouts : goal.returns-clause-layouts
+returns-clause-layouts g c =
+    let touches = touched_made c.args.seed c.args.nodes in
+    let doc = doc_of c.in_ok-engine.engine in
+    let now = doc_of c.write_line.new.engine in
+    let same : now ≡ made_document c.args.seed c.args.nodes = c.write_line.ensures.document ∙ c.in_ok-engine.ensures.document ∙ c.in_ok-doc.ensures.document in
+    on_ok c.write_edits.result
+    (λ p. tells_after touches (g.R.Ruler.log c.args.ruler.now) (g.R.Ruler.log c.write_line.new.ruler) (g.R.Ruler.log c.write_edits.new.ruler) c.args.passes.now c.write_line.new.passes c.write_edits.new.passes doc (layouts_left 8 c.args.nodes now c.in_ok-doc.draws.state) (made_layouts c.args.seed c.args.nodes)
+    (c.in_ok-write_line.ensures.layouts touches (first_emptied touches c.in_ok-engine.engine.page c.in_ok-engine.ensures.none))
+    (layouts_are c.args.seed c.args.nodes doc now c.in_ok-doc.draws.state (c.in_ok-engine.ensures.document ∙ c.in_ok-doc.ensures.document) c.write_line.ensures.document c.in_ok-doc.ensures.draws) p)
+    (c.write_edits.ensures.layouts touches (made_agree c.args.seed c.args.nodes now c.in_ok-doc.draws.state same c.in_ok-doc.ensures.draws))

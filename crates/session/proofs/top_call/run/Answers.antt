@@ -45,10 +45,10 @@ pub returns-in-Ok-Layout-clause-made : goal.returns-in-Ok-Layout-clause-made
 returns-in-Ok-Layout-clause-made g c = λ seed nodes e. not_both (asked c.args.words.items) c.in-Ok-Layout.stats seed nodes (ap asked (sym c.as_slice.ensures.value) ∙ c.in-Ok-Layout.ensures.command ∙ ap (λ command. Some command) c.in-Ok-Layout.field-0-is) e
 
 pub returns-in-Ok-Make-clause-made : goal.returns-in-Ok-Make-clause-made
-returns-in-Ok-Make-clause-made g c = λ seed nodes e. (refl, by_numbers (asked c.args.words.items) c.in-Ok-Make.seed c.in-Ok-Make.nodes (λ (seed nodes : ℕ). HasMade seed nodes (g.K.Sink.written c.args.sink.now) (g.K.Sink.written c.make.new.sink) (g.R.Ruler.log c.args.ruler.now) (g.R.Ruler.log c.make.new.ruler) (g.K.Sink.faults c.args.sink.now) (g.K.Sink.faults c.make.new.sink) c.make.result) (ap asked (sym c.as_slice.ensures.value) ∙ c.in-Ok-Make.ensures.command ∙ ap (λ command. Some command) c.in-Ok-Make.field-0-is) c.make.ensures.made seed nodes e)
+returns-in-Ok-Make-clause-made g c = λ seed nodes e. (refl, by_numbers (asked c.args.words.items) c.in-Ok-Make.seed c.in-Ok-Make.nodes (λ (seed nodes : ℕ). HasMade seed nodes (g.K.Sink.written c.args.sink.now) (g.K.Sink.written c.make.new.sink) (g.R.Ruler.log c.args.ruler.now) (g.R.Ruler.log c.make.new.ruler) c.args.passes.now c.make.new.passes (g.K.Sink.faults c.args.sink.now) (g.K.Sink.faults c.make.new.sink) c.make.result) (ap asked (sym c.as_slice.ensures.value) ∙ c.in-Ok-Make.ensures.command ∙ ap (λ command. Some command) c.in-Ok-Make.field-0-is) c.make.ensures.made seed nodes e)
 
 pub returns-clause-made : goal.returns-clause-made
-returns-clause-made g c = λ seed nodes e. (refl, unserved_made (g.K.Sink.written c.args.sink.now) (g.R.Ruler.log c.args.ruler.now) (g.K.Sink.faults c.args.sink.now) (asked c.args.words.items) c.in-Err.status c.in-Err.ensures.stops (λ b. ap (λ ws. is_served (asked ws)) (sym c.as_slice.ensures.value) ∙ c.in-Err.ensures.bad b) seed nodes e)
+returns-clause-made g c = λ seed nodes e. (refl, unserved_made (g.K.Sink.written c.args.sink.now) (g.R.Ruler.log c.args.ruler.now) c.args.passes.now (g.K.Sink.faults c.args.sink.now) (asked c.args.words.items) c.in-Err.status c.in-Err.ensures.stops (λ b. ap (λ ws. is_served (asked ws)) (sym c.as_slice.ensures.value) ∙ c.in-Err.ensures.bad b) seed nodes e)
 
 -- ---- replies
 
