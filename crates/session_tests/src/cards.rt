@@ -1,5 +1,7 @@
 //! A page of 24 cards, and an edit that makes the text of one of them longer.
 
+use crate::counts::are_told;
+use crate::logs::{are_of, differ, measured_in, times};
 use crate::runs::{BYTEWISE, Devices, WHOLE, has_lines, run_logged, run_text};
 use lunit::NoMemory;
 use outside::{Event, LogRuler};
@@ -29,6 +31,13 @@ const CARD: &[u8] = b"    c#@ grid { grid-row: span 3; grid-template-rows: subgr
 const SCRIPT: &[u8] = b"---
 content p07 words 16 4 40 40 40 40 40 40 40 40 40 40 40 40 40 40 40 40 40
 ";
+
+/// An edit that changes nothing.
+const SAME_VIEWPORT: &[u8] = b"viewport 1000 600
+";
+
+/// The nodes that are no leaves: the root, the head, the list of cards, and each card with its foot.
+const CONTAINERS: u64 = 51;
 
 /// Some lines of the output.
 const LINES: &[u8] = b"layout 0
@@ -75,81 +84,47 @@ fn page(alloc: Global) -> Result<Vec<u8>, NoMemory> {
     Ok(page)
 }
 
-fn is_measured(event: &Event) -> bool {
-    match event {
-        Event::Measured(_, _) => true,
-        Event::Begin(_) => false,
-    }
-}
-
-/// Whether no event stands twice.
-fn differ(events: &[Event]) -> bool {
-    let mut left = events;
-    while let Some((event, later)) = left.split_first() {
-        if later.contains(event) {
-            return false;
-        }
-        left = later;
-    }
-    true
-}
-
-/// Whether these are the events of one layout: its begin, and then leaves that are measured, none twice at one width.
-fn are_of_layout(events: &[Event], k: u32) -> bool {
-    match events.split_first() {
-        Some((first, asked)) => {
-            *first == Event::Begin(k) && asked.iter().all(is_measured) && differ(asked)
-        }
-        None => false,
-    }
-}
-
-/// How often the leaf of this name was measured.
-fn times(events: &[Event], name: &[u8]) -> usize {
-    events
-        .iter()
-        .filter(|event| match event {
-            Event::Measured(leaf, _) => leaf.bytes() == name,
-            Event::Begin(_) => false,
-        })
-        .count()
-}
-
 fn check_boxes(rt: &impl Abort, alloc: Global, devices: Devices) -> Result<(), NoMemory> {
     let ran = run_text(alloc, &["layout"], &page(alloc)?, devices)?;
     assert!(rt; ran.status == Status::Done && has_lines(ran.written.as_slice(), LINES));
     Ok(())
 }
 
-#[test]
-fn a_longer_text_moves_what_is_below_it(rt: HostRuntime) -> Result<(), Fail> {
-    check_boxes(&rt, rt.alloc(), WHOLE)?;
-    check_boxes(&rt, rt.alloc(), BYTEWISE)?;
-    Ok(())
+/// The longer text moves what is below it.
+pub(crate) fn check_cards(rt: &impl Abort, alloc: Global) -> Result<(), NoMemory> {
+    check_boxes(rt, alloc, WHOLE)?;
+    check_boxes(rt, alloc, BYTEWISE)
 }
 
-/// What is asked for the page, and again for the edit.
+/// What is asked for the page, and again for the edit: each leaf once at a width, and then the one that was changed.
 fn check_events(rt: &impl Abort, events: &[Event]) {
-    let second = events
-        .iter()
-        .position(|event| *event == Event::Begin(1))
-        .unwrap_or(0);
-    let (before, after) = events.split_at(second);
-    assert!(rt; are_of_layout(before, 0));
-    assert!(rt; are_of_layout(after, 1));
+    let before = measured_in(events, 0);
     for name in [b"nav", b"t01", b"p07", b"x12", b"y24"] {
         assert!(rt; times(before, name) > 0, "{name:?}");
     }
-    // only the leaf that was changed is measured again
-    let again = times(after, b"p07");
-    assert!(rt; again >= 1 && again <= 3 && after.len() == again + 1);
+    let after = measured_in(events, 1);
+    assert!(rt; differ(before) && differ(after) && are_of(after, b"p07"));
+}
+
+/// What is told of the page, of the edit, and of an edit that changes nothing. For the first edit the root and the list of cards are
+/// asked three questions each at most, the card four, since it sees how often the columns repeat, once for the widths of the list and
+/// four times else, and the text two; the three cards beside it have other rows, and are asked for their frames.
+fn check_counts(rt: &impl Abort, written: &[u8], events: &[Event]) {
+    static LAYOUTS: &[(u32, u64, u64)] = &[(0, CONTAINERS, u64::MAX), (1, 3, 15), (2, 0, 0)];
+    for (k, least, most) in LAYOUTS {
+        assert!(rt; are_told(written, events, *k, *least, *most), "layout {k}");
+    }
+    assert!(rt; measured_in(events, 2).is_empty());
 }
 
 #[test]
-fn leaves_are_measured_once_at_a_width(rt: HostRuntime) -> Result<(), Fail> {
-    let page = page(rt.alloc())?;
+fn a_second_layout_adds_nothing(rt: HostRuntime) -> Result<(), Fail> {
+    let mut page = page(rt.alloc())?;
+    page.extend_from_slice(SAME_VIEWPORT)?;
     let mut ruler = LogRuler::new(rt.alloc());
-    run_logged(rt.alloc(), &["layout"], &page, WHOLE, &mut ruler)?;
+    let words = ["layout", "--stats"];
+    let ran = run_logged(rt.alloc(), &words, &page, WHOLE, &mut ruler)?;
     check_events(&rt, ruler.events());
+    check_counts(&rt, ran.written.as_slice(), ruler.events());
     Ok(())
 }

@@ -5,12 +5,34 @@
 #[cfg(test)]
 mod cards;
 #[cfg(test)]
+mod counts;
+#[cfg(test)]
 mod devices;
 #[cfg(test)]
+mod faults;
+#[cfg(test)]
+mod flexes;
+#[cfg(test)]
+mod fonts;
+#[cfg(test)]
+mod grids;
+#[cfg(test)]
 mod limits;
+#[cfg(test)]
+mod lists;
+#[cfg(test)]
+mod logs;
+#[cfg(test)]
+mod reach;
 #[cfg(test)]
 mod rows;
 #[cfg(test)]
 mod runs;
 #[cfg(test)]
+mod scripts;
+#[cfg(test)]
 mod stats;
+#[cfg(test)]
+mod subgrids;
+#[cfg(test)]
+mod words;

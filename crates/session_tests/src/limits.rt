@@ -1,6 +1,6 @@
 //! Runs at each limit of an input, and just past it.
 
-use crate::runs::{WHOLE, check_run, run_text};
+use crate::runs::{BYTEWISE, Devices, WHOLE, check_run, run_text};
 use itoa::Buffer;
 use lunit::NoMemory;
 use session::Status;
@@ -98,14 +98,19 @@ fn commented(alloc: Global, length: usize) -> Result<Vec<u8>, NoMemory> {
 /// How long a comment is, and how its run ends.
 type Commented = (usize, Status, &'static [u8]);
 
-fn check_commented(rt: &impl Abort, alloc: Global, row: &Commented) -> Result<(), NoMemory> {
+fn check_commented(
+    rt: &impl Abort,
+    alloc: Global,
+    row: &Commented,
+    devices: Devices,
+) -> Result<(), NoMemory> {
     let (length, status, written) = *row;
     let input = commented(alloc, length)?;
-    check_run(rt, alloc, &input, WHOLE, status, written)
+    check_run(rt, alloc, &input, devices, status, written)
 }
 
-#[test]
-fn takes_lines_of_so_many_bytes(rt: HostRuntime) -> Result<(), Fail> {
+/// A line has at most 65,536 bytes.
+pub(crate) fn check_long_lines(rt: &impl Abort, alloc: Global) -> Result<(), NoMemory> {
     static ROWS: &[Commented] = &[
         (65_536, Status::Done, BOXES),
         (
@@ -115,7 +120,8 @@ fn takes_lines_of_so_many_bytes(rt: HostRuntime) -> Result<(), Fail> {
         ),
     ];
     for row in ROWS {
-        check_commented(&rt, rt.alloc(), row)?;
+        check_commented(rt, alloc, row, WHOLE)?;
+        check_commented(rt, alloc, row, BYTEWISE)?;
     }
     Ok(())
 }

@@ -129,7 +129,7 @@ pub(crate) fn check_run(
 }
 
 /// The length of the first line of a text, with its line feed, where it has one.
-fn line_length(text: &[u8]) -> Option<usize>
+pub(crate) fn line_length(text: &[u8]) -> Option<usize>
     ensures { IfSome result (λ n. (0 < n) × (n ≤ length text.now)) }
 {
     let place = text.iter().position(|byte| *byte == b'\n')?;

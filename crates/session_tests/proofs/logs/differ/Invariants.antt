@@ -1,5 +1,5 @@
 use Rattle.std.proofs.Common.{length}
-use Rattle.session_tests.proofs.cards.differ.Given as goal
+use Rattle.session_tests.proofs.logs.differ.Given as goal
 
 abbrev pub decreases-loop-event : goal.decreases-loop-event
 decreases-loop-event l = length l.left
