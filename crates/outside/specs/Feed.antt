@@ -1,4 +1,4 @@
--- What a source in memory does at each call. Own rule.
+-- What sources in memory hold, and what one does at each call. Own rule.
 use Rattle.std.specs.Prelude.{ℕ, if◌then◌else◌, List, length, drop, min, max, slice_get, Result, Ok, Err}
 use Rattle.std.specs.Option.{option_map_or}
 use Rattle.outside.specs.Faults.{one_more}
@@ -13,6 +13,11 @@ pub record Feed : Type 0 where
   pub failing : List ℕ
   pub calls : ℕ
   pub faults : ℕ
+
+-- of a source that never fails: the bytes that are left, and how often it was asked
+pub record SureFeed : Type 0 where
+  pub left : List ℕ
+  pub asked : ℕ
 
 -- the most that a call gives, after so many calls, to a room of so many bytes: its piece, but one at least, and the room once the
 -- list has ended

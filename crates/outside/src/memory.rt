@@ -88,11 +88,14 @@ impl Source for MemorySource {
 
     ghost faults = { λ s. s.faults };
 
+    ghost asked = { λ s. s.calls };
+
     fn read_piece(&mut self, room: &mut [u8]) -> Result<usize, Failed>
         ensures within { IfOk result (λ n. n ≤ length room.new) }
         ensures bytes { Reads (Some self.old.left) (Some self.new.left) result room.new }
         ensures end { IfOk result (λ n. 0 < length room.new → IsZeroAtEnd (Some self.old.left) n) }
         ensures cause { HasCause self.old.faults self.new.faults result }
+        ensures asked { self.new.calls ≡ one_more self.old.calls }
         ensures answer { result ≡ answer_of self.old (length room.new) }
         ensures after { self.new ≡ after_read self.old (length room.new) }
     {

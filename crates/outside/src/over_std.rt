@@ -12,15 +12,21 @@ use std::io::{Read, Write};
 pub struct StdSource<R> {
     reader: R,
     faults: u64,
+    asked: u64,
 }
 
 impl<R: Read> StdSource<R> {
-    /// A source with no fault, over what the reader has left. Takes no memory.
+    /// A source with no fault, over what the reader has left, that was not asked yet. Takes no memory.
     pub fn new(reader: R) -> StdSource<R>
         ensures left { ⟦<StdSource<R> as Source>⟧.left result ≡ R.remaining reader }
         ensures faults { ⟦<StdSource<R> as Source>⟧.faults result ≡ 0 }
+        ensures asked { ⟦<StdSource<R> as Source>⟧.asked result ≡ 0 }
     {
-        StdSource { reader, faults: 0 }
+        StdSource {
+            reader,
+            faults: 0,
+            asked: 0,
+        }
     }
 }
 
@@ -29,14 +35,18 @@ impl<R: Read> Source for StdSource<R> {
 
     ghost faults = { λ s. s.faults };
 
-    /// Counts each error of the reader, and nothing else: the end of input is none.
+    ghost asked = { λ s. s.asked };
+
+    /// Counts as a fault each error of the reader, and nothing else: the end of input is none.
     fn read_piece(&mut self, room: &mut [u8]) -> Result<usize, Failed>
         ensures within { IfOk result (λ n. n ≤ length room.new) }
         ensures bytes { Reads (R.remaining self.old.reader) (R.remaining self.new.reader) result room.new }
         ensures end { IfOk result (λ n. 0 < length room.new → IsZeroAtEnd (R.remaining self.old.reader) n) }
         ensures cause { HasCause self.old.faults self.new.faults result }
+        ensures asked { self.new.asked ≡ one_more self.old.asked }
         ensures counted { self.new.faults ≡ counted self.old.faults result }
     {
+        self.asked = self.asked.saturating_add(1);
         match self.reader.read(room) {
             Ok(count) => Ok(count),
             Err(_) => {

@@ -57,7 +57,7 @@ fn counts_each_fault_and_flushes_each_piece(rt: HostRuntime) -> Result<(), Fail>
     assert_eq!(rt; source.read_piece(&mut room), Ok(1));
     assert_eq!(rt; (room[0], source.faults), (3, 1));
     assert_eq!(rt; source.read_piece(&mut room), Ok(0));
-    assert_eq!(rt; source.faults, 1);
+    assert_eq!(rt; (source.faults, source.asked), (1, 4));
 
     let mut sink = StdSink::new(NEW);
     assert_eq!(rt; sink.write_piece(b"abc"), Ok(3));
