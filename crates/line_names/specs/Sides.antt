@@ -1,5 +1,6 @@
 -- What line values stand for, as the code has it.
 use Rattle.std.specs.Prelude.{nat_le, Bool, true, length}
+use Rattle.std.specs.Option.{option_copied}
 use Rattle.lunit.specs.declared.line_value.LineValue.{LineValue}
 use Rattle.lunit.specs.declared.line_value.LineValue.TheVariants.{Auto, Line, Reach, Named}
 use Rattle.part_rules.specs.LineNames as rules
@@ -17,7 +18,7 @@ has_edges (Named name) = nat_le (length name) 58
 -- the side of the definitions
 abbrev pub seen : Side → rules.Side
 seen (At line) = rules.line line
-seen (Spanning count name) = rules.spanning count name
+seen (Spanning count name) = rules.spanning count (option_copied name)
 seen Open = rules.open_side
 
 -- a line that a side stands for is not past all numbers

@@ -2,6 +2,7 @@
 
 ghost use Rattle.std.specs.Prelude.{◌≡◌, pos, Some, filter, int_lt, ◌+ℤ◌, ◌-ℤ◌, ◌≤ℤ◌, ◌<ℤ◌, neg_ℤ};
 ghost use Rattle.std.specs.Int.{int_max, int_min};
+ghost use Rattle.std.specs.Option.{option_copied};
 ghost use Rattle.lunit.specs.declared.geometry.Spot.TheVariants.{Free};
 ghost use Rattle.part_rules.specs.LineNames.{both_sides, cut_span, cut_spot, definite, free_span, going_back, line, named_lines, open_side, span_back, span_on, spanning, two_lines};
 ghost use Rattle.line_names.specs.Counting.{IsFar};
@@ -78,24 +79,24 @@ fn named_back(table: &LineTable, end: i64, count: u32, name: &Name) -> i64
 }
 
 /// The line where a span from a line on ends.
-fn span_on(table: &LineTable, start: i64, count: u32, name: Option<Name>) -> i64
+fn span_on(table: &LineTable, start: i64, count: u32, name: Option<&Name>) -> i64
     requires { IsFar start }
-    ensures { result ≡ span_on table.now start count name }
+    ensures { result ≡ span_on table.now start count (option_copied name.entry) }
 {
     match name {
         None => after(start, count),
-        Some(name) => named_on(table, start, count, &name),
+        Some(name) => named_on(table, start, count, name),
     }
 }
 
 /// The line where a span back from a line begins.
-fn span_back(table: &LineTable, end: i64, count: u32, name: Option<Name>) -> i64
+fn span_back(table: &LineTable, end: i64, count: u32, name: Option<&Name>) -> i64
     requires { IsFar end }
-    ensures { result ≡ span_back table.now end count name }
+    ensures { result ≡ span_back table.now end count (option_copied name.entry) }
 {
     match name {
         None => before(end, count),
-        Some(name) => named_back(table, end, count, &name),
+        Some(name) => named_back(table, end, count, name),
     }
 }
 
@@ -208,7 +209,7 @@ fn between(limit: Span, automatic: u32, start: i64, end: i64) -> Spot
 /// The place from a line to what the end stands for.
 fn on_from(table: &LineTable, automatic: u32, start: i64, end: Side) -> Spot
     requires { IsFar start }
-    ensures { result ≡ cut_spot table.now.low table.now.high (both_sides table.now automatic (line start) (seen end)) }
+    ensures { result ≡ cut_spot table.now.low table.now.high (both_sides table.now automatic (line start) (seen end.entry)) }
 {
     let limit = table.limit();
     match end {
@@ -219,9 +220,15 @@ fn on_from(table: &LineTable, automatic: u32, start: i64, end: Side) -> Spot
 }
 
 /// The place that a span and what the end stands for make.
-fn spanning_to(table: &LineTable, automatic: u32, count: u32, name: Option<Name>, end: Side) -> Spot
+fn spanning_to(
+    table: &LineTable,
+    automatic: u32,
+    count: u32,
+    name: Option<&Name>,
+    end: Side,
+) -> Spot
     requires { IsReachable end }
-    ensures { result ≡ cut_spot table.now.low table.now.high (both_sides table.now automatic (spanning count name) (seen end)) }
+    ensures { result ≡ cut_spot table.now.low table.now.high (both_sides table.now automatic (spanning count (option_copied name.entry)) (seen end.entry)) }
 {
     let limit = table.limit();
     match end {
@@ -234,7 +241,7 @@ fn spanning_to(table: &LineTable, automatic: u32, count: u32, name: Option<Name>
 /// The place that what the end stands for makes alone.
 fn open_to(table: &LineTable, automatic: u32, end: Side) -> Spot
     requires { IsReachable end }
-    ensures { result ≡ cut_spot table.now.low table.now.high (both_sides table.now automatic open_side (seen end)) }
+    ensures { result ≡ cut_spot table.now.low table.now.high (both_sides table.now automatic open_side (seen end.entry)) }
 {
     let limit = table.limit();
     match end {
@@ -245,8 +252,8 @@ fn open_to(table: &LineTable, automatic: u32, end: Side) -> Spot
 }
 
 /// A span beside no line: one with a name counts as 1.
-fn free_span(count: u32, name: Option<Name>) -> u32
-    ensures { result ≡ free_span count name }
+fn free_span(count: u32, name: Option<&Name>) -> u32
+    ensures { result ≡ free_span count (option_copied name.entry) }
 {
     match name {
         None => count,
@@ -258,7 +265,7 @@ fn free_span(count: u32, name: Option<Name>) -> u32
 pub(crate) fn place(table: &LineTable, automatic: u32, start: Side, end: Side) -> Spot
     requires start { IsReachable start }
     requires end { IsReachable end }
-    ensures { result ≡ cut_spot table.now.low table.now.high (both_sides table.now automatic (seen start) (seen end)) }
+    ensures { result ≡ cut_spot table.now.low table.now.high (both_sides table.now automatic (seen start.entry) (seen end.entry)) }
 {
     match start {
         Side::At(start) => on_from(table, automatic, start, end),

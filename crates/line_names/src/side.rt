@@ -11,9 +11,9 @@ use lunit::{LineValue, Name};
 
 /// What a line value stands for: a line, a span with or without a name, or nothing.
 #[derive(Clone, Copy)]
-pub(crate) enum Side {
+pub(crate) enum Side<'a> {
     At(i64),
-    Spanning(u32, Option<Name>),
+    Spanning(u32, Option<&'a Name>),
     Open,
 }
 
@@ -57,7 +57,7 @@ fn named(table: &LineTable, end: bool, name: &Name) -> i64
 }
 
 /// What the value at the start, or at the end, stands for.
-pub(crate) fn side_of(table: &LineTable, end: bool, value: &LineValue) -> Side
+pub(crate) fn side_of<'a>(table: &LineTable, end: bool, value: &'a LineValue) -> Side<'a>
     requires { IsTrue (has_edges value.now) }
     ensures value { seen result ≡ side table.now end value.now }
     ensures far { IsReachable result }
@@ -66,7 +66,7 @@ pub(crate) fn side_of(table: &LineTable, end: bool, value: &LineValue) -> Side
         LineValue::Auto => Side::Open,
         LineValue::Line(number, None) => Side::At(numbered(table, *number)),
         LineValue::Line(number, Some(name)) => Side::At(numbered_named(table, *number, name)),
-        LineValue::Reach(count, name) => Side::Spanning(*count, *name),
+        LineValue::Reach(count, name) => Side::Spanning(*count, name.as_ref()),
         LineValue::Named(name) => Side::At(named(table, end, name)),
     }
 }
