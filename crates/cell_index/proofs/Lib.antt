@@ -3,3 +3,4 @@ pub mod Edges
 pub mod Filled
 pub mod Spans
 pub mod Told
+pub mod Pairs

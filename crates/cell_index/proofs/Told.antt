@@ -1,4 +1,4 @@
--- What the bands tell of the areas.
+-- What the blocks tell of the areas.
 use Rattle.std.proofs.Common.{refl, sym, ap, ◌∙◌, ◌≡◌, ℤ, Bool, true, false, not, ◌&&◌, ◌||◌, List, [], ◌∷◌, ◌++◌}
 use Rattle.std.proofs.lemmas.Bool.{and_parts, and_from}
 use Rattle.std.proofs.lemmas.List.Folds.{list_any-append}
@@ -6,13 +6,14 @@ use Rattle.std.proofs.Math.Bool.{true≢false}
 use Rattle.lunit.specs.Areas.{areas_overlap, is_free, HaveCell}
 use Rattle.lunit.specs.declared.geometry.Area.{Area}
 use Rattle.lunit.proofs.Cells.{overlap_has, has_overlap}
-use Rattle.cell_index.specs.declared.bands.RowBands.{RowBands}
-use Rattle.cell_index.specs.Taken.{any_holds, held, holds, within, HasHeld}
+use Rattle.cell_index.specs.declared.blocks.Blocks.{Blocks}
+use Rattle.cell_index.specs.Held.{held_in, HasTaken}
+use Rattle.cell_index.specs.Taken.{any_holds, holds, within}
 use Rattle.cell_index.proofs.Filled.{or_no}
 use Rattle.cell_index.proofs.Spans.{to_within, within_from}
 
 -- a cell of an area that is taken by another one
-have_cell : (a b : Area) (row column : ℤ) → holds a row column ≡ true → holds b row column ≡ true → HaveCell a b
+pub have_cell : (a b : Area) (row column : ℤ) → holds a row column ≡ true → holds b row column ≡ true → HaveCell a b
 have_cell a b row column h k =
     let p : (within a.rows row ≡ true) × (within a.columns column ≡ true) = and_parts (within a.rows row) (within a.columns column) h in
     let q : (within b.rows row ≡ true) × (within b.columns column ≡ true) = and_parts (within b.rows row) (within b.columns column) k in
@@ -62,16 +63,16 @@ held_is_shut a (b ∷ bs) row column h k = by (holds b row column) refl k (λ g.
     by true e g again = no (areas_overlap a b) (is_free a bs) (has_overlap a b (have_cell a b row column h e))
     by false e g again = tail (not (areas_overlap a b)) (is_free a bs) (again g)
 
-free_when_told : (a : Area) (areas : List Area) (bands : RowBands) → ((row column : ℤ) → held bands row column ≡ any_holds areas row column) → ((row column : ℤ) → holds a row column ≡ true → held bands row column ≡ false) → is_free a areas ≡ true
-free_when_told a areas bands told free = none_is_free a areas (λ row column h. sym (told row column) ∙ free row column h)
+free_when_told : (a : Area) (areas : List Area) (blocks : Blocks) → ((row column : ℤ) → held_in blocks row column ≡ any_holds areas row column) → ((row column : ℤ) → holds a row column ≡ true → held_in blocks row column ≡ false) → is_free a areas ≡ true
+free_when_told a areas blocks told free = none_is_free a areas (λ row column h. sym (told row column) ∙ free row column h)
 
-shut_when_told : (a : Area) (areas : List Area) (bands : RowBands) → ((row column : ℤ) → held bands row column ≡ any_holds areas row column) → HasHeld bands a → is_free a areas ≡ false
-shut_when_told a areas bands told h =
+shut_when_told : (a : Area) (areas : List Area) (blocks : Blocks) → ((row column : ℤ) → held_in blocks row column ≡ any_holds areas row column) → HasTaken blocks a → is_free a areas ≡ false
+shut_when_told a areas blocks told h =
     held_is_shut a areas h.row h.column (and_from (within a.rows h.row) (within a.columns h.column) (to_within a.rows h.row h.first_row h.last_row) (to_within a.columns h.column h.first_column h.last_column)) (sym (told h.row h.column) ∙ h.is)
 
 pub told_more : (areas : List Area) (a : Area) (row column : ℤ) → any_holds (areas ++ a ∷ []) row column ≡ (any_holds areas row column || holds a row column)
 told_more areas a row column = list_any-append (λ (b : Area). holds b row column) areas (a ∷ []) ∙ ap (λ t. any_holds areas row column || t) (or_no (holds a row column))
 
-pub free_is_told : (result : Bool) (a : Area) (areas : List Area) (bands : RowBands) → ((row column : ℤ) → held bands row column ≡ any_holds areas row column) → (result ≡ true → (row column : ℤ) → holds a row column ≡ true → held bands row column ≡ false) → (result ≡ false → HasHeld bands a) → result ≡ is_free a areas
-free_is_told true a areas bands told free shut = sym (free_when_told a areas bands told (free refl))
-free_is_told false a areas bands told free shut = sym (shut_when_told a areas bands told (shut refl))
+pub free_is_told : (result : Bool) (a : Area) (areas : List Area) (blocks : Blocks) → ((row column : ℤ) → held_in blocks row column ≡ any_holds areas row column) → (result ≡ true → (row column : ℤ) → holds a row column ≡ true → held_in blocks row column ≡ false) → (result ≡ false → HasTaken blocks a) → result ≡ is_free a areas
+free_is_told true a areas blocks told free shut = sym (free_when_told a areas blocks told (free refl))
+free_is_told false a areas blocks told free shut = sym (shut_when_told a areas blocks told (shut refl))

@@ -1,3 +1,4 @@
 pub mod Rising
 pub mod Taken
+pub mod Held
 pub mod Cells

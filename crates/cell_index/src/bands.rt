@@ -120,6 +120,13 @@ impl RowBands {
         }
     }
 
+    /// Whether no cell at all is taken, as far as this is told without a look at the columns.
+    pub(crate) fn is_empty(&self) -> bool
+        ensures { result ≡ true → (row column : ℤ) → held self.now row column ≡ false }
+    {
+        self.bands.is_empty()
+    }
+
     /// Whether no cell of an area is taken.
     pub(crate) fn is_free(&self, area: Area) -> bool
         requires rows { area.rows.start <ℤ area.rows.end }

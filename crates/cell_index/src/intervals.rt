@@ -1,17 +1,17 @@
 ghost use Rattle.std.specs.Prelude.{◌≡◌, ◌<ℤ◌, [], true};
 
-use crate::bands::RowBands;
+use crate::blocks::Blocks;
 use lunit::{Area, NoMemory, Occupancy};
 use std::alloc::Global;
 use std::marker::Model;
 
-/// The areas as they came, and beside them the cells that are taken, by bands of rows in which the same columns are. A question
-/// looks at the bands that it meets and at no other area. After want of memory the bands are given up, and each question looks
-/// at all areas. Contracts see the list of areas.
+/// The areas as they came, and beside them the cells that are taken, in blocks that grow as areas follow each other, and by bands
+/// of rows in which the same columns are. A question looks at the blocks and at the bands that it meets, and at no other area.
+/// After want of memory they are given up, and each question looks at all areas. Contracts see the list of areas.
 #[derive(Drop)]
 pub struct IntervalCells {
     areas: Vec<Area>,
-    bands: RowBands,
+    blocks: Blocks,
     whole: bool,
     alloc: Global,
 }
@@ -44,7 +44,7 @@ impl IntervalCells {
     {
         IntervalCells {
             areas: Vec::new(alloc),
-            bands: RowBands::new(alloc),
+            blocks: Blocks::new(alloc),
             whole: true,
             alloc,
         }
@@ -56,7 +56,7 @@ impl Occupancy for IntervalCells {
 
     fn free(&self, area: Area) -> bool {
         if self.whole && has_cells(area) {
-            return self.bands.is_free(area);
+            return self.blocks.is_free(area);
         }
         self.areas.iter().all(|held| !area.overlaps(*held))
     }
@@ -67,7 +67,7 @@ impl Occupancy for IntervalCells {
         if !self.whole {
             return Ok(());
         }
-        match self.bands.add(self.alloc, area) {
+        match self.blocks.add(self.alloc, area) {
             Ok(()) => Ok(()),
             Err(NoMemory) => {
                 self.whole = false;

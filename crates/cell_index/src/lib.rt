@@ -2,6 +2,7 @@
 #![tactic(auto)]
 
 mod bands;
+mod blocks;
 mod columns;
 mod intervals;
 mod list;
