@@ -118,6 +118,11 @@ limit_at a second gap i first ts at n set s e =
 pub ready_mine : (first : ℤ) (ts : List Track) (at n : ℕ) → AreSet first ts → AreQuiet (take n (drop at ts))
 ready_mine first ts at n set = quiet_of (take n (drop at ts)) (ready_take n (drop at ts) (ready_drop at ts (ready_of first ts set)))
 
+pub still_mine : (first : ℤ) (ts : List Track) (at n : ℕ) → AreSet first ts → AreReady (take n (drop at ts))
+still_mine first ts at n set = ready_take n (drop at ts) (ready_drop at ts (ready_of first ts set))
+
+pub ruleset mine = (ready_mine, still_mine)
+
 -- the list whose middle part was changed
 pub joined_at : (f : List Track → List Track) (ts : List Track) (at n : ℕ) (before rest mine behind now : List Track) → before ≡ take at ts → rest ≡ drop at ts → mine ≡ take n rest → behind ≡ drop n rest → now ≡ f mine
     → before ++ (now ++ behind) ≡ take at ts ++ (f (take n (drop at ts)) ++ drop n (drop at ts))

@@ -1,6 +1,7 @@
 pub mod Sums
 pub mod Floored
 pub mod Loops
+pub mod Parted
 pub mod Turns
 pub mod Shares
 pub mod Parts
@@ -8,6 +9,7 @@ pub mod Given
 pub mod Around
 pub mod Local
 pub mod Groups
+pub mod Idle
 pub mod Limits
 pub mod Grown
 pub mod Singles

@@ -71,7 +71,7 @@ wide_rooms i wide narrow before mine behind h a =
 
 -- ---- turns
 
-no_share : (t : Track) → incur t (pos 0) ≡ t
+pub no_share : (t : Track) → incur t (pos 0) ≡ t
 no_share t = ap (λ (z : ℤ). record t { incurred = z }) (let e : t.incurred +ℤ pos 0 ≡ t.incurred = omega (arith, ints) in e)
 
 zipped_before : (before rest : List Track) (rooms : List (Option ℤ)) (ss : List ℤ) → length rooms ≡ length before → zipped incur (before ++ rest) (nothings rooms ++ ss) ≡ before ++ zipped incur rest ss
@@ -80,7 +80,7 @@ zipped_before [] rest (r ∷ rs) ss e = absurd (omega arith)
 zipped_before (t ∷ ts) rest [] ss e = absurd (omega arith)
 zipped_before (t ∷ ts) rest (r ∷ rs) ss e = ap (λ (x : Track). x ∷ zipped incur (ts ++ rest) (nothings rs ++ ss)) (no_share t) ∙ ap (λ (xs : List Track). t ∷ xs) (zipped_before ts rest rs ss (omega arith))
 
-zipped_none : (ts : List Track) (rooms : List (Option ℤ)) → length rooms ≡ length ts → zipped incur ts (nothings rooms) ≡ ts
+pub zipped_none : (ts : List Track) (rooms : List (Option ℤ)) → length rooms ≡ length ts → zipped incur ts (nothings rooms) ≡ ts
 zipped_none [] rooms e = refl
 zipped_none (t ∷ ts) [] e = absurd (omega arith)
 zipped_none (t ∷ ts) (r ∷ rs) e = ap (λ (x : Track). x ∷ zipped incur ts (nothings rs)) (no_share t) ∙ ap (λ (xs : List Track). t ∷ xs) (zipped_none ts rs (omega arith))
@@ -91,7 +91,7 @@ zipped_behind [] behind (s ∷ ss) rooms e d = absurd (omega arith)
 zipped_behind (t ∷ ts) behind [] rooms e d = absurd (omega arith)
 zipped_behind (t ∷ ts) behind (s ∷ ss) rooms e d = ap (λ (xs : List Track). incur t s ∷ xs) (zipped_behind ts behind ss rooms (omega arith) d)
 
-map_length : {B : Type 0} (f : Track → B) (xs : List Track) → length (map f xs) ≡ length xs
+pub map_length : {B : Type 0} (f : Track → B) (xs : List Track) → length (map f xs) ≡ length xs
 map_length f [] = refl
 map_length f (x ∷ xs) = omega (arith, map_length f xs)
 

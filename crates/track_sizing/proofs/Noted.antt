@@ -3,7 +3,8 @@ use Rattle.std.proofs.Common.{arith, ap, ◌≡◌, ◌∙◌, sym, refl, ℕ, z
 use Rattle.std.proofs.lemmas.List.{take-append-drop}
 use Rattle.lunit.specs.declared.item.Item.{Item}
 use Rattle.part_rules.specs.Lists.{zipped}
-use Rattle.part_rules.specs.Tracks.{Track, affected_by, mark_endless, raised_limit, raised_limit_by}
+use Rattle.std.specs.List.{list_any}
+use Rattle.part_rules.specs.Tracks.{Track, affected_by, spans, mark_endless, raised_limit, raised_limit_by}
 use Rattle.part_rules.specs.declared.share.Share.{Share}
 use Rattle.track_sizing.specs.declared.kinds.Affected.{Affected}
 use Rattle.track_sizing.specs.Kinds.{affected_of}
@@ -11,6 +12,7 @@ use Rattle.track_sizing.specs.Placed.{AreSet, marked_limit_by}
 use Rattle.track_sizing.specs.Reached.{all_noted, is_reached_by, marked_where, note_of, noted_by, noted_for, raised_where}
 use Rattle.track_sizing.proofs.Around.{AllSpanned, IsAround, NoneSpanned, around}
 use Rattle.track_sizing.proofs.Groups.{placed_of}
+use Rattle.track_sizing.proofs.Parted.{neither}
 
 -- ---- one item
 
@@ -125,6 +127,22 @@ none_so_far (s ∷ ss) (t ∷ ts) e = ap (λ (xs : List Share). note_of false �
 
 pub all_notes : (a : Affected) (items : List Item) (ts : List Track) (ss notes : List Share) → length ss ≡ length ts → notes ≡ all_noted a items ts (map (λ (s : Share). note_of false) ss) → notes ≡ map (λ t. note_of (is_reached_by a items t)) ts
 all_notes a items ts ss notes e v = v ∙ ap (all_noted a items ts) (none_so_far ss ts e) ∙ noted_so_far a items ts (λ t. false)
+
+-- where no track is affected
+none_reached : (a : Affected) (items : List Item) (t : Track) → affected_of a t ≡ false → is_reached_by a items t ≡ false
+none_reached a [] t e = refl
+none_reached a (i ∷ rest) t e = ap (λ (b : Bool). (b && spans i t) || is_reached_by a rest t) e ∙ none_reached a rest t e
+
+unreached : (a : Affected) (items : List Item) (ts : List Track) → list_any (affected_of a) ts ≡ false → map (λ (t : Track). note_of false) ts ≡ map (λ t. note_of (is_reached_by a items t)) ts
+unreached a items [] e = refl
+unreached a items (t ∷ ts) e =
+    let one = neither (affected_of a t) (list_any (affected_of a) ts) e in
+    ap (λ (b : Bool). note_of b ∷ map (λ (t : Track). note_of false) ts) (sym (none_reached a items t one.0)) ∙ ap (λ (ss : List Share). note_of (is_reached_by a items t) ∷ ss) (unreached a items ts one.1)
+
+pub no_notes : (a : Affected) (items : List Item) (ts : List Track) (ss notes : List Share) → length ss ≡ length ts → notes ≡ map (λ (s : Share). note_of false) ss → list_any (affected_of a) ts ≡ false → notes ≡ map (λ t. note_of (is_reached_by a items t)) ts
+no_notes a items ts ss notes e v n = v ∙ none_so_far ss ts e ∙ unreached a items ts n
+
+pub ruleset notes = (all_notes, no_notes)
 
 -- ---- growth limits
 

@@ -65,7 +65,7 @@ fn of_span(
     Ok(group)
 }
 
-#[tactic(auto, using(crate::proofs::Kept::kept_items))]
+#[tactic(auto, using(crate::proofs::Kept::kept_items, crate::proofs::Idle::uncrossed))]
 /// The items that cross a flexible track.
 fn crossing_items(
     alloc: Global,
@@ -80,6 +80,9 @@ fn crossing_items(
     ensures items { IfOk result (λ group. AreIn first (length rows.now) group.items) }
 {
     let mut group = Vec::new(alloc);
+    if !some_flexible(rows) {
+        return Ok(group);
+    }
     for item in items {
         if crosses_flexible(first, rows, item) {
             group.push(*item)?;

@@ -8,7 +8,7 @@ ghost use Rattle.track_sizing.specs.Placed.{AreIn, AreSet, IsIn, base_step_of, l
 ghost use Rattle.track_sizing.specs.Reached.{marked_where, raised_where};
 
 use crate::item::span_length;
-use crate::kinds::{Affected, Kind};
+use crate::kinds::{Affected, Kind, some_affected};
 use crate::reach::{is_noted, note_reached};
 use crate::row::Row;
 use crate::step::{BaseStep, plan_base, plan_limit};
@@ -24,7 +24,7 @@ pub fn place_of(first: Wide, item: &Item) -> usize
     (Wide::of(i128::from(item.span.start)) - first).units() as usize
 }
 
-#[tactic(auto, using(crate::proofs::Groups::ready_mine))]
+#[tactic(auto, using(crate::proofs::Groups::mine))]
 /// Plans what an item gives the base sizes of its tracks, which are some of these.
 fn plan_base_at(
     step: &BaseStep,
@@ -50,6 +50,7 @@ fn plan_base_at(
     plan_base(step, definite, gap, item, mine, takers);
 }
 
+#[tactic(auto, using(crate::proofs::Idle::unplanned))]
 /// Plans what each item of the group gives base sizes.
 fn plan_bases(
     step: &BaseStep,
@@ -67,6 +68,9 @@ fn plan_bases(
     ensures rows { rows.new ≡ base_planned_by_all (base_step_of step.now.affected step.now.receives definite gap step.now.asks) gap items.now rows.old }
     ensures set { AreSet first rows.new }
 {
+    if !some_affected(&step.affected, rows) {
+        return;
+    }
     for item in items {
         plan_base_at(step, definite, gap, first, item, rows, takers);
     }
@@ -122,7 +126,7 @@ pub fn distribute_bases(
     raise_bases(rows);
 }
 
-#[tactic(auto, using(crate::proofs::Groups::ready_mine))]
+#[tactic(auto, using(crate::proofs::Groups::mine))]
 fn plan_limit_at(
     affected: &Affected,
     second: bool,
@@ -147,6 +151,7 @@ fn plan_limit_at(
     plan_limit(affected, second, gap, item, mine, takers);
 }
 
+#[tactic(auto, using(crate::proofs::Idle::unplanned))]
 /// Plans what each item of the group gives growth limits.
 fn plan_limits(
     affected: &Affected,
@@ -164,6 +169,9 @@ fn plan_limits(
     ensures rows { rows.new ≡ limit_planned_by_all (limit_step_in affected.now second) gap items.now rows.old }
     ensures set { AreSet first rows.new }
 {
+    if !some_affected(affected, rows) {
+        return;
+    }
     for item in items {
         plan_limit_at(affected, second, gap, first, item, rows, takers);
     }

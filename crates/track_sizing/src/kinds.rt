@@ -1,6 +1,7 @@
 //! The tracks that a step names (CSS Grid 2, 12.5, step 3).
 
 ghost use Rattle.std.specs.Prelude.{◌≡◌};
+ghost use Rattle.std.specs.List.{list_any};
 ghost use Rattle.part_rules.specs.Tracks.{counts_as_max_content, fit_argument, flexible, is_auto_least, is_flexible, is_min_content_most};
 ghost use Rattle.track_sizing.specs.Kinds.{affected_of, kind_of};
 
@@ -123,4 +124,16 @@ pub fn affects(affected: &Affected, row: &Row) -> bool
     ensures { result ≡ affected_of affected.now row.now }
 {
     is_of(&affected.kind, row) && (flexible(row) || !affected.crossing)
+}
+
+/// Whether the step affects some track.
+pub fn some_affected(affected: &Affected, rows: &[Row]) -> bool
+    ensures { result ≡ list_any (affected_of affected.now) rows.now }
+{
+    for row in rows {
+        if affects(affected, row) {
+            return true;
+        }
+    }
+    false
 }

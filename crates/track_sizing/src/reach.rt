@@ -10,7 +10,7 @@ ghost use Rattle.track_sizing.specs.Reached.{is_noted, is_reached_by, note_of, n
 
 use crate::distribute::place_of;
 use crate::item::span_length;
-use crate::kinds::{Affected, affects};
+use crate::kinds::{Affected, affects, some_affected};
 use crate::row::Row;
 use lunit::{Item, Lu, Wide};
 use part_rules::Share;
@@ -86,7 +86,7 @@ fn note_item(affected: &Affected, first: Wide, item: &Item, rows: &[Row], notes:
     note_affected(affected, mine, own);
 }
 
-#[tactic(auto, using(crate::proofs::Noted::all_notes))]
+#[tactic(auto, using(crate::proofs::Noted::notes))]
 /// Notes the tracks that some item reaches, and no others.
 pub fn note_reached(
     affected: &Affected,
@@ -102,6 +102,9 @@ pub fn note_reached(
     ensures { notes.new ≡ map (λ t. note_of (is_reached_by affected.now items.now t)) rows.now }
 {
     note_none(notes);
+    if !some_affected(affected, rows) {
+        return;
+    }
     for item in items {
         note_item(affected, first, item, rows, notes);
     }

@@ -1,15 +1,15 @@
 //! What one item gives its tracks in one step of distribution (modelled after CSS Grid 2, 12.5.1; own rule as a whole).
 
-ghost use Rattle.std.specs.Prelude.{◌≡◌, ◌<◌, ◌^◌, ◌≤ℤ◌, ◌<ℤ◌, length, map, pos};
+ghost use Rattle.std.specs.Prelude.{◌≡◌, ◌<◌, ◌^◌, ◌≤ℤ◌, ◌<ℤ◌, length, map, pos, true};
 ghost use Rattle.std.specs.List.{list_any};
 ghost use Rattle.lunit.specs.Units.{top};
 ghost use Rattle.part_rules.specs.Tracks.{plan};
 ghost use Rattle.track_sizing.specs.Here.{AreQuiet, base_given_of, base_planned_of, last_of, limit_given_of, limit_planned_of, open_of};
-ghost use Rattle.track_sizing.specs.Kinds.{affected_of};
+ghost use Rattle.track_sizing.specs.Placed.{AreReady};
 
 use crate::factors::give_by_factors;
 use crate::item::{Asks, asked, base_sum, limit_sum, needed};
-use crate::kinds::{Affected, Kind, affects};
+use crate::kinds::{Affected, Kind, some_affected};
 use crate::rooms::{Rooms, is_open};
 use crate::row::Row;
 use crate::turn::hand_out_to;
@@ -23,18 +23,6 @@ pub struct BaseStep {
     /// Which of them receive beyond their limits.
     pub receives: Kind,
     pub asks: Asks,
-}
-
-/// Whether the step affects some track.
-fn some_affected(affected: &Affected, rows: &[Row]) -> bool
-    ensures { result ≡ list_any (affected_of affected.now) rows.now }
-{
-    for row in rows {
-        if affects(affected, row) {
-            return true;
-        }
-    }
-    false
 }
 
 /// Whether some track receives without end.
@@ -115,7 +103,16 @@ fn give_limit(affected: &Affected, second: bool, space: Lu, rows: &mut [Row], ta
     let _left = hand_out_to(&Rooms::ToEnd(*affected, second), rest, rows, takers);
 }
 
-/// Plans what the item gives the base sizes of its tracks.
+/// Whether a space is 0.
+fn is_nothing(space: Lu) -> bool
+    requires { pos 0 ≤ℤ space }
+    ensures { result ≡ true → space ≡ pos 0 }
+{
+    space.units() <= 0
+}
+
+#[tactic(auto, using(crate::proofs::Idle::idle))]
+/// Plans what the item gives the base sizes of its tracks. Where it needs no space, they stay as they are.
 pub fn plan_base(
     step: &BaseStep,
     definite: bool,
@@ -128,6 +125,7 @@ pub fn plan_base(
     requires few { length rows.old < 2 ^ 32 }
     requires length { length takers.old ≡ length rows.old }
     requires quiet { AreQuiet rows.old }
+    requires ready { AreReady rows.old }
     ensures { rows.new ≡ base_planned_of step.now.affected step.now.receives definite gap step.now.asks item.now rows.old }
 {
     if !some_affected(&step.affected, rows) {
@@ -135,11 +133,15 @@ pub fn plan_base(
     }
     let asked = asked(definite, gap, &step.asks, rows, item);
     let space = needed(gap, asked, base_sum(rows), item);
+    if is_nothing(space) {
+        return;
+    }
     give_base(step, space, rows, takers);
     plan_all(rows);
 }
 
-/// Plans what the item gives the growth limits of its tracks.
+#[tactic(auto, using(crate::proofs::Idle::idle))]
+/// Plans what the item gives the growth limits of its tracks. Where it needs no space, they stay as they are.
 pub fn plan_limit(
     affected: &Affected,
     second: bool,
@@ -152,6 +154,7 @@ pub fn plan_limit(
     requires few { length rows.old < 2 ^ 32 }
     requires length { length takers.old ≡ length rows.old }
     requires quiet { AreQuiet rows.old }
+    requires ready { AreReady rows.old }
     ensures { rows.new ≡ limit_planned_of affected.now second gap item.now rows.old }
 {
     if !some_affected(affected, rows) {
@@ -159,6 +162,9 @@ pub fn plan_limit(
     }
     let asked = if second { item.high } else { item.low };
     let space = needed(gap, asked.wide(), limit_sum(rows), item);
+    if is_nothing(space) {
+        return;
+    }
     give_limit(affected, second, space, rows, takers);
     plan_all(rows);
 }
