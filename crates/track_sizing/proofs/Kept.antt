@@ -58,6 +58,32 @@ all_kept test first n items i kept so h = sym (append-nil kept) ∙ sym (ap (λ 
 
 pub ruleset kept_items = (none_kept, kept_step, kept_in, all_kept)
 
+-- The items that pass a test so far.
+pub record IsFiltered (test : Item → Bool) (items : List Item) (i : ℕ) (kept : List Item) : Type 0 where
+  pub same : kept ++ filter test (drop i items) ≡ filter test items
+
+pub none_filtered : (test : Item → Bool) (items kept : List Item) → kept ≡ [] → IsFiltered test items 0 kept
+none_filtered test items kept e = record { same = ap (λ (xs : List Item). xs ++ filter test items) e }
+
+pub more_filtered : (test : Item → Bool) (items : List Item) (i : ℕ) (kept now : List Item) (x : Item) → IsFiltered test items i kept → i < length items → x ≡ get_or items i x → test x ≡ true → now ≡ kept ++ x ∷ [] → IsFiltered test items (i + 1) now
+more_filtered test items i kept now x so h e t v =
+    record {
+      same =
+          ap (λ (xs : List Item). xs ++ filter test (drop (i + 1) items)) v
+          ∙ append_assoc kept (x ∷ []) (filter test (drop (i + 1) items))
+          ∙ sym (ap (λ (xs : List Item). kept ++ filter test xs) (drop_item items i x h e) ∙ ap (λ (b : Bool). kept ++ cond b (x ∷ filter test (drop (i + 1) items)) (filter test (drop (i + 1) items))) t)
+          ∙ so.same;
+    }
+
+pub passed_filtered : (test : Item → Bool) (items : List Item) (i : ℕ) (kept : List Item) (x : Item) → IsFiltered test items i kept → i < length items → x ≡ get_or items i x → test x ≡ false → IsFiltered test items (i + 1) kept
+passed_filtered test items i kept x so h e t =
+    record { same = sym (ap (λ (xs : List Item). kept ++ filter test xs) (drop_item items i x h e) ∙ ap (λ (b : Bool). kept ++ cond b (x ∷ filter test (drop (i + 1) items)) (filter test (drop (i + 1) items))) t) ∙ so.same }
+
+pub all_filtered : (test : Item → Bool) (items : List Item) (i : ℕ) (kept : List Item) → IsFiltered test items i kept → length items ≤ i → kept ≡ filter test items
+all_filtered test items i kept so h = sym (append-nil kept) ∙ sym (ap (λ (xs : List Item). kept ++ filter test xs) (drop_of_length-le items h)) ∙ so.same
+
+pub ruleset filtered = (none_filtered, all_filtered)
+
 -- ---- groups
 
 pub some_group : {axis : ℕ} (space : Space axis) (gap : ℤ) (items : List Item) (ts : List Track) → 0 < length items → some_fitted space gap items ts ≡ group_fitted space gap false items ts

@@ -13,6 +13,7 @@ pub mod Idle
 pub mod Limits
 pub mod Grown
 pub mod Singles
+pub mod Lone
 pub mod Kept
 pub mod Whole
 pub mod Initial

@@ -1,11 +1,10 @@
 //! Items that span one track (CSS Grid 2, 12.5, step 2).
 
-ghost use Rattle.std.specs.Prelude.{◌≡◌, ◌<◌, ◌≤◌, ◌^◌, ◌≤ℤ◌, IfOk, length, map, pos};
-ghost use Rattle.lunit.specs.Units.{IsUnits};
-ghost use Rattle.part_rules.specs.Lists.{greatest_with};
-ghost use Rattle.part_rules.specs.Tracks.{Track, alone, auto_asks, base_for, fit_alone, fit_items, flexible, high, limit_by, limit_for, low};
-ghost use Rattle.track_sizing.specs.Alone.{fit_or_pass, is_alone, is_some_alone};
-ghost use Rattle.track_sizing.specs.Ordered.{AreFrom, AreRising, IsRun};
+ghost use Rattle.std.specs.Prelude.{◌≡◌, ◌<◌, ◌^◌, ◌+ℤ◌, IfOk, length, map, pos};
+ghost use Rattle.std.specs.Ordering.{int_eq};
+ghost use Rattle.part_rules.specs.Lists.{zipped};
+ghost use Rattle.part_rules.specs.Tracks.{auto_asks, fit_alone};
+ghost use Rattle.track_sizing.specs.Alone.{base_more, fit_single, limit_ask, limit_most, limit_single, single_by, single_more, single_none, single_of};
 ghost use Rattle.track_sizing.specs.Placed.{AreIn, AreSet, IsIn};
 
 use crate::distribute::place_of;
@@ -14,60 +13,30 @@ use crate::item::{Asks, asked, span_length};
 use crate::kinds::flexible;
 use crate::numbers::{length, longer, shorter};
 use crate::row::Row;
-use crate::runs::{Key, by_start, run_length};
 use lunit::{Item, Lu, NoMemory, Wide};
 use part_rules::{Least, Most, Space};
 use std::alloc::Global;
 
-/// Whether the item spans this track alone.
-fn is_alone(item: &Item, row: &Row) -> bool
-    ensures { result ≡ is_alone item.now row.now }
-{
-    i64::from(item.span.start) == row.at() && i64::from(item.span.end) - 1 == row.at()
+/// What the items that span a track alone make of it.
+#[derive(Clone, Copy)]
+struct Single {
+    /// Whether there is one.
+    some: bool,
+    /// The base size.
+    base: Lu,
+    /// The greatest contribution by which the growth limit goes.
+    most: Lu,
 }
 
-/// Whether some item spans this track alone.
-fn some_alone(items: &[Item], row: &Row) -> bool
-    ensures { result ≡ is_some_alone items.now row.now }
+/// A track without an item.
+fn single_none(row: &Row) -> Single
+    ensures { result ≡ single_none row.now }
 {
-    for item in items {
-        if is_alone(item, row) {
-            return true;
-        }
+    Single {
+        some: false,
+        base: row.base(),
+        most: Lu::default(),
     }
-    false
-}
-
-#[tactic(auto, using(crate::proofs::Singles::greatest))]
-/// The greatest min-content contribution of the items that span this track alone, at least `start`.
-fn greatest_low(start: Lu, items: &[Item], row: &Row) -> Lu
-    requires { pos 0 ≤ℤ start }
-    ensures value { result ≡ greatest_with start (map low (alone items.now row.now)) }
-    ensures some { pos 0 ≤ℤ result }
-{
-    let mut best = start;
-    for item in items {
-        if is_alone(item, row) {
-            best = longer(item.low, best);
-        }
-    }
-    best
-}
-
-#[tactic(auto, using(crate::proofs::Singles::greatest))]
-/// The greatest max-content contribution of the items that span this track alone, at least `start`.
-fn greatest_high(start: Lu, items: &[Item], row: &Row) -> Lu
-    requires { pos 0 ≤ℤ start }
-    ensures value { result ≡ greatest_with start (map high (alone items.now row.now)) }
-    ensures some { pos 0 ≤ℤ result }
-{
-    let mut best = start;
-    for item in items {
-        if is_alone(item, row) {
-            best = longer(item.high, best);
-        }
-    }
-    best
 }
 
 /// What an item asks of an `auto` minimum.
@@ -90,116 +59,195 @@ fn auto_asks<const AXIS: u8>(
     length(asked(is_definite(space), gap, &Asks::Minimum, mine, item))
 }
 
-#[tactic(auto, using(crate::proofs::Singles::greatest))]
-/// The greatest that the items which span this track alone ask of an `auto` minimum, at least `start`.
-fn greatest_asked<const AXIS: u8>(
+/// The base size by one item more.
+fn base_more<const AXIS: u8>(
     space: &Space<AXIS>,
     gap: Lu,
     first: Wide,
     rows: &[Row],
-    start: Lu,
-    items: &[Item],
-    row: &Row,
+    item: &Item,
+    least: &Least,
+    base: Lu,
 ) -> Lu
     requires few { length rows.now < 2 ^ 32 }
     requires set { AreSet first rows.now }
-    requires items { AreIn first (length rows.now) items.now }
-    requires some { pos 0 ≤ℤ start }
-    ensures value { result ≡ greatest_with start (map (auto_asks space.now gap rows.now) (alone items.now row.now)) }
-    ensures some { pos 0 ≤ℤ result }
+    requires item { IsIn first (length rows.now) item.now }
+    ensures { result ≡ base_more space.now gap rows.now item.now least.now base }
 {
-    let mut best = start;
-    for item in items {
-        if is_alone(item, row) {
-            best = longer(auto_asks(space, gap, first, rows, item), best);
-        }
-    }
-    best
-}
-
-/// The base size by the items that span this track alone.
-fn base_for<const AXIS: u8>(
-    space: &Space<AXIS>,
-    gap: Lu,
-    first: Wide,
-    rows: &[Row],
-    items: &[Item],
-    row: &Row,
-) -> Lu
-    requires few { length rows.now < 2 ^ 32 }
-    requires set { AreSet first rows.now }
-    requires items { AreIn first (length rows.now) items.now }
-    ensures value { result ≡ base_for space.now gap rows.now (alone items.now row.now) row.now.rule.least row.now.base }
-    ensures some { pos 0 ≤ℤ result }
-{
-    match row.rule().least {
-        Least::Fixed(_) => row.base(),
-        Least::MinContent => greatest_low(row.base(), items, row),
-        Least::MaxContent => greatest_high(row.base(), items, row),
-        Least::Auto => greatest_asked(space, gap, first, rows, row.base(), items, row),
+    match least {
+        Least::Fixed(_) => base,
+        Least::MinContent => longer(item.low, base),
+        Least::MaxContent => longer(item.high, base),
+        Least::Auto => longer(auto_asks(space, gap, first, rows, item), base),
     }
 }
 
-#[tactic(auto, unfolding(lunit::specs::Units::clamp))]
-/// The growth limit by the items that span this track alone, of which there is one at least.
-fn limit_by(most: &Most, limit: Option<Lu>, items: &[Item], row: &Row) -> Option<Lu>
-    ensures { result ≡ limit_by (alone items.now row.now) most.now limit }
+/// The contribution by which a growth limit goes.
+fn limit_ask(most: &Most, item: &Item) -> Lu
+    ensures { result ≡ limit_ask most.now item.now }
 {
     match most {
-        Most::MinContent => Some(greatest_low(Lu::of(0), items, row)),
-        Most::Auto => Some(greatest_high(Lu::of(0), items, row)),
-        Most::MaxContent => Some(greatest_high(Lu::of(0), items, row)),
-        Most::Fit(argument) => Some(shorter(*argument, greatest_high(Lu::of(0), items, row))),
-        Most::Fixed(_) => limit,
-        Most::Flex(_) => limit,
+        Most::MinContent => item.low,
+        _ => item.high,
     }
 }
 
-#[tactic(auto, using(crate::proofs::Singles::limit_cases))]
-/// The growth limit by the items that span this track alone.
-fn limit_for(items: &[Item], row: &Row) -> Option<Lu>
-    ensures { result ≡ limit_for (alone items.now row.now) row.now.rule.most row.now.limit }
+/// What a track is by one item more.
+fn single_more<const AXIS: u8>(
+    space: &Space<AXIS>,
+    gap: Lu,
+    first: Wide,
+    rows: &[Row],
+    item: &Item,
+    row: &Row,
+    single: &Single,
+) -> Single
+    requires few { length rows.now < 2 ^ 32 }
+    requires set { AreSet first rows.now }
+    requires item { IsIn first (length rows.now) item.now }
+    ensures { result ≡ single_more space.now gap rows.now item.now row.now single.now }
 {
-    if some_alone(items, row) {
-        limit_by(&row.rule().most, row.limit(), items, row)
+    let rule = row.rule();
+    Single {
+        some: true,
+        base: base_more(space, gap, first, rows, item, &rule.least, single.base),
+        most: longer(limit_ask(&rule.most, item), single.most),
+    }
+}
+
+/// Whether an item spans one track.
+fn is_single(item: &Item) -> bool
+    ensures { result ≡ int_eq item.now.span.end (item.now.span.start +ℤ pos 1) }
+{
+    i64::from(item.span.end) - 1 == i64::from(item.span.start)
+}
+
+#[tactic(auto, using(crate::proofs::Lone::item_laws))]
+/// Counts an item to the track that it spans alone, where that is not flexible.
+fn add_item<const AXIS: u8>(
+    space: &Space<AXIS>,
+    gap: Lu,
+    first: Wide,
+    rows: &[Row],
+    item: &Item,
+    singles: &mut [Single],
+)
+    requires few { length rows.now < 2 ^ 32 }
+    requires length { length singles.old ≡ length rows.now }
+    requires set { AreSet first rows.now }
+    requires item { IsIn first (length rows.now) item.now }
+    ensures { singles.new ≡ zipped (single_by space.now gap rows.now item.now) rows.now singles.old }
+{
+    if !is_single(item) {
+        return;
+    }
+    let place = place_of(first, item);
+    let row = &rows[place];
+    if flexible(row) {
+        return;
+    }
+    singles[place] = single_more(space, gap, first, rows, item, row, &singles[place]);
+}
+
+#[tactic(auto, using(crate::proofs::Lone::list_laws))]
+/// Counts items to the tracks that they span alone, from the last to the first.
+fn add_items<const AXIS: u8>(
+    space: &Space<AXIS>,
+    gap: Lu,
+    first: Wide,
+    rows: &[Row],
+    items: &[Item],
+    singles: &mut [Single],
+)
+    requires few { length rows.now < 2 ^ 32 }
+    requires length { length singles.old ≡ length rows.now }
+    requires set { AreSet first rows.now }
+    requires items { AreIn first (length rows.now) items.now }
+    requires none { singles.old ≡ map single_none rows.now }
+    ensures { singles.new ≡ map (single_of space.now gap rows.now items.now) rows.now }
+{
+    for back in 0..items.len() {
+        let item = &items[items.len() - 1 - back];
+        add_item(space, gap, first, rows, item, singles);
+    }
+}
+
+/// The tracks without items.
+fn no_singles(alloc: Global, rows: &[Row]) -> Result<Vec<Single>, NoMemory>
+    ensures { IfOk result (λ singles. singles.items ≡ map single_none rows.now) }
+{
+    let mut singles = Vec::new(alloc);
+    for row in rows {
+        singles.push(single_none(row))?;
+    }
+    Ok(singles)
+}
+
+/// The growth limit by the greatest contribution of at least one item.
+fn limit_most(most: &Most, greatest: Lu, limit: Option<Lu>) -> Option<Lu>
+    ensures { result ≡ limit_most most.now greatest limit }
+{
+    match most {
+        Most::MinContent | Most::Auto | Most::MaxContent => Some(greatest),
+        Most::Fit(argument) => Some(shorter(*argument, greatest)),
+        Most::Fixed(_) | Most::Flex(_) => limit,
+    }
+}
+
+/// The growth limit by the items that span a track alone.
+fn limit_single(row: &Row, single: &Single) -> Option<Lu>
+    ensures { result ≡ limit_single row.now single.now }
+{
+    if single.some {
+        limit_most(&row.rule().most, single.most, row.limit())
     } else {
         row.limit()
     }
 }
 
 /// The track by the items that span it alone. A flexible track is left as it is.
-fn fit_row<const AXIS: u8>(
-    space: &Space<AXIS>,
-    gap: Lu,
-    first: Wide,
-    rows: &[Row],
-    items: &[Item],
-    row: &Row,
-) -> Row
-    requires few { length rows.now < 2 ^ 32 }
-    requires set { AreSet first rows.now }
-    requires items { AreIn first (length rows.now) items.now }
-    ensures { result ≡ fit_or_pass space.now gap items.now rows.now row.now }
+fn fit_single(row: &Row, single: &Single) -> Row
+    ensures { result ≡ fit_single row.now single.now }
 {
     if flexible(row) {
         return *row;
     }
-    let base = base_for(space, gap, first, rows, items, row);
-    let limit = match limit_for(items, row) {
+    let base = longer(row.base(), single.base);
+    let limit = match limit_single(row, single) {
         Some(limit) => Some(longer(base, limit)),
         None => None,
     };
     row.with_base(base).with_limit(limit)
 }
 
-/// How many items stand first that begin at this track, where none begins before it.
-fn starting_at(row: &Row, items: &[Item]) -> usize
-    requires rising { AreRising Key.Start items.now }
-    requires from { AreFrom Key.Start row.now.at items.now }
-    ensures fits { result ≤ length items.now }
-    ensures run { IsRun Key.Start row.now.at items.now result }
+#[tactic(auto, using(crate::proofs::Loops::zipping))]
+/// The tracks by the items that span one alone.
+fn fit_each(rows: &mut [Row], singles: &[Single])
+    requires { length singles.now ≡ length rows.old }
+    ensures { rows.new ≡ zipped fit_single rows.old singles.now }
 {
-    run_length(&Key::Start, Wide::of(i128::from(row.at())), items)
+    for (place, row) in rows.iter_mut().enumerate() {
+        *row = fit_single(row, &singles[place]);
+    }
+}
+
+/// What the items that span a track alone make of each track.
+fn singles_of<const AXIS: u8>(
+    alloc: Global,
+    space: &Space<AXIS>,
+    gap: Lu,
+    first: Wide,
+    items: &[Item],
+    rows: &[Row],
+) -> Result<Vec<Single>, NoMemory>
+    requires few { length rows.now < 2 ^ 32 }
+    requires set { AreSet first rows.now }
+    requires items { AreIn first (length rows.now) items.now }
+    ensures { IfOk result (λ singles. singles.items ≡ map (single_of space.now gap rows.now items.now) rows.now) }
+{
+    let mut singles = no_singles(alloc, rows)?;
+    add_items(space, gap, first, rows, items, &mut singles);
+    Ok(singles)
 }
 
 /// The tracks by the items that span one alone.
@@ -216,13 +264,8 @@ pub fn fit_alone<const AXIS: u8>(
     requires items { AreIn first (length rows.now) items.now }
     ensures { IfOk result (λ fitted. fitted.items ≡ fit_alone space.now gap items.now rows.now) }
 {
-    let sorted = by_start(alloc, items)?;
-    let mut left: &[Item] = &sorted;
-    let mut fitted = Vec::new(alloc);
-    for row in rows {
-        let (mine, others) = left.split_at(starting_at(row, left));
-        fitted.push(fit_row(space, gap, first, rows, mine, row))?;
-        left = others;
-    }
+    let singles = singles_of(alloc, space, gap, first, items, rows)?;
+    let mut fitted = Vec::from_slice(alloc, rows)?;
+    fit_each(&mut fitted, &singles);
     Ok(fitted)
 }

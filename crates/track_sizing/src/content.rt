@@ -12,7 +12,7 @@ use crate::group::fit_group;
 use crate::item::{some_flexible, span_length};
 use crate::rest::close_set_limits;
 use crate::row::Row;
-use crate::runs::{Key, by_tracks, run_length};
+use crate::runs::{by_tracks, run_length, wide_items};
 use lunit::{Item, Lu, NoMemory, Wide};
 use part_rules::{Share, Space};
 use std::alloc::Global;
@@ -115,12 +115,12 @@ fn fit_some<const AXIS: u8>(
 
 /// How many items stand first that span so many tracks, where none spans fewer.
 fn spanning(tracks: u64, items: &[Item]) -> usize
-    requires rising { AreRising Key.Tracks items.now }
-    requires from { AreFrom Key.Tracks (pos tracks) items.now }
+    requires rising { AreRising items.now }
+    requires from { AreFrom (pos tracks) items.now }
     ensures fits { result ≤ length items.now }
-    ensures run { IsRun Key.Tracks (pos tracks) items.now result }
+    ensures run { IsRun (pos tracks) items.now result }
 {
-    run_length(&Key::Tracks, Wide::of(i128::from(tracks)), items)
+    run_length(Wide::of(i128::from(tracks)), items)
 }
 
 #[tactic(auto, using(crate::proofs::Kept::one_turn, crate::proofs::Kept::no_turn))]
@@ -141,10 +141,14 @@ fn fit_spans<const AXIS: u8>(
     ensures rows { OnOk result (rows.new ≡ spans_fitted space.now gap items.now (length rows.old) 2 rows.old) }
     ensures set { OnOk result (AreSet first rows.new) }
 {
-    let sorted = by_tracks(alloc, items)?;
-    let (_alone, mut left) = sorted.split_at(spanning(1, &sorted));
+    let wide = wide_items(alloc, items)?;
+    let sorted = by_tracks(alloc, &wide)?;
+    let mut left: &[Item] = &sorted;
     let mut span = 2;
     for _turn in 0..rows.len() {
+        if left.len() == 0 {
+            return Ok(());
+        }
         let (mine, others) = left.split_at(spanning(span, left));
         let group = of_span(alloc, first, rows, mine, span)?;
         fit_some(space, gap, first, &group, rows, takers);

@@ -3,7 +3,7 @@ use Rattle.track_sizing.proofs.Order.{AreOf}
 use Rattle.track_sizing.proofs.runs.run_length.Given as goal
 
 abbrev pub invariant-loop-count : goal.invariant-loop-count
-invariant-loop-count l = record { fits : l.count ≤ length l.items; of : AreOf l.by l.number (take l.count l.items) }
+invariant-loop-count l = record { fits : l.count ≤ length l.items; of : AreOf l.number (take l.count l.items) }
 
 abbrev pub decreases-loop-count : goal.decreases-loop-count
 decreases-loop-count l = length l.items - l.count
