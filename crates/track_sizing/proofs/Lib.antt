@@ -23,3 +23,4 @@ pub mod Flexed
 pub mod Sized
 pub mod Order
 pub mod Noted
+pub mod Staying

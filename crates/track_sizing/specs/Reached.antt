@@ -1,5 +1,5 @@
 -- Which tracks the items of a group reach in a step: those that are affected and that one of them spans.
-use Rattle.std.specs.Prelude.{pos, Bool, true, List, [], ◌∷◌, Some, None, is_some, if◌then◌else◌}
+use Rattle.std.specs.Prelude.{◌≡◌, pos, Bool, true, List, [], ◌∷◌, Some, None, is_some, if◌then◌else◌}
 use Rattle.std.specs.List.{list_any}
 use Rattle.lunit.specs.declared.item.Item.{Item}
 use Rattle.part_rules.specs.Lists.{zipped}
@@ -39,3 +39,13 @@ raised_where t s = if is_noted s then raised_limit t else t
 -- the same, with the mark for the next step
 abbrev pub marked_where : Track → Share → Track
 marked_where t s = mark_endless t (raised_where t s)
+
+-- a track that stays as it is where its growth limit is raised, and where that is marked
+pub record Stays (t : Track) : Type 0 where
+  pub raised : raised_limit t ≡ t
+  pub marked : mark_endless t t ≡ t
+
+-- and each of them
+abbrev pub AllStay : List Track → Type 0
+AllStay [] = Unit {0}
+AllStay (t ∷ ts) = Stays t × AllStay ts

@@ -1,11 +1,11 @@
 //! Steps of distribution for a group of items (modelled after CSS Grid 2, 12.5.1; own rule as a whole).
 
-ghost use Rattle.std.specs.Prelude.{◌≡◌, ◌<◌, ◌^◌, ◌≤◌, ◌+ℤ◌, ◌≤ℤ◌, length, map, pos};
+ghost use Rattle.std.specs.Prelude.{◌≡◌, ◌<◌, ◌^◌, ◌≤◌, ◌+ℤ◌, ◌≤ℤ◌, length, map, pos, true};
 ghost use Rattle.part_rules.specs.Lists.{zipped};
 ghost use Rattle.part_rules.specs.Tracks.{base_distributed, base_planned_by, base_planned_by_all, high_limits, limit_planned_by, limit_planned_by_all, low_limits, raise_limit, raised_base, raised_limit_by};
 ghost use Rattle.track_sizing.specs.Kinds.{affected_of};
 ghost use Rattle.track_sizing.specs.Placed.{AreIn, AreSet, IsIn, base_step_of, limit_step_in, marked_limit_by};
-ghost use Rattle.track_sizing.specs.Reached.{marked_where, raised_where};
+ghost use Rattle.track_sizing.specs.Reached.{AllStay, marked_where, raised_where};
 
 use crate::item::span_length;
 use crate::kinds::{Affected, Kind, some_affected};
@@ -218,7 +218,20 @@ fn raise_and_mark_noted(rows: &mut [Row], notes: &[Share])
     }
 }
 
-#[tactic(auto, using(crate::proofs::Noted::reaches))]
+#[tactic(auto, using(crate::proofs::Staying::rows_stay))]
+/// Whether all tracks surely stay as they are where growth limits are raised and marked.
+fn all_stay(rows: &[Row]) -> bool
+    ensures { result ≡ true → AllStay rows.now }
+{
+    for row in rows {
+        if !row.stays() {
+            return false;
+        }
+    }
+    true
+}
+
+#[tactic(auto, using(crate::proofs::Noted::reaches, crate::proofs::Staying::limits_stay))]
 /// Raises the growth limits that some item reaches, with the marks for the next step.
 fn raise_marked_limits(
     affected: &Affected,
@@ -233,11 +246,14 @@ fn raise_marked_limits(
     requires items { AreIn first (length rows.old) items.now }
     ensures { rows.new ≡ map (marked_limit_by (affected_of affected.now) items.now) rows.old }
 {
+    if all_stay(rows) {
+        return;
+    }
     note_reached(affected, first, items, rows, notes);
     raise_and_mark_noted(rows, notes);
 }
 
-#[tactic(auto, using(crate::proofs::Noted::reaches))]
+#[tactic(auto, using(crate::proofs::Noted::reaches, crate::proofs::Staying::limits_stay))]
 /// Raises the growth limits that some item reaches.
 fn raise_limits(
     affected: &Affected,
@@ -252,6 +268,9 @@ fn raise_limits(
     requires items { AreIn first (length rows.old) items.now }
     ensures { rows.new ≡ map (raised_limit_by (affected_of affected.now) items.now) rows.old }
 {
+    if all_stay(rows) {
+        return;
+    }
     note_reached(affected, first, items, rows, notes);
     raise_noted(rows, notes);
 }

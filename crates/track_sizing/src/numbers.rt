@@ -1,6 +1,6 @@
 //! Exact numbers of units.
 
-ghost use Rattle.std.specs.Prelude.{◌≡◌, pos};
+ghost use Rattle.std.specs.Prelude.{◌≡◌, ◌+ℤ◌, ◌≤ℤ◌, pos, true};
 ghost use Rattle.std.specs.Int.{int_max, int_min};
 ghost use Rattle.lunit.specs.Units.{IsUnits, clamp};
 ghost use Rattle.part_rules.specs.Lists.{at_most};
@@ -53,4 +53,20 @@ pub fn length(number: Wide) -> Lu
     ensures { result ≡ number }
 {
     number.clamp()
+}
+
+/// Whether a space is 0.
+pub fn is_nothing(space: Lu) -> bool
+    requires { pos 0 ≤ℤ space }
+    ensures { result ≡ true → space ≡ pos 0 }
+{
+    space.units() <= 0
+}
+
+#[tactic(auto, using(crate::proofs::Order::that_number))]
+/// Whether a length with so much more is as it was.
+pub fn stays_with(length: Lu, more: Lu) -> bool
+    ensures { result ≡ true → clamp (length +ℤ more) ≡ length }
+{
+    (length.wide() + more.wide()).clamp() == length
 }

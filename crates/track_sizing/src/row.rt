@@ -1,12 +1,13 @@
 //! A track while it is sized (CSS Grid 2, 12.3).
 
-ghost use Rattle.std.specs.Prelude.{◌≡◌, ◌≤ℤ◌, ◌+ℤ◌, pos, Some};
+ghost use Rattle.std.specs.Prelude.{◌≡◌, ◌≤ℤ◌, ◌+ℤ◌, pos, true, Some};
 ghost use Rattle.std.specs.Int.{int_max};
 ghost use Rattle.lunit.specs.Units.{IsLong, IsUnits, clamp};
 ghost use Rattle.part_rules.specs.Tracks.{close_limit, fixed_least, fixed_most, full, grow_base, incur, initial, limit_of, plan, raise_limit, raised_base, raised_limit};
+ghost use Rattle.track_sizing.specs.Reached.{Stays};
 ghost use Rattle.track_sizing.specs.Rows.{IsLimit};
 
-use crate::numbers::longer;
+use crate::numbers::{is_nothing, longer, stays_with};
 use lunit::{Lu, Wide};
 use part_rules::{Least, Most, Rule};
 use std::marker::Model;
@@ -209,6 +210,22 @@ impl Row {
             limit: Some((self.limit_or_base().wide() + self.planned.wide()).clamp()),
             planned: Lu::of(0),
             ..*self
+        }
+    }
+
+    /// Whether the track surely stays as it is where its growth limit is raised and marked.
+    pub fn stays(&self) -> bool
+        ensures { result ≡ true → Stays self.now }
+    {
+        if self.endless {
+            return false;
+        }
+        if !is_nothing(self.planned) {
+            return false;
+        }
+        match self.limit {
+            Some(limit) => stays_with(limit, self.planned),
+            None => false,
         }
     }
 

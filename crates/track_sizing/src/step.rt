@@ -1,6 +1,6 @@
 //! What one item gives its tracks in one step of distribution (modelled after CSS Grid 2, 12.5.1; own rule as a whole).
 
-ghost use Rattle.std.specs.Prelude.{◌≡◌, ◌<◌, ◌^◌, ◌≤ℤ◌, ◌<ℤ◌, length, map, pos, true};
+ghost use Rattle.std.specs.Prelude.{◌≡◌, ◌<◌, ◌^◌, ◌≤ℤ◌, ◌<ℤ◌, length, map, pos};
 ghost use Rattle.std.specs.List.{list_any};
 ghost use Rattle.lunit.specs.Units.{top};
 ghost use Rattle.part_rules.specs.Tracks.{plan};
@@ -10,6 +10,7 @@ ghost use Rattle.track_sizing.specs.Placed.{AreReady};
 use crate::factors::give_by_factors;
 use crate::item::{Asks, asked, base_sum, limit_sum, needed};
 use crate::kinds::{Affected, Kind, some_affected};
+use crate::numbers::is_nothing;
 use crate::rooms::{Rooms, is_open};
 use crate::row::Row;
 use crate::turn::hand_out_to;
@@ -101,14 +102,6 @@ fn give_limit(affected: &Affected, second: bool, space: Lu, rows: &mut [Row], ta
     }
     let rest = hand_out_to(&Rooms::Rising(*affected, second), space, rows, takers);
     let _left = hand_out_to(&Rooms::ToEnd(*affected, second), rest, rows, takers);
-}
-
-/// Whether a space is 0.
-fn is_nothing(space: Lu) -> bool
-    requires { pos 0 ≤ℤ space }
-    ensures { result ≡ true → space ≡ pos 0 }
-{
-    space.units() <= 0
 }
 
 #[tactic(auto, using(crate::proofs::Idle::idle))]
