@@ -1,12 +1,13 @@
 -- Numbered items sorted by their values of `order`.
 use Rattle.std.proofs.Common.{◌≡◌, ◌≢◌, refl, sym, ap, ◌∙◌, arith, subst, ℕ, zero, suc, ◌+◌, ◌<◌, ◌≤◌, ℤ, int_le, Bool, true, false, List, [], ◌∷◌, ◌++◌, take, drop, length, map, if◌then◌else◌, add-one}
-use Rattle.std.specs.Prelude.{All, get_or, ◌==◌}
+use Rattle.std.specs.Prelude.{All, get_or, ◌==◌, ◌&&◌, ◌<ℤ◌, ◌≤ℤ◌}
 use Rattle.placing.proofs.Each.{Each, all_each, each_map}
-use Rattle.std.proofs.lemmas.Bool.{eqb-false, eqb-true}
+use Rattle.std.proofs.lemmas.Bool.{and_parts, eqb-false, eqb-true}
+use Rattle.std.proofs.lemmas.Int.{ints}
 use Rattle.std.proofs.lemmas.List.{length-map, length-take-le, take_more}
 use Rattle.part_rules.specs.Lists.{zipped}
 use Rattle.tree_rules.specs.Orders.{put_before, sorted_by, numbered_from, in_order, of_number}
-use Rattle.placing.specs.Order.{numbers_in_order, item_of, items_of}
+use Rattle.placing.specs.Order.{are_ascending, numbers_in_order, item_of, items_of}
 
 -- ---- a fact of each item stays when they are sorted
 
@@ -237,3 +238,57 @@ pub count_order : (orders : List ℤ) (numbers : List ℕ) → numbers ≡ numbe
 count_order orders numbers e = ap length e ∙ numbers_length orders
 
 pub ruleset number_laws = (within_order, count_order)
+
+-- ---- values that ascend stay where they are
+
+not_le : (a b : ℤ) → b <ℤ a → int_le a b ≡ false
+not_le a b h = go (int_le a b) refl
+  where
+    go : (t : Bool) → int_le a b ≡ t → t ≡ false
+    go true e = absurd (omega (arith, ints))
+    go false e = refl
+
+is_le : (a b : ℤ) → a ≤ℤ b → int_le a b ≡ true
+is_le a b h = go (int_le a b) refl
+  where
+    go : (t : Bool) → int_le a b ≡ t → t ≡ true
+    go true e = refl
+    go false e = absurd (omega (arith, ints))
+
+-- a value that is less than the last one ends the order
+pub falls : (last : ℤ) (orders : List ℤ) (i : ℕ) (d : ℤ) → i < length orders → get_or orders i d <ℤ last → are_ascending last (drop i orders) ≡ false
+falls last [] zero d h l = absurd (omega (arith, h))
+falls last [] (suc i) d h l = absurd (omega (arith, h))
+falls last (x ∷ xs) zero d h l = ap (λ b. b && are_ascending x xs) (not_le last x l)
+falls last (x ∷ xs) (suc i) d h l = falls last xs i d (omega (arith, h)) l
+
+rises_on : (last : ℤ) (orders : List ℤ) (i : ℕ) (d : ℤ) → i < length orders → last ≤ℤ get_or orders i d → are_ascending last (drop i orders) ≡ are_ascending (get_or orders i d) (drop (suc i) orders)
+rises_on last [] zero d h l = absurd (omega (arith, h))
+rises_on last [] (suc i) d h l = absurd (omega (arith, h))
+rises_on last (x ∷ xs) zero d h l = ap (λ b. b && are_ascending x xs) (is_le last x l)
+rises_on last (x ∷ xs) (suc i) d h l = rises_on last xs i d (omega (arith, h)) l
+
+pub rises : (last : ℤ) (orders : List ℤ) (i : ℕ) (d : ℤ) → i < length orders → last ≤ℤ get_or orders i d → are_ascending last (drop i orders) ≡ are_ascending (get_or orders i d) (drop (i + 1) orders)
+rises last orders i d h l = rises_on last orders i d h l ∙ ap (λ m. are_ascending (get_or orders i d) (drop m orders)) (sym (add-one i))
+
+pub ended : (last : ℤ) (orders : List ℤ) (i : ℕ) → length orders ≤ i → are_ascending last (drop i orders) ≡ true
+ended last [] zero h = refl
+ended last [] (suc i) h = refl
+ended last (x ∷ xs) zero h = absurd (omega (arith, h))
+ended last (x ∷ xs) (suc i) h = ended last xs i (omega (arith, h))
+
+pub ruleset ascending_laws = (falls, rises, ended)
+
+unmoved_from : (least : ℤ) (n : ℕ) (orders : List ℤ) → are_ascending least orders ≡ true → sorted_by (λ (e : ℕ × ℤ). e.1) (numbered_from n orders) ≡ numbered_from n orders
+unmoved_from least n [] h = refl
+unmoved_from least n (x ∷ []) h = refl
+unmoved_from least n (x ∷ y ∷ rest) h =
+    let first = and_parts (int_le least x) (int_le x y && are_ascending y rest) h in
+    let next = and_parts (int_le x y) (are_ascending y rest) first.1 in
+    ap (put_before (λ (e : ℕ × ℤ). e.1) (n, x)) (unmoved_from x (n + 1) (y ∷ rest) first.1)
+    ∙ ap (λ (b : Bool). if b then (n, x) ∷ (n + 1, y) ∷ numbered_from (n + 1 + 1) rest else (n + 1, y) ∷ put_before (λ (e : ℕ × ℤ). e.1) (n, x) (numbered_from (n + 1 + 1) rest)) next.0
+
+pub unmoved : (least : ℤ) (orders : List ℤ) → are_ascending least orders ≡ true → map (λ (e : ℕ × ℤ). e.0) (numbered_from 0 orders) ≡ numbers_in_order orders
+unmoved least orders h = ap (map (λ (e : ℕ × ℤ). e.0)) (sym (unmoved_from least 0 orders h))
+
+pub ruleset unmoved_laws = (unmoved)

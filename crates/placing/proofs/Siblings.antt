@@ -1,13 +1,17 @@
 -- The children that a grid sees, by their numbers.
-use Rattle.std.proofs.Common.{◌≡◌, sym, ap, ◌∙◌, subst, ℕ, zero, suc, ◌+◌, ◌<◌, ℤ, List, [], ◌∷◌, ◌++◌, drop, take, length, map}
+use Rattle.std.proofs.Common.{◌≡◌, sym, ap, ◌∙◌, subst, arith, refl, ℕ, zero, suc, ◌+◌, ◌-◌, ◌<◌, ◌≤◌, ℤ, List, [], ◌∷◌, ◌++◌, drop, take, length, map, max, true}
 use Rattle.std.specs.Prelude.{All, get_or}
 use Rattle.std.proofs.lemmas.List.{length-map, map-append, take_more, append_assoc}
 use Rattle.lunit.specs.declared.geometry.Spot.{Spot}
+use Rattle.style_types.specs.declared.track.Template.{Template}
+use Rattle.style_types.specs.declared.track.Template.TheVariants as template
 use Rattle.part_rules.specs.declared.wish.Wish.{Wish}
 use Rattle.tree_rules.specs.Answers.{Kid}
 use Rattle.tree_rules.specs.Chains.{Sibling, sibling_of}
 use Rattle.tree_rules.specs.Contexts as rules
+use Rattle.tree_rules.specs.Templates.{subgrid_sets}
 use Rattle.placing.specs.Insides.{AreFilled, IsFilled}
+use Rattle.placing.specs.Ranges.{IsTemplate}
 use Rattle.placing.specs.Wishes.{no_sibling, spot_along}
 
 pub wish_is : (c : rules.Context) (s : Sibling) (x y : Spot) → x ≡ spot_along 0 c.columns.table s.is_grid s.grid → y ≡ spot_along 1 c.rows.table s.is_grid s.grid → record { column = x; row = y } ≡ rules.wish_of c s
@@ -29,6 +33,19 @@ wishes_step f numbers i old new w h a b e =
 pub filled_push : (ws : List Wish) (w : Wish) → AreFilled ws → IsFilled w.column → IsFilled w.row → AreFilled (ws ++ w ∷ [])
 filled_push [] w h c r = ((c, r), tt)
 filled_push (v ∷ vs) w h c r = (h.0, filled_push vs w h.1 c r)
+
+-- the automatic span of a grid by its name sets, of which a template that is no subgrid has none
+pub span_of_sets : (t : Template) → max 1 (length (subgrid_sets t) - 1) ≡ rules.automatic_span true t
+span_of_sets template.Absent = refl
+span_of_sets (template.Tracks l) = refl
+span_of_sets (template.Subgrid sets) = refl
+
+pub few_sets : (t : Template) → IsTemplate t → length (subgrid_sets t) ≤ 20001
+few_sets template.Absent h = omega arith
+few_sets (template.Tracks l) h = omega arith
+few_sets (template.Subgrid sets) h = h
+
+pub ruleset span_laws = (span_of_sets, few_sets)
 
 pub orders_step : (kids rest : List Kid) (i : ℕ) (old new all : List ℤ) (kid : Kid) (x : ℤ) → old ++ map (λ (k : Kid). k.label.grid.order) (drop i kids) ≡ all → drop i kids ≡ kid ∷ rest → new ≡ old ++ x ∷ [] → x ≡ kid.label.grid.order
     → new ++ map (λ (k : Kid). k.label.grid.order) rest ≡ all

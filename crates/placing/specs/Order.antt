@@ -1,5 +1,5 @@
 -- Children by their numbers in document order, from 0, in order-modified document order (CSS Grid 2, 6.3).
-use Rattle.std.specs.Prelude.{ℕ, ℤ, List, map, get_or}
+use Rattle.std.specs.Prelude.{ℕ, ℤ, int_le, Bool, true, ◌&&◌, List, [], ◌∷◌, map, get_or}
 use Rattle.tree_rules.specs.Orders.{in_order}
 
 -- the numbers of these values of `order`, by the values and then in document order
@@ -13,3 +13,8 @@ item_of other xs n = (n, get_or xs n other)
 -- the items of these numbers
 abbrev pub items_of : {A : Type 0} → A → List A → List ℕ → List (ℕ × A)
 items_of other xs numbers = map (item_of other xs) numbers
+
+-- Each value is at least the one before it, and the first at least this one.
+abbrev pub are_ascending : ℤ → List ℤ → Bool
+are_ascending least [] = true
+are_ascending least (x ∷ rest) = int_le least x && are_ascending x rest

@@ -2,7 +2,7 @@
 
 ghost use Rattle.std.specs.Prelude.{◌≡◌, ◌<◌, ℕ, ℤ, length, map, All, IfOk, OnOk};
 ghost use Rattle.tree_rules.specs.Orders.{in_order, numbered_from, sorted_by};
-ghost use Rattle.placing.specs.Order.{numbers_in_order};
+ghost use Rattle.placing.specs.Order.{are_ascending, numbers_in_order};
 
 use lunit::{NoMemory, Sequence};
 use std::alloc::Global;
@@ -11,7 +11,7 @@ use std::alloc::Global;
 fn numbered(alloc: Global, orders: &[i32]) -> Result<Vec<(usize, i32)>, NoMemory>
     ensures { IfOk result (λ pairs. pairs.items ≡ numbered_from 0 orders.now) }
 {
-    let mut pairs = Vec::new(alloc);
+    let mut pairs = Vec::with_capacity(alloc, orders.len())?;
     for number in 0..orders.len() {
         pairs.push((number, orders[number]))?;
     }
@@ -39,11 +39,49 @@ fn sorted(alloc: Global, orders: &[i32]) -> Result<Vec<(usize, i32)>, NoMemory>
 fn numbers_of(alloc: Global, pairs: &[(usize, i32)]) -> Result<Sequence<usize>, NoMemory>
     ensures { IfOk result (λ numbers. numbers ≡ map (λ (e : ℕ × ℤ). e.0) pairs.now) }
 {
-    let mut numbers = Sequence::new(alloc);
+    let mut numbers = Vec::with_capacity(alloc, pairs.len())?;
     for (number, _) in pairs {
         numbers.push(*number)?;
     }
-    Ok(numbers)
+    Ok(Sequence::from_vec(numbers))
+}
+
+#[tactic(auto, using(crate::proofs::Numbers::ascending_laws))]
+/// Whether none of these values is less than this one, nor than one before it.
+fn are_ascending(least: i32, orders: &[i32]) -> bool
+    ensures { result ≡ are_ascending least orders.now }
+{
+    let mut last = least;
+    for order in orders {
+        if *order < last {
+            return false;
+        }
+        last = *order;
+    }
+    true
+}
+
+/// The numbers from 0 of so many values.
+fn numbers_as_they_come(alloc: Global, orders: &[i32]) -> Result<Sequence<usize>, NoMemory>
+    ensures { IfOk result (λ numbers. numbers ≡ map (λ (e : ℕ × ℤ). e.0) (numbered_from 0 orders.now)) }
+{
+    let mut numbers = Vec::with_capacity(alloc, orders.len())?;
+    for number in 0..orders.len() {
+        numbers.push(number)?;
+    }
+    Ok(Sequence::from_vec(numbers))
+}
+
+#[tactic(auto, using(crate::proofs::Numbers::unmoved_laws))]
+/// The numbers of values of `order`, from 0, by the values and then as they come. Values that ascend are not sorted.
+fn sorted_numbers(alloc: Global, orders: &[i32]) -> Result<Sequence<usize>, NoMemory>
+    ensures { IfOk result (λ numbers. numbers ≡ numbers_in_order orders.now) }
+{
+    if are_ascending(i32::MIN, orders) {
+        return numbers_as_they_come(alloc, orders);
+    }
+    let pairs = sorted(alloc, orders)?;
+    numbers_of(alloc, &pairs)
 }
 
 #[tactic(auto, using(crate::proofs::Numbers::number_laws))]
@@ -53,7 +91,6 @@ pub(crate) fn numbers_in_order(alloc: Global, orders: &[i32]) -> Result<Sequence
     ensures count { IfOk result (λ numbers. length numbers ≡ length orders.now) }
     ensures within { IfOk result (λ numbers. All (λ n. n < length orders.now) numbers) }
 {
-    let pairs = sorted(alloc, orders)?;
-    let numbers = numbers_of(alloc, &pairs)?;
+    let numbers = sorted_numbers(alloc, orders)?;
     Ok(numbers)
 }

@@ -37,8 +37,9 @@ fn orders(alloc: Global, tree: &Arena<Node>, id: NodeId) -> Result<Vec<i32>, NoM
     requires { IsLive (bare tree.now.tree) id }
     ensures { IfOk result (λ orders. orders.items ≡ orders_at (bare tree.now.tree) id) }
 {
-    let mut orders = Vec::new(alloc);
-    for index in 0..count(tree, id) {
+    let children = count(tree, id);
+    let mut orders = Vec::with_capacity(alloc, children)?;
+    for index in 0..children {
         let child = child(tree, id, index);
         orders.push(order(&node_at(tree, child).style))?;
     }
@@ -135,12 +136,12 @@ fn cut_areas(
     ensures children { IfOk result (λ cut. map (child_at (bare tree.now.tree) id) numbers.now ≡ map child_in cut) }
     ensures areas { IfOk result (λ cut. map (λ (e : NodeId × Area). e.1) cut ≡ map (cut_to limits) areas.now) }
 {
-    let mut cut = Sequence::new(alloc);
+    let mut cut = Vec::with_capacity(alloc, numbers.len())?;
     for index in 0..numbers.len() {
         let child = child(tree, id, numbers[index]);
         cut.push((child, cut_area(limits, areas[index])))?;
     }
-    Ok(cut)
+    Ok(Sequence::from_vec(cut))
 }
 
 /// The span of an area along an axis.

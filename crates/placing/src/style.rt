@@ -5,9 +5,9 @@
 
 ghost use Rattle.std.specs.Prelude.{◌≡◌, ◌∷◌, [], Some, None, false, pos};
 ghost use Rattle.std.specs.Option.{option_copied, unwrap_or};
+ghost use Rattle.lunit.specs.declared.line_value.LineValue.TheVariants as line;
 ghost use Rattle.style_types.specs.Styles.{value_of};
 ghost use Rattle.style_types.specs.Table.{auto_track, initial};
-ghost use Rattle.style_types.specs.declared.prop.Prop.TheVariants as prop;
 ghost use Rattle.style_types.specs.declared.track.Template.TheVariants as template;
 ghost use Rattle.tree_rules.specs.Labels.{align_in, border_box_in, column_in, content_of, factor_in, flow_in, grid_of, length_in, line_in, margin_in, order_in, scrolls_in, size_in, sizes_in, template_in, wrap_in};
 ghost use Rattle.tree_rules.specs.Chains.{is_subgrid};
@@ -66,14 +66,14 @@ fn sizes_of(style: &Style, p: Prop) -> Option<&[TrackFn]>
     }
 }
 
-/// The line value that a property has.
-fn line_of(style: &Style, p: Prop) -> LineValue
-    requires { line_in (initial p) ≡ line_in (initial prop.GridColumnStart) }
-    ensures { result ≡ line_in (value_of style.now p) }
+/// The line value that a property has; `None` where it has none, and this is `auto`.
+fn line_of(style: &Style, p: Prop) -> Option<&LineValue>
+    requires { line_in (initial p) ≡ line.Auto }
+    ensures { unwrap_or (option_copied result) line.Auto ≡ line_in (value_of style.now p) }
 {
     match style.get(p) {
-        Some(Value::Line(line)) => *line,
-        _ => LineValue::Auto,
+        Some(Value::Line(line)) => Some(line),
+        _ => None,
     }
 }
 
@@ -196,9 +196,9 @@ pub fn autos<const AXIS: u8>(style: &Style) -> Option<&[TrackFn]>
     }
 }
 
-/// The line value of its start as an item (CSS Grid 2, section 8.3).
-pub fn start_line<const AXIS: u8>(style: &Style) -> LineValue
-    ensures { result ≡ (grid_axis AXIS (grid_of style.now)).start_line }
+/// The line value of its start as an item; `None` where it is not set, and is `auto` (CSS Grid 2, section 8.3).
+pub fn start_line<const AXIS: u8>(style: &Style) -> Option<&LineValue>
+    ensures { unwrap_or (option_copied result) line.Auto ≡ (grid_axis AXIS (grid_of style.now)).start_line }
 {
     if AXIS == 0 {
         line_of(style, Prop::GridColumnStart)
@@ -207,9 +207,9 @@ pub fn start_line<const AXIS: u8>(style: &Style) -> LineValue
     }
 }
 
-/// The line value of its end as an item (CSS Grid 2, section 8.3).
-pub fn end_line<const AXIS: u8>(style: &Style) -> LineValue
-    ensures { result ≡ (grid_axis AXIS (grid_of style.now)).end_line }
+/// The line value of its end as an item; `None` where it is not set, and is `auto` (CSS Grid 2, section 8.3).
+pub fn end_line<const AXIS: u8>(style: &Style) -> Option<&LineValue>
+    ensures { unwrap_or (option_copied result) line.Auto ≡ (grid_axis AXIS (grid_of style.now)).end_line }
 {
     if AXIS == 0 {
         line_of(style, Prop::GridColumnEnd)

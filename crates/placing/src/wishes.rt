@@ -18,9 +18,9 @@ ghost use Rattle.placing.specs.Wishes.{spot_along, wish_by, IsLimitOf};
 use crate::contexts::Context;
 use crate::node::Node;
 use crate::sight::{child, node_at};
-use crate::style::{end_line, is_subgrid, start_line, subgrid_sets};
+use crate::style::{end_line, start_line, subgrid_sets};
 use line_names::LineTable;
-use lunit::{NoMemory, Spot};
+use lunit::{LineValue, NoMemory, Spot};
 use node_arena::{Arena, NodeId};
 use part_rules::Wish;
 use std::alloc::Global;
@@ -38,12 +38,13 @@ pub(crate) fn is_grid(kind: &NodeKind) -> bool
     }
 }
 
+#[tactic(auto, using(crate::proofs::Siblings::span_laws))]
 /// The automatic span of a child along an axis (CSS Grid 2, 8.3 and section 9).
 fn automatic_span<const AXIS: u8>(is_grid: bool, style: &Style) -> u32
     requires { IsGridStyle (grid_of style.now) }
     ensures { result ≡ automatic_span is_grid (grid_axis AXIS (grid_of style.now)).template }
 {
-    if !is_grid || !is_subgrid::<AXIS>(style) {
+    if !is_grid {
         return 1;
     }
     (subgrid_sets::<AXIS>(style).len().saturating_sub(1) as u32).max(1)
@@ -57,7 +58,12 @@ fn spot<const AXIS: u8>(table: &LineTable, is_grid: bool, style: &Style) -> Spot
     ensures filled { IsLimitOf table.now → IsFilled result }
 {
     let span = automatic_span::<AXIS>(is_grid, style);
-    table.resolve(&start_line::<AXIS>(style), &end_line::<AXIS>(style), span)
+    let auto = LineValue::Auto;
+    table.resolve(
+        start_line::<AXIS>(style).unwrap_or(&auto),
+        end_line::<AXIS>(style).unwrap_or(&auto),
+        span,
+    )
 }
 
 #[tactic(auto, using(crate::proofs::Siblings::wish_is))]
@@ -103,7 +109,7 @@ pub(crate) fn wishes(
     ensures value { IfOk result (λ wishes. wishes.items ≡ map (wish_by (context_of context.now) (siblings_at (bare tree.now.tree) id)) numbers.now) }
     ensures filled { IfOk result (λ wishes. AreFilled wishes.items) }
 {
-    let mut wishes = Vec::new(alloc);
+    let mut wishes = Vec::with_capacity(alloc, numbers.len())?;
     for number in numbers {
         wishes.push(wish_at(tree, id, context, *number))?;
     }

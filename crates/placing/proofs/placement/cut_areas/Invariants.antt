@@ -10,6 +10,6 @@ use Rattle.placing.proofs.placement.cut_areas.Given as goal
 abbrev pub invariant-loop-index : goal.invariant-loop-index
 invariant-loop-index l =
     record {
-      children : map (child_at (bare l.tree.tree) l.id) (take l.index l.numbers) ≡ map child_in l.cut;
-      areas : map (λ (e : NodeId × Area). e.1) l.cut ≡ map (cut_to l.limits) (take l.index l.areas);
+      children : map (child_at (bare l.tree.tree) l.id) (take l.index l.numbers) ≡ map child_in l.cut.items;
+      areas : map (λ (e : NodeId × Area). e.1) l.cut.items ≡ map (cut_to l.limits) (take l.index l.areas);
     }
