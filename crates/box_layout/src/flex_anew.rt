@@ -15,13 +15,12 @@ ghost use Rattle.tree_rules.specs.declared.query.Ask.TheVariants as ask;
 ghost use Rattle.box_layout.specs.Asking.{frames_asked};
 
 use crate::flexed::{column_frames, row_frames};
-use crate::queries::copied_frames;
 use layout_cache::{Given, Query};
 use lunit::{Lu, NoMemory, Sequence, Steps};
 use node_arena::{Arena, NodeId};
 use outside::{Ruler, Tally};
 use placing::style::is_column;
-use placing::{Answer, Frame, Node, node_at, put};
+use placing::{Answer, Frame, Node, SharedFrames, node_at, put};
 use std::alloc::Global;
 use std::sync::ledger::Ledger;
 
@@ -128,7 +127,7 @@ pub(crate) fn flex_frames_anew<R: Ruler, L: Ledger>(
     ruler: &mut R,
     tally: &mut Tally,
     passes: &mut Steps<L>,
-) -> Result<Sequence<Frame>, NoMemory>
+) -> Result<SharedFrames, NoMemory>
     requires live { IsLive (bare tree.old.tree) id }
     requires right { IsRight tree.old.tree }
     requires readable { AreReadable (bare tree.old.tree) }
@@ -144,8 +143,8 @@ pub(crate) fn flex_frames_anew<R: Ruler, L: Ledger>(
     ensures own { IfOk result (λ frames. kept_at tree.new.tree id ≡ kept_with (kept_at tree.old.tree id) ((query, answer.Frames frames) ∷ [])) }
 {
     let frames = flex_found(alloc, tree, id, &query, ruler, tally, passes)?;
-    let listed = frames.as_slice();
-    let told = copied_frames(alloc, listed)?;
-    put(tree, id, query, Answer::Frames(frames), tally);
+    let shared = SharedFrames::new(alloc, frames)?;
+    let told = shared.again()?;
+    put(tree, id, query, Answer::Frames(shared), tally);
     Ok(told)
 }

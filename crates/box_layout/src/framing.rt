@@ -21,14 +21,14 @@ ghost use Rattle.box_layout.specs.LeafHeights.{AreLeavesKept, MeasuresLeaves};
 use crate::flex_anew::flex_frames_anew;
 use crate::gridded::grid_frames;
 use crate::leaves::{ask_leaves, stands};
-use crate::queries::{copied_frames, frames_query, kept_frames};
+use crate::queries::{frames_query, kept_frames};
 use crate::row_views::rows_of;
 use block_sizes::wide_at;
 use layout_cache::{Given, Query};
-use lunit::{Area, NoMemory, Sequence, Steps};
+use lunit::{Area, NoMemory, Steps};
 use node_arena::{Arena, NodeId};
 use outside::{Ruler, Tally};
-use placing::{Above, Answer, Frame, Node, NodeKind, node_at, put, root, seat};
+use placing::{Above, Answer, Node, NodeKind, SharedFrames, node_at, put, root, seat};
 use std::alloc::Global;
 use std::sync::ledger::Ledger;
 
@@ -54,7 +54,7 @@ fn grid_frames_anew<R: Ruler, L: Ledger>(
     ruler: &mut R,
     tally: &mut Tally,
     passes: &mut Steps<L>,
-) -> Result<Sequence<Frame>, NoMemory>
+) -> Result<SharedFrames, NoMemory>
     requires live { IsLive (bare tree.old.tree) id }
     requires right { IsRight tree.old.tree }
     requires readable { AreReadable (bare tree.old.tree) }
@@ -81,9 +81,9 @@ fn grid_frames_anew<R: Ruler, L: Ledger>(
     )?;
     let rows = rows_of(alloc, tree, id, reps, width, &wide, height, passes)?;
     let frames = grid_frames(alloc, tree, id, reps, width, &wide, &rows)?;
-    let listed = frames.as_slice();
-    let told = copied_frames(alloc, listed)?;
-    put(tree, id, query, Answer::Frames(frames), tally);
+    let shared = SharedFrames::new(alloc, frames)?;
+    let told = shared.again()?;
+    put(tree, id, query, Answer::Frames(shared), tally);
     Ok(told)
 }
 
@@ -99,7 +99,7 @@ fn grid_frames_kept<R: Ruler, L: Ledger>(
     ruler: &mut R,
     tally: &mut Tally,
     passes: &mut Steps<L>,
-) -> Result<Sequence<Frame>, NoMemory>
+) -> Result<SharedFrames, NoMemory>
     requires live { IsLive (bare tree.old.tree) id }
     requires right { IsRight tree.old.tree }
     requires readable { AreReadable (bare tree.old.tree) }
@@ -137,7 +137,7 @@ fn frames_anew<R: Ruler, L: Ledger>(
     ruler: &mut R,
     tally: &mut Tally,
     passes: &mut Steps<L>,
-) -> Result<Sequence<Frame>, NoMemory>
+) -> Result<SharedFrames, NoMemory>
     requires live { IsLive (bare tree.old.tree) id }
     requires right { IsRight tree.old.tree }
     requires readable { AreReadable (bare tree.old.tree) }
@@ -175,7 +175,7 @@ pub fn frames_at<R: Ruler, L: Ledger>(
     ruler: &mut R,
     tally: &mut Tally,
     passes: &mut Steps<L>,
-) -> Result<Sequence<Frame>, NoMemory>
+) -> Result<SharedFrames, NoMemory>
     requires live { IsLive (bare tree.old.tree) id }
     requires right { IsRight tree.old.tree }
     requires readable { AreReadable (bare tree.old.tree) }
@@ -194,7 +194,7 @@ pub fn frames_at<R: Ruler, L: Ledger>(
 {
     let query = frames_query(alloc, reps, inline, block)?;
     if let Some(frames) = kept_frames(tree, id, &query) {
-        return copied_frames(alloc, frames.as_slice());
+        return frames.again();
     }
     frames_anew(alloc, tree, id, query, above, area, ruler, tally, passes)
 }
@@ -217,7 +217,7 @@ pub fn frames_of<R: Ruler, L: Ledger>(
     ruler: &mut R,
     tally: &mut Tally,
     passes: &mut Steps<L>,
-) -> Result<Sequence<Frame>, NoMemory>
+) -> Result<SharedFrames, NoMemory>
     requires live { IsLive (bare tree.old.tree) id }
     requires right { IsRight tree.old.tree }
     requires readable { AreReadable (bare tree.old.tree) }
@@ -235,7 +235,7 @@ pub fn frames_of<R: Ruler, L: Ledger>(
 {
     let query = frames_query(alloc, reps, inline, block)?;
     if let Some(frames) = kept_frames(tree, id, &query) {
-        return copied_frames(alloc, frames.as_slice());
+        return frames.again();
     }
     let (above, area) = seat(alloc, tree, id, reps)?;
     frames_anew(alloc, tree, id, query, &above, area, ruler, tally, passes)

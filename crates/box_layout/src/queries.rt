@@ -15,7 +15,7 @@ ghost use Rattle.box_layout.specs.Asking.{frames_asked};
 use layout_cache::{Ask, Given, Query};
 use lunit::{Copied, NoMemory, Sequence};
 use node_arena::{Arena, NodeId};
-use placing::{Answer, Frame, Node, find};
+use placing::{Answer, Node, SharedFrames, find};
 use std::alloc::Global;
 
 /// The question for the frames of the children of a container that sees these counts above it and is given this along each axis.
@@ -41,7 +41,7 @@ pub(crate) fn kept_frames<'a>(
     tree: &'a Arena<Node>,
     id: NodeId,
     query: &Query,
-) -> Option<&'a Sequence<Frame>>
+) -> Option<&'a SharedFrames>
     requires live { IsLive (bare tree.now.tree) id }
     requires right { IsRight tree.now.tree }
     requires ask { query.now.ask ≡ ask.Frames }
@@ -56,28 +56,4 @@ pub(crate) fn kept_frames<'a>(
         Some(Answer::Frames(frames)) => Some(frames),
         _ => None,
     }
-}
-
-/// A frame again.
-fn copied_frame(alloc: Global, frame: &Frame) -> Result<Frame, NoMemory>
-    ensures { IfOk result (λ copy. copy ≡ frame.now) }
-{
-    Ok(Frame {
-        child: frame.child,
-        rect: frame.rect,
-        inline: frame.inline.copy(alloc)?,
-        block: frame.block.copy(alloc)?,
-    })
-}
-
-/// Frames again.
-pub(crate) fn copied_frames(alloc: Global, frames: &[Frame]) -> Result<Sequence<Frame>, NoMemory>
-    ensures { IfOk result (λ copy. copy ≡ frames.now) }
-{
-    let mut copy = Sequence::new(alloc);
-    for frame in frames {
-        let other = copied_frame(alloc, frame)?;
-        copy.push(other)?;
-    }
-    Ok(copy)
 }

@@ -19,6 +19,7 @@ mod order;
 mod placement;
 pub mod rules;
 mod seats;
+mod shared;
 mod sight;
 pub mod style;
 pub mod template;
@@ -35,5 +36,6 @@ pub use laws::{
 pub use node::{Answer, Frame, Node};
 pub use placement::{areas_in, ordered};
 pub use seats::{areas, context, seat};
+pub use shared::SharedFrames;
 pub use sight::{child, count, node_at, parent, root};
 pub use tree_rules::NodeKind;

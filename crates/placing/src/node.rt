@@ -1,3 +1,4 @@
+use crate::shared::SharedFrames;
 use layout_cache::Kept;
 use lunit::{Item, Lu, Name, Rect, Sequence};
 use node_arena::NodeId;
@@ -42,5 +43,5 @@ pub enum Answer {
     /// The block size of the content.
     Block(Lu),
     /// The children, in document order.
-    Frames(Sequence<Frame>),
+    Frames(SharedFrames),
 }

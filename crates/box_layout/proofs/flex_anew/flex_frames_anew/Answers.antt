@@ -31,22 +31,25 @@ put-requires-clause-quiet g c =
     flex_quiet (bare c.flex_found.new.tree.tree) c.args.id c.args.query is (ap (λ (q : Query). q.ask) c.requires.query)
 
 pub put-requires-clause-value : goal.put-requires-clause-value
-put-requires-clause-value g c = c.in_ok-frames.ensures.value ∙ ap (λ (z : BareTrees). answer_of (sight_at z c.args.id) c.args.query) (sym c.in_ok-frames.ensures.below.walk.bare_same)
+put-requires-clause-value g c = ap (λ (l : List NodeFrame). child_frames (map frame_of l)) c.in_ok-shared.ensures ∙ c.in_ok-frames.ensures.value ∙ ap (λ (z : BareTrees). answer_of (sight_at z c.args.id) c.args.query) (sym c.in_ok-frames.ensures.below.walk.bare_same)
 
 pub put-requires-clause-children : goal.put-requires-clause-children
-put-requires-clause-children g c = c.in_ok-frames.ensures.children ∙ ap (λ (z : BareTrees). children_at z c.args.id) (sym c.in_ok-frames.ensures.below.walk.bare_same)
+put-requires-clause-children g c = ap (map (λ (f : NodeFrame). f.child)) c.in_ok-shared.ensures ∙ c.in_ok-frames.ensures.children ∙ ap (λ (z : BareTrees). children_at z c.args.id) (sym c.in_ok-frames.ensures.below.walk.bare_same)
 
 pub returns-clause-value : goal.returns-clause-value
-returns-clause-value g c = ap (λ (l : List NodeFrame). child_frames (map frame_of l)) (c.in_ok-told.ensures ∙ c.as_slice-listed.ensures) ∙ c.in_ok-frames.ensures.value
+returns-clause-value g c = ap (λ (l : List NodeFrame). child_frames (map frame_of l)) (c.in_ok-told.ensures ∙ c.in_ok-shared.ensures) ∙ c.in_ok-frames.ensures.value
 
 pub returns-clause-children : goal.returns-clause-children
-returns-clause-children g c = ap (map (λ (f : NodeFrame). f.child)) (c.in_ok-told.ensures ∙ c.as_slice-listed.ensures) ∙ c.in_ok-frames.ensures.children
+returns-clause-children g c = ap (map (λ (f : NodeFrame). f.child)) (c.in_ok-told.ensures ∙ c.in_ok-shared.ensures) ∙ c.in_ok-frames.ensures.children
 
 pub returns-clause-walked : goal.returns-clause-walked
 returns-clause-walked g c = c.put.ensures.joins _ 1 _ _ (omega arith) c.in_ok-frames.ensures.below
 
 pub returns-clause-own : goal.returns-clause-own
-returns-clause-own g c = c.put.ensures.own ∙ (λ i. kept_with (c.in_ok-frames.ensures.below.own i) ((c.args.query, answer.Frames (sym (c.in_ok-told.ensures ∙ c.as_slice-listed.ensures) i)) ∷ []))
+returns-clause-own g c = c.put.ensures.own ∙ (λ i. kept_with (c.in_ok-frames.ensures.below.own i) ((c.args.query, answer.Frames (sym c.in_ok-told.ensures i)) ∷ []))
+
+pub returns-in_err-shared-clause-stopped : goal.returns-in_err-shared-clause-stopped
+returns-in_err-shared-clause-stopped g c = on_err _ _ (stopped c.args.id c.args.query 1 _ _ c.in_ok-frames.ensures.below)
 
 pub returns-in_err-told-clause-stopped : goal.returns-in_err-told-clause-stopped
 returns-in_err-told-clause-stopped g c = on_err _ _ (stopped c.args.id c.args.query 1 _ _ c.in_ok-frames.ensures.below)

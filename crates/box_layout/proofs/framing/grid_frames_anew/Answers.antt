@@ -78,26 +78,26 @@ pub put-requires-clause-quiet : goal.put-requires-clause-quiet
 put-requires-clause-quiet g c = grid_quiet (bare c.wide_at.new.tree.tree) c.args.id c.args.query (subst (λ (z : BareTrees). (sight_at z c.args.id).label.kind ≡ kind.Grid) (sym (c.in_ok-wide.ensures.below c.args.query (sym c.as_slice-reps.ensures) refl (ap (λ (q : Query). needs_inline q.ask) c.requires.query)).walk.bare_same) c.requires.grid)
 
 pub put-requires-clause-value : goal.put-requires-clause-value
-put-requires-clause-value g c = ap child_frames (c.in_ok-frames.ensures.value ∙ ap (frames_in (bare c.wide_at.new.tree.tree) c.args.id c.as_slice-reps.result.now c.args.query.inline) c.in_ok-rows.ensures.value
+put-requires-clause-value g c = ap (λ (l : List NodeFrame). child_frames (map frame_of l)) c.in_ok-shared.ensures ∙ ap child_frames (c.in_ok-frames.ensures.value ∙ ap (frames_in (bare c.wide_at.new.tree.tree) c.args.id c.as_slice-reps.result.now c.args.query.inline) c.in_ok-rows.ensures.value
     ∙ ap (λ (r : List Pair). frames_in (bare c.wide_at.new.tree.tree) c.args.id r c.args.query.inline (view_by {axis = 1} (rows_seen (bare c.wide_at.new.tree.tree) c.args.id r c.args.query.inline) c.args.query.block)) c.as_slice-reps.ensures)
     ∙ frames_answer (bare c.wide_at.new.tree.tree) c.args.id c.args.query (subst (λ (z : BareTrees). (sight_at z c.args.id).label.kind ≡ kind.Grid) (sym (c.in_ok-wide.ensures.below c.args.query (sym c.as_slice-reps.ensures) refl (ap (λ (q : Query). needs_inline q.ask) c.requires.query)).walk.bare_same) c.requires.grid) (ap (λ (q : Query). q.ask) c.requires.query)
 
 pub put-requires-clause-children : goal.put-requires-clause-children
-put-requires-clause-children g c = c.in_ok-frames.ensures.children
+put-requires-clause-children g c = ap (map (λ (f : NodeFrame). f.child)) c.in_ok-shared.ensures ∙ c.in_ok-frames.ensures.children
 
 pub returns-clause-value : goal.returns-clause-value
-returns-clause-value g c = ap (λ (l : List NodeFrame). child_frames (map frame_of l)) (c.in_ok-told.ensures ∙ c.as_slice-listed.ensures) ∙ ap child_frames (c.in_ok-frames.ensures.value ∙ ap (frames_in (bare c.wide_at.new.tree.tree) c.args.id c.as_slice-reps.result.now c.args.query.inline) c.in_ok-rows.ensures.value
+returns-clause-value g c = ap (λ (l : List NodeFrame). child_frames (map frame_of l)) (c.in_ok-told.ensures ∙ c.in_ok-shared.ensures) ∙ ap child_frames (c.in_ok-frames.ensures.value ∙ ap (frames_in (bare c.wide_at.new.tree.tree) c.args.id c.as_slice-reps.result.now c.args.query.inline) c.in_ok-rows.ensures.value
     ∙ ap (λ (r : List Pair). frames_in (bare c.wide_at.new.tree.tree) c.args.id r c.args.query.inline (view_by {axis = 1} (rows_seen (bare c.wide_at.new.tree.tree) c.args.id r c.args.query.inline) c.args.query.block)) c.as_slice-reps.ensures)
     ∙ frames_answer (bare c.wide_at.new.tree.tree) c.args.id c.args.query (subst (λ (z : BareTrees). (sight_at z c.args.id).label.kind ≡ kind.Grid) (sym (c.in_ok-wide.ensures.below c.args.query (sym c.as_slice-reps.ensures) refl (ap (λ (q : Query). needs_inline q.ask) c.requires.query)).walk.bare_same) c.requires.grid) (ap (λ (q : Query). q.ask) c.requires.query) ∙ ap (λ (z : BareTrees). answer_of (sight_at z c.args.id) c.args.query) (c.in_ok-wide.ensures.below c.args.query (sym c.as_slice-reps.ensures) refl (ap (λ (q : Query). needs_inline q.ask) c.requires.query)).walk.bare_same
 
 pub returns-clause-children : goal.returns-clause-children
-returns-clause-children g c = ap (map (λ (f : NodeFrame). f.child)) (c.in_ok-told.ensures ∙ c.as_slice-listed.ensures) ∙ c.in_ok-frames.ensures.children ∙ ap (λ (z : BareTrees). children_at z c.args.id) (c.in_ok-wide.ensures.below c.args.query (sym c.as_slice-reps.ensures) refl (ap (λ (q : Query). needs_inline q.ask) c.requires.query)).walk.bare_same
+returns-clause-children g c = ap (map (λ (f : NodeFrame). f.child)) (c.in_ok-told.ensures ∙ c.in_ok-shared.ensures) ∙ c.in_ok-frames.ensures.children ∙ ap (λ (z : BareTrees). children_at z c.args.id) (c.in_ok-wide.ensures.below c.args.query (sym c.as_slice-reps.ensures) refl (ap (λ (q : Query). needs_inline q.ask) c.requires.query)).walk.bare_same
 
 pub returns-clause-walked : goal.returns-clause-walked
 returns-clause-walked g c = c.put.ensures.joins _ 2 _ _ (omega arith) (ticked c.args.id c.args.query 1 1 _ _ c.rows_of.new.passes c.rows_of.ensures.ticks (c.in_ok-wide.ensures.below c.args.query (sym c.as_slice-reps.ensures) refl (ap (λ (q : Query). needs_inline q.ask) c.requires.query)))
 
 pub returns-clause-own : goal.returns-clause-own
-returns-clause-own g c = c.put.ensures.own ∙ (λ i. kept_with ((c.in_ok-wide.ensures.below c.args.query (sym c.as_slice-reps.ensures) refl (ap (λ (q : Query). needs_inline q.ask) c.requires.query)).own i) ((c.args.query, answer.Frames (sym (c.in_ok-told.ensures ∙ c.as_slice-listed.ensures) i)) ∷ []))
+returns-clause-own g c = c.put.ensures.own ∙ (λ i. kept_with ((c.in_ok-wide.ensures.below c.args.query (sym c.as_slice-reps.ensures) refl (ap (λ (q : Query). needs_inline q.ask) c.requires.query)).own i) ((c.args.query, answer.Frames (sym c.in_ok-told.ensures i)) ∷ []))
 
 pub returns-in_err-wide-clause-stopped : goal.returns-in_err-wide-clause-stopped
 returns-in_err-wide-clause-stopped g c = on_err _ _ (c.in_err-wide.ensures.stopped c.args.query (sym c.as_slice-reps.ensures) refl (ap (λ (q : Query). needs_inline q.ask) c.requires.query))
@@ -107,6 +107,9 @@ returns-in_err-rows-clause-stopped g c = on_err _ _ (stopped c.args.id c.args.qu
 
 pub returns-in_err-frames-clause-stopped : goal.returns-in_err-frames-clause-stopped
 returns-in_err-frames-clause-stopped g c = on_err _ _ (stopped c.args.id c.args.query 2 _ _ (ticked c.args.id c.args.query 1 1 _ _ c.rows_of.new.passes c.rows_of.ensures.ticks (c.in_ok-wide.ensures.below c.args.query (sym c.as_slice-reps.ensures) refl (ap (λ (q : Query). needs_inline q.ask) c.requires.query))))
+
+pub returns-in_err-shared-clause-stopped : goal.returns-in_err-shared-clause-stopped
+returns-in_err-shared-clause-stopped g c = on_err _ _ (stopped c.args.id c.args.query 2 _ _ (ticked c.args.id c.args.query 1 1 _ _ c.rows_of.new.passes c.rows_of.ensures.ticks (c.in_ok-wide.ensures.below c.args.query (sym c.as_slice-reps.ensures) refl (ap (λ (q : Query). needs_inline q.ask) c.requires.query))))
 
 pub returns-in_err-told-clause-stopped : goal.returns-in_err-told-clause-stopped
 returns-in_err-told-clause-stopped g c = on_err _ _ (stopped c.args.id c.args.query 2 _ _ (ticked c.args.id c.args.query 1 1 _ _ c.rows_of.new.passes c.rows_of.ensures.ticks (c.in_ok-wide.ensures.below c.args.query (sym c.as_slice-reps.ensures) refl (ap (λ (q : Query). needs_inline q.ask) c.requires.query))))

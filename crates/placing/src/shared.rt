@@ -1,0 +1,55 @@
+//! The list of frames that a node keeps, which all who read it share.
+
+ghost use Rattle.std.specs.Prelude.{◌≡◌, IfOk};
+
+use crate::node::Frame;
+use lunit::{NoMemory, Sequence};
+use std::alloc::Global;
+use std::marker::Model;
+use std::rc::Rc;
+
+/// The frames of the children of a container, in document order. A list is made once, and all who read it share it.
+#[derive(Drop)]
+pub struct SharedFrames {
+    frames: Rc<Sequence<Frame>>,
+}
+
+impl Model for SharedFrames {
+    ghost use Rattle.std.specs.Prelude.{List};
+    ghost use Rattle.std.specs.Coded.{coded_list};
+    ghost use Rattle.placing.specs.declared.node.Frame.{Frame};
+    ghost use Rattle.placing.specs.contracts.node.Frame as frame;
+
+    ghost Value = { List Frame };
+
+    ghost coded = { coded_list frame.the_row.coded };
+
+    ghost view = { λ a. a.frames.value };
+}
+
+impl SharedFrames {
+    /// These frames; `NoMemory` where memory is wanting.
+    pub fn new(alloc: Global, frames: Sequence<Frame>) -> Result<SharedFrames, NoMemory>
+        ensures { IfOk result (λ made. made ≡ frames) }
+    {
+        Ok(SharedFrames {
+            frames: Rc::new(alloc, frames)?,
+        })
+    }
+
+    /// The same frames once more. Takes no memory; `NoMemory` only where they are shared more often than can be counted.
+    pub fn again(&self) -> Result<SharedFrames, NoMemory>
+        ensures { IfOk result (λ other. other ≡ self.now) }
+    {
+        Ok(SharedFrames {
+            frames: self.frames.clone()?,
+        })
+    }
+
+    /// The frames in order.
+    pub fn as_slice(&self) -> &[Frame]
+        ensures { result.now ≡ self.now }
+    {
+        self.frames.as_ref().as_slice()
+    }
+}
