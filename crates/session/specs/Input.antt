@@ -11,6 +11,10 @@ use Rattle.session.specs.declared.status.Status.TheVariants.{ReadFault, NoMemory
 abbrev pub limit : ℕ
 limit = 67108864
 
+-- how often a source is asked at most: for each byte that an input has at most, and once more (own rule)
+abbrev pub most_asked : ℕ
+most_asked = limit + 1
+
 -- a source that told what it had told just these bytes, and has none left
 abbrev pub IsReadToEnd : Option (List ℕ) → Option (List ℕ) → List ℕ → Type 0
 IsReadToEnd None after bytes = ⊤

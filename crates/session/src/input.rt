@@ -1,8 +1,8 @@
-ghost use Rattle.std.specs.Prelude.{◌≡◌, ◌≤◌, ◌<◌, ℕ, List, Option, Ok, Err, false, true, length, OnOk, IfOk, IfSome};
+ghost use Rattle.std.specs.Prelude.{◌≡◌, ◌≤◌, ◌<◌, ◌+◌, ℕ, List, Option, Ok, Err, false, true, length, OnOk, OnErr, IfOk, IfSome};
 ghost use Rattle.outside.specs.Faults.{HasCauseOf};
 ghost use Rattle.text_scan.specs.declared.line.Line.{Line};
 ghost use Rattle.text_scan.specs.Stream.{empty_stream, is_line_due};
-ghost use Rattle.session.specs.Input.{MeetsPiece, HasGiven, ReadsOn, GivesNext, to_go, limit};
+ghost use Rattle.session.specs.Input.{MeetsPiece, HasGiven, ReadsOn, GivesNext, to_go, limit, most_asked};
 
 use crate::Status;
 use lunit::NoMemory;
@@ -26,7 +26,8 @@ pub(crate) struct Reader {
 
 impl Reader {
     pub(crate) fn new(alloc: Global) -> Reader
-        ensures { (result.lines ≡ empty_stream) × (result.count ≡ 0) × (result.ended ≡ false) }
+        ensures new { (result.lines ≡ empty_stream) × (result.count ≡ 0) × (result.ended ≡ false) }
+        ensures to_go { to_go result.count result.ended ≡ most_asked }
     {
         Reader {
             lines: Lines::new(alloc),
@@ -48,6 +49,7 @@ fn take_piece<S: Source>(
     requires within { count ≤ limit }
     ensures piece { MeetsPiece (S.left source.old) (S.left source.new) lines.old lines.new result }
     ensures cause { HasCauseOf (S.faults source.old) (S.faults source.new) (result ≡ Err Status.ReadFault) }
+    ensures asked { S.asked source.new ≤ S.asked source.old + 1 }
 {
     let most = PIECE.min((LIMIT - count).max(1));
     let piece = &mut room[..most];
@@ -75,6 +77,8 @@ fn read_on<S: Source>(
     ensures count { OnOk result (reader.new.lines.fed ≡ reader.new.count) }
     ensures within { OnOk result (reader.new.count ≤ limit) }
     ensures cause { HasCauseOf (S.faults source.old) (S.faults source.new) (result ≡ Err Status.ReadFault) }
+    ensures asked { OnOk result (S.asked source.new + to_go reader.new.count reader.new.ended ≤ S.asked source.old + to_go reader.old.count reader.old.ended) }
+    ensures asked_last { OnErr result (S.asked source.new ≤ S.asked source.old + to_go reader.old.count reader.old.ended) }
 {
     match take_piece(source, room, reader.count, &mut reader.lines) {
         Ok(taken) => {
@@ -103,6 +107,8 @@ pub(crate) fn next_line<S: Source>(
     ensures within { OnOk result (reader.new.count ≤ limit) }
     ensures short { IfOk result (λ found. IfSome found (λ line. length line.bytes ≤ 65536)) }
     ensures cause { HasCauseOf (S.faults source.old) (S.faults source.new) (result ≡ Err Status.ReadFault) }
+    ensures asked { OnOk result (S.asked source.new + to_go reader.new.count reader.new.ended ≤ S.asked source.old + to_go reader.old.count reader.old.ended) }
+    ensures asked_last { OnErr result (S.asked source.new ≤ S.asked source.old + to_go reader.old.count reader.old.ended) }
 {
     loop {
         match reader.lines.take(reader.ended) {

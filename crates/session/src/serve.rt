@@ -1,7 +1,7 @@
-ghost use Rattle.std.specs.Prelude.{◌≡◌, ◌≤◌, Err, false, IfOk, OnOk};
+ghost use Rattle.std.specs.Prelude.{◌≡◌, ◌≤◌, ◌+◌, Err, false, IfOk, OnOk, OnErr};
 ghost use Rattle.outside.specs.Faults.{HasCauseOf};
 ghost use Rattle.text_scan.specs.Stream.{empty_stream};
-ghost use Rattle.session.specs.Input.{limit};
+ghost use Rattle.session.specs.Input.{limit, most_asked, to_go};
 ghost use Rattle.session.specs.Replies.{RepliesStart, RepliesTo};
 ghost use Rattle.session.specs.Runs.{Runs};
 ghost use Rattle.session.specs.Serving.{Starts, ended};
@@ -36,6 +36,8 @@ fn start<S: Source, K: Sink, R: Ruler, L: Ledger>(
     ensures one { IfOk result (λ progress. progress.number ≡ 1) }
     ensures count { OnOk result (reader.new.lines.fed ≡ reader.new.count) }
     ensures within { OnOk result (reader.new.count ≤ limit) }
+    ensures asked { OnOk result (S.asked source.new + to_go reader.new.count reader.new.ended ≤ S.asked source.old + to_go reader.old.count reader.old.ended) }
+    ensures asked_last { OnErr result (S.asked source.new ≤ S.asked source.old + to_go reader.old.count reader.old.ended) }
     ensures read { HasCauseOf (S.faults source.old) (S.faults source.new) (result ≡ Err Status.ReadFault) }
     ensures write { HasCauseOf (K.faults sink.old) (K.faults sink.new) (result ≡ Err Status.WriteFault) }
 {
@@ -78,6 +80,7 @@ pub(crate) fn serve<S: Source, K: Sink, R: Ruler, L: Ledger>(
     ensures runs { Runs stats (S.left source.old) (S.left source.new) (K.written sink.old) (K.written sink.new) (R.log ruler.old) (R.log ruler.new) result }
     ensures spares { SparesInput (S.left source.old) (R.log ruler.old) (R.log ruler.new) }
     ensures replies { RepliesTo stats (K.written sink.old) (K.written sink.new) (R.log ruler.old) (R.log ruler.new) passes.old passes.new (S.left source.old) result }
+    ensures asked { S.asked source.new ≤ S.asked source.old + most_asked }
     ensures read { HasCauseOf (S.faults source.old) (S.faults source.new) (result ≡ Status.ReadFault) }
     ensures write { HasCauseOf (K.faults sink.old) (K.faults sink.new) (result ≡ Status.WriteFault) }
 {

@@ -1,8 +1,8 @@
-ghost use Rattle.std.specs.Prelude.{◌≡◌, ◌+◌, ◌≤◌, ◌++◌, ◌∷◌, [], List, Err, false, true, OnOk, IfOk, IfSome};
+ghost use Rattle.std.specs.Prelude.{◌≡◌, ◌+◌, ◌≤◌, ◌++◌, ◌∷◌, [], List, Err, false, true, OnOk, OnErr, IfOk, IfSome};
 ghost use Rattle.outside.specs.Faults.{HasCauseOf};
 ghost use Rattle.text_scan.specs.Stream.{empty_stream};
 ghost use Rattle.text_scan.specs.declared.line.Line.{Line};
-ghost use Rattle.session.specs.Input.{limit};
+ghost use Rattle.session.specs.Input.{limit, to_go};
 ghost use Rattle.doc_text.specs.Documents.{document_of};
 ghost use Rattle.doc_text.specs.Valid.{IsShort, AreShort};
 ghost use Rattle.session.specs.Script.{is_end_of_document};
@@ -141,6 +141,8 @@ pub(crate) fn read_text<S: Source>(
     ensures count { OnOk result (reader.new.lines.fed ≡ reader.new.count) }
     ensures within { OnOk result (reader.new.count ≤ limit) }
     ensures cause { HasCauseOf (S.faults source.old) (S.faults source.new) (result ≡ Err Status.ReadFault) }
+    ensures asked { OnOk result (S.asked source.new + to_go reader.new.count reader.new.ended ≤ S.asked source.old + to_go reader.old.count reader.old.ended) }
+    ensures asked_last { OnErr result (S.asked source.new ≤ S.asked source.old + to_go reader.old.count reader.old.ended) }
 {
     let mut held = Held::new(alloc);
     let mut count = 0;

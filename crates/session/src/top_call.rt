@@ -1,10 +1,10 @@
-ghost use Rattle.std.specs.Prelude.{◌≡◌, ◌≤◌, ℕ, Bool, false, length, Some, IfOk, IfErr, IfSome};
+ghost use Rattle.std.specs.Prelude.{◌≡◌, ◌≤◌, ◌+◌, ℕ, Bool, false, length, Some, IfOk, IfErr, IfSome};
 ghost use Rattle.outside.specs.Faults.{HasCauseOf};
 ghost use Rattle.outside.specs.Told.{Adds, AddsPrefix};
 ghost use Rattle.command_words.specs.Commands.{HasNodes};
 ghost use Rattle.command_words.specs.declared.Command.TheVariants.{Layout, Make};
 ghost use Rattle.session.specs.Outcome.{out};
-ghost use Rattle.session.specs.Input.{limit};
+ghost use Rattle.session.specs.Input.{limit, most_asked};
 ghost use Rattle.session.specs.Made.{HasMade};
 ghost use Rattle.session.specs.Runs.{HasRun, Permits, IsComplete, IsHeadline};
 ghost use Rattle.session.specs.Replies.{HasReplied};
@@ -34,6 +34,7 @@ fn run_layout<S: Source, K: Sink, R: Ruler, L: Ledger>(
     ensures run { HasRun stats (S.left source.old) (S.left source.new) (K.written sink.old) (K.written sink.new) (R.log ruler.old) (R.log ruler.new) (S.faults source.old) (S.faults source.new) (K.faults sink.old) (K.faults sink.new) result }
     ensures read { HasCauseOf (S.faults source.old) (S.faults source.new) (result ≡ Status.ReadFault) }
     ensures write { HasCauseOf (K.faults sink.old) (K.faults sink.new) (result ≡ Status.WriteFault) }
+    ensures asked { S.asked source.new ≤ S.asked source.old + most_asked }
     ensures spares { IfSome (S.left source.old) (λ b. Spares (touched_lines (lines_of b)) (R.log ruler.old) (R.log ruler.new)) }
     ensures replies { IfSome (S.left source.old) (λ b. HasReplied stats (K.written sink.old) (K.written sink.new) (R.log ruler.old) (R.log ruler.new) passes.old passes.new (lines_of b) result) }
 {
@@ -80,6 +81,8 @@ fn served(alloc: Global, words: &[String]) -> Result<Command, Status>
 /// The ruler is told the begin of each layout that is made, with its number, and then measures leaves of its document: each leaf that
 /// is the child of a grid at the content width of its box, where it is the first layout or the edit touches the leaf. `passes` counts
 /// the passes of track sizing and of flex lengths, at most four for each answer that is kept.
+///
+/// The source is asked at most 2^26 + 1 times, as it counts them: each piece but the last has a byte.
 pub fn run<S: Source, K: Sink, R: Ruler, L: Ledger>(
     alloc: Global,
     words: Vec<String>,
@@ -97,6 +100,8 @@ pub fn run<S: Source, K: Sink, R: Ruler, L: Ledger>(
     ensures made { (seed nodes : ℕ) → asked words.items ≡ Some (Make seed nodes) → (source.new ≡ source.old) × HasMade seed nodes (K.written sink.old) (K.written sink.new) (R.log ruler.old) (R.log ruler.new) passes.old passes.new (K.faults sink.old) (K.faults sink.new) result }
     ensures read { HasCauseOf (S.faults source.old) (S.faults source.new) (result ≡ Status.ReadFault) }
     ensures write { HasCauseOf (K.faults sink.old) (K.faults sink.new) (result ≡ Status.WriteFault) }
+    // How often the source was asked, at every exit.
+    ensures asked { S.asked source.new ≤ S.asked source.old + most_asked }
     // Without counts what is written at every exit is a prefix of the output of the source's bytes.
     ensures prefix { asked words.items ≡ Some (Layout false) → IfSome (S.left source.old) (λ b. AddsPrefix (K.written sink.old) (K.written sink.new) (out b)) }
     ensures permits { asked words.items ≡ Some (Layout false) → IfSome (S.left source.old) (λ b. length b ≤ limit → Permits (Adds (K.written sink.old) (K.written sink.new) (out b)) b result) }

@@ -1,4 +1,4 @@
-use Rattle.std.proofs.Common.{◌≡◌, ◌≤◌, ℕ, List, Option}
+use Rattle.std.proofs.Common.{◌≡◌, ◌≤◌, ◌+◌, ℕ, List, Option}
 use Rattle.text_scan.specs.declared.line.Line.{Line}
 use Rattle.session.specs.Input.{HasGiven, to_go, limit}
 use Rattle.session.proofs.input.next_line.Given as goal
@@ -10,6 +10,7 @@ invariant-loop-line g l =
       count : l.reader.lines.fed ≡ l.reader.count;
       within : l.reader.count ≤ limit;
       later : g.S.Source.faults l.fn.source ≤ g.S.Source.faults l.source;
+      asked : g.S.Source.asked l.source + to_go l.reader.count l.reader.ended ≤ g.S.Source.asked l.fn.source + to_go l.fn.reader.count l.fn.reader.ended;
     }
 
 abbrev pub decreases-loop-line : goal.decreases-loop-line

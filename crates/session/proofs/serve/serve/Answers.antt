@@ -1,4 +1,4 @@
-use Rattle.std.proofs.Common.{subst, sym, rules, ◌++◌, ◌∷◌, []}
+use Rattle.std.proofs.Common.{subst, sym, arith, rules, ◌++◌, ◌∷◌, []}
 use Rattle.session.specs.Runs.{Runs}
 use Rattle.session.specs.declared.status.Status.{Status}
 use Rattle.session.proofs.Texts.{line_given, end_given}
@@ -58,6 +58,7 @@ loop-line-preserved g c =
       within = search rules;
       read = search rules;
       written = search rules;
+      asked = omega (arith, c.loop-line.invariant.asked, c.in-Ok-Some.ensures.asked);
     }
 
 pub returns-in-Ok-None-clause-runs : goal.returns-in-Ok-None-clause-runs
@@ -153,4 +154,19 @@ loop-line-init g c =
       within = search rules;
       read = search rules;
       written = search rules;
+      asked = omega (arith, c.in-Ok.ensures.asked, c.new-reader.ensures.to_go);
     }
+
+-- ---- how often the source was asked
+
+pub returns-in-Err-clause-asked : goal.returns-in-Err-clause-asked
+returns-in-Err-clause-asked g c = omega (arith, c.in-Err.ensures.asked_last, c.new-reader.ensures.to_go)
+
+pub returns-in-Err-handle_line-clause-asked : goal.returns-in-Err-handle_line-clause-asked
+returns-in-Err-handle_line-clause-asked g c = omega (arith, c.loop-line.invariant.asked, c.in-Ok-Some.ensures.asked)
+
+pub returns-in-Ok-None-clause-asked : goal.returns-in-Ok-None-clause-asked
+returns-in-Ok-None-clause-asked g c = omega (arith, c.loop-line.invariant.asked, c.in-Ok-None.ensures.asked)
+
+pub returns-in-Err-next_line-clause-asked : goal.returns-in-Err-next_line-clause-asked
+returns-in-Err-next_line-clause-asked g c = omega (arith, c.loop-line.invariant.asked, c.in-Err-next_line.ensures.asked_last)

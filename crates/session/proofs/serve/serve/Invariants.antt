@@ -1,6 +1,6 @@
 use Rattle.std.proofs.Common.{◌≡◌, ◌≤◌, ◌+◌, ◌-◌}
 use Rattle.session.specs.Standing.{doc_of}
-use Rattle.session.specs.Input.{limit}
+use Rattle.session.specs.Input.{limit, most_asked, to_go}
 use Rattle.session.specs.Serving.{IsAt}
 use Rattle.session.specs.Replies.{RepliesLines}
 use Rattle.session.specs.Spares.{SparesPage}
@@ -18,6 +18,7 @@ invariant-loop-line g l =
       within : l.reader.count ≤ limit;
       read : g.S.Source.faults l.fn.source ≤ g.S.Source.faults l.source;
       written : g.K.Sink.faults l.fn.sink ≤ g.K.Sink.faults l.sink;
+      asked : g.S.Source.asked l.source + to_go l.reader.count l.reader.ended ≤ g.S.Source.asked l.fn.source + most_asked;
     }
 
 abbrev pub decreases-loop-line : goal.decreases-loop-line

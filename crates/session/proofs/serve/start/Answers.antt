@@ -1,5 +1,5 @@
 use Rattle.session.proofs.Spares.{spares_some}
-use Rattle.std.proofs.Common.{ap, rules, sym, ◌∙◌, List, Err}
+use Rattle.std.proofs.Common.{ap, arith, rules, sym, ◌∙◌, List, Err}
 use Rattle.text_scan.specs.declared.line.Line.{Line}
 use Rattle.doc_text.specs.Documents.{document_of}
 use Rattle.session.specs.Standing.{doc_of}
@@ -25,3 +25,17 @@ returns-then-not-text-clause-replies g c =
 
 pub returns-clause-replies : goal.returns-clause-replies
 returns-clause-replies g c = λ touches. c.in-Ok-begin.ensures.replies touches
+
+-- ---- how often the source was asked
+
+pub returns-in-Err-clause-asked_last : goal.returns-in-Err-clause-asked_last
+returns-in-Err-clause-asked_last g c = c.in-Err.ensures.asked_last
+
+pub returns-in-Err-begin-clause-asked_last : goal.returns-in-Err-begin-clause-asked_last
+returns-in-Err-begin-clause-asked_last g c = omega (arith, c.in-Ok.ensures.asked)
+
+pub returns-then-not-text-clause-asked_last : goal.returns-then-not-text-clause-asked_last
+returns-then-not-text-clause-asked_last g c = omega (arith, c.in-Ok.ensures.asked)
+
+pub returns-clause-asked : goal.returns-clause-asked
+returns-clause-asked g c = c.in-Ok.ensures.asked

@@ -41,6 +41,7 @@ loop-line-preserved g c =
       fed = search rules;
       within = search rules;
       later = search rules;
+      asked = omega (arith, c.loop-line.invariant.asked, c.in-Ok-Some.ensures.asked);
     }
 
 pub returns-in-Err-add-clause-text : goal.returns-in-Err-add-clause-text
@@ -65,3 +66,17 @@ returns-in-Err-clause-text g c =
     let before = g.S.Source.left c.args.source.now in
     let at = c.loop-line.invariant.text in
     record { given = at.given; unended = at.unended; stops = c.in-Err.ensures.next before at.given at.input }
+
+-- ---- how often the source was asked
+
+pub returns-then-is_end_of_document-clause-asked : goal.returns-then-is_end_of_document-clause-asked
+returns-then-is_end_of_document-clause-asked g c = omega (arith, c.loop-line.invariant.asked, c.in-Ok-Some.ensures.asked)
+
+pub returns-in-Err-add-clause-asked_last : goal.returns-in-Err-add-clause-asked_last
+returns-in-Err-add-clause-asked_last g c = omega (arith, c.loop-line.invariant.asked, c.in-Ok-Some.ensures.asked)
+
+pub returns-in-Ok-None-clause-asked : goal.returns-in-Ok-None-clause-asked
+returns-in-Ok-None-clause-asked g c = omega (arith, c.loop-line.invariant.asked, c.in-Ok-None.ensures.asked)
+
+pub returns-in-Err-clause-asked_last : goal.returns-in-Err-clause-asked_last
+returns-in-Err-clause-asked_last g c = omega (arith, c.loop-line.invariant.asked, c.in-Err.ensures.asked_last)

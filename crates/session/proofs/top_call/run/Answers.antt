@@ -1,4 +1,4 @@
-use Rattle.std.proofs.Common.{ap, sym, ◌∙◌, refl, ℕ, Bool, false, Some}
+use Rattle.std.proofs.Common.{ap, sym, ◌∙◌, refl, arith, ℕ, Bool, false, Some}
 use Rattle.std.specs.Prelude.{IfSome}
 use Rattle.text_scan.specs.Lines.{lines_of}
 use Rattle.session.specs.Made.{HasMade}
@@ -61,3 +61,14 @@ returns-in-Ok-Make-clause-replies g c = λ stats e. not_both (asked c.args.words
 
 pub returns-clause-replies : goal.returns-clause-replies
 returns-clause-replies g c = λ stats e. unserved_replied stats (g.K.Sink.written c.args.sink.now) (g.R.Ruler.log c.args.ruler.now) c.args.passes.now (g.S.Source.left c.args.source.now) c.in-Err.status c.in-Err.ensures.stops
+
+-- ---- how often the source was asked
+
+pub returns-in-Ok-Layout-clause-asked : goal.returns-in-Ok-Layout-clause-asked
+returns-in-Ok-Layout-clause-asked g c = c.run_layout.ensures.asked
+
+pub returns-in-Ok-Make-clause-asked : goal.returns-in-Ok-Make-clause-asked
+returns-in-Ok-Make-clause-asked g c = omega arith
+
+pub returns-clause-asked : goal.returns-clause-asked
+returns-clause-asked g c = omega arith

@@ -11,3 +11,6 @@ returns-clause-spares g c = spares_input (g.S.Source.left c.args.source.now) (g.
 
 pub returns-clause-replies : goal.returns-clause-replies
 returns-clause-replies g c = replied c.args.stats (g.K.Sink.written c.args.sink.now) (g.K.Sink.written c.serve.new.sink) (g.R.Ruler.log c.args.ruler.now) (g.R.Ruler.log c.serve.new.ruler) c.args.passes.now c.serve.new.passes (g.S.Source.left c.args.source.now) c.serve.result c.serve.ensures.replies
+
+pub returns-clause-asked : goal.returns-clause-asked
+returns-clause-asked g c = c.serve.ensures.asked
