@@ -117,7 +117,7 @@ find_is q (e ∷ es) = ap (λ b. cond b (Some e.1) (map.find prop_cmp q es)) (ti
 get_is : {V : Type 0} → (es : Entries V) (q : Prop) → map.get (map_of es) q ≡ value_in q es
 get_is es q = map.get-from_entries prop_cmp_total es q ∙ find_is q es
 
-at_place : {A : Type 0} (p q : Prop) (x y : A) → cond (eq_by_cmp prop_cmp q p) x y ≡ cond (place_of p == place_of q) x y
+pub at_place : {A : Type 0} (p q : Prop) (x y : A) → cond (eq_by_cmp prop_cmp q p) x y ≡ cond (place_of p == place_of q) x y
 at_place p q x y = ap (λ b. cond b x y) (ties (place_of q) (place_of p))
 
 -- entries whose values are those of a map with one written make that map

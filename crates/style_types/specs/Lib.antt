@@ -1,4 +1,5 @@
 pub mod Entries
+pub mod Marks
 pub mod Order
 pub mod Styles
 pub mod Table

@@ -1,8 +1,9 @@
-ghost use Rattle.std.specs.Prelude.{◌≡◌, ◌<◌, length, slice_set, filter, not, IfOk, OnOk, OnErr, IsOk, IsSome};
+ghost use Rattle.std.specs.Prelude.{◌≡◌, ◌<◌, length, false, slice_index_or, slice_set, filter, not, IfOk, OnOk, OnErr, IsOk, IsSome};
 ghost use Rattle.std.specs.List.{position_from};
 ghost use Rattle.std.specs.Option.{option_copied};
 ghost use Rattle.std.specs.FinMap as map;
 ghost use Rattle.style_types.specs.Entries.{is_entry_of};
+ghost use Rattle.style_types.specs.Order.{place_of};
 ghost use Rattle.style_types.specs.Computed.{computed_style};
 
 use crate::computed::computed_entries;
@@ -13,18 +14,23 @@ use lunit::{Copied, Lu, NoMemory};
 use std::alloc::Global;
 use std::marker::Model;
 
+/// How many properties the table has.
+const PROPERTIES: usize = 45;
+
 /// Properties, each with what belongs to it.
 ///
 /// Contracts see the finite map. In memory it is a list of the properties that are there, so that a node pays for
-/// these alone, and a look-up goes over a few entries.
+/// these alone, and a mark for each property of the table, so that a look-up goes over these few entries only where it
+/// finds one.
 pub(crate) struct PropMap<T> {
     entries: Vec<(Prop, T)>,
+    marks: [bool; PROPERTIES],
 }
 
 // By hand: a crate that drops maps then proves one call, and not again the drop of each part of an entry.
 impl<T: Drop> Drop for PropMap<T> {
     fn drop(self) {
-        let PropMap { entries } = self;
+        let PropMap { entries, marks: _ } = self;
         drop(entries);
     }
 }
@@ -38,7 +44,11 @@ impl<T> Model for PropMap<T> {
 
     ghost coded = { map.code prop.the_row.coded T.code };
 
+    ghost use Rattle.style_types.specs.Marks.{IsMarked};
+
     ghost view = { λ a. map.from_entries a.entries.items };
+
+    ghost invariant = { λ a. IsMarked a.marks (map.from_entries a.entries.items) };
 }
 
 /// Whether the entry is one of the property.
@@ -46,6 +56,20 @@ fn is_of<T>(entry: &(Prop, T), p: Prop) -> bool
     ensures { result ≡ is_entry_of p entry.now }
 {
     entry.0 as u8 == p as u8
+}
+
+/// Whether the property is marked.
+fn is_marked(marks: &[bool; PROPERTIES], p: Prop) -> bool
+    ensures { result ≡ slice_index_or marks.now (place_of p) false }
+{
+    marks[p as u8 as usize]
+}
+
+/// Gives the property this mark.
+fn mark(marks: &mut [bool; PROPERTIES], p: Prop, there: bool)
+    ensures { marks.new ≡ slice_set marks.old (place_of p) there }
+{
+    marks[p as u8 as usize] = there;
 }
 
 /// The place of the property's entry.
@@ -77,6 +101,7 @@ impl<T> PropMap<T> {
     {
         PropMap {
             entries: Vec::new(alloc),
+            marks: [false; PROPERTIES],
         }
     }
 
@@ -85,6 +110,9 @@ impl<T> PropMap<T> {
     pub(crate) fn get(&self, p: Prop) -> Option<&T>
         ensures { option_copied result ≡ map.get self.now p }
     {
+        if !is_marked(&self.marks, p) {
+            return None;
+        }
         let place = place_in(&self.entries, p)?;
         Some(&self.entries[place].1)
     }
@@ -103,6 +131,7 @@ impl<T: Drop> PropMap<T> {
             Some(place) => replace(&mut self.entries, place, (p, held)),
             None => self.entries.push((p, held))?,
         }
+        mark(&mut self.marks, p, true);
         Ok(())
     }
 
@@ -111,6 +140,7 @@ impl<T: Drop> PropMap<T> {
         ensures { self.new ≡ map.remove self.old p }
     {
         take_out(&mut self.entries, p);
+        mark(&mut self.marks, p, false);
     }
 }
 
@@ -128,6 +158,7 @@ impl PropMap<DeclaredValue> {
     {
         Ok(PropMap {
             entries: computed_entries(alloc, em, rem, &self.entries)?,
+            marks: self.marks,
         })
     }
 }
@@ -138,6 +169,9 @@ impl<T: Copied + Drop> Copied for PropMap<T> {
         for (p, held) in &self.entries {
             entries.push((*p, held.copy(alloc)?))?;
         }
-        Ok(PropMap { entries })
+        Ok(PropMap {
+            entries,
+            marks: self.marks,
+        })
     }
 }
