@@ -1,6 +1,7 @@
 -- Flexible tracks expanded.
 use Rattle.std.proofs.Common.{arith, ap, subst, ◌≡◌, ◌∙◌, sym, refl, true≢false, ℕ, ◌+◌, ◌-◌, ◌<◌, ◌≤◌, ℤ, pos, ◌+ℤ◌, ◌-ℤ◌, ◌*ℤ◌, ◌≤ℤ◌, Bool, true, false, not, List, [], ◌∷◌, ◌++◌, map, length, cond, filter, Option, Some, None, if◌then◌else◌}
 use Rattle.std.specs.Prelude.{unwrap_or}
+use Rattle.std.specs.List.{list_any}
 use Rattle.std.specs.Ordering.{int_eq}
 use Rattle.std.proofs.lemmas.Int.{ints, clamps}
 use Rattle.lunit.specs.Units.{clamp}
@@ -9,12 +10,16 @@ use Rattle.fr_tracks.specs.Settled.{HaveBases}
 use Rattle.part_rules.specs.declared.fraction.FrRow.{FrRow}
 use Rattle.part_rules.specs.declared.fraction.Fraction.{Fraction}
 use Rattle.part_rules.specs.declared.track.Fit.{Fit}
+use Rattle.part_rules.specs.declared.track.Most.{Most}
+use Rattle.part_rules.specs.declared.track.Most.TheVariants as most
 use Rattle.part_rules.specs.Lists.{at_least, at_most, sum_of, zipped}
 use Rattle.part_rules.specs.Sharing.{part, apportioned_after}
 use Rattle.part_rules.specs.Fractions.{expanded, no_fraction, takes, weight_in, with_part}
-use Rattle.part_rules.specs.Tracks.{Track, all_gutters, definite_fraction, expanded_by, expanded_within, flexed, fr_row, fraction_for, greatest_fraction, is_max_content, total, with_base}
+use Rattle.part_rules.specs.Tracks.{Track, all_gutters, definite_fraction, expanded_by, expanded_within, factor_of, flexed, flexible, fr_row, fraction_for, greatest_fraction, is_flexible, is_max_content, total, with_base}
 use Rattle.track_sizing.specs.Flex.{greatest_over, item_fractions, other_total, space_again, track_fractions}
 use Rattle.track_sizing.proofs.Best.{greatest_all, greatest_parts}
+use Rattle.track_sizing.proofs.Idle.{either}
+use Rattle.track_sizing.proofs.Parted.{neither}
 use Rattle.track_sizing.proofs.Parts.{part_rises}
 
 pub max_fraction : (gap : ℤ) (items : List Item) (ts : List Track) (start best : Fraction) → start ≡ greatest_over no_fraction (item_fractions gap ts items) → best ≡ greatest_over start (track_fractions ts) → best ≡ greatest_fraction (track_fractions ts ++ item_fractions gap ts items)
@@ -117,3 +122,38 @@ flexed_some fit items ts now rs again space e l n a v = v ∙ ap (zipped with_ba
         → expanded_by (definite_fraction fit.gap space ts) ts ≡ (if b then expanded_within fit.min fit.max fit.gap ts (expanded_by (fraction_for fit.space fit.gap items ts) ts) else expanded_by (fraction_for fit.space fit.gap items ts) ts)
     go true n = sym (within_some fit.min fit.max fit.gap (sum_of (map (λ (r : FrRow). r.base) rs) +ℤ all_gutters fit.gap ts) space ts (expanded_by (fraction_for fit.space fit.gap items ts) ts) (ap (λ (xs : List FrRow). total fit.gap (zipped with_base ts xs)) (sym e) ∙ total_based fit.gap ts rs l) n)
     go false n = absurd (some_none (sym n))
+
+-- ---- no flexible track
+
+no_factor : (m : Most) → is_flexible m ≡ false → factor_of m ≡ None
+no_factor (most.Fixed x) e = refl
+no_factor most.MinContent e = refl
+no_factor most.MaxContent e = refl
+no_factor most.Auto e = refl
+no_factor (most.Fit x) e = refl
+no_factor (most.Flex w) e = absurd (true≢false e)
+
+base_same : (f : Fraction) (t : Track) (x : ℤ) → flexible t ≡ false → with_base t (with_part f (fr_row t) x) ≡ t
+base_same f t x e = ap (λ (o : Option ℕ). with_base t (with_part f (record { base = t.base; factor = o }) x)) (no_factor t.rule.most e)
+
+parts_same : (f : Fraction) (before whole : ℕ) (ts : List Track) → list_any flexible ts ≡ false → zipped with_base ts (zipped (with_part f) (map fr_row ts) (apportioned_after before f.space whole (map (weight_in f) (map fr_row ts)))) ≡ ts
+parts_same f before whole [] e = refl
+parts_same f before whole (t ∷ ts) e =
+    let one = neither (flexible t) (list_any flexible ts) e in
+    let after : ℕ = before + weight_in f (fr_row t) in
+    ap (λ (x : Track). x ∷ zipped with_base ts (zipped (with_part f) (map fr_row ts) (apportioned_after after f.space whole (map (weight_in f) (map fr_row ts))))) (base_same f t (part f.space whole after -ℤ part f.space whole before) one.0)
+    ∙ ap (λ (xs : List Track). t ∷ xs) (parts_same f after whole ts one.1)
+
+expanded_same : (f : Fraction) (ts : List Track) → list_any flexible ts ≡ false → expanded_by f ts ≡ ts
+expanded_same f ts e = parts_same f 0 f.weight ts e
+
+within_same : (min most : Option ℤ) (gap : ℤ) (ts done : List Track) → list_any flexible ts ≡ false → done ≡ ts → expanded_within min most gap ts done ≡ ts
+within_same min most gap ts done e d =
+    let bounded : ℤ = at_least min (at_most most (total gap done)) in
+    either (int_eq bounded (total gap done)) done (expanded_by (definite_fraction gap bounded ts) ts) ts d (expanded_same (definite_fraction gap bounded ts) ts e)
+
+pub unflexed : {axis : ℕ} (fit : Fit axis) (items : List Item) (ts : List Track) → list_any flexible ts ≡ false → ts ≡ flexed fit items ts
+unflexed fit items ts e =
+    let done : List Track = expanded_by (fraction_for fit.space fit.gap items ts) ts in
+    let once : done ≡ ts = expanded_same (fraction_for fit.space fit.gap items ts) ts e in
+    sym (either (is_max_content fit.space) (expanded_within fit.min fit.max fit.gap ts done) done ts (within_same fit.min fit.max fit.gap ts done e once) once)

@@ -1,5 +1,5 @@
 -- Where no space is given and where no track is affected, tracks stay as they are.
-use Rattle.std.proofs.Common.{arith, ap, subst, ◌≡◌, ◌∙◌, sym, refl, ℕ, ◌+◌, ◌==◌, ℤ, pos, ◌-ℤ◌, ◌*ℤ◌, Bool, true, false, ◌&&◌, ◌||◌, List, [], ◌∷◌, map, filter, cond, Option, if◌then◌else◌}
+use Rattle.std.proofs.Common.{arith, ap, ◌≡◌, ◌∙◌, sym, refl, ℕ, ◌+◌, ◌==◌, ℤ, pos, ◌-ℤ◌, ◌*ℤ◌, Bool, true, false, not, ◌&&◌, ◌||◌, List, [], ◌∷◌, map, cond, Option, if◌then◌else◌}
 use Rattle.std.specs.Int.{int_max}
 use Rattle.std.specs.List.{list_any}
 use Rattle.std.proofs.lemmas.Int.{ints, clamps}
@@ -8,15 +8,17 @@ use Rattle.lunit.specs.declared.item.Item.{Item}
 use Rattle.part_rules.specs.Lists.{total_of, zipped}
 use Rattle.part_rules.specs.Sharing.{apportioned_after, apportioned_whole, part, rounds, roomy, shares, unshared, with_nothing}
 use Rattle.part_rules.proofs.Sharing.{shares_are, unshared_is}
-use Rattle.part_rules.specs.Tracks.{Track, BaseStep, LimitStep, affected_by, base_incurred_by, base_of, base_planned_by, base_planned_by_all, crosses_flexible, flexible, incur, in_turns, limit_incurred_by, limit_of, limit_planned_by, limit_planned_by_all, needed, plan, spans, spanned}
+use Rattle.part_rules.specs.Tracks.{Track, BaseStep, LimitStep, affected_by, base_incurred_by, base_of, base_planned_by, base_planned_by_all, crosses_flexible, flexible, incur, in_turns, limit_incurred_by, limit_of, limit_planned_by, limit_planned_by_all, needed, of_span, plan, span_length, spans, spanned}
 use Rattle.track_sizing.specs.declared.kinds.Affected.{Affected}
 use Rattle.track_sizing.specs.declared.kinds.Kind.{Kind}
 use Rattle.track_sizing.specs.Kinds.{affected_of}
 use Rattle.track_sizing.specs.declared.item.Asks.{Asks}
 use Rattle.track_sizing.specs.declared.rooms.Rooms.TheVariants as rooms
 use Rattle.track_sizing.specs.Here.{asked_of, base_given_of, base_planned_of, base_rooms_of, by_factors_of, limit_given_of, limit_planned_of, limit_rooms_of, needed_of, room_of, weight_of}
-use Rattle.track_sizing.specs.Placed.{AreIn, AreReady}
+use Rattle.track_sizing.specs.Ordered.{AreOf}
+use Rattle.track_sizing.specs.Placed.{AreReady}
 use Rattle.track_sizing.proofs.Local.{map_length, no_share, zipped_none}
+use Rattle.track_sizing.proofs.Order.{is_it}
 use Rattle.track_sizing.proofs.Parted.{neither}
 use Rattle.track_sizing.proofs.Shares.{gots, nothings}
 
@@ -55,7 +57,7 @@ idle_parts a whole before (t ∷ ts) =
     ∙ ap (λ (x : Track). x ∷ zipped incur ts (apportioned_after (before + weight_of a t) (pos 0) whole (map (weight_of a) ts))) (no_share t)
     ∙ ap (λ (xs : List Track). t ∷ xs) (idle_parts a whole (before + weight_of a t) ts)
 
-either : (b : Bool) (xs ys ts : List Track) → xs ≡ ts → ys ≡ ts → (if b then xs else ys) ≡ ts
+pub either : (b : Bool) (xs ys ts : List Track) → xs ≡ ts → ys ≡ ts → (if b then xs else ys) ≡ ts
 either true xs ys ts e d = e
 either false xs ys ts e d = d
 
@@ -126,14 +128,9 @@ none_of p i (t ∷ ts) e =
     go true d f = ap (λ (c : Bool). c || list_any p (spanned i ts)) d ∙ f
     go false d f = f
 
-none_cross : (ts : List Track) (items : List Item) → list_any flexible ts ≡ false → filter (crosses_flexible ts) items ≡ []
-none_cross ts [] e = refl
-none_cross ts (i ∷ rest) e = ap (λ (b : Bool). cond b (i ∷ filter (crosses_flexible ts) rest) (filter (crosses_flexible ts) rest)) (none_of flexible i ts e) ∙ none_cross ts rest e
-
-pub none_crossing : (ts : List Track) (items kept : List Item) → kept ≡ [] → list_any flexible ts ≡ false → kept ≡ filter (crosses_flexible ts) items
-none_crossing ts items kept k e = k ∙ sym (none_cross ts items e)
-
-pub none_in : (first : ℤ) (n : ℕ) (kept : List Item) → kept ≡ [] → AreIn first n kept
-none_in first n kept k = subst (AreIn first n) (sym k) tt
-
-pub ruleset uncrossed = (none_crossing, none_in)
+pub whole_run : (ts : List Track) (n : ℕ) (items : List Item) → list_any flexible ts ≡ false → AreOf (pos n) items → of_span ts items n ≡ items
+whole_run ts n [] e h = refl
+whole_run ts n (i ∷ rest) e h =
+    ap (λ (b : Bool). cond (b && not (crosses_flexible ts i)) (i ∷ of_span ts rest n) (of_span ts rest n)) (is_it (span_length i) (pos n) h.0)
+    ∙ ap (λ (b : Bool). cond (not b) (i ∷ of_span ts rest n) (of_span ts rest n)) (none_of flexible i ts e)
+    ∙ ap (λ (xs : List Item). i ∷ xs) (whole_run ts n rest e h.1)

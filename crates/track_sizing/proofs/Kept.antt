@@ -1,11 +1,14 @@
 -- Items that are kept, and groups by span.
-use Rattle.std.proofs.Common.{arith, ap, subst, ◌≡◌, ◌∙◌, sym, refl, ℕ, suc, ◌+◌, ◌<◌, ◌≤◌, ℤ, Bool, true, false, List, [], ◌∷◌, ◌++◌, drop, length, get_or, cond, filter, append_assoc, if◌then◌else◌}
+use Rattle.std.proofs.Common.{arith, ap, subst, ◌≡◌, ◌∙◌, sym, refl, ℕ, suc, ◌+◌, ◌<◌, ◌≤◌, ℤ, pos, Bool, true, false, List, [], ◌∷◌, ◌++◌, drop, length, get_or, cond, filter, append_assoc, if◌then◌else◌}
 use Rattle.std.proofs.lemmas.List.{append-nil}
+use Rattle.std.specs.List.{list_any}
 use Rattle.std.proofs.Math.ListN.{drop_of_length-le}
 use Rattle.lunit.specs.declared.item.Item.{Item}
 use Rattle.part_rules.specs.declared.track.Space.{Space}
-use Rattle.part_rules.specs.Tracks.{Track, some_fitted, spans_fitted, of_span, group_fitted}
+use Rattle.part_rules.specs.Tracks.{Track, flexible, some_fitted, spans_fitted, of_span, group_fitted}
+use Rattle.track_sizing.specs.Ordered.{AreOf}
 use Rattle.track_sizing.specs.Placed.{AreIn, IsIn}
+use Rattle.track_sizing.proofs.Idle.{whole_run}
 use Rattle.track_sizing.proofs.Sums.{drop_item}
 
 -- The items that are kept so far, all of which are in the tracks.
@@ -93,6 +96,13 @@ some_group space gap (i ∷ rest) ts h = refl
 pub no_group : {axis : ℕ} (space : Space axis) (gap : ℤ) (items : List Item) (ts : List Track) → length items ≤ 0 → some_fitted space gap items ts ≡ ts
 no_group space gap [] ts h = refl
 no_group space gap (i ∷ rest) ts h = absurd (omega arith)
+
+pub run_empty : {axis : ℕ} (space : Space axis) (gap : ℤ) (items : List Item) (span : ℕ) (ts : List Track) → length items ≡ 0 → ts ≡ some_fitted space gap (of_span ts items span) ts
+run_empty space gap [] span ts h = refl
+run_empty space gap (i ∷ rest) span ts h = absurd (omega arith)
+
+pub run_whole : {axis : ℕ} (space : Space axis) (gap : ℤ) (items : List Item) (span : ℕ) (ts now : List Track) → now ≡ some_fitted space gap items ts → list_any flexible ts ≡ false → AreOf (pos span) items → now ≡ some_fitted space gap (of_span ts items span) ts
+run_whole space gap items span ts now v e h = v ∙ sym (ap (λ (xs : List Item). some_fitted space gap xs ts) (whole_run ts span items e h))
 
 pub one_turn : {axis : ℕ} (space : Space axis) (gap : ℤ) (items : List Item) (more next n m : ℕ) (ts now : List Track) → more ≡ next + 1 → m ≡ n + 1 → now ≡ some_fitted space gap (of_span ts items n) ts
     → spans_fitted space gap items next m now ≡ spans_fitted space gap items more n ts

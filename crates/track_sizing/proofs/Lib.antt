@@ -24,3 +24,4 @@ pub mod Sized
 pub mod Order
 pub mod Noted
 pub mod Staying
+pub mod Passed

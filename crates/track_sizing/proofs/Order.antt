@@ -14,7 +14,7 @@ use Rattle.lunit.specs.declared.item.Floor.TheVariants.{Known}
 use Rattle.part_rules.specs.declared.track.Space.{Space}
 use Rattle.part_rules.specs.Tracks.{Track, crosses_flexible, of_span, some_fitted, span_length, spans_fitted}
 use Rattle.track_sizing.specs.Placed.{AreIn, IsIn}
-use Rattle.track_sizing.specs.Ordered.{AreFrom, AreRising, IsInOrder, IsLeft, IsRun, has}
+use Rattle.track_sizing.specs.Ordered.{AreFrom, AreOf, AreRising, IsInOrder, IsLeft, IsRun, has}
 use Rattle.track_sizing.specs.Spans.{is_wide}
 use Rattle.track_sizing.proofs.Sums.{drop_item}
 
@@ -77,10 +77,6 @@ none_of j k (i ∷ rest) l h = ap (λ (b : Bool). cond b (i ∷ filter (has j) r
 
 -- ---- the first of one number
 
-abbrev pub AreOf : ℤ → List Item → Type 0
-AreOf k [] = Unit {0}
-AreOf k (i ∷ rest) = (span_length i ≡ k) × AreOf k rest
-
 pub of_none : (k : ℤ) (items : List Item) (n : ℕ) → n ≡ 0 → AreOf k (take n items)
 of_none k items n e = subst (λ (m : ℕ). AreOf k (take m items)) (sym e) tt
 
@@ -111,6 +107,7 @@ pub run_of : (k : ℤ) (items : List Item) (n : ℕ) → AreRising items → Are
 run_of k items n r f o a =
     let whole : take n items ++ drop n items ≡ items = take-append-drop n items in
     record {
+      each = o;
       own = sym (append_none (filter (has k) (take n items)) (filter (has k) (drop n items)) (none_of k (k +ℤ pos 1) (drop n items) (omega (arith, ints)) a)) ∙ sym (filter-append (has k) (take n items) (drop n items)) ∙ ap (filter (has k)) whole;
       others = λ j l. ap (λ (xs : List Item). xs ++ filter (has j) (drop n items)) (sym (others_of j k (take n items) (λ e. omega (arith, ints, e)) o)) ∙ sym (filter-append (has j) (take n items) (drop n items)) ∙ ap (filter (has j)) whole;
       rising = rising_drop n items r;

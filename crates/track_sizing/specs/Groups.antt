@@ -1,6 +1,6 @@
 -- The steps for a group of items.
 use Rattle.std.specs.Prelude.{ℤ, Bool, List, [], ◌∷◌, ◌++◌, if◌then◌else◌}
-use Rattle.part_rules.specs.Tracks.{BaseStep}
+use Rattle.part_rules.specs.Tracks.{BaseStep, Track, raise_limit, raised_base, unmarked}
 use Rattle.track_sizing.specs.declared.kinds.Kind.{Kind}
 use Rattle.track_sizing.specs.declared.kinds.Kind.TheVariants as kind
 use Rattle.track_sizing.specs.declared.kinds.Affected.{Affected}
@@ -23,3 +23,7 @@ base_steps_of definite max gap crossing =
     base_step_of (affecting kind.IntrinsicLeast crossing) kind.IntrinsicMost definite gap asks.Minimum
     ∷ base_step_of (affecting kind.ContentLeast crossing) kind.IntrinsicMost definite gap asks.Low
     ∷ last_steps_of definite max gap crossing
+
+-- a track after the steps for a group whose items give it nothing
+abbrev pub passed : Track → Track
+passed t = unmarked (raise_limit (raised_base t))

@@ -19,6 +19,11 @@ abbrev pub AreRising : List Item → Type 0
 AreRising [] = Unit {0}
 AreRising (i ∷ rest) = AreFrom (span_length i) rest × AreRising rest
 
+-- each spans so many
+abbrev pub AreOf : ℤ → List Item → Type 0
+AreOf k [] = Unit {0}
+AreOf k (i ∷ rest) = (span_length i ≡ k) × AreOf k rest
+
 -- the items in order, those that span as many as they were
 pub record IsInOrder (items sorted : List Item) : Type 0 where
   pub same : (k : ℤ) → filter (has k) sorted ≡ filter (has k) items
@@ -34,6 +39,7 @@ pub record IsLeft (k : ℤ) (items left : List Item) : Type 0 where
 
 -- The first so many of them are those that span so many.
 pub record IsRun (k : ℤ) (left : List Item) (n : ℕ) : Type 0 where
+  pub each : AreOf k (take n left)
   pub own : filter (has k) (take n left) ≡ filter (has k) left
   pub others : (j : ℤ) → (k +ℤ pos 1) ≤ℤ j → filter (has j) (drop n left) ≡ filter (has j) left
   pub rising : AreRising (drop n left)

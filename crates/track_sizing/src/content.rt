@@ -2,14 +2,15 @@
 
 ghost use Rattle.std.specs.Prelude.{◌≡◌, ◌<◌, ◌≤◌, ◌^◌, IfOk, OnOk, filter, length, map, pos, true};
 ghost use Rattle.part_rules.specs.Tracks.{close_limit, content_sized, crosses_flexible, group_fitted, of_span, some_fitted, spans_fitted};
-ghost use Rattle.track_sizing.specs.Ordered.{AreFrom, AreRising, IsRun};
+ghost use Rattle.track_sizing.specs.Ordered.{AreFrom, AreOf, AreRising, IsRun};
 ghost use Rattle.track_sizing.specs.Placed.{AreIn, AreSet, IsIn};
 ghost use Rattle.track_sizing.specs.Spans.{is_of_span};
 
 use crate::alone::fit_alone;
 use crate::distribute::place_of;
-use crate::group::fit_group;
+use crate::group::{fit_group, pass_group};
 use crate::item::{some_flexible, span_length};
+use crate::kinds::{Affected, Kind, some_affected};
 use crate::rest::close_set_limits;
 use crate::row::Row;
 use crate::runs::{by_tracks, run_length, wide_items};
@@ -65,7 +66,7 @@ fn of_span(
     Ok(group)
 }
 
-#[tactic(auto, using(crate::proofs::Kept::kept_items, crate::proofs::Idle::uncrossed))]
+#[tactic(auto, using(crate::proofs::Kept::kept_items))]
 /// The items that cross a flexible track.
 fn crossing_items(
     alloc: Global,
@@ -80,9 +81,6 @@ fn crossing_items(
     ensures items { IfOk result (λ group. AreIn first (length rows.now) group.items) }
 {
     let mut group = Vec::new(alloc);
-    if !some_flexible(rows) {
-        return Ok(group);
-    }
     for item in items {
         if crosses_flexible(first, rows, item) {
             group.push(*item)?;
@@ -111,6 +109,38 @@ fn fit_some<const AXIS: u8>(
     if items.len() > 0 {
         fit_group(space, gap, false, first, items, rows, takers);
     }
+}
+
+#[tactic(auto, using(crate::proofs::Kept::run_empty, crate::proofs::Kept::run_whole))]
+/// The steps for those of a run of items of one span that cross no flexible track: for all of them where no track is flexible.
+fn fit_run<const AXIS: u8>(
+    alloc: Global,
+    space: &Space<AXIS>,
+    gap: Lu,
+    first: Wide,
+    items: &[Item],
+    span: u64,
+    rows: &mut [Row],
+    takers: &mut [Share],
+) -> Result<(), NoMemory>
+    requires few { length rows.old < 2 ^ 32 }
+    requires length { length takers.old ≡ length rows.old }
+    requires set { AreSet first rows.old }
+    requires items { AreIn first (length rows.old) items.now }
+    requires run { AreOf (pos span) items.now }
+    ensures rows { OnOk result (rows.new ≡ some_fitted space.now gap (of_span rows.old items.now span) rows.old) }
+    ensures set { OnOk result (AreSet first rows.new) }
+{
+    if items.len() == 0 {
+        return Ok(());
+    }
+    if !some_flexible(rows) {
+        fit_some(space, gap, first, items, rows, takers);
+        return Ok(());
+    }
+    let group = of_span(alloc, first, rows, items, span)?;
+    fit_some(space, gap, first, &group, rows, takers);
+    Ok(())
 }
 
 /// How many items stand first that span so many tracks, where none spans fewer.
@@ -150,35 +180,70 @@ fn fit_spans<const AXIS: u8>(
             return Ok(());
         }
         let (mine, others) = left.split_at(spanning(span, left));
-        let group = of_span(alloc, first, rows, mine, span)?;
-        fit_some(space, gap, first, &group, rows, takers);
+        fit_run(alloc, space, gap, first, mine, span, rows, takers)?;
         left = others;
         span += 1;
     }
     Ok(())
 }
 
-/// Groups of items of two tracks and more, and last the items that cross a flexible track.
+#[tactic(auto, using(crate::proofs::Passed::group_passed))]
+/// The steps for the items that cross a flexible track, given the tracks as they were at first. No item is asked where the steps
+/// affect no track: a flexible max function is not intrinsic, so only intrinsic min functions count.
+fn fit_crossing<const AXIS: u8>(
+    alloc: Global,
+    space: &Space<AXIS>,
+    gap: Lu,
+    first: Wide,
+    items: &[Item],
+    start: &[Row],
+    rows: &mut [Row],
+    takers: &mut [Share],
+) -> Result<(), NoMemory>
+    requires few { length rows.old < 2 ^ 32 }
+    requires length { length takers.old ≡ length rows.old }
+    requires same { length start.now ≡ length rows.old }
+    requires start { AreSet first start.now }
+    requires set { AreSet first rows.old }
+    requires items { AreIn first (length rows.old) items.now }
+    ensures rows { OnOk result (rows.new ≡ group_fitted space.now gap true (filter (crosses_flexible start.now) items.now) rows.old) }
+    ensures set { OnOk result (AreSet first rows.new) }
+{
+    let affected = Affected {
+        kind: Kind::IntrinsicLeast,
+        crossing: true,
+    };
+    if !some_affected(&affected, rows) {
+        pass_group(first, rows);
+        return Ok(());
+    }
+    let crossing = crossing_items(alloc, first, start, items)?;
+    fit_group(space, gap, true, first, &crossing, rows, takers);
+    Ok(())
+}
+
+/// Groups of items of two tracks and more, and last the items that cross a flexible track, given the tracks as they were at first.
 fn size_groups<const AXIS: u8>(
     alloc: Global,
     space: &Space<AXIS>,
     gap: Lu,
     first: Wide,
     items: &[Item],
-    crossing: &[Item],
+    start: &[Row],
     rows: &mut [Row],
     takers: &mut [Share],
 ) -> Result<(), NoMemory>
     requires few { length rows.old < 2 ^ 32 }
     requires length { length takers.old ≡ length rows.old }
+    requires same { length start.now ≡ length rows.old }
+    requires start { AreSet first start.now }
     requires set { AreSet first rows.old }
     requires items { AreIn first (length rows.old) items.now }
-    requires crossing { AreIn first (length rows.old) crossing.now }
-    ensures rows { OnOk result (rows.new ≡ map close_limit (group_fitted space.now gap true crossing.now (spans_fitted space.now gap items.now (length rows.old) 2 rows.old))) }
+    ensures rows { OnOk result (rows.new ≡ map close_limit (group_fitted space.now gap true (filter (crosses_flexible start.now) items.now) (spans_fitted space.now gap items.now (length rows.old) 2 rows.old))) }
     ensures set { OnOk result (AreSet first rows.new) }
 {
     fit_spans(alloc, space, gap, first, items, rows, takers)?;
-    fit_group(space, gap, true, first, crossing, rows, takers);
+    fit_crossing(alloc, space, gap, first, items, start, rows, takers)?;
     close_set_limits(first, rows);
     Ok(())
 }
@@ -203,10 +268,7 @@ pub fn size_content<const AXIS: u8>(
     ensures set { IfOk result (λ sized. AreSet first sized.items) }
     ensures length { IfOk result (λ sized. length sized.items ≡ length rows.now) }
 {
-    let crossing = crossing_items(alloc, first, rows, items)?;
     let mut sized = fit_alone(alloc, space, gap, first, items, rows)?;
-    size_groups(
-        alloc, space, gap, first, items, &crossing, &mut sized, takers,
-    )?;
+    size_groups(alloc, space, gap, first, items, rows, &mut sized, takers)?;
     Ok(sized)
 }

@@ -16,7 +16,7 @@ use crate::content::crosses_flexible;
 use crate::distribute::place_of;
 use crate::factors::factor_of;
 use crate::group::is_max_content;
-use crate::item::{inner_gutters, span_length};
+use crate::item::{inner_gutters, some_flexible, span_length};
 use crate::kinds::flexible;
 use crate::numbers::length;
 use crate::rest::{all_gutters, free_of};
@@ -340,7 +340,7 @@ fn space_again<const AXIS: u8>(fit: &Fit<AXIS>, rows: &[Row], done: &[FrRow]) ->
 
 #[tactic(auto, using(crate::proofs::Flexed::flexed_none, crate::proofs::Flexed::flexed_some))]
 /// Expands the flexible tracks (CSS Grid 2, 12.7). Under a max-content space it is done again, from the sizes as they were, where
-/// the declared lengths ask for another total.
+/// the declared lengths ask for another total. Where no track is flexible, all stay as they are.
 pub fn flex<const AXIS: u8>(
     alloc: Global,
     fit: &Fit<AXIS>,
@@ -355,6 +355,9 @@ pub fn flex<const AXIS: u8>(
     requires items { AreIn first (length rows.old) items.now }
     ensures { OnOk result (rows.new ≡ flexed fit.now items.now rows.old) }
 {
+    if !some_flexible(rows) {
+        return Ok(());
+    }
     let all = fr_rows(alloc, rows)?;
     let fraction = fraction_for(&fit.space, fit.gap, first, items, rows, &all);
     let done = expanded_rows(alloc, fraction, rows)?;

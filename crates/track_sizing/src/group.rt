@@ -1,8 +1,8 @@
 //! The six steps for a group of items (CSS Grid 2, 12.5, step 3).
 
-ghost use Rattle.std.specs.Prelude.{◌≡◌, ◌<◌, ◌^◌, length};
+ghost use Rattle.std.specs.Prelude.{◌≡◌, ◌<◌, ◌^◌, length, map};
 ghost use Rattle.part_rules.specs.Tracks.{each_distributed, group_fitted, is_definite, is_max_content};
-ghost use Rattle.track_sizing.specs.Groups.{base_steps_of, last_steps_of};
+ghost use Rattle.track_sizing.specs.Groups.{base_steps_of, last_steps_of, passed};
 ghost use Rattle.track_sizing.specs.Placed.{AreIn, AreSet};
 
 use crate::distribute::{
@@ -141,4 +141,30 @@ pub fn fit_group<const AXIS: u8>(
     raise_limits_to_bases(first, rows);
     distribute_low_limits(crossing, gap, first, items, rows, takers);
     distribute_high_limits(crossing, gap, first, items, rows, takers);
+}
+
+/// The track after the steps for a group whose items give it nothing.
+fn passed(row: &Row) -> Row
+    ensures { result ≡ passed row.now }
+{
+    row.raised_base().raise_limit().with_endless(false)
+}
+
+#[tactic(auto, using(crate::proofs::Loops::changing))]
+/// The tracks after the steps for a group whose items give them nothing.
+fn pass_each(rows: &mut [Row])
+    ensures { rows.new ≡ map passed rows.old }
+{
+    for row in rows.iter_mut() {
+        *row = passed(row);
+    }
+}
+
+/// The tracks after the steps for a group whose items give them nothing.
+pub fn pass_group(first: Wide, rows: &mut [Row])
+    requires { AreSet first rows.old }
+    ensures rows { rows.new ≡ map passed rows.old }
+    ensures set { AreSet first rows.new }
+{
+    pass_each(rows);
 }

@@ -2,7 +2,7 @@ use Rattle.std.proofs.Common.{arith, ap, subst, ◌≡◌, ◌∙◌, sym, refl,
 use Rattle.std.proofs.lemmas.Int.{ints}
 use Rattle.lunit.specs.declared.item.Item.{Item}
 use Rattle.part_rules.specs.Tracks.{Track, some_fitted, spans_fitted}
-use Rattle.track_sizing.specs.Ordered.{IsInOrder, IsLeft, has}
+use Rattle.track_sizing.specs.Ordered.{AreOf, IsInOrder, IsLeft, has}
 use Rattle.track_sizing.specs.Placed.{AreIn}
 use Rattle.track_sizing.specs.Spans.{is_wide}
 use Rattle.track_sizing.proofs.Kept.{one_turn}
@@ -24,10 +24,24 @@ loop-turn-init g c =
       in_left = subst (AreIn c.args.first n) (sym c.deref-left.ensures.value) (sorted.in_them c.args.first n (subst (AreIn c.args.first n) (sym wide) (in_filter is_wide c.args.first n c.args.items.now c.requires.items)));
     }
 
-pub of_span-requires-clause-items : goal.of_span-requires-clause-items
-of_span-requires-clause-items g c =
-    subst (AreIn c.args.first (length c.loop-turn.rows)) (sym c.split_at.ensures.front)
-    (in_take c.args.first (length c.loop-turn.rows) c.spanning.result c.loop-turn.left.now (in_same c.args.first (length c.args.rows.now) (length c.loop-turn.rows) c.loop-turn.left.now (omega arith) c.loop-turn.invariant.in_left))
+pub fit_run-requires : goal.fit_run-requires
+fit_run-requires g c = (
+  omega arith,
+  (
+    omega arith,
+    (
+      omega arith,
+      (
+        c.loop-turn.invariant.set,
+        (
+          subst (AreIn c.args.first (length c.loop-turn.rows)) (sym c.split_at.ensures.front)
+              (in_take c.args.first (length c.loop-turn.rows) c.spanning.result c.loop-turn.left.now (in_same c.args.first (length c.args.rows.now) (length c.loop-turn.rows) c.loop-turn.left.now (omega arith) c.loop-turn.invariant.in_left)),
+          subst (AreOf (pos c.loop-turn.span)) (sym c.split_at.ensures.front) c.spanning.ensures.run.each,
+        ),
+      ),
+    ),
+  ),
+)
 
 pub loop-turn-preserved : goal.loop-turn-preserved
 loop-turn-preserved g c =
@@ -40,11 +54,11 @@ loop-turn-preserved g c =
     let after : pos span +ℤ pos 1 ≡ pos (span + 1) = omega (arith, ints) in
     record {
       same =
-          one_turn c.args.space.now c.args.gap items (length c.args.rows.now - c.loop-turn._turn) (length c.args.rows.now - (c.loop-turn._turn + 1)) span (span + 1) rows c.fit_some.new.rows (omega arith) refl
-          (c.fit_some.ensures.rows ∙ ap (λ (xs : List Item). some_fitted c.args.space.now c.args.gap xs rows) (c.deref-in-loop-turn.ensures.value ∙ c.in_ok-group.ensures.value ∙ group_in rows span items mine own))
+          one_turn c.args.space.now c.args.gap items (length c.args.rows.now - c.loop-turn._turn) (length c.args.rows.now - (c.loop-turn._turn + 1)) span (span + 1) rows c.fit_run.new.rows (omega arith) refl
+          (c.in_ok-fit_run.ensures.rows ∙ ap (λ (xs : List Item). some_fitted c.args.space.now c.args.gap xs rows) (group_in rows span items mine own))
           ∙ c.loop-turn.invariant.same;
       span = omega arith;
-      set = c.fit_some.ensures.set;
+      set = c.in_ok-fit_run.ensures.set;
       left = subst (λ (xs : List Item). IsLeft (pos (span + 1)) items xs) (sym c.split_at.ensures.back) (subst (λ (z : ℤ). IsLeft z items (drop k c.loop-turn.left.now)) after (next_left (pos span) items c.loop-turn.left.now k c.loop-turn.invariant.left c.spanning.ensures.run));
       in_left = subst (AreIn c.args.first (length c.args.rows.now)) (sym c.split_at.ensures.back) (in_drop c.args.first (length c.args.rows.now) k c.loop-turn.left.now c.loop-turn.invariant.in_left);
     }

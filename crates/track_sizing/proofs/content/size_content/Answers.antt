@@ -1,7 +1,6 @@
 use Rattle.std.proofs.Common.{arith, ap, subst, ◌≡◌, ◌∙◌, sym, List, length}
-use Rattle.lunit.specs.declared.item.Item.{Item}
 use Rattle.part_rules.specs.Tracks.{Track, fit_alone}
-use Rattle.track_sizing.specs.Placed.{AreIn, AreSet}
+use Rattle.track_sizing.specs.Placed.{AreSet}
 use Rattle.track_sizing.proofs.Whole.{set_alone, length_alone, in_same}
 use Rattle.track_sizing.proofs.content.size_content.Goals as goal
 
@@ -15,10 +14,13 @@ size_groups-requires g c =
         (
           omega arith,
           (
-            subst (λ (ts : List Track). AreSet c.args.first ts) (sym rows) (set_alone c.args.space.now c.args.gap c.args.first c.args.items.now c.args.rows.now c.requires.set),
+            sym same,
             (
-              in_same c.args.first (length c.args.rows.now) (length c.deref_mut.result.now) c.args.items.now (sym same) c.requires.items,
-              in_same c.args.first (length c.args.rows.now) (length c.deref_mut.result.now) c.deref.result.now (sym same) (subst (λ (xs : List Item). AreIn c.args.first (length c.args.rows.now) xs) (sym c.deref.ensures.value) c.in_ok-crossing.ensures.items),
+              c.requires.set,
+              (
+                subst (λ (ts : List Track). AreSet c.args.first ts) (sym rows) (set_alone c.args.space.now c.args.gap c.args.first c.args.items.now c.args.rows.now c.requires.set),
+                in_same c.args.first (length c.args.rows.now) (length c.deref_mut.result.now) c.args.items.now (sym same) c.requires.items,
+              ),
             ),
           ),
         ),

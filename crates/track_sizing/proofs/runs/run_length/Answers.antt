@@ -1,6 +1,7 @@
 use Rattle.std.proofs.Common.{arith, subst, ◌≡◌, ◌∙◌, sym, ℕ, suc, ◌+◌, take}
 use Rattle.part_rules.specs.Tracks.{span_length}
-use Rattle.track_sizing.proofs.Order.{AreOf, of_more, other_number, run_ends, run_stops, that_number}
+use Rattle.track_sizing.specs.Ordered.{AreOf}
+use Rattle.track_sizing.proofs.Order.{of_more, other_number, run_ends, run_stops, that_number}
 use Rattle.track_sizing.proofs.runs.run_length.Goals as goal
 
 pub returns-else-has-clause-run : goal.returns-else-has-clause-run

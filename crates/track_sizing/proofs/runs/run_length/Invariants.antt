@@ -1,5 +1,5 @@
 use Rattle.std.proofs.Common.{◌-◌, ◌≤◌, take, length}
-use Rattle.track_sizing.proofs.Order.{AreOf}
+use Rattle.track_sizing.specs.Ordered.{AreOf}
 use Rattle.track_sizing.proofs.runs.run_length.Given as goal
 
 abbrev pub invariant-loop-count : goal.invariant-loop-count
