@@ -8,7 +8,7 @@ use circular_buffer::HeapCircularBuffer;
 use lunit::NoMemory;
 use std::alloc::Global;
 use std::marker::Model;
-use tree_rules::Query;
+use tree_rules::{Ask, Given, Query};
 
 /// How many answers a node keeps at most.
 const MOST: usize = 16;
@@ -45,8 +45,27 @@ impl<A: Drop> Kept<A> {
         ensures value { option_copied result ≡ answer_to query.now self.now }
         ensures absent { IsTrue (is_none result) ↔ IsAbsent query.now self.now }
     {
+        self.find_by(
+            query.ask,
+            query.reps.as_slice(),
+            &query.inline,
+            &query.block,
+        )
+    }
+
+    /// The answer to the question of these parts, if it is kept. The question itself need not be made.
+    pub fn find_by(
+        &self,
+        ask: Ask,
+        reps: &[(u32, u32)],
+        inline: &Given,
+        block: &Given,
+    ) -> Option<&A>
+        ensures value { option_copied result ≡ answer_to (record { ask = ask; reps = reps.now; inline = inline.now; block = block.now }) self.now }
+        ensures absent { IsTrue (is_none result) ↔ IsAbsent (record { ask = ask; reps = reps.now; inline = inline.now; block = block.now }) self.now }
+    {
         for (asked, answer) in self.ring.iter() {
-            if same_query(asked, query) {
+            if same_query(asked, ask, reps, inline, block) {
                 return Some(answer);
             }
         }

@@ -73,14 +73,18 @@ fn same_given(a: &Given, b: &Given) -> bool
     }
 }
 
-/// Whether two questions are the same.
-pub(crate) fn same_query(a: &Query, b: &Query) -> bool
-    ensures { result ≡ same_query a.now b.now }
+/// Whether a question is the one of these parts.
+pub(crate) fn same_query(
+    query: &Query,
+    ask: Ask,
+    reps: &[(u32, u32)],
+    inline: &Given,
+    block: &Given,
+) -> bool
+    ensures { result ≡ same_query query.now (record { ask = ask; reps = reps.now; inline = inline.now; block = block.now }) }
 {
-    if ask_number(a.ask) != ask_number(b.ask)
-        || !same_counts(a.reps.as_slice(), b.reps.as_slice())
-    {
+    if ask_number(query.ask) != ask_number(ask) || !same_counts(query.reps.as_slice(), reps) {
         return false;
     }
-    same_given(&a.inline, &b.inline) && same_given(&a.block, &b.block)
+    same_given(&query.inline, inline) && same_given(&query.block, block)
 }

@@ -1,12 +1,8 @@
-use Rattle.std.proofs.Common.{refl, sym, ap, ◌∙◌}
-use Rattle.std.proofs.lemmas.Bool.{false≢true}
-use Rattle.layout_cache.specs.Kept.{answer_to}
-use Rattle.layout_cache.proofs.Sames.{absent_from, found_there}
+use Rattle.std.proofs.Common.{subst}
+use Rattle.std.specs.Prelude.{◌↔◌, is_none, IsTrue}
+use Rattle.tree_rules.specs.KeptAnswers.{IsAbsent}
 use Rattle.layout_cache.proofs.kept.Kept.find.Goals as goal
 
-pub returns-then-same_query-clause-absent : goal.returns-then-same_query-clause-absent
-returns-then-same_query-clause-absent g c =
-    (λ e. absurd (false≢true e), λ h. absurd (found_there c.args.query.now c.args.self.now c.loop-asked.asked-iterator c.in-Some.field-0.now _ c.loop-asked.invariant.2 c.in-Some.ensures.steps (sym c.same_query.ensures ∙ c.if-same_query.true) h))
-
 pub returns-clause-absent : goal.returns-clause-absent
-returns-clause-absent g c = (λ e. absent_from c.args.query.now c.args.self.now (sym (ap (answer_to c.args.query.now) c.in-None.ensures.steps.0) ∙ c.loop-asked.invariant.2), λ h. refl)
+returns-clause-absent g c =
+    subst (λ reps. IsTrue (is_none c.find_by.result) ↔ IsAbsent (record { ask = c.args.query.now.ask; reps = reps; inline = c.args.query.now.inline; block = c.args.query.now.block }) c.args.self.now) c.as_slice.ensures c.find_by.ensures.absent
