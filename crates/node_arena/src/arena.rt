@@ -131,6 +131,16 @@ impl<T: Drop> Arena<T> {
         }
     }
 
+    /// The numbers of a node's children, in document order; none where the number names no node.
+    pub fn children(&self, id: NodeId) -> &[NodeId]
+        ensures { result.now ≡ top_numbers (below_at self.now.tree id) }
+    {
+        match find(&self.slots, id) {
+            Some(slot) => &slot.children,
+            None => &[],
+        }
+    }
+
     /// The number of a child; `None` exactly where there is no child of this index.
     pub fn child(&self, id: NodeId, index: usize) -> Option<NodeId>
         ensures number { result ≡ child_at self.now.tree id index }
