@@ -22,7 +22,7 @@ pub placed_of : (first : ℤ) (ts : List Track) → AreSet first ts → ArePlace
 placed_of first [] h = tt
 placed_of first (t ∷ ts) h = (h.0.0, placed_of (first +ℤ pos 1) ts h.1)
 
-ready_of : (first : ℤ) (ts : List Track) → AreSet first ts → AreReady ts
+pub ready_of : (first : ℤ) (ts : List Track) → AreSet first ts → AreReady ts
 ready_of first [] h = tt
 ready_of first (t ∷ ts) h = (h.0.1, ready_of (first +ℤ pos 1) ts h.1)
 

@@ -36,7 +36,7 @@ none_left : (rooms : List (Option ℤ)) → unshared (pos 0) rooms ≡ pos 0
 unfolding rounds
 none_left rooms = unshared_is (pos 0) rooms
 
-idle_turns : (rooms : List (Track → Option ℤ)) (ts : List Track) → in_turns rooms (pos 0) ts ≡ ts
+pub idle_turns : (rooms : List (Track → Option ℤ)) (ts : List Track) → in_turns rooms (pos 0) ts ≡ ts
 idle_turns [] ts = refl
 idle_turns (room ∷ rooms) ts =
     let each : List (Option ℤ) = map room ts in
@@ -50,12 +50,12 @@ idle_part whole before weight =
     let product : pos 0 *ℤ pos (before + weight) ≡ pos 0 *ℤ pos before = omega (arith, ints) in
     omega (arith, ints, ap (λ (z : ℤ). floor_div z whole) product)
 
-idle_parts : (a : Affected) (whole before : ℕ) (ts : List Track) → zipped incur ts (apportioned_after before (pos 0) whole (map (weight_of a) ts)) ≡ ts
-idle_parts a whole before [] = refl
-idle_parts a whole before (t ∷ ts) =
-    ap (λ (z : ℤ). incur t z ∷ zipped incur ts (apportioned_after (before + weight_of a t) (pos 0) whole (map (weight_of a) ts))) (idle_part whole before (weight_of a t))
-    ∙ ap (λ (x : Track). x ∷ zipped incur ts (apportioned_after (before + weight_of a t) (pos 0) whole (map (weight_of a) ts))) (no_share t)
-    ∙ ap (λ (xs : List Track). t ∷ xs) (idle_parts a whole (before + weight_of a t) ts)
+pub idle_parts : (w : Track → ℕ) (whole before : ℕ) (ts : List Track) → zipped incur ts (apportioned_after before (pos 0) whole (map w ts)) ≡ ts
+idle_parts w whole before [] = refl
+idle_parts w whole before (t ∷ ts) =
+    ap (λ (z : ℤ). incur t z ∷ zipped incur ts (apportioned_after (before + w t) (pos 0) whole (map w ts))) (idle_part whole before (w t))
+    ∙ ap (λ (x : Track). x ∷ zipped incur ts (apportioned_after (before + w t) (pos 0) whole (map w ts))) (no_share t)
+    ∙ ap (λ (xs : List Track). t ∷ xs) (idle_parts w whole (before + w t) ts)
 
 pub either : (b : Bool) (xs ys ts : List Track) → xs ≡ ts → ys ≡ ts → (if b then xs else ys) ≡ ts
 either true xs ys ts e d = e
@@ -64,7 +64,7 @@ either false xs ys ts e d = d
 idle_factors : (a : Affected) (ts : List Track) → by_factors_of a (pos 0) ts ≡ ts
 idle_factors a ts =
     let weights : List ℕ = map (weight_of a) ts in
-    either (total_of weights == 0) (in_turns (room_of (rooms.All a) ∷ []) (pos 0) ts) (zipped incur ts (apportioned_whole (pos 0) weights)) ts (idle_turns (room_of (rooms.All a) ∷ []) ts) (idle_parts a (total_of weights) 0 ts)
+    either (total_of weights == 0) (in_turns (room_of (rooms.All a) ∷ []) (pos 0) ts) (zipped incur ts (apportioned_whole (pos 0) weights)) ts (idle_turns (room_of (rooms.All a) ∷ []) ts) (idle_parts (weight_of a) (total_of weights) 0 ts)
 
 idle_base : (a : Affected) (receives : Kind) (ts : List Track) → base_given_of a receives (pos 0) ts ≡ ts
 idle_base a receives ts = either a.crossing (by_factors_of a (pos 0) ts) (in_turns (base_rooms_of a receives ts) (pos 0) ts) ts (idle_factors a ts) (idle_turns (base_rooms_of a receives ts) ts)
@@ -80,7 +80,7 @@ idle_plan (t ∷ ts) h =
     ∙ ap (λ (z : ℤ). record t { incurred = z } ∷ map plan ts) (sym h.0.0)
     ∙ ap (λ (xs : List Track). t ∷ xs) (idle_plan ts h.1)
 
-planned_idle : (b : Bool) (given ts : List Track) → given ≡ ts → AreReady ts → ts ≡ (if b then map plan given else ts)
+pub planned_idle : (b : Bool) (given ts : List Track) → given ≡ ts → AreReady ts → ts ≡ (if b then map plan given else ts)
 planned_idle true given ts e h = sym (ap (map plan) e ∙ idle_plan ts h)
 planned_idle false given ts e h = refl
 

@@ -25,3 +25,5 @@ pub mod Order
 pub mod Noted
 pub mod Staying
 pub mod Passed
+pub mod Still
+pub mod Known

@@ -8,7 +8,8 @@ use Rattle.part_rules.specs.declared.track.Least.TheVariants as least
 use Rattle.part_rules.specs.declared.track.Most.{Most}
 use Rattle.part_rules.specs.declared.track.Most.TheVariants as most
 use Rattle.part_rules.specs.declared.track.Space.{Space}
-use Rattle.part_rules.specs.Tracks.{Track, alone, auto_asks, fit_items, flexible, high, low, raise_limit}
+use Rattle.part_rules.specs.Lists.{at_most}
+use Rattle.part_rules.specs.Tracks.{Track, alone, auto_asks, capped_most, fit_items, flexible, high, low, raise_limit}
 use Rattle.track_sizing.specs.declared.alone.Single.{Single}
 
 -- an item that spans this track alone
@@ -25,6 +26,10 @@ fit_or_pass space gap items ts t = if flexible t then t else fit_items space gap
 abbrev pub limit_ask : Most → Item → ℤ
 limit_ask most.MinContent = low
 limit_ask other = high
+
+-- what an item asks of the `auto` minimum of the track that it spans alone, where its minimum contribution is known
+abbrev pub known_asks : Bool → ℤ → Track → Item → ℤ
+known_asks definite size t i = if definite then size else int_max size (at_most (capped_most t.rule.most) i.low)
 
 -- a base size with one item more
 abbrev pub base_more : {axis : ℕ} → Space axis → ℤ → List Track → Item → Least → ℤ → ℤ

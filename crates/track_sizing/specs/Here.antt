@@ -152,6 +152,25 @@ abbrev pub limit_planned_of : Affected → Bool → ℤ → Item → List Track 
 limit_planned_of a second gap i mine =
     if list_any (affected_of a) mine then map plan (limit_given_of a second (needed_of limit_of gap (if second then i.high else i.low) mine i) mine) else mine
 
+-- ---- items that ask for nothing
+
+-- a minimum contribution that is known and not above 0
+abbrev pub IsIdleFloor : Floor → Type 0
+IsIdleFloor (Known x) = x ≤ℤ pos 0
+IsIdleFloor (Content size margins inner) = ⊥
+
+-- No contribution of the item is above 0, and no gutter is below 0.
+pub record IsIdle (gap : ℤ) (i : Item) : Type 0 where
+  pub gutters : pos 0 ≤ℤ gap
+  pub low : i.low ≤ℤ pos 0
+  pub high : i.high ≤ℤ pos 0
+  pub floor : IsIdleFloor i.floor
+
+-- tracks of which no length is below 0
+abbrev pub HaveLengths : List Track → Type 0
+HaveLengths [] = Unit {0}
+HaveLengths (t ∷ rest) = ((pos 0 ≤ℤ t.base) × (pos 0 ≤ℤ limit_of t)) × HaveLengths rest
+
 -- ---- what is kept
 
 -- a track to which the item at hand has given at most so much

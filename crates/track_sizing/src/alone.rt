@@ -1,19 +1,19 @@
 //! Items that span one track (CSS Grid 2, 12.5, step 2).
 
-ghost use Rattle.std.specs.Prelude.{◌≡◌, ◌<◌, ◌^◌, ◌+ℤ◌, IfOk, length, map, pos};
+ghost use Rattle.std.specs.Prelude.{◌≡◌, ◌<◌, ◌^◌, ◌+ℤ◌, IfOk, [], ◌∷◌, length, map, pos};
 ghost use Rattle.std.specs.Ordering.{int_eq};
 ghost use Rattle.part_rules.specs.Lists.{zipped};
-ghost use Rattle.part_rules.specs.Tracks.{auto_asks, fit_alone};
-ghost use Rattle.track_sizing.specs.Alone.{base_more, fit_single, limit_ask, limit_most, limit_single, single_by, single_more, single_none, single_of};
+ghost use Rattle.part_rules.specs.Tracks.{auto_asks, fit_alone, spanned};
+ghost use Rattle.track_sizing.specs.Alone.{base_more, fit_single, known_asks, limit_ask, limit_most, limit_single, single_by, single_more, single_none, single_of};
 ghost use Rattle.track_sizing.specs.Placed.{AreIn, AreSet, IsIn};
 
 use crate::distribute::place_of;
 use crate::group::is_definite;
-use crate::item::{Asks, asked, span_length};
+use crate::item::{Asks, asked, capped_most, span_length};
 use crate::kinds::flexible;
-use crate::numbers::{length, longer, shorter};
+use crate::numbers::{at_most_limit, length, longer, shorter};
 use crate::row::Row;
-use lunit::{Item, Lu, NoMemory, Wide};
+use lunit::{Floor, Item, Lu, NoMemory, Wide};
 use part_rules::{Least, Most, Space};
 use std::alloc::Global;
 
@@ -59,6 +59,38 @@ fn auto_asks<const AXIS: u8>(
     length(asked(is_definite(space), gap, &Asks::Minimum, mine, item))
 }
 
+/// What an item asks of the `auto` minimum of the track that it spans alone, where its minimum contribution is known.
+fn known_asks(definite: bool, size: Lu, row: &Row, item: &Item) -> Lu
+    ensures { result ≡ known_asks definite size row.now item.now }
+{
+    if definite {
+        size
+    } else {
+        longer(size, at_most_limit(capped_most(&row.rule().most), item.low))
+    }
+}
+
+/// What an item asks of the `auto` minimum of the track that it spans alone.
+fn single_asks<const AXIS: u8>(
+    space: &Space<AXIS>,
+    gap: Lu,
+    first: Wide,
+    rows: &[Row],
+    item: &Item,
+    row: &Row,
+) -> Lu
+    requires few { length rows.now < 2 ^ 32 }
+    requires set { AreSet first rows.now }
+    requires item { IsIn first (length rows.now) item.now }
+    requires own { spanned item.now rows.now ≡ row.now ∷ [] }
+    ensures { result ≡ auto_asks space.now gap rows.now item.now }
+{
+    match item.floor {
+        Floor::Known(size) => known_asks(is_definite(space), size, row, item),
+        _ => auto_asks(space, gap, first, rows, item),
+    }
+}
+
 /// The base size by one item more.
 fn base_more<const AXIS: u8>(
     space: &Space<AXIS>,
@@ -66,19 +98,20 @@ fn base_more<const AXIS: u8>(
     first: Wide,
     rows: &[Row],
     item: &Item,
-    least: &Least,
+    row: &Row,
     base: Lu,
 ) -> Lu
     requires few { length rows.now < 2 ^ 32 }
     requires set { AreSet first rows.now }
     requires item { IsIn first (length rows.now) item.now }
-    ensures { result ≡ base_more space.now gap rows.now item.now least.now base }
+    requires own { spanned item.now rows.now ≡ row.now ∷ [] }
+    ensures { result ≡ base_more space.now gap rows.now item.now row.now.rule.least base }
 {
-    match least {
+    match &row.rule().least {
         Least::Fixed(_) => base,
         Least::MinContent => longer(item.low, base),
         Least::MaxContent => longer(item.high, base),
-        Least::Auto => longer(auto_asks(space, gap, first, rows, item), base),
+        Least::Auto => longer(single_asks(space, gap, first, rows, item, row), base),
     }
 }
 
@@ -105,13 +138,13 @@ fn single_more<const AXIS: u8>(
     requires few { length rows.now < 2 ^ 32 }
     requires set { AreSet first rows.now }
     requires item { IsIn first (length rows.now) item.now }
+    requires own { spanned item.now rows.now ≡ row.now ∷ [] }
     ensures { result ≡ single_more space.now gap rows.now item.now row.now single.now }
 {
-    let rule = row.rule();
     Single {
         some: true,
-        base: base_more(space, gap, first, rows, item, &rule.least, single.base),
-        most: longer(limit_ask(&rule.most, item), single.most),
+        base: base_more(space, gap, first, rows, item, row, single.base),
+        most: longer(limit_ask(&row.rule().most, item), single.most),
     }
 }
 
@@ -176,7 +209,7 @@ fn add_items<const AXIS: u8>(
 fn no_singles(alloc: Global, rows: &[Row]) -> Result<Vec<Single>, NoMemory>
     ensures { IfOk result (λ singles. singles.items ≡ map single_none rows.now) }
 {
-    let mut singles = Vec::new(alloc);
+    let mut singles = Vec::with_capacity(alloc, rows.len())?;
     for row in rows {
         singles.push(single_none(row))?;
     }

@@ -3,11 +3,12 @@
 ghost use Rattle.std.specs.Prelude.{◌≡◌, ◌<◌, ◌^◌, ◌≤◌, ◌+ℤ◌, ◌≤ℤ◌, length, map, pos, true};
 ghost use Rattle.part_rules.specs.Lists.{zipped};
 ghost use Rattle.part_rules.specs.Tracks.{base_distributed, base_planned_by, base_planned_by_all, high_limits, limit_planned_by, limit_planned_by_all, low_limits, raise_limit, raised_base, raised_limit_by};
+ghost use Rattle.track_sizing.specs.Here.{HaveLengths};
 ghost use Rattle.track_sizing.specs.Kinds.{affected_of};
 ghost use Rattle.track_sizing.specs.Placed.{AreIn, AreSet, IsIn, base_step_of, limit_step_in, marked_limit_by};
 ghost use Rattle.track_sizing.specs.Reached.{AllStay, marked_where, raised_where};
 
-use crate::item::span_length;
+use crate::item::{is_idle, span_length};
 use crate::kinds::{Affected, Kind, some_affected};
 use crate::reach::{is_noted, note_reached};
 use crate::row::Row;
@@ -21,11 +22,22 @@ pub fn place_of(first: Wide, item: &Item) -> usize
     requires near { item.now.span.start ≤ℤ (first +ℤ pos (2 ^ 32)) }
     ensures { item.now.span.start ≡ first +ℤ pos result }
 {
-    (Wide::of(i128::from(item.span.start)) - first).units() as usize
+    (i64::from(item.span.start) - first.units()) as usize
+}
+
+#[tactic(auto, using(crate::proofs::Still::lengths))]
+/// Reads the lengths of the tracks once: none of them is below 0, so an item that asks for nothing needs no space.
+fn read_lengths(rows: &[Row])
+    ensures { HaveLengths rows.now }
+{
+    for row in rows {
+        let _base = row.base();
+        let _limit = row.limit_or_base();
+    }
 }
 
 #[tactic(auto, using(crate::proofs::Groups::mine))]
-/// Plans what an item gives the base sizes of its tracks, which are some of these.
+/// Plans what an item gives the base sizes of its tracks, which are some of these. Where it asks for nothing, they stay as they are.
 fn plan_base_at(
     step: &BaseStep,
     definite: bool,
@@ -39,9 +51,14 @@ fn plan_base_at(
     requires length { length takers.old ≡ length rows.old }
     requires set { AreSet first rows.old }
     requires item { IsIn first (length rows.old) item.now }
+    requires lengths { HaveLengths rows.old }
     ensures rows { rows.new ≡ base_planned_by (base_step_of step.now.affected step.now.receives definite gap step.now.asks) gap rows.old item.now }
     ensures set { AreSet first rows.new }
+    ensures lengths { HaveLengths rows.new }
 {
+    if is_idle(gap, item) {
+        return;
+    }
     let start = place_of(first, item);
     let tracks = span_length(item) as usize;
     let (_before, rest) = rows.split_at_mut(start);
@@ -71,6 +88,7 @@ fn plan_bases(
     if !some_affected(&step.affected, rows) {
         return;
     }
+    read_lengths(rows);
     for item in items {
         plan_base_at(step, definite, gap, first, item, rows, takers);
     }
@@ -127,6 +145,8 @@ pub fn distribute_bases(
 }
 
 #[tactic(auto, using(crate::proofs::Groups::mine))]
+/// Plans what an item gives the growth limits of its tracks, which are some of these. Where it asks for nothing, they stay as they
+/// are.
 fn plan_limit_at(
     affected: &Affected,
     second: bool,
@@ -140,9 +160,14 @@ fn plan_limit_at(
     requires length { length takers.old ≡ length rows.old }
     requires set { AreSet first rows.old }
     requires item { IsIn first (length rows.old) item.now }
+    requires lengths { HaveLengths rows.old }
     ensures rows { rows.new ≡ limit_planned_by (limit_step_in affected.now second) gap rows.old item.now }
     ensures set { AreSet first rows.new }
+    ensures lengths { HaveLengths rows.new }
 {
+    if is_idle(gap, item) {
+        return;
+    }
     let start = place_of(first, item);
     let tracks = span_length(item) as usize;
     let (_before, rest) = rows.split_at_mut(start);
@@ -172,6 +197,7 @@ fn plan_limits(
     if !some_affected(affected, rows) {
         return;
     }
+    read_lengths(rows);
     for item in items {
         plan_limit_at(affected, second, gap, first, item, rows, takers);
     }

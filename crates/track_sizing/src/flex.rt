@@ -43,7 +43,7 @@ pub fn fr_rows(alloc: Global, rows: &[Row]) -> Result<Vec<FrRow>, NoMemory>
     ensures value { IfOk result (λ all. all.items ≡ map fr_row rows.now) }
     ensures bases { IfOk result (λ all. HaveBases all.items) }
 {
-    let mut all = Vec::new(alloc);
+    let mut all = Vec::with_capacity(alloc, rows.len())?;
     for row in rows {
         all.push(fr_row(row))?;
     }

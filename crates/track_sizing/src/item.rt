@@ -1,15 +1,15 @@
 //! What an item asks for of the tracks that it spans (CSS Grid 2, 12.5).
 
-ghost use Rattle.std.specs.Prelude.{◌≡◌, ◌<◌, ◌^◌, ◌<ℤ◌, ◌-ℤ◌, ◌≤ℤ◌, IfSome, length, map, pos};
+ghost use Rattle.std.specs.Prelude.{◌≡◌, ◌<◌, ◌^◌, ◌<ℤ◌, ◌-ℤ◌, ◌≤ℤ◌, IfSome, length, map, pos, true};
 ghost use Rattle.std.specs.Int.{int_max};
 ghost use Rattle.lunit.specs.Units.{IsUnits, clamp, top};
 ghost use Rattle.std.specs.List.{list_any};
 ghost use Rattle.part_rules.specs.Lists.{sum_of};
 ghost use Rattle.part_rules.specs.Tracks.{Track, base_of, capped_most, flexible, inner_gutters, is_auto_least, limit_of, span_length};
-ghost use Rattle.track_sizing.specs.Here.{IsSpan, IsSum, asked_of, automatic_of, content_based_of, capped_of, fixed_of, is_content_based_of, limited_of, minimum_of, needed_of};
+ghost use Rattle.track_sizing.specs.Here.{IsIdle, IsSpan, IsSum, asked_of, automatic_of, content_based_of, capped_of, fixed_of, is_content_based_of, limited_of, minimum_of, needed_of};
 
 use crate::kinds::{fit_argument, flexible, is_auto_least};
-use crate::numbers::{at_most, greater, shared};
+use crate::numbers::{at_most, greater, is_not_above, is_not_below, shared};
 use crate::row::{Row, fixed_most};
 use lunit::{Floor, Item, Lu, Wide};
 use part_rules::Most;
@@ -68,7 +68,7 @@ fn fixed_sum(rows: &[Row]) -> Option<Wide>
 }
 
 /// A max function that is fixed, as which the argument of `fit-content` counts.
-fn capped_most(most: &Most) -> Option<Lu>
+pub fn capped_most(most: &Most) -> Option<Lu>
     ensures { result ≡ capped_most most.now }
 {
     match fit_argument(most) {
@@ -233,4 +233,25 @@ pub fn needed(gap: Lu, asked: Wide, sum: Wide, item: &Item) -> Lu
     ensures most { result ≤ℤ top }
 {
     shared(asked - sum - inner_gutters(gap, item))
+}
+
+#[tactic(auto, using(crate::proofs::Still::idle_known))]
+/// Whether an item surely gives nothing in each step: no contribution of it is above 0, and no gutter is below 0. Such is the item
+/// that stands for a subgrid without margins, borders and paddings.
+pub fn is_idle(gap: Lu, item: &Item) -> bool
+    ensures { result ≡ true → IsIdle gap item.now }
+{
+    if !is_not_below(gap) {
+        return false;
+    }
+    if !is_not_above(item.low) {
+        return false;
+    }
+    if !is_not_above(item.high) {
+        return false;
+    }
+    match item.floor {
+        Floor::Known(size) => is_not_above(size),
+        _ => false,
+    }
 }

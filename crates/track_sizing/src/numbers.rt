@@ -38,6 +38,16 @@ pub fn at_most(limit: Option<Wide>, number: Wide) -> Wide
     }
 }
 
+/// The length, but at most a limit, where there is one.
+pub fn at_most_limit(limit: Option<Lu>, length: Lu) -> Lu
+    ensures { result ≡ at_most limit length }
+{
+    match limit {
+        Some(limit) => shorter(limit, length),
+        None => length,
+    }
+}
+
 #[tactic(auto, unfolding(lunit::specs::Units::clamp))]
 /// A space that is shared: at least 0, and limited to the range of lengths.
 pub fn shared(space: Wide) -> Lu
@@ -69,4 +79,18 @@ pub fn stays_with(length: Lu, more: Lu) -> bool
     ensures { result ≡ true → clamp (length +ℤ more) ≡ length }
 {
     (length.wide() + more.wide()).clamp() == length
+}
+
+/// Whether a length is not above 0.
+pub fn is_not_above(length: Lu) -> bool
+    ensures { result ≡ true → length ≤ℤ pos 0 }
+{
+    length.units() <= 0
+}
+
+/// Whether a length is not below 0.
+pub fn is_not_below(length: Lu) -> bool
+    ensures { result ≡ true → pos 0 ≤ℤ length }
+{
+    0 <= length.units()
 }

@@ -41,7 +41,7 @@ fn initialise(alloc: Global, first: Wide, rules: &[Rule]) -> Result<Vec<Row>, No
     requires fixed { HaveFixed rules.now }
     ensures { IfOk result (λ rows. rows.items ≡ initialised first rules.now) }
 {
-    let mut rows = Vec::new(alloc);
+    let mut rows = Vec::with_capacity(alloc, rules.len())?;
     let mut at = first;
     for rule in rules {
         rows.push(Row::initial(at, &counted_rule(rule)))?;
@@ -54,7 +54,7 @@ fn initialise(alloc: Global, first: Wide, rules: &[Rule]) -> Result<Vec<Row>, No
 fn takers_for(alloc: Global, rows: &[Row]) -> Result<Vec<Share>, NoMemory>
     ensures { IfOk result (λ takers. length takers.items ≡ length rows.now) }
 {
-    let mut takers = Vec::new(alloc);
+    let mut takers = Vec::with_capacity(alloc, rows.len())?;
     for _place in 0..rows.len() {
         takers.push(Share {
             room: None,
@@ -68,7 +68,7 @@ fn takers_for(alloc: Global, rows: &[Row]) -> Result<Vec<Share>, NoMemory>
 fn base_sizes(alloc: Global, rows: &[Row]) -> Result<Vec<Lu>, NoMemory>
     ensures { IfOk result (λ sizes. sizes.items ≡ map (λ (t : Track). t.base) rows.now) }
 {
-    let mut sizes = Vec::new(alloc);
+    let mut sizes = Vec::with_capacity(alloc, rows.len())?;
     for row in rows {
         sizes.push(row.base())?;
     }

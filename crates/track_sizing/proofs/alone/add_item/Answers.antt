@@ -2,6 +2,7 @@ use Rattle.std.proofs.Common.{arith, ap, ◌∙◌, sym, ◌<◌, length}
 use Rattle.std.proofs.lemmas.Int.{ints}
 use Rattle.track_sizing.specs.declared.alone.Single.{Single}
 use Rattle.track_sizing.specs.Alone.{single_more}
+use Rattle.track_sizing.proofs.Known.{own_track}
 use Rattle.track_sizing.proofs.Lone.{counts, flexible_stays}
 use Rattle.track_sizing.proofs.alone.add_item.Goals as goal
 
@@ -9,6 +10,22 @@ pub returns-then-flexible : goal.returns-then-flexible
 returns-then-flexible g c =
     let at : c.place_of-place.result < length c.args.rows.now = omega (arith, ints, c.place_of-place.ensures, c.requires.item.some, c.requires.item.end) in
     flexible_stays c.args.space.now c.args.gap c.args.first c.args.rows.now c.args.item.now c.args.rows.now c.args.singles.now c.place_of-place.result c.index-rows-place.result c.requires.length c.requires.set c.place_of-place.ensures at c.index-rows-place.is (sym c.flexible.ensures ∙ c.if-flexible.true)
+
+pub single_more-requires : goal.single_more-requires
+single_more-requires g c =
+    let at : c.place_of-place.result < length c.args.rows.now = omega (arith, ints, c.place_of-place.ensures, c.requires.item.some, c.requires.item.end) in (
+      omega arith,
+      (
+        c.requires.few,
+        (
+          c.requires.set,
+          (
+            c.requires.item,
+            own_track c.args.item.now c.args.first c.args.rows.now c.place_of-place.result c.index-rows-place.result c.requires.set c.place_of-place.ensures (sym c.is_single.ensures ∙ c.if-not-is_single.false) at c.index-rows-place.is,
+          ),
+        ),
+      ),
+    )
 
 pub returns : goal.returns
 returns g c =

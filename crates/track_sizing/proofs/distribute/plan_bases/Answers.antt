@@ -19,5 +19,6 @@ loop-item-preserved c =
           ∙ sym (ap (λ (xs : List Item). base_planned_by_all (base_step_of c.args.step.now.affected c.args.step.now.receives c.args.definite c.args.gap c.args.step.now.asks) c.args.gap xs c.loop-item.rows) rest)
           ∙ c.loop-item.invariant.same;
       set = c.plan_base_at.ensures.set;
+      lengths = c.plan_base_at.ensures.lengths;
       left = (subst (λ (xs : List Item). AreIn c.args.first (length c.args.rows.now) xs) rest c.loop-item.invariant.left).1;
     }

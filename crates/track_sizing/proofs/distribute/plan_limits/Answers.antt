@@ -19,5 +19,6 @@ loop-item-preserved c =
           ∙ sym (ap (λ (xs : List Item). limit_planned_by_all (limit_step_in c.args.affected.now c.args.second) c.args.gap xs c.loop-item.rows) rest)
           ∙ c.loop-item.invariant.same;
       set = c.plan_limit_at.ensures.set;
+      lengths = c.plan_limit_at.ensures.lengths;
       left = (subst (λ (xs : List Item). AreIn c.args.first (length c.args.rows.now) xs) rest c.loop-item.invariant.left).1;
     }
