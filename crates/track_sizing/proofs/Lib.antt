@@ -27,3 +27,4 @@ pub mod Staying
 pub mod Passed
 pub mod Still
 pub mod Known
+pub mod Lonely

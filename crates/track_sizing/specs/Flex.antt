@@ -1,13 +1,27 @@
 -- The greatest of some fractions.
-use Rattle.std.specs.Prelude.{◌≡◌, ℕ, ℤ, ◌+ℤ◌, ◌⊎◌, List, [], ◌∷◌, map, filter, Option, Some, None, if◌then◌else◌}
+use Rattle.std.specs.Prelude.{◌≡◌, ℕ, max, ℤ, pos, ◌+ℤ◌, ◌*ℤ◌, int_lt, ◌⊎◌, List, [], ◌∷◌, map, filter, Option, Some, None, if◌then◌else◌}
+use Rattle.std.specs.Int.{int_max}
 use Rattle.std.specs.Ordering.{int_eq}
-use Rattle.lunit.specs.Units.{IsUnits}
+use Rattle.lunit.specs.Units.{IsUnits, clamp}
 use Rattle.part_rules.specs.declared.fraction.FrRow.{FrRow}
 use Rattle.part_rules.specs.declared.track.Fit.{Fit}
+use Rattle.part_rules.specs.Fractions.{no_fraction}
 use Rattle.part_rules.specs.Lists.{at_least, at_most, sum_of}
 use Rattle.lunit.specs.declared.item.Item.{Item}
 use Rattle.part_rules.specs.declared.fraction.Fraction.{Fraction}
 use Rattle.part_rules.specs.Tracks.{Track, all_gutters, is_max_content, base_fraction, crosses_flexible, flexible, greater, item_fraction}
+
+-- the fraction that fills a space with one flexible track
+abbrev pub filled_fraction : ℤ → ℕ → ℤ → Fraction
+filled_fraction base w space =
+    let left = clamp (int_max (pos 0) space) in
+    let weight = max 1000 w in
+    if int_lt (left *ℤ pos w) (base *ℤ pos weight) then no_fraction else record { space = left; weight = weight }
+
+-- and with one track
+abbrev pub lone_fraction : ℤ → Option ℕ → ℤ → Fraction
+lone_fraction base None space = no_fraction
+lone_fraction base (Some w) space = filled_fraction base w space
 
 -- the greatest of a fraction and those before it
 abbrev pub greatest_over : Fraction → List Fraction → Fraction

@@ -2,13 +2,13 @@
 
 ghost use Rattle.std.specs.Prelude.{◌≡◌, ◌<◌, ◌^◌, ◌≤ℤ◌, IfOk, OnOk, filter, int_lt, length, map, pos};
 ghost use Rattle.lunit.specs.Units.{IsUnits};
-ghost use Rattle.fr_tracks.specs.Settled.{HaveBases};
+ghost use Rattle.fr_tracks.specs.Settled.{HaveBases, IsSpace};
 ghost use Rattle.part_rules.specs.declared.fraction.FrRow.{FrRow};
 ghost use Rattle.part_rules.specs.Lists.{at_least, at_most, sum_of, zipped};
-ghost use Rattle.part_rules.specs.Fractions.{expanded, found, no_fraction};
+ghost use Rattle.part_rules.specs.Fractions.{expanded, found, fraction_of, left_flexible, no_fraction};
 ghost use Rattle.part_rules.specs.Tracks.{all_gutters, base_fraction, crosses_flexible, definite_fraction, flexed, flexible, fr_row, fraction_for, greater, item_fraction, with_base};
 ghost use Rattle.track_sizing.specs.Fits.{IsKnownSpace};
-ghost use Rattle.track_sizing.specs.Flex.{IsBounded, greatest_over, item_fractions, other_total, space_again, track_fractions};
+ghost use Rattle.track_sizing.specs.Flex.{IsBounded, filled_fraction, greatest_over, item_fractions, lone_fraction, other_total, space_again, track_fractions};
 ghost use Rattle.track_sizing.specs.Here.{IsSum};
 ghost use Rattle.track_sizing.specs.Placed.{AreIn, AreSet, IsIn};
 
@@ -18,7 +18,7 @@ use crate::factors::factor_of;
 use crate::group::is_max_content;
 use crate::item::{inner_gutters, some_flexible, span_length};
 use crate::kinds::flexible;
-use crate::numbers::length;
+use crate::numbers::{length, shared};
 use crate::rest::{all_gutters, free_of};
 use crate::row::Row;
 use fr_tracks::{expand, find_fr_without_gutters};
@@ -137,6 +137,53 @@ fn base_fraction(row: &Row) -> Fraction
     }
 }
 
+#[tactic(auto, unfolding(lunit::specs::Units::clamp))]
+/// The fraction that fills a space with one flexible track.
+fn filled_fraction(base: Lu, factor: u32, space: Wide) -> Fraction
+    ensures value { result ≡ filled_fraction base factor space }
+    ensures space { pos 0 ≤ℤ result.space }
+    ensures weight { 0 < result.weight }
+{
+    let left = shared(space);
+    let weight = u64::from(factor).max(1000);
+    if left.wide().times(u64::from(factor)) < base.wide().times(weight) {
+        no_fraction()
+    } else {
+        Fraction {
+            space: left,
+            weight,
+        }
+    }
+}
+
+/// The fraction that fills a space with one track.
+fn lone_fraction(row: &FrRow, space: Wide) -> Fraction
+    ensures value { result ≡ lone_fraction row.now.base row.now.factor space }
+    ensures space { pos 0 ≤ℤ result.space }
+    ensures weight { 0 < result.weight }
+{
+    match row.factor {
+        Some(factor) => filled_fraction(row.base, factor, space),
+        None => no_fraction(),
+    }
+}
+
+#[tactic(auto, using(crate::proofs::Lonely::lone_found))]
+/// The fraction that fills a space with these tracks. With one track there is but one start.
+fn fraction_in(rows: &[FrRow], space: Wide) -> Fraction
+    requires few { length rows.now < 2 ^ 32 }
+    requires space { IsSpace space }
+    requires bases { HaveBases rows.now }
+    ensures value { result ≡ fraction_of space (left_flexible (length rows.now) space rows.now) }
+    ensures space { pos 0 ≤ℤ result.space }
+    ensures weight { 0 < result.weight }
+{
+    if rows.len() == 1 {
+        return lone_fraction(&rows[0], space);
+    }
+    find_fr_without_gutters(rows, space)
+}
+
 /// The fraction by which the tracks of an item have room for its max-content contribution.
 fn item_fraction(gap: Lu, first: Wide, rows: &[Row], all: &[FrRow], item: &Item) -> Fraction
     requires few { length rows.now < 2 ^ 32 }
@@ -153,7 +200,7 @@ fn item_fraction(gap: Lu, first: Wide, rows: &[Row], all: &[FrRow], item: &Item)
     let tracks = span_length(item) as usize;
     let (_before, rest) = all.split_at(start);
     let (mine, _behind) = rest.split_at(tracks);
-    find_fr_without_gutters(mine, item.high.wide() - inner_gutters(gap, item))
+    fraction_in(mine, item.high.wide() - inner_gutters(gap, item))
 }
 
 #[tactic(auto, using(crate::proofs::Best::best))]
