@@ -1,38 +1,95 @@
--- What an item asks of the track that it spans alone, where its minimum contribution is known.
-use Rattle.std.proofs.Common.{arith, ap, ◌≡◌, ◌∙◌, sym, refl, ℕ, ◌<◌, ℤ, pos, ◌+ℤ◌, Bool, true, false, List, [], ◌∷◌, map, take, length, get_or, Option, Some, None, if◌then◌else◌}
+-- What an item makes of the track that it spans alone, by that track alone.
+use Rattle.std.proofs.Common.{arith, ap, ◌≡◌, ◌∙◌, sym, refl, ℕ, ◌<◌, ℤ, pos, ◌+ℤ◌, ◌-ℤ◌, ◌*ℤ◌, Bool, true, false, not, ◌&&◌, ◌||◌, List, [], ◌∷◌, map, take, length, get_or, Option, Some, None, if◌then◌else◌}
 use Rattle.std.specs.Int.{int_max}
+use Rattle.std.specs.List.{list_any}
+use Rattle.std.specs.Option.{option_map}
 use Rattle.std.specs.Ordering.{int_eq}
-use Rattle.std.proofs.lemmas.Int.{ints}
+use Rattle.std.proofs.lemmas.Int.{ints, clamps}
+use Rattle.lunit.specs.Units.{IsUnits, clamp}
 use Rattle.lunit.specs.declared.item.Item.{Item}
-use Rattle.lunit.specs.declared.item.Floor.TheVariants.{Known}
+use Rattle.lunit.specs.declared.item.Floor.{Floor}
+use Rattle.lunit.specs.declared.item.Floor.TheVariants.{Known, Content}
+use Rattle.part_rules.specs.declared.track.Least.{Least}
+use Rattle.part_rules.specs.declared.track.Least.TheVariants as least
 use Rattle.part_rules.specs.declared.track.Space.{Space}
 use Rattle.part_rules.specs.Lists.{at_most, sum_of_known}
-use Rattle.part_rules.specs.Tracks.{Track, auto_asks, capped_most, is_definite, limited, low, minimum, minimum_by, spanned}
-use Rattle.track_sizing.specs.Alone.{known_asks}
+use Rattle.part_rules.specs.Tracks.{Track, auto_asks, capped_most, content_based, crosses_flexible, fixed_most, fixed_sum, inner_gutters, is_auto_least, is_content_based, is_definite, minimum, minimum_by, span_length, spanned}
+use Rattle.track_sizing.specs.declared.alone.Single.{Single}
+use Rattle.track_sizing.specs.Alone.{base_alone, base_more, limit_ask, single_alone, single_asks, single_least, single_more}
 use Rattle.track_sizing.specs.Placed.{AreSet}
-use Rattle.track_sizing.proofs.Order.{that_number}
+use Rattle.track_sizing.proofs.Order.{is_it, that_number}
 use Rattle.track_sizing.proofs.Singles.{spanned_at}
 use Rattle.track_sizing.proofs.Sums.{drop_item}
 
-pub own_track : (i : Item) (first : ℤ) (ts : List Track) (at : ℕ) (t : Track) → AreSet first ts → i.span.start ≡ first +ℤ pos at → int_eq i.span.end (i.span.start +ℤ pos 1) ≡ true → at < length ts → t ≡ get_or ts at t → spanned i ts ≡ t ∷ []
-own_track i first ts at t set s one l e = spanned_at i first ts at 1 set s (that_number i.span.end (i.span.start +ℤ pos 1) one) ∙ ap (take 1) (drop_item ts at t l e)
+-- an item that spans this track alone
+record IsAlone (ts : List Track) (i : Item) (t : Track) : Type 0 where
+  own : spanned i ts ≡ t ∷ []
+  one : span_length i ≡ pos 1
 
 one_known : (o : Option ℤ) → sum_of_known (o ∷ []) ≡ o
 one_known None = refl
 one_known (Some x) = ap Some (omega (arith, ints))
 
-pub known_is : {axis : ℕ} (space : Space axis) (gap : ℤ) (ts : List Track) (i : Item) (t : Track) (size : ℤ) → i.floor ≡ Known size → spanned i ts ≡ t ∷ [] → known_asks (is_definite space) size t i ≡ auto_asks space gap ts i
-known_is space gap ts i t size e own = go (is_definite space)
-  where
-    least : minimum gap ts i ≡ size
-    least = ap (minimum_by gap ts i) e
+no_more : (o : Option ℤ) (g : ℤ) → g ≡ pos 0 → option_map (λ s. s +ℤ g) o ≡ o
+no_more None g e = refl
+no_more (Some x) g e = ap Some (omega (arith, ints, e))
 
-    go : (b : Bool) → (if b then size else int_max size (at_most (capped_most t.rule.most) i.low)) ≡ (if b then minimum gap ts i else limited gap low ts i)
-    go true = sym least
+no_gutters : (gap z : ℤ) → z ≡ pos 1 → gap *ℤ (z -ℤ pos 1) ≡ pos 0
+no_gutters gap z e =
+    let none : z -ℤ pos 1 ≡ pos 0 = omega (arith, ints, e) in
+    let product : gap *ℤ pos 0 ≡ pos 0 = omega (arith, ints) in
+    ap (λ (x : ℤ). gap *ℤ x) none ∙ product
+
+fixed_is : (gap : ℤ) (ts : List Track) (i : Item) (t : Track) → IsAlone ts i t → fixed_sum gap ts i ≡ fixed_most t.rule.most
+fixed_is gap ts i t h =
+    ap (λ (xs : List Track). option_map (λ s. s +ℤ inner_gutters gap i) (sum_of_known (map (λ (u : Track). fixed_most u.rule.most) xs))) h.own
+    ∙ ap (option_map (λ s. s +ℤ inner_gutters gap i)) (one_known (fixed_most t.rule.most))
+    ∙ no_more (fixed_most t.rule.most) (inner_gutters gap i) (no_gutters gap (span_length i) h.one)
+
+is_based : (ts : List Track) (i : Item) (t : Track) → IsAlone ts i t → t.rule.least ≡ least.Auto → is_content_based ts i ≡ true
+is_based ts i t h e =
+    ap (λ (xs : List Track). list_any (λ (u : Track). is_auto_least u.rule.least) xs && (int_eq (span_length i) (pos 1) || not (crosses_flexible ts i))) h.own
+    ∙ ap (λ (l : Least). (is_auto_least l || false) && (int_eq (span_length i) (pos 1) || not (crosses_flexible ts i))) e
+    ∙ ap (λ (b : Bool). b || not (crosses_flexible ts i)) (is_it (span_length i) (pos 1) h.one)
+
+least_is : (gap : ℤ) (ts : List Track) (i : Item) (t : Track) (f : Floor) → IsAlone ts i t → t.rule.least ≡ least.Auto → minimum_by gap ts i f ≡ single_least t.rule.most f
+least_is gap ts i t (Known x) h e = refl
+least_is gap ts i t (Content size margins inner) h e =
+    ap (λ (b : Bool). clamp (margins +ℤ int_max inner (if b then content_based gap ts i size margins else pos 0))) (is_based ts i t h e)
+    ∙ ap (λ (o : Option ℤ). clamp (margins +ℤ int_max inner (int_max (pos 0) (at_most (option_map (λ s. s -ℤ margins) o) size)))) (fixed_is gap ts i t h)
+
+asks_are : {axis : ℕ} (space : Space axis) (gap : ℤ) (ts : List Track) (i : Item) (t : Track) → IsAlone ts i t → t.rule.least ≡ least.Auto → single_asks (is_definite space) t.rule.most i ≡ auto_asks space gap ts i
+asks_are space gap ts i t h e = go (is_definite space)
+  where
+    same : minimum gap ts i ≡ single_least t.rule.most i.floor
+    same = least_is gap ts i t i.floor h e
+
+    go : (b : Bool) → (if b then single_least t.rule.most i.floor else int_max (single_least t.rule.most i.floor) (at_most (capped_most t.rule.most) i.low))
+        ≡ (if b then minimum gap ts i else int_max (minimum gap ts i) (at_most (sum_of_known (map (λ (u : Track). capped_most u.rule.most) (spanned i ts))) i.low))
+    go true = sym same
     go false =
         sym
         (
-        ap (λ (z : ℤ). int_max z (at_most (sum_of_known (map (λ (u : Track). capped_most u.rule.most) (spanned i ts))) i.low)) least
-        ∙ ap (λ (xs : List Track). int_max size (at_most (sum_of_known (map (λ (u : Track). capped_most u.rule.most) xs)) i.low)) own
-        ∙ ap (λ (o : Option ℤ). int_max size (at_most o i.low)) (one_known (capped_most t.rule.most))
+        ap (λ (z : ℤ). int_max z (at_most (sum_of_known (map (λ (u : Track). capped_most u.rule.most) (spanned i ts))) i.low)) same
+        ∙ ap (λ (xs : List Track). int_max (single_least t.rule.most i.floor) (at_most (sum_of_known (map (λ (u : Track). capped_most u.rule.most) xs)) i.low)) h.own
+        ∙ ap (λ (o : Option ℤ). int_max (single_least t.rule.most i.floor) (at_most o i.low)) (one_known (capped_most t.rule.most))
         )
+
+base_is : {axis : ℕ} (space : Space axis) (gap : ℤ) (ts : List Track) (i : Item) (t : Track) (base : ℤ) (l : Least) → IsAlone ts i t → t.rule.least ≡ l → base_alone (is_definite space) l t.rule.most i base ≡ base_more space gap ts i l base
+base_is space gap ts i t base (least.Fixed x) h e = refl
+base_is space gap ts i t base least.MinContent h e = refl
+base_is space gap ts i t base least.MaxContent h e = refl
+base_is space gap ts i t base least.Auto h e = ap (λ (z : ℤ). int_max z base) (asks_are space gap ts i t h e)
+
+pub content_range : (end : Option ℤ) (none size least now : ℤ) → none ≡ pos 0 → IsUnits size → least ≡ at_most end size → now ≡ int_max none least → IsUnits now
+content_range None none size least now z u e v = (omega (arith, ints, clamps, z, u.0, u.1, e, v), omega (arith, ints, clamps, z, u.0, u.1, e, v))
+content_range (Some x) none size least now z u e v = (omega (arith, ints, clamps, z, u.0, u.1, e, v), omega (arith, ints, clamps, z, u.0, u.1, e, v))
+
+pub alone_is : {axis : ℕ} (space : Space axis) (gap first : ℤ) (ts : List Track) (i : Item) (at : ℕ) (t : Track) (s : Single) → AreSet first ts → i.span.start ≡ first +ℤ pos at → int_eq i.span.end (i.span.start +ℤ pos 1) ≡ true → at < length ts → t ≡ get_or ts at t
+    → single_alone (is_definite space) i t s ≡ single_more space gap ts i t s
+alone_is space gap first ts i at t s set d one l e =
+    let last : i.span.end ≡ i.span.start +ℤ pos 1 = that_number i.span.end (i.span.start +ℤ pos 1) one in
+    let own : spanned i ts ≡ t ∷ [] = spanned_at i first ts at 1 set d last ∙ ap (take 1) (drop_item ts at t l e) in
+    let tracks : span_length i ≡ pos 1 = omega (arith, ints, last) in
+    let lone : IsAlone ts i t = record { own = own; one = tracks } in
+    ap (λ (z : ℤ). record { some = true; base = z; most = int_max (limit_ask t.rule.most i) s.most }) (base_is space gap ts i t s.base t.rule.least lone refl)

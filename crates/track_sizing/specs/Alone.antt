@@ -1,15 +1,18 @@
 -- Items that span one track.
-use Rattle.std.specs.Prelude.{ℕ, ℤ, pos, ◌+ℤ◌, Bool, true, false, not, ◌&&◌, List, [], ◌∷◌, Option, Some, if◌then◌else◌}
+use Rattle.std.specs.Prelude.{ℕ, ℤ, pos, ◌+ℤ◌, ◌-ℤ◌, Bool, true, false, not, ◌&&◌, List, [], ◌∷◌, Option, Some, option_map, if◌then◌else◌}
 use Rattle.std.specs.Int.{int_max, int_min}
 use Rattle.std.specs.Ordering.{int_eq}
+use Rattle.lunit.specs.Units.{clamp}
 use Rattle.lunit.specs.declared.item.Item.{Item}
+use Rattle.lunit.specs.declared.item.Floor.{Floor}
+use Rattle.lunit.specs.declared.item.Floor.TheVariants.{Known, Content}
 use Rattle.part_rules.specs.declared.track.Least.{Least}
 use Rattle.part_rules.specs.declared.track.Least.TheVariants as least
 use Rattle.part_rules.specs.declared.track.Most.{Most}
 use Rattle.part_rules.specs.declared.track.Most.TheVariants as most
 use Rattle.part_rules.specs.declared.track.Space.{Space}
 use Rattle.part_rules.specs.Lists.{at_most}
-use Rattle.part_rules.specs.Tracks.{Track, alone, auto_asks, capped_most, fit_items, flexible, high, low, raise_limit}
+use Rattle.part_rules.specs.Tracks.{Track, alone, auto_asks, capped_most, fit_items, fixed_most, flexible, high, low, raise_limit}
 use Rattle.track_sizing.specs.declared.alone.Single.{Single}
 
 -- an item that spans this track alone
@@ -26,10 +29,6 @@ fit_or_pass space gap items ts t = if flexible t then t else fit_items space gap
 abbrev pub limit_ask : Most → Item → ℤ
 limit_ask most.MinContent = low
 limit_ask other = high
-
--- what an item asks of the `auto` minimum of the track that it spans alone, where its minimum contribution is known
-abbrev pub known_asks : Bool → ℤ → Track → Item → ℤ
-known_asks definite size t i = if definite then size else int_max size (at_most (capped_most t.rule.most) i.low)
 
 -- a base size with one item more
 abbrev pub base_more : {axis : ℕ} → Space axis → ℤ → List Track → Item → Least → ℤ → ℤ
@@ -72,3 +71,29 @@ abbrev pub fit_single : Track → Single → Track
 fit_single t s =
     let base = int_max t.base s.base in
     if flexible t then t else raise_limit (record t { base = base; limit = limit_single t s })
+
+-- ---- the same by the track alone, for an item that spans it alone
+
+-- the automatic minimum in a track with the min function `auto`
+abbrev pub single_content : Most → ℤ → ℤ → ℤ
+single_content m size margins = int_max (pos 0) (at_most (option_map (λ x. x -ℤ margins) (fixed_most m)) size)
+
+-- the minimum contribution there
+abbrev pub single_least : Most → Floor → ℤ
+single_least m (Known x) = x
+single_least m (Content size margins inner) = clamp (margins +ℤ int_max inner (single_content m size margins))
+
+-- what the item asks for there
+abbrev pub single_asks : Bool → Most → Item → ℤ
+single_asks definite m i = if definite then single_least m i.floor else int_max (single_least m i.floor) (at_most (capped_most m) i.low)
+
+-- the base size
+abbrev pub base_alone : Bool → Least → Most → Item → ℤ → ℤ
+base_alone definite (least.Fixed x) m i base = base
+base_alone definite least.MinContent m i base = int_max i.low base
+base_alone definite least.MaxContent m i base = int_max i.high base
+base_alone definite least.Auto m i base = int_max (single_asks definite m i) base
+
+-- the track
+abbrev pub single_alone : Bool → Item → Track → Single → Single
+single_alone definite i t s = record { some = true; base = base_alone definite t.rule.least t.rule.most i s.base; most = int_max (limit_ask t.rule.most i) s.most }

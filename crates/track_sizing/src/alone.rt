@@ -1,20 +1,21 @@
 //! Items that span one track (CSS Grid 2, 12.5, step 2).
 
-ghost use Rattle.std.specs.Prelude.{◌≡◌, ◌<◌, ◌^◌, ◌+ℤ◌, IfOk, [], ◌∷◌, length, map, pos};
+ghost use Rattle.std.specs.Prelude.{◌≡◌, ◌<◌, ◌^◌, ◌+ℤ◌, IfOk, length, map, pos};
 ghost use Rattle.std.specs.Ordering.{int_eq};
+ghost use Rattle.lunit.specs.Units.{IsUnits};
 ghost use Rattle.part_rules.specs.Lists.{zipped};
-ghost use Rattle.part_rules.specs.Tracks.{auto_asks, fit_alone, spanned};
-ghost use Rattle.track_sizing.specs.Alone.{base_more, fit_single, known_asks, limit_ask, limit_most, limit_single, single_by, single_more, single_none, single_of};
+ghost use Rattle.part_rules.specs.Tracks.{fit_alone};
+ghost use Rattle.track_sizing.specs.Alone.{base_alone, fit_single, limit_ask, limit_most, limit_single, single_alone, single_asks, single_by, single_content, single_least, single_none, single_of};
 ghost use Rattle.track_sizing.specs.Placed.{AreIn, AreSet, IsIn};
 
 use crate::distribute::place_of;
 use crate::group::is_definite;
-use crate::item::{Asks, asked, capped_most, span_length};
+use crate::item::capped_most;
 use crate::kinds::flexible;
-use crate::numbers::{at_most_limit, length, longer, shorter};
-use crate::row::Row;
+use crate::numbers::{at_most, at_most_limit, greater, longer, shorter};
+use crate::row::{Row, fixed_most};
 use lunit::{Floor, Item, Lu, NoMemory, Wide};
-use part_rules::{Least, Most, Space};
+use part_rules::{Least, Most, Rule, Space};
 use std::alloc::Global;
 
 /// What the items that span a track alone make of it.
@@ -39,79 +40,57 @@ fn single_none(row: &Row) -> Single
     }
 }
 
-/// What an item asks of an `auto` minimum.
-fn auto_asks<const AXIS: u8>(
-    space: &Space<AXIS>,
-    gap: Lu,
-    first: Wide,
-    rows: &[Row],
-    item: &Item,
-) -> Lu
-    requires few { length rows.now < 2 ^ 32 }
-    requires set { AreSet first rows.now }
-    requires item { IsIn first (length rows.now) item.now }
-    ensures { result ≡ auto_asks space.now gap rows.now item.now }
+/// The automatic minimum of an item in a track with the min function `auto` that it spans alone: it is content-based there
+/// (CSS Grid 2, 6.6).
+fn single_content(most: &Most, size: Lu, margins: Lu) -> Wide
+    ensures value { result ≡ single_content most.now size margins }
+    ensures range { IsUnits result }
 {
-    let start = place_of(first, item);
-    let tracks = span_length(item) as usize;
-    let (_before, rest) = rows.split_at(start);
-    let (mine, _behind) = rest.split_at(tracks);
-    length(asked(is_definite(space), gap, &Asks::Minimum, mine, item))
+    let end = match fixed_most(most) {
+        Some(fixed) => Some(fixed.wide() - margins.wide()),
+        None => None,
+    };
+    greater(Wide::of(0), at_most(end, size.wide()))
 }
 
-/// What an item asks of the `auto` minimum of the track that it spans alone, where its minimum contribution is known.
-fn known_asks(definite: bool, size: Lu, row: &Row, item: &Item) -> Lu
-    ensures { result ≡ known_asks definite size row.now item.now }
+/// The minimum contribution of such an item (CSS Grid 2, 12.5).
+fn single_least(most: &Most, item: &Item) -> Lu
+    ensures { result ≡ single_least most.now item.now.floor }
 {
-    if definite {
-        size
-    } else {
-        longer(size, at_most_limit(capped_most(&row.rule().most), item.low))
+    match item.floor {
+        Floor::Known(size) => size,
+        Floor::Content {
+            size,
+            margins,
+            inner,
+        } => {
+            let content = single_content(most, size, margins);
+            (margins.wide() + greater(inner.wide(), content)).clamp()
+        }
     }
 }
 
-/// What an item asks of the `auto` minimum of the track that it spans alone.
-fn single_asks<const AXIS: u8>(
-    space: &Space<AXIS>,
-    gap: Lu,
-    first: Wide,
-    rows: &[Row],
-    item: &Item,
-    row: &Row,
-) -> Lu
-    requires few { length rows.now < 2 ^ 32 }
-    requires set { AreSet first rows.now }
-    requires item { IsIn first (length rows.now) item.now }
-    requires own { spanned item.now rows.now ≡ row.now ∷ [] }
-    ensures { result ≡ auto_asks space.now gap rows.now item.now }
+/// What such an item asks for.
+fn single_asks(definite: bool, most: &Most, item: &Item) -> Lu
+    ensures { result ≡ single_asks definite most.now item.now }
 {
-    match item.floor {
-        Floor::Known(size) => known_asks(is_definite(space), size, row, item),
-        _ => auto_asks(space, gap, first, rows, item),
+    let least = single_least(most, item);
+    if definite {
+        least
+    } else {
+        longer(least, at_most_limit(capped_most(most), item.low))
     }
 }
 
 /// The base size by one item more.
-fn base_more<const AXIS: u8>(
-    space: &Space<AXIS>,
-    gap: Lu,
-    first: Wide,
-    rows: &[Row],
-    item: &Item,
-    row: &Row,
-    base: Lu,
-) -> Lu
-    requires few { length rows.now < 2 ^ 32 }
-    requires set { AreSet first rows.now }
-    requires item { IsIn first (length rows.now) item.now }
-    requires own { spanned item.now rows.now ≡ row.now ∷ [] }
-    ensures { result ≡ base_more space.now gap rows.now item.now row.now.rule.least base }
+fn base_more(definite: bool, rule: &Rule, item: &Item, base: Lu) -> Lu
+    ensures { result ≡ base_alone definite rule.now.least rule.now.most item.now base }
 {
-    match &row.rule().least {
+    match &rule.least {
         Least::Fixed(_) => base,
         Least::MinContent => longer(item.low, base),
         Least::MaxContent => longer(item.high, base),
-        Least::Auto => longer(single_asks(space, gap, first, rows, item, row), base),
+        Least::Auto => longer(single_asks(definite, &rule.most, item), base),
     }
 }
 
@@ -125,26 +104,15 @@ fn limit_ask(most: &Most, item: &Item) -> Lu
     }
 }
 
-/// What a track is by one item more.
-fn single_more<const AXIS: u8>(
-    space: &Space<AXIS>,
-    gap: Lu,
-    first: Wide,
-    rows: &[Row],
-    item: &Item,
-    row: &Row,
-    single: &Single,
-) -> Single
-    requires few { length rows.now < 2 ^ 32 }
-    requires set { AreSet first rows.now }
-    requires item { IsIn first (length rows.now) item.now }
-    requires own { spanned item.now rows.now ≡ row.now ∷ [] }
-    ensures { result ≡ single_more space.now gap rows.now item.now row.now single.now }
+/// What a track is by one item more that spans it alone.
+fn single_more(definite: bool, item: &Item, row: &Row, single: &Single) -> Single
+    ensures { result ≡ single_alone definite item.now row.now single.now }
 {
+    let rule = row.rule();
     Single {
         some: true,
-        base: base_more(space, gap, first, rows, item, row, single.base),
-        most: longer(limit_ask(&row.rule().most, item), single.most),
+        base: base_more(definite, &rule, item, single.base),
+        most: longer(limit_ask(&rule.most, item), single.most),
     }
 }
 
@@ -179,7 +147,7 @@ fn add_item<const AXIS: u8>(
     if flexible(row) {
         return;
     }
-    singles[place] = single_more(space, gap, first, rows, item, row, &singles[place]);
+    singles[place] = single_more(is_definite(space), item, row, &singles[place]);
 }
 
 #[tactic(auto, using(crate::proofs::Lone::list_laws))]
