@@ -22,7 +22,7 @@ use Rattle.tree_rules.specs.declared.query.Given.{Given}
 use Rattle.tree_rules.specs.declared.query.Given.TheVariants as given
 use Rattle.block_sizes.proofs.Settled.{seen_length, settled_next}
 use Rattle.block_sizes.specs.Settling.{AreRoomy, block_of, settled_seen}
-use Rattle.block_sizes.specs.Spread.{IsSpread}
+use Rattle.placing.specs.Spread.{IsSpread}
 
 -- ---- boxes with room
 

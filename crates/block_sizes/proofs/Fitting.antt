@@ -34,14 +34,15 @@ use Rattle.tree_rules.specs.declared.query.Given.{Given}
 use Rattle.tree_rules.specs.declared.query.Given.TheVariants as given
 use Rattle.tree_rules.specs.declared.query.Query.{Query}
 use Rattle.inline_sizes.proofs.AreasIn.{entry_at}
-use Rattle.inline_sizes.specs.Grids.{IsAbove, IsEntry, IsGrid, IsLaid, has_subgrid_kind, pairs_seen}
+use Rattle.inline_sizes.specs.Grids.{IsEntry, IsGrid, IsLaid, has_subgrid_kind, pairs_seen}
+use Rattle.placing.specs.Wides.{IsAbove}
 use Rattle.inline_sizes.specs.GridsSeen.{HasItemsInTracks, HasLines, grid_seen}
 use Rattle.inline_sizes.specs.Lifted.{IsLifted}
 use Rattle.inline_sizes.specs.TrackAxes.{track_count}
-use Rattle.inline_sizes.specs.declared.grid.GridBase.{GridBase}
-use Rattle.inline_sizes.specs.declared.grid.GridParts.{GridParts}
+use Rattle.placing.specs.declared.wide.GridBase.{GridBase}
+use Rattle.placing.specs.declared.wide.GridParts.{GridParts}
 use Rattle.block_sizes.specs.Spans.{LiesIn}
-use Rattle.block_sizes.specs.Spread.{AreBetween, AreSpread, IsBetween}
+use Rattle.placing.specs.Spread.{AreBetween, AreSpread, IsBetween}
 use Rattle.block_sizes.proofs.Widths.{columns_are}
 use Rattle.block_sizes.specs.Wides.{IsChildIn, asked_of, block_seen, down_seen, farthest, items_seen, row_levels}
 

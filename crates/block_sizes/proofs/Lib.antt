@@ -18,3 +18,4 @@ pub mod Seen
 pub mod Settled
 mod SharedTracks
 mod Widths
+pub mod HeldWide

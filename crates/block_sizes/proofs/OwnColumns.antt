@@ -24,7 +24,7 @@ use Rattle.inline_sizes.proofs.ColumnAxes.{can_size}
 use Rattle.inline_sizes.specs.Grids.{IsGrid}
 use Rattle.inline_sizes.specs.GridsSeen.{HasItemsInTracks, grid_seen}
 use Rattle.inline_sizes.specs.TrackAxes.{CanSize, track_axis, track_count}
-use Rattle.inline_sizes.specs.declared.grid.GridParts.{GridParts}
+use Rattle.placing.specs.declared.wide.GridParts.{GridParts}
 use Rattle.block_sizes.proofs.SharedTracks.{count_is}
 use Rattle.block_sizes.specs.Fitting.{CanSizeFor}
 use Rattle.block_sizes.specs.Spans.{HasZero, tracks_to}

@@ -26,11 +26,11 @@ use Rattle.tree_rules.specs.Templates.{written}
 use Rattle.tree_rules.specs.declared.kind.NodeKind.TheVariants as kind
 use Rattle.tree_rules.specs.declared.query.Given.{Given}
 use Rattle.tree_rules.specs.declared.query.Given.TheVariants as given
-use Rattle.inline_sizes.specs.Grids.{IsAbove}
+use Rattle.placing.specs.Wides.{IsAbove}
 use Rattle.inline_sizes.specs.GridsSeen.{HasItemsInTracks, grid_seen}
 use Rattle.inline_sizes.specs.TrackAxes.{CanSize, track_axis, track_count}
 use Rattle.block_sizes.specs.Wides.{IsWide, columns_seen, row_levels, rows_seen, wides_seen}
-use Rattle.block_sizes.specs.declared.wide.GridWide.{GridWide}
+use Rattle.placing.specs.declared.wide.GridWide.{GridWide}
 
 spans_zipped : (numbers : List ℕ) (areas : List (NodeId × Area)) → length numbers ≡ length areas → map (λ (a : ℕ × Area). a.1.rows) (zipped numbered_area numbers areas) ≡ map (λ (e : NodeId × Area). e.1.rows) areas
 spans_zipped [] [] h = refl

@@ -10,7 +10,7 @@ use Rattle.style_types.specs.declared.value.Align.{Align}
 use Rattle.tree_rules.specs.Distribution.{edges_from, edges_in, is_safe, mode_of, open_tracks}
 use Rattle.block_sizes.specs.declared.edges.Moving.{Moving}
 use Rattle.block_sizes.specs.Moving.{first_place, last_place, moved_by}
-use Rattle.block_sizes.specs.Spread.{AreBetween, AreSpread, IsBetween}
+use Rattle.placing.specs.Spread.{AreBetween, AreSpread, IsBetween}
 
 abbrev Edges : Type 0
 Edges = List (ℤ × ℤ)

@@ -19,7 +19,7 @@ use Rattle.tree_rules.specs.Labels.{GridAxis}
 use Rattle.tree_rules.specs.NodeSizes.{outer_end, outer_start}
 use Rattle.tree_rules.specs.Repetitions.{gap_by}
 use Rattle.part_rules.proofs.Floor.{floor_div_high, floor_div_low}
-use Rattle.block_sizes.specs.Spread.{AreBetween, AreSpread, IsBetween}
+use Rattle.placing.specs.Spread.{AreBetween, AreSpread, IsBetween}
 
 abbrev Edges : Type 0
 Edges = List (ℤ × ℤ)

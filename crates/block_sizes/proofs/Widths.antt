@@ -21,10 +21,11 @@ use Rattle.tree_rules.specs.declared.query.Given.{Given}
 use Rattle.tree_rules.specs.declared.query.Query.{Query}
 use Rattle.inline_sizes.specs.Grids.{IsGrid}
 use Rattle.inline_sizes.specs.GridsSeen.{grid_seen}
-use Rattle.inline_sizes.specs.declared.grid.GridParts.{GridParts}
+use Rattle.placing.specs.declared.wide.GridParts.{GridParts}
 use Rattle.block_sizes.specs.Children.{inline_of_child}
-use Rattle.block_sizes.specs.Wides.{LeadsDown, asked_of, asks_of, child_of, columns_seen, items_from, items_of, items_seen, rows_seen, wide_in, wide_seen, wides_seen}
-use Rattle.block_sizes.specs.declared.wide.WideChild.{WideChild}
+use Rattle.block_sizes.specs.Wides.{LeadsDown, asked_of, asks_of, columns_seen, items_from, items_of, items_seen, rows_seen, wide_in, wide_seen, wides_seen}
+use Rattle.placing.specs.Wides.{child_of}
+use Rattle.placing.specs.declared.wide.WideChild.{WideChild}
 
 -- ---- lists
 

@@ -1,5 +1,5 @@
 -- A grid by its number once its columns lie where they lie, and what the code holds of it (CSS Grid 2, 12.1).
-use Rattle.std.specs.Prelude.{◌≡◌, ℕ, ◌+◌, ◌*◌, ◌^◌, ℤ, pos, ◌-ℤ◌, ◌≤ℤ◌, length, List, [], ◌∷◌, map, drop, Contains, if◌then◌else◌}
+use Rattle.std.specs.Prelude.{◌≡◌, ℕ, ◌+◌, ◌*◌, ◌^◌, ◌≤◌, ℤ, pos, ◌-ℤ◌, ◌≤ℤ◌, length, List, [], ◌∷◌, map, drop, Contains, if◌then◌else◌}
 use Rattle.lunit.specs.Units.{IsUnits}
 use Rattle.lunit.specs.declared.item.Item.{Item}
 use Rattle.node_arena.specs.declared.number.NodeId.{NodeId}
@@ -9,6 +9,7 @@ use Rattle.part_rules.specs.declared.view.View.{View}
 use Rattle.placing.specs.Areas.{entry_by}
 use Rattle.placing.specs.Nodes.{BareTrees, kid_at, level_at, sight_at, uses_at}
 use Rattle.placing.specs.Seats.{context_at}
+use Rattle.placing.specs.Wides.{child_of}
 use Rattle.placing.specs.declared.contexts.Above.{Above}
 use Rattle.placing.specs.declared.contexts.Above.TheVariants as above
 use Rattle.placing.specs.declared.items.ChildArea.{ChildArea}
@@ -20,12 +21,12 @@ use Rattle.tree_rules.specs.declared.query.Query.{Query}
 use Rattle.inline_sizes.specs.Grids.{IsEntry, IsGrid, pairs_seen}
 use Rattle.inline_sizes.specs.GridsSeen.{grid_seen}
 use Rattle.block_sizes.specs.Spans.{LiesIn}
-use Rattle.block_sizes.specs.Spread.{AreSpread}
+use Rattle.placing.specs.Spread.{AreSpread, IsSpread}
 use Rattle.inline_sizes.specs.Lifted.{IsLifted}
-use Rattle.inline_sizes.specs.declared.grid.GridBase.{GridBase}
+use Rattle.placing.specs.declared.wide.GridBase.{GridBase}
 use Rattle.block_sizes.specs.Children.{inline_of_child}
-use Rattle.block_sizes.specs.declared.wide.GridWide.{GridWide}
-use Rattle.block_sizes.specs.declared.wide.WideChild.{WideChild}
+use Rattle.placing.specs.declared.wide.GridWide.{GridWide}
+use Rattle.placing.specs.declared.wide.WideChild.{WideChild}
 
 -- ---- the grid of the definitions
 
@@ -46,10 +47,6 @@ unfoldable pub rows_seen : BareTrees → NodeId → List Pair → Given → Trac
 rows_seen b n outer width = rows_of_grid (grid_seen b n outer width) (wides_seen b n outer width)
 
 -- ---- its children
-
--- what the code holds of a child; the block size of a subgrid in the rows is not asked
-abbrev pub child_of : Wide → WideChild
-child_of w = record { box_ = w.box; inline = w.inline; block = if shares_rows w.entry.kid then pos 0 else w.down.block }
 
 -- the items of a child along the rows
 abbrev pub items_of : BareTrees → NodeId → List Pair → Given → Wide → List Item
@@ -127,3 +124,4 @@ pub record IsWide (b : BareTrees) (n : NodeId) (outer : List Pair) (width : Give
   pub gap : pos 0 ≤ℤ w.columns.gap
   pub range : IsUnits w.columns.gap
   pub spread : AreSpread (farthest (level_at b n)) w.columns.edges
+  pub far : (by : ℕ) → 2 ^ 51 ≤ by → IsSpread by width → AreSpread by w.columns.edges

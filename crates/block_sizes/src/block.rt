@@ -9,7 +9,8 @@ ghost use Rattle.placing.specs.declared.node.Answer.TheVariants as answer;
 ghost use Rattle.tree_rules.specs.AskedQueries.{block_query};
 ghost use Rattle.tree_rules.specs.Queries.{answer_of, block_size, lent_items, Fits};
 ghost use Rattle.inline_sizes.specs.Calls.{Found, Keeps};
-ghost use Rattle.block_sizes.specs.Spread.{IsSpread};
+ghost use Rattle.placing.specs.Spread.{IsSpread};
+ghost use Rattle.block_sizes.specs.Keeping.{KeepsSize};
 ghost use Rattle.block_sizes.specs.Wides.{farthest};
 
 use crate::queries::{block_query, kept_block, kept_rows};
@@ -49,12 +50,12 @@ pub fn block_of<R: Ruler, L: Ledger>(
     ensures walked { OnOk result (Walked id (block_query false reps.now width.now) (state tree.old tally.old passes.old (R.log ruler.old)) (state tree.new tally.new passes.new (R.log ruler.new))) }
     ensures stopped { OnErr result (Stopped id (block_query false reps.now width.now) (state tree.old tally.old passes.old (R.log ruler.old)) (state tree.new tally.new passes.new (R.log ruler.new))) }
     ensures found { Found id (block_query false reps.now width.now) (state tree.old tally.old passes.old (R.log ruler.old)) (state tree.new tally.new passes.new (R.log ruler.new)) }
-    ensures own { IfOk result (λ size. Keeps id (block_query false reps.now width.now) (state tree.old tally.old passes.old (R.log ruler.old)) (state tree.new tally.new passes.new (R.log ruler.new)) (answer.Block size)) }
+    ensures own { IfOk result (λ size. KeepsSize id (block_query false reps.now width.now) (state tree.old tally.old passes.old (R.log ruler.old)) (state tree.new tally.new passes.new (R.log ruler.new)) size) }
 {
-    let query = block_query(alloc, false, reps, width)?;
-    if let Some(size) = kept_block(tree, id, &query) {
+    if let Some(size) = kept_block(tree, id, reps, width) {
         return Ok(size);
     }
+    let query = block_query(alloc, false, reps, width)?;
     let (above, area) = seat(alloc, tree, id, reps)?;
     block_anew(alloc, tree, id, query, &above, area, ruler, tally, passes)
 }
@@ -87,10 +88,10 @@ pub fn lend_rows<R: Ruler, L: Ledger>(
     ensures found { Found id (block_query true reps.now width.now) (state tree.old tally.old passes.old (R.log ruler.old)) (state tree.new tally.new passes.new (R.log ruler.new)) }
     ensures own { IfOk result (λ items. Keeps id (block_query true reps.now width.now) (state tree.old tally.old passes.old (R.log ruler.old)) (state tree.new tally.new passes.new (R.log ruler.new)) (answer.Lent items)) }
 {
-    let query = block_query(alloc, true, reps, width)?;
-    if let Some(items) = kept_rows(tree, id, &query) {
+    if let Some(items) = kept_rows(tree, id, reps, width) {
         return Sequence::from_slice(alloc, items.as_slice());
     }
+    let query = block_query(alloc, true, reps, width)?;
     let (above, area) = seat(alloc, tree, id, reps)?;
     rows_anew(alloc, tree, id, query, &above, area, ruler, tally, passes)
 }

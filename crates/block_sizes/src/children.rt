@@ -16,7 +16,7 @@ ghost use Rattle.tree_rules.specs.Queries.{IsGivenFor};
 ghost use Rattle.inline_sizes.specs.Styled.{grid_at, styled};
 ghost use Rattle.block_sizes.specs.Children.{block_of_child, inline_of_child, own_block, own_inline};
 ghost use Rattle.block_sizes.specs.Spans.{LiesIn};
-ghost use Rattle.block_sizes.specs.Spread.{AreSpread, IsSpread};
+ghost use Rattle.placing.specs.Spread.{AreSpread, IsSpread};
 
 use inline_sizes::{
     area_size, block_used, bounds_of, content_of_box, inline_used, inner, is_stretched, margins,

@@ -5,7 +5,7 @@ ghost use Rattle.part_rules.specs.Alignment.{content_moved};
 ghost use Rattle.part_rules.specs.Lists.{sum_of};
 ghost use Rattle.tree_rules.specs.Distribution.{edges_from, edges_in, open_tracks, total_of_tracks};
 ghost use Rattle.block_sizes.specs.Moving.{IsFree, IsPlace, first_place, last_place, moved_by};
-ghost use Rattle.block_sizes.specs.Spread.{AreBetween, AreSpread, IsBetween};
+ghost use Rattle.placing.specs.Spread.{AreBetween, AreSpread, IsBetween};
 
 use box_align::content_offset;
 use inline_sizes::{is_safe, mode_of, open_tracks};

@@ -9,6 +9,7 @@ mod children;
 mod edges;
 mod flex;
 mod flexes;
+mod held;
 mod laws;
 mod queries;
 mod views;
@@ -23,8 +24,8 @@ pub use children::{
 pub use edges::edges_in;
 pub use flex::{ColumnParts, RowParts};
 pub use flexes::{Lines, column_block, crosses_of, lines_by, row_block, row_lines};
+pub use held::wide_for;
 pub use laws::{children_of_grids_are_as_defined, lines_are_as_defined};
-pub use queries::block_query;
+pub use queries::{block_query, kept_wide};
 pub use views::{view_by, view_for};
 pub use walk::{block_at, column_at, lend_rows_at, row_at, wide_at};
-pub use wide::{GridWide, WideChild};

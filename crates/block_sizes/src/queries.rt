@@ -1,20 +1,20 @@
 //! The questions of the block axis, and their answers where a node keeps them.
 
-ghost use Rattle.std.specs.Prelude.{◌≡◌, Some, None, IfOk, IfSome, IfNone, MatchOption};
+ghost use Rattle.std.specs.Prelude.{◌≡◌, true, false, Some, None, IfOk, IfSome, IfNone, IsSome, MatchOption};
 ghost use Rattle.layout_cache.specs.Kept.{answer_to};
 ghost use Rattle.placing.specs.Kept.{kept_at, IsRight};
-ghost use Rattle.placing.specs.Nodes.{bare, sight_at, IsLive};
+ghost use Rattle.placing.specs.Nodes.{bare, children_at, sight_at, IsLive};
+ghost use Rattle.placing.specs.Wides.{HoldsWide};
 ghost use Rattle.placing.specs.Walks.{State, Walked, WalkedBelow};
 ghost use Rattle.placing.specs.declared.node.Answer.TheVariants as answer;
 ghost use Rattle.tree_rules.specs.AskedQueries.{block_query};
 ghost use Rattle.tree_rules.specs.KeptAnswers.{IsAbsent};
 ghost use Rattle.tree_rules.specs.Queries.{answer_of, block_size, lent_items};
-ghost use Rattle.tree_rules.specs.declared.query.Ask.TheVariants as ask;
 
 use layout_cache::{Ask, Given, Query};
 use lunit::{Copied, Item, Lu, NoMemory, Sequence};
 use node_arena::{Arena, NodeId};
-use placing::{Answer, Node, find};
+use placing::{Answer, Node, SharedWide, find_by};
 use std::alloc::Global;
 
 /// The question for the block size of a node that sees these counts above it and is given this in the inline axis, or, where it is
@@ -35,39 +35,66 @@ pub fn block_query(
     })
 }
 
-/// The block size that a node keeps for a question; `None` exactly where it keeps none.
-pub(crate) fn kept_block(tree: &Arena<Node>, id: NodeId, query: &Query) -> Option<Lu>
+/// The block size that a node keeps by these counts above it and what it is given in the inline axis; `None` exactly where it keeps
+/// none.
+pub(crate) fn kept_block(
+    tree: &Arena<Node>,
+    id: NodeId,
+    reps: &[(u32, u32)],
+    width: &Given,
+) -> Option<Lu>
     requires live { IsLive (bare tree.now.tree) id }
     requires right { IsRight tree.now.tree }
-    requires ask { query.now.ask ≡ ask.Block }
-    ensures kept { MatchOption result (answer_to query.now (kept_at tree.now.tree id) ≡ None) (λ size. answer_to query.now (kept_at tree.now.tree id) ≡ Some (answer.Block size)) }
-    ensures value { IfSome result (λ size. block_size size ≡ answer_of (sight_at (bare tree.now.tree) id) query.now) }
-    ensures absent { IfNone result (IsAbsent query.now (kept_at tree.now.tree id)) }
-    ensures start { (s : State) → s.arena ≡ tree.now → WalkedBelow id query.now 0 s s }
-    ensures found { (s : State) → s.arena ≡ tree.now → Walked id query.now s s }
+    ensures kept { MatchOption result (answer_to (block_query false reps.now width.now) (kept_at tree.now.tree id) ≡ None) (λ size. IsSome (answer_to (block_query false reps.now width.now) (kept_at tree.now.tree id))) }
+    ensures value { IfSome result (λ size. block_size size ≡ answer_of (sight_at (bare tree.now.tree) id) (block_query false reps.now width.now)) }
+    ensures absent { IfNone result (IsAbsent (block_query false reps.now width.now) (kept_at tree.now.tree id)) }
+    ensures start { (s : State) → s.arena ≡ tree.now → WalkedBelow id (block_query false reps.now width.now) 0 s s }
+    ensures found { (s : State) → s.arena ≡ tree.now → Walked id (block_query false reps.now width.now) s s }
 {
-    match find(tree, id, query) {
+    let none = Given::None;
+    match find_by(tree, id, Ask::Block, reps, width, &none) {
         Some(Answer::Block(size)) => Some(*size),
+        Some(Answer::Laid(size, _)) => Some(*size),
         _ => None,
     }
 }
 
-/// The items that a node keeps for a question for lent rows; `None` exactly where it keeps none.
+/// The grid in its columns that a node keeps with its block size by these counts above it and what it is given in the inline axis.
+pub fn kept_wide<'a>(
+    tree: &'a Arena<Node>,
+    id: NodeId,
+    reps: &[(u32, u32)],
+    width: &Given,
+) -> Option<&'a SharedWide>
+    requires live { IsLive (bare tree.now.tree) id }
+    requires right { IsRight tree.now.tree }
+    ensures { IfSome result (λ wide. HoldsWide (sight_at (bare tree.now.tree) id) (children_at (bare tree.now.tree) id) reps.now width.now wide.now) }
+{
+    let none = Given::None;
+    match find_by(tree, id, Ask::Block, reps, width, &none) {
+        Some(Answer::Laid(_, wide)) => Some(wide),
+        _ => None,
+    }
+}
+
+/// The items along the rows that a node keeps by these counts above it and what it is given in the inline axis; `None` exactly where
+/// it keeps none.
 pub(crate) fn kept_rows<'a>(
     tree: &'a Arena<Node>,
     id: NodeId,
-    query: &Query,
+    reps: &[(u32, u32)],
+    width: &Given,
 ) -> Option<&'a Sequence<Item>>
     requires live { IsLive (bare tree.now.tree) id }
     requires right { IsRight tree.now.tree }
-    requires ask { query.now.ask ≡ ask.LendRows }
-    ensures kept { MatchOption result (answer_to query.now (kept_at tree.now.tree id) ≡ None) (λ items. answer_to query.now (kept_at tree.now.tree id) ≡ Some (answer.Lent items.now)) }
-    ensures value { IfSome result (λ items. lent_items items.now ≡ answer_of (sight_at (bare tree.now.tree) id) query.now) }
-    ensures absent { IfNone result (IsAbsent query.now (kept_at tree.now.tree id)) }
-    ensures start { (s : State) → s.arena ≡ tree.now → WalkedBelow id query.now 0 s s }
-    ensures found { (s : State) → s.arena ≡ tree.now → Walked id query.now s s }
+    ensures kept { MatchOption result (answer_to (block_query true reps.now width.now) (kept_at tree.now.tree id) ≡ None) (λ items. answer_to (block_query true reps.now width.now) (kept_at tree.now.tree id) ≡ Some (answer.Lent items.now)) }
+    ensures value { IfSome result (λ items. lent_items items.now ≡ answer_of (sight_at (bare tree.now.tree) id) (block_query true reps.now width.now)) }
+    ensures absent { IfNone result (IsAbsent (block_query true reps.now width.now) (kept_at tree.now.tree id)) }
+    ensures start { (s : State) → s.arena ≡ tree.now → WalkedBelow id (block_query true reps.now width.now) 0 s s }
+    ensures found { (s : State) → s.arena ≡ tree.now → Walked id (block_query true reps.now width.now) s s }
 {
-    match find(tree, id, query) {
+    let none = Given::None;
+    match find_by(tree, id, Ask::LendRows, reps, width, &none) {
         Some(Answer::Lent(items)) => Some(items),
         _ => None,
     }

@@ -9,7 +9,7 @@ ghost use Rattle.tree_rules.specs.GridSizes.{view_by, view_for};
 ghost use Rattle.tree_rules.specs.Queries.{IsGivenFor};
 ghost use Rattle.inline_sizes.specs.TrackAxes.{CanSize, track_axis, track_count};
 ghost use Rattle.block_sizes.specs.Fitting.{CanSizeFor};
-ghost use Rattle.block_sizes.specs.Spread.{AreSpread, IsSpread};
+ghost use Rattle.placing.specs.Spread.{AreSpread, IsSpread};
 
 use crate::edges::edges_in;
 use inline_sizes::{TrackInput, sized_for};

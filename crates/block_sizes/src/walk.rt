@@ -19,8 +19,10 @@ ghost use Rattle.tree_rules.specs.declared.kind.NodeKind.TheVariants as kind;
 ghost use Rattle.tree_rules.specs.declared.query.Query.{Query};
 ghost use Rattle.inline_sizes.specs.Calls.{Found, Keeps};
 ghost use Rattle.inline_sizes.specs.Grids.{IsGrid, IsLaid, pairs_seen};
-ghost use Rattle.block_sizes.specs.Spread.{AreSpread, IsSpread};
-ghost use Rattle.block_sizes.specs.Wides.{AreWide, IsChildIn, IsWide, LeadsDown, asked_of, block_seen, child_of, columns_seen, farthest, items_seen, wide_in};
+ghost use Rattle.placing.specs.Spread.{AreSpread, IsSpread};
+ghost use Rattle.block_sizes.specs.Keeping.{GrowsBy, KeepsSize};
+ghost use Rattle.block_sizes.specs.Wides.{AreWide, IsChildIn, IsWide, LeadsDown, asked_of, block_seen, columns_seen, farthest, items_seen, wide_in};
+ghost use Rattle.placing.specs.Wides.{child_of};
 ghost use Rattle.block_sizes.specs.Settling.{AreRoomy, IsColumn, IsRow, LeadsTo, block_of, settled_seen};
 ghost use Rattle.inline_sizes.specs.Flexes.{AreMembers, flex_seen};
 ghost use Rattle.tree_rules.specs.Frames.{given_size};
@@ -33,10 +35,9 @@ use crate::flex::{
 use crate::flexes::row_lines;
 use crate::queries::{block_query, kept_block, kept_rows};
 use crate::wide::{
-    GridWide, WideChild, append, child_in, columns_of, lent_rows, row_item, rows_total, shares,
-    sizes_at, wide_child,
+    append, child_in, columns_of, lent_rows, row_item, rows_total, shares, sizes_at, wide_child,
 };
-use inline_sizes::{GridBase, GridParts, Member, flex_at, grid_at};
+use inline_sizes::{Member, flex_at, grid_at};
 use layout_cache::{Given, Query};
 use lunit::{Area, Item, Lu, NoMemory, Sequence, Span, Steps};
 use node_arena::{Arena, NodeId};
@@ -44,7 +45,8 @@ use outside::{Ruler, Tally};
 use part_rules::View;
 use placing::style::is_column;
 use placing::{
-    Above, Answer, ChildArea, Node, NodeKind, has_subgrid, leaf_height, node_at, parent, put, root,
+    Above, Answer, ChildArea, GridBase, GridParts, GridWide, Node, NodeKind, SharedWide, WideChild,
+    has_subgrid, leaf_height, node_at, parent, put, root,
 };
 use std::alloc::Global;
 use std::sync::ledger::Ledger;
@@ -66,7 +68,7 @@ fn is_leaf(kind: &NodeKind) -> bool
 }
 
 /// Whether a node is a grid.
-fn is_grid(kind: &NodeKind) -> bool
+pub(crate) fn is_grid(kind: &NodeKind) -> bool
     ensures { result ≡ is_grid_kind kind.now }
 {
     match kind {
@@ -112,6 +114,9 @@ fn ask_lent<R: Ruler, L: Ledger>(
     ensures stopped { OnErr result (Stopped entry.child (block_query true (pairs_seen (bare tree.old.tree) base.now entry) width.now) (state tree.old tally.old passes.old (R.log ruler.old)) (state tree.new tally.new passes.new (R.log ruler.new))) }
 {
     let reps = base.pairs.as_slice();
+    if let Some(kept) = kept_rows(tree, entry.child, reps, width) {
+        return append(items, kept.as_slice());
+    }
     let lent = lend_rows_at(
         alloc,
         tree,
@@ -499,7 +504,7 @@ pub fn column_at<R: Ruler, L: Ledger>(
 // ---- the block size of a node
 
 #[cycle(walk)]
-/// The block size of the content of a grid that keeps none for this question.
+/// The block size of the content of a grid that keeps none for this question. The grid in its columns is kept with it.
 fn grid_anew<R: Ruler, L: Ledger>(
     alloc: Global,
     tree: &mut Arena<Node>,
@@ -524,7 +529,7 @@ fn grid_anew<R: Ruler, L: Ledger>(
     ensures right { IsRight tree.new.tree }
     ensures walked { OnOk result (Walked id query (state tree.old tally.old passes.old (R.log ruler.old)) (state tree.new tally.new passes.new (R.log ruler.new))) }
     ensures stopped { OnErr result (Stopped id query (state tree.old tally.old passes.old (R.log ruler.old)) (state tree.new tally.new passes.new (R.log ruler.new))) }
-    ensures own { IfOk result (λ size. kept_at tree.new.tree id ≡ kept_with (kept_at tree.old.tree id) ((query, answer.Block size) ∷ [])) }
+    ensures own { IfOk result (λ size. GrowsBy (kept_at tree.old.tree id) query size (kept_at tree.new.tree id)) }
 {
     let reps = query.reps.as_slice();
     let width = &query.inline;
@@ -532,7 +537,8 @@ fn grid_anew<R: Ruler, L: Ledger>(
         alloc, tree, id, reps, above, area, width, ruler, tally, passes,
     )?;
     let size = rows_total(alloc, tree, id, reps, width, &wide, passes)?;
-    put(tree, id, query, Answer::Block(size), tally);
+    let held = SharedWide::new(alloc, wide)?;
+    put(tree, id, query, Answer::Laid(size, held), tally);
     Ok(size)
 }
 
@@ -627,7 +633,7 @@ pub(crate) fn block_anew<R: Ruler, L: Ledger>(
     ensures right { IsRight tree.new.tree }
     ensures walked { OnOk result (Walked id query (state tree.old tally.old passes.old (R.log ruler.old)) (state tree.new tally.new passes.new (R.log ruler.new))) }
     ensures stopped { OnErr result (Stopped id query (state tree.old tally.old passes.old (R.log ruler.old)) (state tree.new tally.new passes.new (R.log ruler.new))) }
-    ensures own { IfOk result (λ size. kept_at tree.new.tree id ≡ kept_with (kept_at tree.old.tree id) ((query, answer.Block size) ∷ [])) }
+    ensures own { IfOk result (λ size. GrowsBy (kept_at tree.old.tree id) query size (kept_at tree.new.tree id)) }
 {
     let kind = &node_at(tree, id).kind;
     if is_grid(kind) {
@@ -668,12 +674,12 @@ pub fn block_at<R: Ruler, L: Ledger>(
     ensures walked { OnOk result (Walked id (block_query false reps.now width.now) (state tree.old tally.old passes.old (R.log ruler.old)) (state tree.new tally.new passes.new (R.log ruler.new))) }
     ensures stopped { OnErr result (Stopped id (block_query false reps.now width.now) (state tree.old tally.old passes.old (R.log ruler.old)) (state tree.new tally.new passes.new (R.log ruler.new))) }
     ensures found { Found id (block_query false reps.now width.now) (state tree.old tally.old passes.old (R.log ruler.old)) (state tree.new tally.new passes.new (R.log ruler.new)) }
-    ensures own { IfOk result (λ size. Keeps id (block_query false reps.now width.now) (state tree.old tally.old passes.old (R.log ruler.old)) (state tree.new tally.new passes.new (R.log ruler.new)) (answer.Block size)) }
+    ensures own { IfOk result (λ size. KeepsSize id (block_query false reps.now width.now) (state tree.old tally.old passes.old (R.log ruler.old)) (state tree.new tally.new passes.new (R.log ruler.new)) size) }
 {
-    let query = block_query(alloc, false, reps, width)?;
-    if let Some(size) = kept_block(tree, id, &query) {
+    if let Some(size) = kept_block(tree, id, reps, width) {
         return Ok(size);
     }
+    let query = block_query(alloc, false, reps, width)?;
     block_anew(alloc, tree, id, query, above, area, ruler, tally, passes)
 }
 
@@ -747,9 +753,9 @@ pub fn lend_rows_at<R: Ruler, L: Ledger>(
     ensures found { Found id (block_query true reps.now width.now) (state tree.old tally.old passes.old (R.log ruler.old)) (state tree.new tally.new passes.new (R.log ruler.new)) }
     ensures own { IfOk result (λ items. Keeps id (block_query true reps.now width.now) (state tree.old tally.old passes.old (R.log ruler.old)) (state tree.new tally.new passes.new (R.log ruler.new)) (answer.Lent items)) }
 {
-    let query = block_query(alloc, true, reps, width)?;
-    if let Some(items) = kept_rows(tree, id, &query) {
+    if let Some(items) = kept_rows(tree, id, reps, width) {
         return Sequence::from_slice(alloc, items.as_slice());
     }
+    let query = block_query(alloc, true, reps, width)?;
     rows_anew(alloc, tree, id, query, above, area, ruler, tally, passes)
 }

@@ -1,6 +1,6 @@
 //! A grid once its columns lie where they lie: its columns, and each child as wide as it is there (CSS Grid 2, 12.1 and 6.2).
 
-ghost use Rattle.std.specs.Prelude.{◌≡◌, ◌+◌, ◌-ℤ◌, ◌&&◌, ◌<◌, ◌≤◌, ◌≤ℤ◌, ◌∷◌, [], ◌++◌, List, drop, false, length, map, pos, true, IfOk, OnOk};
+ghost use Rattle.std.specs.Prelude.{◌≡◌, ◌+◌, ◌^◌, ◌-ℤ◌, ◌&&◌, ℕ, ◌<◌, ◌≤◌, ◌≤ℤ◌, ◌∷◌, [], ◌++◌, List, drop, false, length, map, pos, true, IfOk, OnOk};
 ghost use Rattle.lunit.specs.declared.geometry.Area.{Area};
 ghost use Rattle.lunit.specs.Units.{IsUnits};
 ghost use Rattle.node_arena.specs.declared.number.NodeId.{NodeId};
@@ -21,48 +21,23 @@ ghost use Rattle.inline_sizes.specs.Grids.{IsEntry, IsGrid, IsLaid, has_subgrid_
 ghost use Rattle.inline_sizes.specs.Lifted.{IsLifted, IsSelfLifted};
 ghost use Rattle.block_sizes.specs.Children.{inline_of_child};
 ghost use Rattle.block_sizes.specs.Spans.{HasZero, tracks_to};
-ghost use Rattle.block_sizes.specs.Spread.{AreSpread, IsSpread};
+ghost use Rattle.placing.specs.Spread.{AreSpread, IsSpread};
 ghost use Rattle.block_sizes.specs.Wides.{IsChildIn, IsWide, columns_seen, farthest, row_levels, rows_seen};
 
 use crate::children::{child_inline, from_first};
 use crate::views::view_by;
-use inline_sizes::{
-    GridBase, GridParts, TrackInput, child_item, empty_item, items_lie_in_their_tracks, total_for,
-};
+use crate::walk::is_grid;
+use inline_sizes::{TrackInput, child_item, empty_item, items_lie_in_their_tracks, total_for};
 use layout_cache::Given;
 use lunit::{Area, Item, Lu, NoMemory, Sequence, Span, Steps};
 use node_arena::{Arena, NodeId};
 use part_rules::{Level, View};
 use placing::counts::own_pair;
 use placing::style::{is_subgrid, items};
-use placing::{Above, ChildArea, Node, entry, has_subgrid, node_at, root};
+use placing::{Above, ChildArea, GridBase, GridParts, GridWide, Node, entry, node_at, root};
 use std::alloc::Global;
 use std::sync::ledger::Ledger;
 use track_sizing::Space;
-
-/// A child of a grid in its columns.
-#[derive(Drop)]
-pub struct WideChild {
-    /// The inline size of its border box, in units of 1/64 px.
-    pub box_: Lu,
-    /// What it is given in the inline axis.
-    pub inline: Given,
-    /// The block size of its content, in units of 1/64 px; 0 for a subgrid in the rows, which is not asked.
-    pub block: Lu,
-}
-
-/// A grid with its columns, and its children as wide as they are there.
-#[derive(Drop)]
-pub struct GridWide {
-    /// What its children answer for the columns.
-    pub parts: GridParts,
-    /// Where the columns lie.
-    pub columns: View<0>,
-    /// Its children, in the order of the areas.
-    pub children: Sequence<WideChild>,
-    /// The items that size the rows: one for each child, or those that it lends.
-    pub items: Sequence<Item>,
-}
 
 /// The subgrids from a grid up to the grid that sizes its rows, itself first.
 pub(crate) fn row_levels(above: &Above) -> &[Level]
@@ -112,7 +87,7 @@ pub(crate) fn shares<const AXIS: u8>(tree: &Arena<Node>, id: NodeId) -> bool
     ensures { result ≡ (has_subgrid_kind (sight_at (bare tree.now.tree) id).label && is_subgrid (grid_axis AXIS (sight_at (bare tree.now.tree) id).label.grid).template) }
 {
     let node = node_at(tree, id);
-    has_subgrid(node) && is_subgrid::<AXIS>(&node.style)
+    is_grid(&node.kind) && is_subgrid::<AXIS>(&node.style)
 }
 
 /// The child of a grid whose area is told at an index, with its seat in both axes.
@@ -179,6 +154,7 @@ pub(crate) fn columns_of<L: Ledger>(
     ensures gap { IfOk result (λ view. pos 0 ≤ℤ view.gap) }
     ensures range { IfOk result (λ view. IsUnits view.gap) }
     ensures spread { IfOk result (λ view. AreSpread (farthest (level_at (bare tree.now.tree) id)) view.edges) }
+    ensures far { IfOk result (λ view. (by : ℕ) → 2 ^ 51 ≤ by → IsSpread by width.now → AreSpread by view.edges) }
     ensures kept { passes.old ≤ passes.new }
     ensures ticks { passes.new ≤ passes.old + 1 }
 {

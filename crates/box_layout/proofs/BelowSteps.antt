@@ -27,7 +27,7 @@ use Rattle.tree_rules.specs.declared.query.Given.TheVariants as given
 use Rattle.tree_rules.specs.declared.query.Query.{Query}
 use Rattle.inline_sizes.specs.Grids.{has_subgrid_kind}
 use Rattle.box_layout.specs.Asking.{frames_asked}
-use Rattle.box_layout.specs.Beneath.{AreSeats, HasPairs}
+use Rattle.box_layout.specs.Beneath.{AreSeats, HasPairs, above_held, pairs_held}
 use Rattle.box_layout.specs.BoxesSeen.{AreNear, IsNearAt, IsNearRect, boxes_with, frames_seen, pairs_seen, reach}
 use Rattle.box_layout.specs.KidBoxes.{boxes_from}
 use Rattle.box_layout.specs.Paths.{AreKeptBelow, IsChildLaid, IsChildPart, IsLaidOut, IsLaidPart, passes_at}
@@ -103,7 +103,7 @@ pub record IsTurn (b : BareTrees) (n : NodeId) (q : Query) (x y : ℤ) (i : ℕ)
   pub passes : is_container (sight_at b c).label.kind ≡ true → Contains (passes_at b n q) (i, frames_asked reps f.inline f.block)
 
 pub turn_here : (b : BareTrees) (n : NodeId) (outer : List Pair) (inline block : Given) (listed : List NodeFrame) (seats : ChildSeats) (x y : ℤ) → IsBelow b n (frames_asked outer inline block) listed seats x y → (i : ℕ) (c : NodeId) → IsNext b n i c → i < length listed
-    → (lower : Bool) → lower ≡ (seats.some && has_subgrid_kind (sight_at b c).label) → (reps : List Pair) → reps ≡ (if lower then seats.pairs else []) → (up : Above) → up ≡ (if lower then seats.above else seats.nothing)
+    → (lower : Bool) → lower ≡ (seats.some && has_subgrid_kind (sight_at b c).label) → (reps : List Pair) → reps ≡ (if lower then pairs_held seats.held else []) → (up : Above) → up ≡ (if lower then above_held seats.held seats.nothing else seats.nothing)
     → (area : Area) → (i < length seats.areas → (d : Area) → area ≡ get_or seats.areas i d) → (f : NodeFrame) → f ≡ get_or listed i f → IsTurn b n (frames_asked outer inline block) x y i c reps up area f
 turn_here b n outer inline block listed seats x y below i c next within lower is reps same up above_is area area_is f at =
     let q = frames_asked outer inline block in

@@ -23,9 +23,10 @@ use Rattle.placing.specs.declared.node.Frame.{Frame as NodeFrame}
 use Rattle.inline_sizes.proofs.Asked.{shares_told}
 use Rattle.inline_sizes.specs.Grids.{IsEntry, has_subgrid_kind}
 use Rattle.inline_sizes.specs.GridsSeen.{grid_seen}
-use Rattle.block_sizes.specs.Wides.{IsWide, child_of, columns_seen, wides_seen}
-use Rattle.block_sizes.specs.declared.wide.GridWide.{GridWide}
-use Rattle.block_sizes.specs.declared.wide.WideChild.{WideChild}
+use Rattle.block_sizes.specs.Wides.{IsWide, columns_seen, wides_seen}
+use Rattle.placing.specs.Wides.{child_of}
+use Rattle.placing.specs.declared.wide.GridWide.{GridWide}
+use Rattle.placing.specs.declared.wide.WideChild.{WideChild}
 use Rattle.box_layout.specs.GridFrames.{IsFrameOf, frame_over, no_frame}
 use Rattle.box_layout.proofs.GridFramed.{child_is, entry_is, frame_is, ok_both}
 

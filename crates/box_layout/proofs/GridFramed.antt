@@ -30,9 +30,10 @@ use Rattle.inline_sizes.specs.GridsSeen.{HasItemsInTracks, IsAreaIn, grid_seen}
 use Rattle.inline_sizes.specs.TrackAxes.{track_count}
 use Rattle.inline_sizes.specs.Styled.{styled}
 use Rattle.box_layout.specs.GridFrames.{AreTracks, IsOver, frame_over}
-use Rattle.block_sizes.specs.Wides.{IsWide, child_of, columns_seen, wides_seen}
-use Rattle.block_sizes.specs.declared.wide.GridWide.{GridWide}
-use Rattle.block_sizes.specs.declared.wide.WideChild.{WideChild}
+use Rattle.block_sizes.specs.Wides.{IsWide, columns_seen, wides_seen}
+use Rattle.placing.specs.Wides.{child_of}
+use Rattle.placing.specs.declared.wide.GridWide.{GridWide}
+use Rattle.placing.specs.declared.wide.WideChild.{WideChild}
 
 -- ---- one child
 

@@ -29,7 +29,7 @@ use Rattle.tree_rules.specs.Repetitions.{gap_by}
 use Rattle.tree_rules.specs.declared.query.Given.{Given}
 use Rattle.tree_rules.specs.declared.query.Given.TheVariants as given
 use Rattle.block_sizes.proofs.Seen.{spread_grows, view_spread}
-use Rattle.block_sizes.specs.Spread.{AreBetween, AreSpread}
+use Rattle.placing.specs.Spread.{AreBetween, AreSpread}
 use Rattle.box_layout.proofs.Near.{clamped_units, gap_units, margin_units, pair_of}
 use Rattle.box_layout.proofs.OwnTracks.{view_gap, view_near}
 use Rattle.box_layout.proofs.Rooms.{after_room, before_room, edges_start, moved_rest}

@@ -26,6 +26,7 @@ use Rattle.tree_rules.specs.Queries.{is_container, same_query}
 use Rattle.tree_rules.specs.declared.query.Given.{Given}
 use Rattle.tree_rules.specs.declared.query.Query.{Query}
 use Rattle.inline_sizes.specs.Calls.{Found, Keeps}
+use Rattle.block_sizes.specs.Keeping.{GrowsBy, KeepsSize}
 use Rattle.box_layout.specs.Asking.{frames_asked}
 use Rattle.box_layout.specs.BoxesSeen.{frames_seen, pairs_seen}
 use Rattle.box_layout.specs.Paths.{AreKeptBelow, IsChildLaid, IsPathKept, Passes, its_own, on, passes_at}
@@ -200,6 +201,19 @@ asked_kept n q s t a found keeps = go (answer_to q (kept_in s n)) refl
   where
     go : (o : Option Answer) → answer_to q (kept_in s n) ≡ o → IsSome (answer_to q (kept_in t n))
     go None is = subst (λ l. IsSome (answer_to q l)) (sym (keeps is)) (newest_there q (kept_in s n) a)
+    go (Some z) is =
+        let there : IsSome (answer_to q (kept_in s n)) = subst IsSome (sym is) refl in
+        subst (λ l. IsSome (answer_to q l)) (ap (λ u. kept_in u n) (sym (found there))) there
+
+-- so it is where the answer is a block size, with or without the grid in its columns
+pub sized_kept : (n : NodeId) (q : Query) (s t : State) (size : ℤ) → Found n q s t → KeepsSize n q s t size → IsSome (answer_to q (kept_in t n))
+sized_kept n q s t size found keeps = go (answer_to q (kept_in s n)) refl
+  where
+    grown : GrowsBy (kept_in s n) q size (kept_in t n) → IsSome (answer_to q (kept_in t n))
+    grown (a, (same, grows)) = subst (λ l. IsSome (answer_to q l)) (sym grows) (newest_there q (kept_in s n) a)
+
+    go : (o : Option Answer) → answer_to q (kept_in s n) ≡ o → IsSome (answer_to q (kept_in t n))
+    go None is = grown (keeps is)
     go (Some z) is =
         let there : IsSome (answer_to q (kept_in s n)) = subst IsSome (sym is) refl in
         subst (λ l. IsSome (answer_to q l)) (ap (λ u. kept_in u n) (sym (found there))) there

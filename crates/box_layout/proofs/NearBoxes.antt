@@ -9,7 +9,7 @@ use Rattle.tree_rules.specs.Frames.{moved_by}
 use Rattle.tree_rules.specs.Places.{answers_of}
 use Rattle.tree_rules.specs.declared.query.Given.{Given}
 use Rattle.tree_rules.specs.declared.query.Given.TheVariants as given
-use Rattle.block_sizes.specs.Spread.{IsSpread}
+use Rattle.placing.specs.Spread.{IsSpread}
 use Rattle.block_sizes.specs.Wides.{farthest}
 use Rattle.box_layout.specs.Asking.{frames_asked}
 use Rattle.box_layout.specs.BoxesSeen.{AreNear, IsNearAt, IsNearRect, frames_seen, reach}

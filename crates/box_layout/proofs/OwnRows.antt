@@ -29,9 +29,9 @@ use Rattle.inline_sizes.specs.TrackAxes.{CanSize, track_axis, track_count}
 use Rattle.block_sizes.proofs.RowAxes.{rows_can_size}
 use Rattle.block_sizes.specs.Fitting.{CanSizeFor}
 use Rattle.block_sizes.specs.Spans.{HasZero, tracks_to}
-use Rattle.block_sizes.specs.Spread.{AreBetween, AreSpread, IsBetween}
+use Rattle.placing.specs.Spread.{AreBetween, AreSpread, IsBetween}
 use Rattle.block_sizes.specs.Wides.{IsWide, farthest, rows_seen}
-use Rattle.block_sizes.specs.declared.wide.GridWide.{GridWide}
+use Rattle.placing.specs.declared.wide.GridWide.{GridWide}
 use Rattle.box_layout.specs.GridFrames.{AreTracks}
 use Rattle.box_layout.proofs.SharedRows.{count_is}
 

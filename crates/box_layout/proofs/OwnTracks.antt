@@ -27,7 +27,7 @@ use Rattle.inline_sizes.proofs.Lengths.{sizes_counted}
 use Rattle.inline_sizes.specs.TrackAxes.{track_count}
 use Rattle.block_sizes.proofs.Seen.{spread_grows}
 use Rattle.block_sizes.specs.Moving.{IsFree, first_place, last_place}
-use Rattle.block_sizes.specs.Spread.{AreBetween, AreSpread, IsBetween}
+use Rattle.placing.specs.Spread.{AreBetween, AreSpread, IsBetween}
 use Rattle.box_layout.proofs.Near.{gap_units, sum_near}
 use Rattle.box_layout.proofs.TrackSizes.{sizes_units}
 use Rattle.box_layout.specs.Near.{AreUnits}

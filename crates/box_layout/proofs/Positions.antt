@@ -6,7 +6,7 @@ use Rattle.tree_rules.specs.Answers.{Frame}
 use Rattle.tree_rules.specs.declared.query.Given.{Given}
 use Rattle.tree_rules.specs.declared.query.Given.TheVariants as given
 use Rattle.block_sizes.proofs.Seen.{spread_grows}
-use Rattle.block_sizes.specs.Spread.{IsSpread}
+use Rattle.placing.specs.Spread.{IsSpread}
 use Rattle.block_sizes.specs.Wides.{farthest}
 use Rattle.box_layout.specs.Ranges.{IsWithin}
 use Rattle.box_layout.specs.Stands.{IsGivenNear, StandBelow, StandsBelow, far_by, farthest_child, near_by}

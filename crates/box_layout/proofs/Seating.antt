@@ -9,7 +9,7 @@ use Rattle.node_arena.specs.Numbers.{child_at}
 use Rattle.part_rules.specs.Lists.{zipped}
 use Rattle.placing.specs.Areas.{HasChildren, IsPlaced, entries_at, entry_by, numbered_area, orders_at, placed_of}
 use Rattle.placing.specs.Children.{IsNext, IsTree}
-use Rattle.placing.specs.Nodes.{BareTrees, above_at, kid_at, kids_at, sight_at}
+use Rattle.placing.specs.Nodes.{BareTrees, above_at, children_at, kid_at, kids_at, sight_at}
 use Rattle.placing.specs.Seats.{IsSeat, context_at, context_of}
 use Rattle.placing.specs.declared.contexts.Above.{Above}
 use Rattle.placing.specs.declared.contexts.Above.TheVariants as above
@@ -29,11 +29,15 @@ use Rattle.tree_rules.specs.declared.kind.NodeKind.{NodeKind}
 use Rattle.tree_rules.specs.declared.kind.NodeKind.TheVariants as kind
 use Rattle.tree_rules.specs.declared.query.Given.{Given}
 use Rattle.tree_rules.specs.declared.query.Query.{Query}
-use Rattle.inline_sizes.specs.Grids.{IsAbove, IsBase, has_subgrid_kind}
-use Rattle.inline_sizes.specs.declared.grid.GridBase.{GridBase}
-use Rattle.box_layout.specs.Beneath.{AreSeats, HasPairs, IsAreaOf}
+use Rattle.inline_sizes.proofs.Held.{held_base}
+use Rattle.inline_sizes.specs.Grids.{IsBase, has_subgrid_kind}
+use Rattle.placing.specs.Wides.{HoldsWide, IsAbove}
+use Rattle.placing.specs.declared.wide.GridBase.{GridBase}
+use Rattle.placing.specs.declared.wide.GridWide.{GridWide}
+use Rattle.box_layout.specs.Beneath.{AreSeats, HasPairs, IsAreaOf, above_held, base_held, pairs_held}
 use Rattle.box_layout.specs.BoxesSeen.{pairs_seen as pairs_below_at}
 use Rattle.box_layout.specs.declared.child_seats.ChildSeats.{ChildSeats}
+use Rattle.box_layout.specs.declared.child_seats.HeldBase.{HeldBase}
 
 -- ---- chains
 
@@ -103,31 +107,37 @@ module _ (b : BareTrees) (n : NodeId) (tree : IsTree b) where
   seat_of_area base p i c a above.Nothing h placed area child some = absurd h
   seat_of_area base p i c a (above.Grid made) h placed area child some = area c made base.pairs child h (subst (λ z. IsPlaced b n z p) (sym h) placed) some
 
-  pub seats_made : (outer : List Pair) (width : Given) (base : GridBase) (areas : List Area) (seats : ChildSeats) → IsBase b n outer width base → is_grid_kind (sight_at b n).label.kind ≡ true →
+  pub seats_made : (outer : List Pair) (width : Given) (held : HeldBase) (base : GridBase) (areas : List Area) (seats : ChildSeats) → base ≡ base_held held → IsBase b n outer width base → is_grid_kind (sight_at b n).label.kind ≡ true →
       length areas ≡ length (kids_at b n) → ((i : ℕ) → i < length (kids_at b n) → (d : Area) → IsAreaOf b n base.placed i (get_or areas i d)) →
-      seats ≡ record { some = true; pairs = base.pairs; above = base.above; areas = areas; nothing = above.Nothing } → AreSeats b n seats
-  seats_made outer width base areas seats made grid counted area is =
+      seats ≡ record { some = true; held = Some held; areas = areas; nothing = above.Nothing } → AreSeats b n seats
+  seats_made outer width held base areas seats same made grid counted area is =
       subst (AreSeats b n) (sym is)
       (record {
         nothing = refl;
         told = λ i c child. told_here i c child ∙ ap (λ t. t && has_subgrid_kind (sight_at b c).label) grid;
         seated = λ i c child some. record {
-          counts = made.laid.counts
+          counts = ap (λ (x : GridBase). length x.pairs) (sym same)
+              ∙ made.laid.counts
               ∙ sym (ap length (tree.next n c i child).chain ∙ chain_counts (above_at b n).is_grid (has_subgrid_kind (sight_at b c).label) _ (sight_at b n).chain (ap has_chain (sym (tree.next n c i child).chain) ∙ some));
           there = omega (arith, counted, number_there b n c i tree child);
-          seat = λ d. seat_of_area base base.placed i c (get_or areas i d) base.above made.laid.context made.laid.placed (area i (number_there b n c i tree child) d) child some;
+          seat = λ d. subst (λ (x : GridBase). IsSeat (sight_at b c) x.pairs x.above (get_or areas i d)) same
+              (seat_of_area base base.placed i c (get_or areas i d) base.above made.laid.context made.laid.placed (area i (number_there b n c i tree child) d) child some);
         };
       })
 
-pub pairs_made : (b : BareTrees) (n : NodeId) (outer : List Pair) (width : Given) (base : GridBase) (areas : List Area) (seats : ChildSeats) (q : Query) → IsBase b n outer width base → (sight_at b n).label.kind ≡ kind.Grid →
-    seats ≡ record { some = true; pairs = base.pairs; above = base.above; areas = areas; nothing = above.Nothing } → q.reps ≡ outer → q.inline ≡ width → HasPairs b n q seats
+pub pairs_made : (b : BareTrees) (n : NodeId) (outer : List Pair) (width : Given) (held : HeldBase) (areas : List Area) (seats : ChildSeats) (q : Query) → IsBase b n outer width (base_held held) → (sight_at b n).label.kind ≡ kind.Grid →
+    seats ≡ record { some = true; held = Some held; areas = areas; nothing = above.Nothing } → q.reps ≡ outer → q.inline ≡ width → HasPairs b n q seats
 unfolding pairs_below_at
-pairs_made b n outer width base areas seats q made grid is reps inline some =
-    ap (λ (s : ChildSeats). s.pairs) is
+pairs_made b n outer width held areas seats q made grid is reps inline some =
+    ap (λ (s : ChildSeats). pairs_held s.held) is
     ∙ made.pairs
     ∙ ap (λ p. outer ++ p ∷ []) made.pair
     ∙ (λ i. sym reps i ++ own_pair (sight_at b n).label (sym inline i) ∷ [])
     ∙ ap (λ (k : NodeKind). pairs_below k (sight_at b n).label (sight_at b n).chain (kids_at b n) q) (sym grid)
+
+-- the base in a grid in its columns that is kept
+pub kept_base : (b : BareTrees) (n : NodeId) (outer : List Pair) (width : Given) (wide again : GridWide) → HoldsWide (sight_at b n) (children_at b n) outer width wide → again ≡ wide → IsBase b n outer width again.parts.base
+kept_base b n outer width wide again kept same = subst (λ (w : GridWide). IsBase b n outer width w.parts.base) (sym same) (held_base b n outer width wide.parts.base kept.grid.base)
 
 pub grid_kind_is : (k : NodeKind) → is_grid_kind k ≡ true → k ≡ kind.Grid
 grid_kind_is kind.Grid e = refl
@@ -201,31 +211,31 @@ module _ (b : BareTrees) (n : NodeId) (p : Placed) where
 
 -- ---- the seat of a child
 
-module _ (b : BareTrees) (n c : NodeId) (i : ℕ) (seats : ChildSeats) (are : AreSeats b n seats) (child : child_at b n i ≡ Some c) (lower : Bool) (is : lower ≡ (seats.some && has_subgrid_kind (sight_at b c).label)) (reps : List Pair) (same : reps ≡ (if lower then seats.pairs else [])) where
+module _ (b : BareTrees) (n c : NodeId) (i : ℕ) (seats : ChildSeats) (are : AreSeats b n seats) (child : child_at b n i ≡ Some c) (lower : Bool) (is : lower ≡ (seats.some && has_subgrid_kind (sight_at b c).label)) (reps : List Pair) (same : reps ≡ (if lower then pairs_held seats.held else [])) where
   lower_is : lower ≡ has_chain (sight_at b c).chain
   lower_is = is ∙ sym (are.told i c child)
 
   pub counts_here : length reps ≡ length (sight_at b c).chain
   counts_here = ap length same ∙ at lower lower_is
     where
-      at : (t : Bool) → t ≡ has_chain (sight_at b c).chain → length (if t then seats.pairs else []) ≡ length (sight_at b c).chain
+      at : (t : Bool) → t ≡ has_chain (sight_at b c).chain → length (if t then pairs_held seats.held else []) ≡ length (sight_at b c).chain
       at true e = (are.seated i c child (sym e)).counts
       at false e = ap length (sym (no_chain (sight_at b c).chain (sym e)))
 
-  pub seat_here : (up : Above) (area : Area) → up ≡ (if lower then seats.above else seats.nothing) → (i < length seats.areas → (d : Area) → area ≡ get_or seats.areas i d) → IsSeat (sight_at b c) reps up area
+  pub seat_here : (up : Above) (area : Area) → up ≡ (if lower then above_held seats.held seats.nothing else seats.nothing) → (i < length seats.areas → (d : Area) → area ≡ get_or seats.areas i d) → IsSeat (sight_at b c) reps up area
   seat_here up area above_is area_is = at lower lower_is same above_is
     where
-      at : (t : Bool) → t ≡ has_chain (sight_at b c).chain → reps ≡ (if t then seats.pairs else []) → up ≡ (if t then seats.above else seats.nothing) → IsSeat (sight_at b c) reps up area
+      at : (t : Bool) → t ≡ has_chain (sight_at b c).chain → reps ≡ (if t then pairs_held seats.held else []) → up ≡ (if t then above_held seats.held seats.nothing else seats.nothing) → IsSeat (sight_at b c) reps up area
       at true e r u =
           let seated = are.seated i c child (sym e) in
-          subst (λ a. IsSeat (sight_at b c) reps up a) (sym (area_is seated.there area)) (subst (λ z. IsSeat (sight_at b c) z up (get_or seats.areas i area)) (sym r) (subst (λ z. IsSeat (sight_at b c) seats.pairs z (get_or seats.areas i area)) (sym u) (seated.seat area)))
+          subst (λ a. IsSeat (sight_at b c) reps up a) (sym (area_is seated.there area)) (subst (λ z. IsSeat (sight_at b c) z up (get_or seats.areas i area)) (sym r) (subst (λ z. IsSeat (sight_at b c) (pairs_held seats.held) z (get_or seats.areas i area)) (sym u) (seated.seat area)))
       at false e r u = subst (λ z. IsSeat (sight_at b c) z up area) (sym r) (subst (λ z. IsSeat (sight_at b c) [] z area) (sym (u ∙ are.nothing)) (alone_there b c area (sym e)))
 
   pub pairs_here : (q : Query) → HasPairs b n q seats → reps ≡ pairs_for (kid_at b c) (pairs_below_at b n q)
   pairs_here q have = same ∙ at seats.some refl ∙ ap (λ (t : Bool). if t then pairs_below_at b n q else []) lower_is
     where
-      at : (t : Bool) → seats.some ≡ t → (if lower then seats.pairs else []) ≡ (if lower then pairs_below_at b n q else [])
+      at : (t : Bool) → seats.some ≡ t → (if lower then pairs_held seats.held else []) ≡ (if lower then pairs_below_at b n q else [])
       at true e = ap (λ (p : List Pair). if lower then p else []) (have e)
       at false e =
           let no : lower ≡ false = is ∙ ap (λ (t : Bool). t && has_subgrid_kind (sight_at b c).label) e in
-          ap (λ (t : Bool). if t then seats.pairs else []) no ∙ sym (ap (λ (t : Bool). if t then pairs_below_at b n q else []) no)
+          ap (λ (t : Bool). if t then pairs_held seats.held else []) no ∙ sym (ap (λ (t : Bool). if t then pairs_below_at b n q else []) no)

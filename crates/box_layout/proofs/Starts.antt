@@ -4,7 +4,7 @@ use Rattle.std.proofs.lemmas.Int.{ints}
 use Rattle.lunit.specs.declared.geometry.Span.{Span}
 use Rattle.part_rules.specs.Lists.{above_zero}
 use Rattle.part_rules.specs.Views.{first_start, tracks_over}
-use Rattle.block_sizes.specs.Spread.{AreBetween, AreSpread}
+use Rattle.placing.specs.Spread.{AreBetween, AreSpread}
 use Rattle.box_layout.specs.GridFrames.{IsOver}
 use Rattle.box_layout.specs.Ranges.{IsNearTo, IsPlace, IsWithin}
 

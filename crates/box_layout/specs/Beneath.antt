@@ -1,20 +1,39 @@
 -- What the children of a node see of it, as the code holds it (CSS Grid 2, section 9).
-use Rattle.std.specs.Prelude.{◌≡◌, ℕ, ◌<◌, ◌&&◌, true, List, length, get_or, Some}
+use Rattle.std.specs.Prelude.{◌≡◌, ℕ, ◌<◌, ◌&&◌, true, List, [], length, get_or, Option, None, Some}
 use Rattle.lunit.specs.declared.geometry.Area.{Area}
 use Rattle.node_arena.specs.declared.number.NodeId.{NodeId}
 use Rattle.node_arena.specs.Numbers.{child_at}
 use Rattle.placing.specs.Areas.{IsPlaced}
 use Rattle.placing.specs.Nodes.{BareTrees, sight_at}
 use Rattle.placing.specs.Seats.{IsSeat, context_at, context_of}
+use Rattle.placing.specs.declared.contexts.Above.{Above}
 use Rattle.placing.specs.declared.contexts.Above.TheVariants as above
 use Rattle.placing.specs.declared.contexts.Context.{Context}
 use Rattle.placing.specs.declared.contexts.Placed.{Placed}
+use Rattle.placing.specs.declared.wide.GridBase.{GridBase}
 use Rattle.tree_rules.specs.Answers.{Pair}
 use Rattle.tree_rules.specs.Chains.{has_chain}
 use Rattle.tree_rules.specs.declared.query.Query.{Query}
 use Rattle.inline_sizes.specs.Grids.{has_subgrid_kind}
 use Rattle.box_layout.specs.BoxesSeen.{pairs_seen}
 use Rattle.box_layout.specs.declared.child_seats.ChildSeats.{ChildSeats}
+use Rattle.box_layout.specs.declared.child_seats.HeldBase.{HeldBase}
+use Rattle.box_layout.specs.declared.child_seats.HeldBase.TheVariants as held
+
+-- the grid before its children are asked, wherever it is held
+abbrev pub base_held : HeldBase → GridBase
+base_held (held.Made base) = base
+base_held (held.Kept wide) = wide.parts.base
+
+-- what its subgrids see of it: the counts of the repetitions, the topmost grid first
+abbrev pub pairs_held : Option HeldBase → List Pair
+pairs_held None = []
+pairs_held (Some h) = (base_held h).pairs
+
+-- and its context
+abbrev pub above_held : Option HeldBase → Above → Above
+above_held None other = other
+above_held (Some h) other = (base_held h).above
 
 -- the area of the child of this number, where it is a subgrid of the node
 abbrev pub IsAreaOf : BareTrees → NodeId → Placed → ℕ → Area → Type 0
@@ -23,9 +42,9 @@ IsAreaOf b n p number a =
 
 -- the seat of a child that is a subgrid of the node
 pub record IsSeated (b : BareTrees) (c : NodeId) (number : ℕ) (seats : ChildSeats) : Type 0 where
-  pub counts : length seats.pairs ≡ length (sight_at b c).chain
+  pub counts : length (pairs_held seats.held) ≡ length (sight_at b c).chain
   pub there : number < length seats.areas
-  pub seat : (d : Area) → IsSeat (sight_at b c) seats.pairs seats.above (get_or seats.areas number d)
+  pub seat : (d : Area) → IsSeat (sight_at b c) (pairs_held seats.held) (above_held seats.held seats.nothing) (get_or seats.areas number d)
 
 -- These are the seats of the children of a node: which of them are subgrids of it, and where these stand.
 pub record AreSeats (b : BareTrees) (n : NodeId) (seats : ChildSeats) : Type 0 where
@@ -35,4 +54,4 @@ pub record AreSeats (b : BareTrees) (n : NodeId) (seats : ChildSeats) : Type 0 w
 
 -- where there are subgrids, they see the counts of the node's repetitions once it is asked this
 abbrev pub HasPairs : BareTrees → NodeId → Query → ChildSeats → Type 0
-HasPairs b n q seats = seats.some ≡ true → seats.pairs ≡ pairs_seen b n q
+HasPairs b n q seats = seats.some ≡ true → pairs_held seats.held ≡ pairs_seen b n q

@@ -16,7 +16,7 @@ use Rattle.tree_rules.specs.declared.query.Given.TheVariants as given
 use Rattle.tree_rules.specs.declared.query.Given.{Given}
 use Rattle.inline_sizes.specs.Styled.{content_at, styled}
 use Rattle.block_sizes.specs.Children.{block_of_child}
-use Rattle.block_sizes.specs.Spread.{AreSpread}
+use Rattle.placing.specs.Spread.{AreSpread}
 use Rattle.box_layout.specs.Places.{frame_in, place_in_area}
 
 -- where the border box of a child of this size starts over these tracks, counted from the first one

@@ -4,7 +4,7 @@ use Rattle.lunit.specs.Units.{IsUnits}
 use Rattle.tree_rules.specs.Answers.{Frame}
 use Rattle.tree_rules.specs.declared.query.Given.{Given}
 use Rattle.tree_rules.specs.declared.query.Given.TheVariants as given
-use Rattle.block_sizes.specs.Spread.{AreSpread}
+use Rattle.placing.specs.Spread.{AreSpread}
 use Rattle.box_layout.specs.Ranges.{IsWithin}
 
 -- how far the edges of the tracks lie from each other and from 0 that a node is given so many levels below a grid that sizes them

@@ -1,25 +1,30 @@
 //! Where the children of a grid stand that are subgrids of it: found once a grid, and only where there is one (CSS Grid 2, section 9).
 
-ghost use Rattle.std.specs.Prelude.{◌≡◌, ◌<◌, ◌&&◌, [], true, false, ℕ, List, Some, length, map, get_or, if◌then◌else◌, IfOk};
+ghost use Rattle.std.specs.Prelude.{◌≡◌, ◌<◌, ◌&&◌, [], true, false, ℕ, List, None, Some, length, map, get_or, if◌then◌else◌, IfOk};
 ghost use Rattle.lunit.specs.declared.geometry.Area.{Area};
 ghost use Rattle.node_arena.specs.Numbers.{child_at};
 ghost use Rattle.node_arena.specs.declared.number.NodeId.{NodeId};
 ghost use Rattle.placing.specs.Areas.{HasChildren};
 ghost use Rattle.placing.specs.Counted.{IsGivenSize};
+ghost use Rattle.placing.specs.Kept.{IsRight};
 ghost use Rattle.placing.specs.Nodes.{bare, kids_at, sight_at, IsLive};
 ghost use Rattle.placing.specs.Ranges.{AreReadable};
 ghost use Rattle.placing.specs.Seats.{IsSeat};
 ghost use Rattle.placing.specs.declared.contexts.Above.TheVariants as above;
 ghost use Rattle.tree_rules.specs.Chains.{is_grid_kind};
 ghost use Rattle.tree_rules.specs.declared.query.Query.{Query};
-ghost use Rattle.inline_sizes.specs.Grids.{has_subgrid_kind};
-ghost use Rattle.box_layout.specs.Beneath.{AreSeats, HasPairs, IsAreaOf};
+ghost use Rattle.inline_sizes.specs.Grids.{IsBase, has_subgrid_kind};
+ghost use Rattle.box_layout.specs.Beneath.{AreSeats, HasPairs, IsAreaOf, above_held, base_held, pairs_held};
 
-use inline_sizes::{GridBase, base_at};
+use block_sizes::kept_wide;
+use inline_sizes::base_at;
 use layout_cache::Given;
 use lunit::{Area, NoMemory, Sequence, Span};
 use node_arena::{Arena, NodeId};
-use placing::{Above, Node, NodeKind, Placed, child, count, entry, has_subgrid, node_at, root};
+use placing::{
+    Above, GridBase, Node, NodeKind, Placed, SharedWide, child, count, entry, has_subgrid, node_at,
+    root,
+};
 use std::alloc::Global;
 
 /// No area.
@@ -28,15 +33,22 @@ const NO_AREA: Area = Area {
     rows: Span { start: 0, end: 0 },
 };
 
+/// A grid before its children are asked.
+#[derive(Drop)]
+pub(crate) enum HeldBase {
+    /// Made for its children.
+    Made(GridBase),
+    /// In the grid in its columns that its answer for the block size holds.
+    Kept(SharedWide),
+}
+
 /// What the children of a node see of it that are subgrids of it.
 #[derive(Drop)]
 pub(crate) struct ChildSeats {
     /// Whether there are such children.
     pub(crate) some: bool,
-    /// The counts of the repetitions that they see, the topmost grid first.
-    pub(crate) pairs: Sequence<(u32, u32)>,
-    /// The context of the node.
-    pub(crate) above: Above,
+    /// What they see of the node.
+    pub(crate) held: Option<HeldBase>,
     /// The area of each child, in document order.
     pub(crate) areas: Sequence<Area>,
     /// What other children see.
@@ -72,7 +84,7 @@ fn has_subgrids(tree: &Arena<Node>, id: NodeId) -> bool
 fn all_areas(alloc: Global, placed: &[(NodeId, Area)]) -> Result<Sequence<Area>, NoMemory>
     ensures { IfOk result (λ areas. areas ≡ map (λ (e : NodeId × Area). e.1) placed.now) }
 {
-    let mut areas = Sequence::new(alloc);
+    let mut areas = Sequence::from_vec(Vec::with_capacity(alloc, placed.len())?);
     for (_, area) in placed {
         areas.push(*area)?;
     }
@@ -102,32 +114,69 @@ fn areas_by_number(
 
 /// No child is a subgrid of the node. It takes no memory.
 pub(crate) fn no_seats(alloc: Global) -> ChildSeats
-    ensures { result ≡ record { some = false; pairs = []; above = above.Nothing; areas = []; nothing = above.Nothing } }
+    ensures { result ≡ record { some = false; held = None; areas = []; nothing = above.Nothing } }
 {
     ChildSeats {
         some: false,
-        pairs: Sequence::new(alloc),
-        above: Above::Nothing,
+        held: None,
         areas: Sequence::new(alloc),
         nothing: Above::Nothing,
     }
 }
 
+/// The grid before its children are asked.
+fn base_of(held: &HeldBase) -> &GridBase
+    ensures { result.now ≡ base_held held.now }
+{
+    match held {
+        HeldBase::Made(base) => base,
+        HeldBase::Kept(wide) => &wide.grid().parts.base,
+    }
+}
+
+#[tactic(auto, using(crate::proofs::Seating::kept_base))]
+/// A grid in its seat before its children are asked: as its answer for the block size holds it, or made anew. `NoMemory` where memory
+/// is wanting.
+fn held_base(
+    alloc: Global,
+    tree: &Arena<Node>,
+    id: NodeId,
+    reps: &[(u32, u32)],
+    above: &Above,
+    area: Area,
+    inline: &Given,
+) -> Result<HeldBase, NoMemory>
+    requires live { IsLive (bare tree.now.tree) id }
+    requires right { IsRight tree.now.tree }
+    requires readable { AreReadable (bare tree.now.tree) }
+    requires reps { length reps.now ≡ length (sight_at (bare tree.now.tree) id).chain }
+    requires seat { IsSeat (sight_at (bare tree.now.tree) id) reps.now above.now area }
+    requires width { IsGivenSize inline.now }
+    ensures { IfOk result (λ held. IsBase (bare tree.now.tree) id reps.now inline.now (base_held held)) }
+{
+    if let Some(wide) = kept_wide(tree, id, reps, inline) {
+        let wide = wide.again()?;
+        return Ok(HeldBase::Kept(wide));
+    }
+    let base = base_at(alloc, tree, id, reps, above, area, inline)?;
+    Ok(HeldBase::Made(base))
+}
+
 /// The seats in a grid, with the areas of its children.
-fn seats_in(base: GridBase, areas: Sequence<Area>) -> ChildSeats
-    ensures { result ≡ record { some = true; pairs = base.pairs; above = base.above; areas = areas; nothing = above.Nothing } }
+fn seats_in(held: HeldBase, areas: Sequence<Area>) -> ChildSeats
+    ensures { result ≡ record { some = true; held = Some held; areas = areas; nothing = above.Nothing } }
 {
     ChildSeats {
         some: true,
-        pairs: base.pairs,
-        above: base.above,
+        held: Some(held),
         areas,
         nothing: Above::Nothing,
     }
 }
 
 /// The seats of the children of a node in its own seat, by the counts of the repetitions above it and what it is given in the inline
-/// axis. The context of a grid is made only where some child is a subgrid of it. `NoMemory` where memory is wanting.
+/// axis. The context of a grid is made only where some child is a subgrid of it and the grid keeps none. `NoMemory` where memory is
+/// wanting.
 pub(crate) fn seats_below(
     alloc: Global,
     tree: &Arena<Node>,
@@ -140,6 +189,7 @@ pub(crate) fn seats_below(
     requires live { IsLive (bare tree.now.tree) id }
     requires readable { AreReadable (bare tree.now.tree) }
     requires reps { length reps.now ≡ length (sight_at (bare tree.now.tree) id).chain }
+    requires right { IsRight tree.now.tree }
     requires seat { IsSeat (sight_at (bare tree.now.tree) id) reps.now above.now area }
     requires width { IsGivenSize inline.now }
     ensures seats { IfOk result (AreSeats (bare tree.now.tree) id) }
@@ -152,9 +202,10 @@ pub(crate) fn seats_below(
     if !has_subgrids(tree, id) {
         return Ok(no_seats(alloc));
     }
-    let base = base_at(alloc, tree, id, reps, above, area, inline)?;
+    let held = held_base(alloc, tree, id, reps, above, area, inline)?;
+    let base = base_of(&held);
     let areas = areas_by_number(alloc, tree, id, &base.placed)?;
-    let seats = seats_in(base, areas);
+    let seats = seats_in(held, areas);
     Ok(seats)
 }
 
@@ -168,16 +219,28 @@ pub(crate) fn is_lower(tree: &Arena<Node>, seats: &ChildSeats, child: NodeId) ->
 
 /// The counts of the repetitions that a child sees.
 pub(crate) fn pairs_for(seats: &ChildSeats, lower: bool) -> &[(u32, u32)]
-    ensures { result.now ≡ (if lower then seats.now.pairs else []) }
+    ensures { result.now ≡ (if lower then pairs_held seats.now.held else []) }
 {
-    if lower { seats.pairs.as_slice() } else { &[] }
+    if !lower {
+        return &[];
+    }
+    match &seats.held {
+        Some(held) => base_of(held).pairs.as_slice(),
+        None => &[],
+    }
 }
 
 /// What a child sees above it.
 pub(crate) fn above_for(seats: &ChildSeats, lower: bool) -> &Above
-    ensures { result.now ≡ (if lower then seats.now.above else seats.now.nothing) }
+    ensures { result.now ≡ (if lower then above_held seats.now.held seats.now.nothing else seats.now.nothing) }
 {
-    if lower { &seats.above } else { &seats.nothing }
+    if !lower {
+        return &seats.nothing;
+    }
+    match &seats.held {
+        Some(held) => &base_of(held).above,
+        None => &seats.nothing,
+    }
 }
 
 /// The area of the child of a number; none where there are no seats.

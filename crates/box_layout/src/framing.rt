@@ -13,7 +13,7 @@ ghost use Rattle.tree_rules.specs.KeptAnswers.{IsAbsent};
 ghost use Rattle.tree_rules.specs.Queries.{answer_of, child_frames, Fits};
 ghost use Rattle.tree_rules.specs.declared.kind.NodeKind.TheVariants as kind;
 ghost use Rattle.inline_sizes.specs.Calls.{Found, Keeps};
-ghost use Rattle.block_sizes.specs.Spread.{IsSpread};
+ghost use Rattle.placing.specs.Spread.{IsSpread};
 ghost use Rattle.block_sizes.specs.Wides.{farthest};
 ghost use Rattle.box_layout.specs.Asking.{frames_asked};
 ghost use Rattle.box_layout.specs.LeafHeights.{AreLeavesKept, MeasuresLeaves};
@@ -23,7 +23,7 @@ use crate::gridded::grid_frames;
 use crate::leaves::{ask_leaves, stands};
 use crate::queries::{frames_query, kept_frames};
 use crate::row_views::rows_of;
-use block_sizes::wide_at;
+use block_sizes::wide_for;
 use layout_cache::{Given, Query};
 use lunit::{Area, NoMemory, Steps};
 use node_arena::{Arena, NodeId};
@@ -76,11 +76,12 @@ fn grid_frames_anew<R: Ruler, L: Ledger>(
     let reps = query.reps.as_slice();
     let width = &query.inline;
     let height = &query.block;
-    let wide = wide_at(
+    let wide = wide_for(
         alloc, tree, id, reps, above, area, width, ruler, tally, passes,
     )?;
-    let rows = rows_of(alloc, tree, id, reps, width, &wide, height, passes)?;
-    let frames = grid_frames(alloc, tree, id, reps, width, &wide, &rows)?;
+    let held = wide.grid();
+    let rows = rows_of(alloc, tree, id, reps, width, held, height, passes)?;
+    let frames = grid_frames(alloc, tree, id, reps, width, held, &rows)?;
     let shared = SharedFrames::new(alloc, frames)?;
     let told = shared.again()?;
     put(tree, id, query, Answer::Frames(shared), tally);
@@ -192,10 +193,10 @@ pub fn frames_at<R: Ruler, L: Ledger>(
     ensures own { IfOk result (λ frames. Keeps id (frames_asked reps.now inline.now block.now) (state tree.old tally.old passes.old (R.log ruler.old)) (state tree.new tally.new passes.new (R.log ruler.new)) (answer.Frames frames)) }
     ensures leaves { OnOk result (MeasuresLeaves (bare tree.old.tree) id (frames_asked reps.now inline.now block.now) (state tree.old tally.old passes.old (R.log ruler.old)) (state tree.new tally.new passes.new (R.log ruler.new))) }
 {
-    let query = frames_query(alloc, reps, inline, block)?;
-    if let Some(frames) = kept_frames(tree, id, &query) {
+    if let Some(frames) = kept_frames(tree, id, reps, inline, block) {
         return frames.again();
     }
+    let query = frames_query(alloc, reps, inline, block)?;
     frames_anew(alloc, tree, id, query, above, area, ruler, tally, passes)
 }
 
@@ -233,10 +234,10 @@ pub fn frames_of<R: Ruler, L: Ledger>(
     ensures own { IfOk result (λ frames. Keeps id (frames_asked reps.now inline.now block.now) (state tree.old tally.old passes.old (R.log ruler.old)) (state tree.new tally.new passes.new (R.log ruler.new)) (answer.Frames frames)) }
     ensures leaves { OnOk result (MeasuresLeaves (bare tree.old.tree) id (frames_asked reps.now inline.now block.now) (state tree.old tally.old passes.old (R.log ruler.old)) (state tree.new tally.new passes.new (R.log ruler.new))) }
 {
-    let query = frames_query(alloc, reps, inline, block)?;
-    if let Some(frames) = kept_frames(tree, id, &query) {
+    if let Some(frames) = kept_frames(tree, id, reps, inline, block) {
         return frames.again();
     }
+    let query = frames_query(alloc, reps, inline, block)?;
     let (above, area) = seat(alloc, tree, id, reps)?;
     frames_anew(alloc, tree, id, query, &above, area, ruler, tally, passes)
 }

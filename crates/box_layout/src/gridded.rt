@@ -3,7 +3,6 @@
 
 ghost use Rattle.std.specs.Prelude.{◌≡◌, ◌+◌, ◌&&◌, ◌<◌, ◌≤ℤ◌, ◌∷◌, drop, get_or, length, map, pos, IfOk};
 ghost use Rattle.placing.specs.Areas.{entries_at, entry_by};
-ghost use Rattle.placing.specs.Axes.{grid_axis};
 ghost use Rattle.placing.specs.Nodes.{bare, children_at, sight_at, IsLive};
 ghost use Rattle.placing.specs.Kept.{frame_of};
 ghost use Rattle.placing.specs.Ranges.{AreReadable};
@@ -20,23 +19,29 @@ ghost use Rattle.box_layout.specs.GridFrames.{AreFramesAt, AreIndices, AreTracks
 
 use crate::grids::{OverTracks, frame_over};
 use crate::turns::turns;
-use block_sizes::{GridWide, WideChild, from_first};
+use block_sizes::from_first;
 use inline_sizes::items_lie_in_their_tracks;
 use layout_cache::Given;
 use lunit::{NoMemory, Sequence};
 use node_arena::{Arena, NodeId};
 use part_rules::View;
 use placing::style::is_subgrid;
-use placing::{ChildArea, Frame, Node, count, entry, has_subgrid, node_at, root};
+use placing::{
+    ChildArea, Frame, GridWide, Node, WideChild, count, entry, has_subgrid, node_at, root,
+};
 use std::alloc::Global;
 
-/// Whether a child of a grid is a subgrid in an axis.
-fn shares<const AXIS: u8>(tree: &Arena<Node>, id: NodeId) -> bool
+/// Whether a child of a grid is a subgrid in the columns, and in the rows.
+fn shares(tree: &Arena<Node>, id: NodeId) -> (bool, bool)
     requires { IsLive (bare tree.now.tree) id }
-    ensures { result ≡ (has_subgrid_kind (sight_at (bare tree.now.tree) id).label && is_subgrid (grid_axis AXIS (sight_at (bare tree.now.tree) id).label.grid).template) }
+    ensures columns { result.0 ≡ (has_subgrid_kind (sight_at (bare tree.now.tree) id).label && is_subgrid (sight_at (bare tree.now.tree) id).label.grid.columns.template) }
+    ensures rows { result.1 ≡ (has_subgrid_kind (sight_at (bare tree.now.tree) id).label && is_subgrid (sight_at (bare tree.now.tree) id).label.grid.rows.template) }
 {
     let node = node_at(tree, id);
-    has_subgrid(node) && is_subgrid::<AXIS>(&node.style)
+    let lower = has_subgrid(node);
+    let in_columns = lower && is_subgrid::<0>(&node.style);
+    let in_rows = lower && is_subgrid::<1>(&node.style);
+    (in_columns, in_rows)
 }
 
 /// The child of a grid whose area is told at an index: it lies in the tracks of the grid.
@@ -99,14 +104,13 @@ fn framed_child(
     let child = wide_child_at(wide, index);
     let container = node_at(tree, id);
     let node = node_at(tree, entry.child);
-    let in_columns = shares::<0>(tree, entry.child);
-    let in_rows = shares::<1>(tree, entry.child);
+    let shared = shares(tree, entry.child);
     let columns = from_first(placed.columns, entry.area.columns);
     let across = from_first(placed.rows, entry.area.rows);
     let over = OverTracks {
         child: entry.child,
         style: &node.style,
-        shares: (in_columns, in_rows),
+        shares: shared,
         columns,
         rows: across,
         width: child.box_,
@@ -137,7 +141,7 @@ fn framed_children(
     requires places { AreIndices (length wide.now.parts.base.placed.areas) places.now }
     ensures { IfOk result (AreFramesAt (bare tree.now.tree) id (map (grid_child (grid_seen (bare tree.now.tree) id reps.now width.now) (columns_seen (bare tree.now.tree) id reps.now width.now) rows.now) (wides_seen (bare tree.now.tree) id reps.now width.now)) places.now) }
 {
-    let mut frames = Sequence::new(alloc);
+    let mut frames = Sequence::from_vec(Vec::with_capacity(alloc, places.len())?);
     for place in places {
         let frame = framed_child(alloc, tree, id, reps, width, wide, rows, place.0)?;
         frames.push(frame)?;

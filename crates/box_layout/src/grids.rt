@@ -7,7 +7,7 @@ ghost use Rattle.placing.specs.Kept.{frame_of};
 ghost use Rattle.placing.specs.Ranges.{IsGridStyle};
 ghost use Rattle.tree_rules.specs.Labels.{grid_of};
 ghost use Rattle.tree_rules.specs.Queries.{IsGivenFor};
-ghost use Rattle.block_sizes.specs.Spread.{AreSpread, IsSpread};
+ghost use Rattle.placing.specs.Spread.{AreSpread, IsSpread};
 ghost use Rattle.box_layout.specs.GridFrames.{IsOver, block_over, frame_over, place_over};
 ghost use Rattle.box_layout.specs.Ranges.{IsPlace, IsWithin};
 ghost use Rattle.inline_sizes.specs.Sums.{IsTotal};

@@ -24,6 +24,16 @@ const NO_AREA: Area = Area {
     rows: Span { start: 0, end: 0 },
 };
 
+/// A list with room for the boxes of all nodes of a tree, so that it need not grow; where there is no such room it grows as they come.
+fn room_for(alloc: Global, tree: &Arena<Node>) -> Sequence<(Name, Rect)>
+    ensures { result ≡ [] }
+{
+    match Vec::with_capacity(alloc, tree.len()) {
+        Ok(room) => Sequence::from_vec(room),
+        Err(_) => Sequence::new(alloc),
+    }
+}
+
 /// The name and the border box of each node of a tree in a viewport of this width and height, in units of 1/64 px from the origin
 /// of the viewport, in document order (CSS Grid 2, section 6; CSS Flexbox 1, section 9; that the root is an item in the viewport is
 /// an own rule). No number of a box is beyond 2^56.
@@ -56,7 +66,7 @@ pub fn walk_boxes<R: Ruler, L: Ledger>(
     let frame = root_frame(alloc, tree, id, width, height, ruler, tally, passes)?;
     let x = Along::of(0);
     let y = Along::of(0);
-    let mut told = Sequence::new(alloc);
+    let mut told = room_for(alloc, tree);
     boxes_of(
         alloc,
         tree,

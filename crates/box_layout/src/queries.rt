@@ -9,13 +9,12 @@ ghost use Rattle.placing.specs.declared.node.Answer.TheVariants as answer;
 ghost use Rattle.placing.specs.declared.node.Frame.{Frame as NodeFrame};
 ghost use Rattle.tree_rules.specs.KeptAnswers.{IsAbsent};
 ghost use Rattle.tree_rules.specs.Queries.{answer_of, child_frames};
-ghost use Rattle.tree_rules.specs.declared.query.Ask.TheVariants as ask;
 ghost use Rattle.box_layout.specs.Asking.{frames_asked};
 
 use layout_cache::{Ask, Given, Query};
 use lunit::{Copied, NoMemory, Sequence};
 use node_arena::{Arena, NodeId};
-use placing::{Answer, Node, SharedFrames, find};
+use placing::{Answer, Node, SharedFrames, find_by};
 use std::alloc::Global;
 
 /// The question for the frames of the children of a container that sees these counts above it and is given this along each axis.
@@ -36,23 +35,25 @@ pub fn frames_query(
     })
 }
 
-/// The frames that a node keeps for a question; `None` exactly where it keeps none.
+/// The frames that a container keeps that sees these counts above it and is given this along each axis; `None` exactly where it keeps
+/// none.
 pub(crate) fn kept_frames<'a>(
     tree: &'a Arena<Node>,
     id: NodeId,
-    query: &Query,
+    reps: &[(u32, u32)],
+    inline: &Given,
+    block: &Given,
 ) -> Option<&'a SharedFrames>
     requires live { IsLive (bare tree.now.tree) id }
     requires right { IsRight tree.now.tree }
-    requires ask { query.now.ask ≡ ask.Frames }
-    ensures kept { MatchOption result (answer_to query.now (kept_at tree.now.tree id) ≡ None) (λ frames. answer_to query.now (kept_at tree.now.tree id) ≡ Some (answer.Frames frames.now)) }
-    ensures value { IfSome result (λ frames. child_frames (map frame_of frames.now) ≡ answer_of (sight_at (bare tree.now.tree) id) query.now) }
+    ensures kept { MatchOption result (answer_to (frames_asked reps.now inline.now block.now) (kept_at tree.now.tree id) ≡ None) (λ frames. answer_to (frames_asked reps.now inline.now block.now) (kept_at tree.now.tree id) ≡ Some (answer.Frames frames.now)) }
+    ensures value { IfSome result (λ frames. child_frames (map frame_of frames.now) ≡ answer_of (sight_at (bare tree.now.tree) id) (frames_asked reps.now inline.now block.now)) }
     ensures children { IfSome result (λ frames. map (λ (f : NodeFrame). f.child) frames.now ≡ children_at (bare tree.now.tree) id) }
-    ensures absent { IfNone result (IsAbsent query.now (kept_at tree.now.tree id)) }
-    ensures start { (s : State) → s.arena ≡ tree.now → WalkedBelow id query.now 0 s s }
-    ensures found { (s : State) → s.arena ≡ tree.now → Walked id query.now s s }
+    ensures absent { IfNone result (IsAbsent (frames_asked reps.now inline.now block.now) (kept_at tree.now.tree id)) }
+    ensures start { (s : State) → s.arena ≡ tree.now → WalkedBelow id (frames_asked reps.now inline.now block.now) 0 s s }
+    ensures found { (s : State) → s.arena ≡ tree.now → Walked id (frames_asked reps.now inline.now block.now) s s }
 {
-    match find(tree, id, query) {
+    match find_by(tree, id, Ask::Frames, reps, inline, block) {
         Some(Answer::Frames(frames)) => Some(frames),
         _ => None,
     }

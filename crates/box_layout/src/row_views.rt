@@ -12,18 +12,18 @@ ghost use Rattle.tree_rules.specs.declared.kind.NodeKind.TheVariants as kind;
 ghost use Rattle.tree_rules.specs.declared.query.Given.{Given};
 ghost use Rattle.inline_sizes.specs.GridsSeen.{grid_seen};
 ghost use Rattle.block_sizes.specs.Spans.{HasZero, tracks_to};
-ghost use Rattle.block_sizes.specs.Spread.{IsSpread};
+ghost use Rattle.placing.specs.Spread.{IsSpread};
 ghost use Rattle.block_sizes.specs.Wides.{IsWide, farthest, rows_seen};
 ghost use Rattle.box_layout.specs.GridFrames.{AreTracks};
 
-use block_sizes::{GridWide, view_by};
+use block_sizes::view_by;
 use inline_sizes::{TrackInput, items_lie_in_their_tracks};
 use layout_cache::Given;
 use lunit::{Area, NoMemory, Span, Steps};
 use node_arena::{Arena, NodeId};
 use part_rules::View;
 use placing::counts::own_pair;
-use placing::{Node, node_at, root};
+use placing::{GridWide, Node, node_at, root};
 use std::alloc::Global;
 use std::sync::ledger::Ledger;
 
@@ -31,7 +31,7 @@ use std::sync::ledger::Ledger;
 fn row_spans(alloc: Global, areas: &[(NodeId, Area)]) -> Result<Vec<Span>, NoMemory>
     ensures { IfOk result (λ spans. spans.items ≡ map (λ (e : NodeId × Area). e.1.rows) areas.now) }
 {
-    let mut spans = Vec::new(alloc);
+    let mut spans = Vec::with_capacity(alloc, areas.len())?;
     for (_, area) in areas {
         spans.push(area.rows)?;
     }

@@ -28,7 +28,7 @@ fn numbered(alloc: Global, numbers: &[usize]) -> Result<Vec<(usize, i64)>, NoMem
     requires { All (λ n. n < 2 ^ 32) numbers.now }
     ensures { IfOk result (λ pairs. pairs.items ≡ pairs_from 0 numbers.now) }
 {
-    let mut pairs = Vec::new(alloc);
+    let mut pairs = Vec::with_capacity(alloc, numbers.len())?;
     for place in 0..numbers.len() {
         let number = number_of(numbers[place]);
         pairs.push((place, number))?;

@@ -29,10 +29,11 @@ use Rattle.tree_rules.specs.declared.kind.NodeKind.{NodeKind}
 use Rattle.tree_rules.specs.declared.kind.NodeKind.TheVariants as kind
 use Rattle.tree_rules.specs.declared.query.Ask.TheVariants as ask
 use Rattle.tree_rules.specs.declared.query.Query.{Query}
-use Rattle.inline_sizes.specs.Grids.{IsAbove, IsEntry, IsLaid, asked_of, column_levels, has_subgrid_kind, items_seen, pairs_seen, sizes_seen}
+use Rattle.inline_sizes.specs.Grids.{IsEntry, IsLaid, asked_of, column_levels, has_subgrid_kind, items_seen, pairs_seen, sizes_seen}
+use Rattle.placing.specs.Wides.{IsAbove}
 use Rattle.inline_sizes.specs.GridsSeen.{HasLines}
 use Rattle.inline_sizes.specs.Lifted.{IsLifted}
-use Rattle.inline_sizes.specs.declared.grid.GridBase.{GridBase}
+use Rattle.placing.specs.declared.wide.GridBase.{GridBase}
 
 -- ---- walks
 

@@ -22,7 +22,7 @@ use Rattle.placing.specs.Ranges.{AreReadable, IsGridAxis}
 use Rattle.inline_sizes.specs.Grids.{IsGrid, IsSomeGrid}
 use Rattle.inline_sizes.specs.GridsSeen.{HasItemsInTracks, grid_seen}
 use Rattle.inline_sizes.specs.TrackAxes.{CanSize, intrinsic_totals, track_axis, track_count}
-use Rattle.inline_sizes.specs.declared.grid.GridParts.{GridParts}
+use Rattle.placing.specs.declared.wide.GridParts.{GridParts}
 
 -- ---- the spans of the children
 

@@ -26,9 +26,10 @@ use Rattle.tree_rules.specs.declared.kind.NodeKind.TheVariants as kind
 use Rattle.tree_rules.specs.declared.query.Given.{Given}
 use Rattle.tree_rules.specs.declared.query.Given.TheVariants as given
 use Rattle.tree_rules.specs.declared.query.Query.{Query}
-use Rattle.inline_sizes.specs.Grids.{AreAnswers, IsAbove, IsBase, IsGrid, LeadsOn, asked_of, items_from, items_seen, sizes_seen}
+use Rattle.inline_sizes.specs.Grids.{AreAnswers, IsBase, IsGrid, LeadsOn, asked_of, items_from, items_seen, sizes_seen}
+use Rattle.placing.specs.Wides.{IsAbove}
 use Rattle.inline_sizes.specs.GridsSeen.{grid_seen}
-use Rattle.inline_sizes.specs.declared.grid.GridBase.{GridBase}
+use Rattle.placing.specs.declared.wide.GridBase.{GridBase}
 
 -- ---- lists
 

@@ -15,3 +15,4 @@ pub mod LentInside
 pub mod Limits
 pub mod Nested
 pub mod Offsets
+pub mod Held

@@ -9,7 +9,8 @@ use Rattle.placing.specs.Areas.{IsPlaced, entries_at, entry_by}
 use Rattle.placing.specs.Insides.{IsInside}
 use Rattle.placing.specs.declared.items.ChildArea.{ChildArea}
 use Rattle.placing.specs.Nodes.{BareTrees, IsLive, kid_at, sight_at, size_at, uses_at}
-use Rattle.placing.specs.Seats.{IsSeat, context_at, context_of}
+use Rattle.placing.specs.Seats.{IsSeat, context_at}
+use Rattle.placing.specs.Wides.{IsAbove}
 use Rattle.tree_rules.specs.Chains.{has_chain, has_subgrid, is_grid_kind}
 use Rattle.tree_rules.specs.Labels.{Label}
 use Rattle.inline_sizes.specs.GridsSeen.{grid_seen}
@@ -23,15 +24,10 @@ use Rattle.tree_rules.specs.GridSizes.{Entry, column_items_of, inline_of_entry, 
 use Rattle.tree_rules.specs.Repetitions.{own_pair}
 use Rattle.tree_rules.specs.declared.query.Given.{Given}
 use Rattle.tree_rules.specs.declared.query.Query.{Query}
-use Rattle.inline_sizes.specs.declared.grid.GridBase.{GridBase}
-use Rattle.inline_sizes.specs.declared.grid.GridParts.{GridParts}
+use Rattle.placing.specs.declared.wide.GridBase.{GridBase}
+use Rattle.placing.specs.declared.wide.GridParts.{GridParts}
 
 -- ---- before its children are asked
-
--- the seat that a grid with this context gives its subgrids
-abbrev pub IsAbove : rules.Context → Above → Type 0
-IsAbove c above.Nothing = ⊥
-IsAbove c (above.Grid made) = context_of made ≡ c
 
 -- the levels of the grid above, columns and rows
 abbrev pub column_levels : Above → List Level

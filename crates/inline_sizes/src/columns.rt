@@ -12,15 +12,22 @@ ghost use Rattle.inline_sizes.specs.Grids.{IsGrid, IsSomeGrid, column_levels};
 ghost use Rattle.inline_sizes.specs.GridsSeen.{grid_seen};
 ghost use Rattle.inline_sizes.specs.Lifted.{IsSelfLifted};
 
-use crate::grid::{GridParts, column_levels, column_spans};
+use crate::grid::{column_levels, column_spans};
 use crate::laws::items_lie_in_their_tracks;
 use crate::levels::empty_item;
 use crate::tracks::{TrackInput, intrinsic_totals};
 use lunit::{Item, Lu, NoMemory, Sequence, Steps};
 use node_arena::{Arena, NodeId};
-use placing::{Node, node_at};
+use placing::{GridParts, Node, node_at};
 use std::alloc::Global;
 use std::sync::ledger::Ledger;
+
+/// No items, with room for this many.
+pub(crate) fn with_room<T>(alloc: Global, count: usize) -> Result<Sequence<T>, NoMemory>
+    ensures { IfOk result (λ items. items ≡ []) }
+{
+    Ok(Sequence::from_vec(Vec::with_capacity(alloc, count)?))
+}
 
 /// Items put after others.
 pub(crate) fn append(items: &mut Sequence<Item>, more: &[Item]) -> Result<(), NoMemory>

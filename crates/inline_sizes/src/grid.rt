@@ -11,37 +11,12 @@ ghost use Rattle.placing.specs.Seats.{IsSeat};
 ghost use Rattle.inline_sizes.specs.Grids.{IsBase, column_levels};
 
 use layout_cache::Given;
-use lunit::{Area, Item, Lu, NoMemory, Sequence, Span};
+use lunit::{Area, NoMemory, Sequence, Span};
 use node_arena::{Arena, NodeId};
 use part_rules::Level;
 use placing::counts::own_pair;
-use placing::{Above, Node, Placed, areas_in, context_in, node_at};
+use placing::{Above, GridBase, Node, areas_in, context_in, node_at};
 use std::alloc::Global;
-
-/// A grid before its children are asked.
-#[derive(Drop)]
-pub struct GridBase {
-    /// The counts of its own automatic repeats, columns first.
-    pub pair: (u32, u32),
-    /// The counts that its subgrids see: those that it sees above it, the topmost grid first, and its own last.
-    pub pairs: Sequence<(u32, u32)>,
-    /// Its context, as the seat of its subgrids has it.
-    pub above: Above,
-    /// The areas of its children.
-    pub placed: Placed,
-}
-
-/// A grid with what its children answer.
-#[derive(Drop)]
-pub struct GridParts {
-    /// What it is without that.
-    pub base: GridBase,
-    /// The two intrinsic inline sizes of each child, in the order of the areas, in units of 1/64 px; 0 for a subgrid in the
-    /// columns, which is not asked.
-    pub inlines: Sequence<(Lu, Lu)>,
-    /// The items that size the columns: one for each child, or those that it lends.
-    pub items: Sequence<Item>,
-}
 
 /// Counts, and then others.
 fn with_pair(
@@ -70,7 +45,7 @@ pub(crate) fn column_levels(above: &Above) -> &[Level]
 pub(crate) fn column_spans(alloc: Global, areas: &[(NodeId, Area)]) -> Result<Vec<Span>, NoMemory>
     ensures { IfOk result (λ spans. spans.items ≡ map (λ (e : NodeId × Area). e.1.columns) areas.now) }
 {
-    let mut spans = Vec::new(alloc);
+    let mut spans = Vec::with_capacity(alloc, areas.len())?;
     for (_, area) in areas {
         spans.push(area.columns)?;
     }

@@ -45,11 +45,11 @@ pub fn inline_of<R: Ruler, L: Ledger>(
     ensures found { Found id (inline_query false reps.now) (state tree.old tally.old passes.old (R.log ruler.old)) (state tree.new tally.new passes.new (R.log ruler.new)) }
     ensures own { IfOk result (λ sizes. Keeps id (inline_query false reps.now) (state tree.old tally.old passes.old (R.log ruler.old)) (state tree.new tally.new passes.new (R.log ruler.new)) (answer.Sizes sizes.0 sizes.1)) }
 {
-    let query = inline_query(alloc, false, reps)?;
-    if let Some(sizes) = kept_sizes(tree, id, &query) {
+    if let Some(sizes) = kept_sizes(tree, id, reps) {
         return Ok(sizes);
     }
     let (above, area) = seat(alloc, tree, id, reps)?;
+    let query = inline_query(alloc, false, reps)?;
     sizes_anew(alloc, tree, id, query, &above, area, ruler, tally, passes)
 }
 
@@ -79,10 +79,10 @@ pub fn lend_columns<R: Ruler, L: Ledger>(
     ensures found { Found id (inline_query true reps.now) (state tree.old tally.old passes.old (R.log ruler.old)) (state tree.new tally.new passes.new (R.log ruler.new)) }
     ensures own { IfOk result (λ items. Keeps id (inline_query true reps.now) (state tree.old tally.old passes.old (R.log ruler.old)) (state tree.new tally.new passes.new (R.log ruler.new)) (answer.Lent items)) }
 {
-    let query = inline_query(alloc, true, reps)?;
-    if let Some(items) = kept_items(tree, id, &query) {
+    if let Some(items) = kept_items(tree, id, reps) {
         return Sequence::from_slice(alloc, items.as_slice());
     }
     let (above, area) = seat(alloc, tree, id, reps)?;
+    let query = inline_query(alloc, true, reps)?;
     columns_anew(alloc, tree, id, query, &above, area, ruler, tally, passes)
 }

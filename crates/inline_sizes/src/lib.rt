@@ -34,7 +34,7 @@ pub use flex_items::{
     automatic_minimum, base_size, column_box, cross_box, flex_item, inline_contribution,
     is_stretched_across, line_align, outer_cross,
 };
-pub use grid::{GridBase, GridParts, base_at};
+pub use grid::base_at;
 pub use inline::{inline_of, lend_columns};
 pub use laws::{items_lie_in_their_tracks, lent_items_stay_inside};
 pub use levels::{empty_item, extra_margins, lifted, offset_of};

@@ -9,12 +9,11 @@ ghost use Rattle.placing.specs.declared.node.Answer.TheVariants as answer;
 ghost use Rattle.tree_rules.specs.AskedQueries.{inline_query};
 ghost use Rattle.tree_rules.specs.KeptAnswers.{IsAbsent};
 ghost use Rattle.tree_rules.specs.Queries.{answer_of, inline_sizes, lent_items};
-ghost use Rattle.tree_rules.specs.declared.query.Ask.TheVariants as ask;
 
 use layout_cache::{Ask, Given, Query};
 use lunit::{Item, Lu, NoMemory, Sequence};
 use node_arena::{Arena, NodeId};
-use placing::{Answer, Node, find};
+use placing::{Answer, Node, find_by};
 use std::alloc::Global;
 
 /// The question for the inline sizes of a node that sees these counts above it, or, where it is a subgrid in the columns, for the
@@ -34,39 +33,38 @@ pub fn inline_query(alloc: Global, shared: bool, reps: &[(u32, u32)]) -> Result<
     })
 }
 
-/// The two inline sizes that a node keeps for a question; `None` exactly where it keeps none.
-pub(crate) fn kept_sizes(tree: &Arena<Node>, id: NodeId, query: &Query) -> Option<(Lu, Lu)>
+/// The two inline sizes that a node that sees these counts above it keeps; `None` exactly where it keeps none. It takes no memory.
+pub(crate) fn kept_sizes(tree: &Arena<Node>, id: NodeId, reps: &[(u32, u32)]) -> Option<(Lu, Lu)>
     requires live { IsLive (bare tree.now.tree) id }
     requires right { IsRight tree.now.tree }
-    requires ask { query.now.ask ≡ ask.Inline }
-    ensures kept { MatchOption result (answer_to query.now (kept_at tree.now.tree id) ≡ None) (λ sizes. answer_to query.now (kept_at tree.now.tree id) ≡ Some (answer.Sizes sizes.0 sizes.1)) }
-    ensures value { IfSome result (λ sizes. inline_sizes sizes ≡ answer_of (sight_at (bare tree.now.tree) id) query.now) }
-    ensures absent { IfNone result (IsAbsent query.now (kept_at tree.now.tree id)) }
-    ensures start { (s : State) → s.arena ≡ tree.now → WalkedBelow id query.now 0 s s }
-    ensures found { (s : State) → s.arena ≡ tree.now → Walked id query.now s s }
+    ensures kept { MatchOption result (answer_to (inline_query false reps.now) (kept_at tree.now.tree id) ≡ None) (λ sizes. answer_to (inline_query false reps.now) (kept_at tree.now.tree id) ≡ Some (answer.Sizes sizes.0 sizes.1)) }
+    ensures value { IfSome result (λ sizes. inline_sizes sizes ≡ answer_of (sight_at (bare tree.now.tree) id) (inline_query false reps.now)) }
+    ensures absent { IfNone result (IsAbsent (inline_query false reps.now) (kept_at tree.now.tree id)) }
+    ensures start { (s : State) → s.arena ≡ tree.now → WalkedBelow id (inline_query false reps.now) 0 s s }
+    ensures found { (s : State) → s.arena ≡ tree.now → Walked id (inline_query false reps.now) s s }
 {
-    match find(tree, id, query) {
+    match find_by(tree, id, Ask::Inline, reps, &Given::None, &Given::None) {
         Some(Answer::Sizes(low, high)) => Some((*low, *high)),
         _ => None,
     }
 }
 
-/// The items that a node keeps for a question for lent columns; `None` exactly where it keeps none.
+/// The items that a node that sees these counts above it keeps as those it lends along the columns; `None` exactly where it keeps
+/// none. It takes no memory.
 pub(crate) fn kept_items<'a>(
     tree: &'a Arena<Node>,
     id: NodeId,
-    query: &Query,
+    reps: &[(u32, u32)],
 ) -> Option<&'a Sequence<Item>>
     requires live { IsLive (bare tree.now.tree) id }
     requires right { IsRight tree.now.tree }
-    requires ask { query.now.ask ≡ ask.LendColumns }
-    ensures kept { MatchOption result (answer_to query.now (kept_at tree.now.tree id) ≡ None) (λ items. answer_to query.now (kept_at tree.now.tree id) ≡ Some (answer.Lent items.now)) }
-    ensures value { IfSome result (λ items. lent_items items.now ≡ answer_of (sight_at (bare tree.now.tree) id) query.now) }
-    ensures absent { IfNone result (IsAbsent query.now (kept_at tree.now.tree id)) }
-    ensures start { (s : State) → s.arena ≡ tree.now → WalkedBelow id query.now 0 s s }
-    ensures found { (s : State) → s.arena ≡ tree.now → Walked id query.now s s }
+    ensures kept { MatchOption result (answer_to (inline_query true reps.now) (kept_at tree.now.tree id) ≡ None) (λ items. answer_to (inline_query true reps.now) (kept_at tree.now.tree id) ≡ Some (answer.Lent items.now)) }
+    ensures value { IfSome result (λ items. lent_items items.now ≡ answer_of (sight_at (bare tree.now.tree) id) (inline_query true reps.now)) }
+    ensures absent { IfNone result (IsAbsent (inline_query true reps.now) (kept_at tree.now.tree id)) }
+    ensures start { (s : State) → s.arena ≡ tree.now → WalkedBelow id (inline_query true reps.now) 0 s s }
+    ensures found { (s : State) → s.arena ≡ tree.now → Walked id (inline_query true reps.now) s s }
 {
-    match find(tree, id, query) {
+    match find_by(tree, id, Ask::LendColumns, reps, &Given::None, &Given::None) {
         Some(Answer::Lent(items)) => Some(items),
         _ => None,
     }

@@ -24,9 +24,9 @@ ghost use Rattle.inline_sizes.specs.Flexes.{AreMembers};
 ghost use Rattle.inline_sizes.specs.Grids.{AreAnswers, IsEntry, IsGrid, IsLaid, LeadsOn, asked_of, column_levels, has_subgrid_kind, items_seen, sizes_seen};
 ghost use Rattle.inline_sizes.specs.Lifted.{IsLifted};
 
-use crate::columns::{append, grid_inline, grid_lends};
+use crate::columns::{append, grid_inline, grid_lends, with_room};
 use crate::flex::{FlexParts, Member, flex_inline};
-use crate::grid::{GridBase, GridParts, base_at, column_levels};
+use crate::grid::{base_at, column_levels};
 use crate::laws::items_lie_in_their_tracks;
 use crate::queries::{inline_query, kept_items, kept_sizes};
 use crate::sized::child_item;
@@ -36,8 +36,8 @@ use node_arena::{Arena, NodeId};
 use outside::{Ruler, Tally};
 use placing::style::is_subgrid;
 use placing::{
-    Above, Answer, ChildArea, Node, NodeKind, child, entry, has_subgrid, leaf_sizes, node_at,
-    ordered, parent, put, root,
+    Above, Answer, ChildArea, GridBase, GridParts, Node, NodeKind, child, entry, has_subgrid,
+    leaf_sizes, node_at, ordered, parent, put, root,
 };
 use std::alloc::Global;
 use std::sync::ledger::Ledger;
@@ -82,7 +82,7 @@ fn shares_columns(tree: &Arena<Node>, id: NodeId) -> bool
     ensures { result ≡ (has_subgrid_kind (sight_at (bare tree.now.tree) id).label && is_subgrid (sight_at (bare tree.now.tree) id).label.grid.columns.template) }
 {
     let node = node_at(tree, id);
-    has_subgrid(node) && is_subgrid::<0>(&node.style)
+    is_grid(&node.kind) && is_subgrid::<0>(&node.style)
 }
 
 /// A child of a grid that is no subgrid in the columns as an item along the columns, by its two inline sizes.
@@ -250,9 +250,10 @@ fn ask_children<R: Ruler, L: Ledger>(
 {
     root(tree);
     items_lie_in_their_tracks(tree, id);
-    let mut inlines = Sequence::new(alloc);
-    let mut items = Sequence::new(alloc);
-    for index in 0..base.placed.areas.len() {
+    let count = base.placed.areas.len();
+    let mut inlines = with_room(alloc, count)?;
+    let mut items = with_room(alloc, count)?;
+    for index in 0..count {
         let entry = entry(tree, id, &base.placed, index);
         let sizes = ask_child(
             alloc, tree, id, base, entry, &mut items, ruler, tally, passes,
@@ -322,7 +323,7 @@ pub fn flex_at<R: Ruler, L: Ledger>(
     ensures stopped { OnErr result ((q : Query) → Stopped id q (state tree.old tally.old passes.old (R.log ruler.old)) (state tree.new tally.new passes.new (R.log ruler.new))) }
 {
     let numbers = ordered(alloc, tree, id)?;
-    let mut members = Sequence::new(alloc);
+    let mut members = with_room(alloc, numbers.len())?;
     for number in numbers.as_slice() {
         let child = child(tree, id, *number);
         let inline = inline_at(
@@ -483,10 +484,10 @@ pub fn inline_at<R: Ruler, L: Ledger>(
     ensures found { Found id (inline_query false reps.now) (state tree.old tally.old passes.old (R.log ruler.old)) (state tree.new tally.new passes.new (R.log ruler.new)) }
     ensures own { IfOk result (λ sizes. Keeps id (inline_query false reps.now) (state tree.old tally.old passes.old (R.log ruler.old)) (state tree.new tally.new passes.new (R.log ruler.new)) (answer.Sizes sizes.0 sizes.1)) }
 {
-    let query = inline_query(alloc, false, reps)?;
-    if let Some(sizes) = kept_sizes(tree, id, &query) {
+    if let Some(sizes) = kept_sizes(tree, id, reps) {
         return Ok(sizes);
     }
+    let query = inline_query(alloc, false, reps)?;
     sizes_anew(alloc, tree, id, query, above, area, ruler, tally, passes)
 }
 
@@ -565,9 +566,9 @@ pub fn lend_columns_at<R: Ruler, L: Ledger>(
     ensures found { Found id (inline_query true reps.now) (state tree.old tally.old passes.old (R.log ruler.old)) (state tree.new tally.new passes.new (R.log ruler.new)) }
     ensures own { IfOk result (λ items. Keeps id (inline_query true reps.now) (state tree.old tally.old passes.old (R.log ruler.old)) (state tree.new tally.new passes.new (R.log ruler.new)) (answer.Lent items)) }
 {
-    let query = inline_query(alloc, true, reps)?;
-    if let Some(items) = kept_items(tree, id, &query) {
+    if let Some(items) = kept_items(tree, id, reps) {
         return Sequence::from_slice(alloc, items.as_slice());
     }
+    let query = inline_query(alloc, true, reps)?;
     columns_anew(alloc, tree, id, query, above, area, ruler, tally, passes)
 }

@@ -125,6 +125,7 @@ fn is_answer(answer: &Answer, told: &Told) -> bool {
         },
         Height(wants) => match answer {
             Answer::Block(size) => *size == Lu::of(*wants),
+            Answer::Laid(size, _) => *size == Lu::of(*wants),
             _ => false,
         },
         Rows(wants) => match answer {

@@ -23,6 +23,10 @@ pub count_bare : (t : NodeTrees) (n : NodeId) → count_of (below_at (bare t) n)
 unfolding bare
 count_bare t n = ap count_of (below_mapped stripped t n) ∙ count_of_mapped stripped (below_at t n)
 
+pub children_bare : (t : NodeTrees) (n : NodeId) → top_numbers (below_at (bare t) n) ≡ top_numbers (below_at t n)
+unfolding bare
+children_bare t n = ap top_numbers (below_mapped stripped t n) ∙ tops_mapped stripped (below_at t n)
+
 pub child_bare : (t : NodeTrees) (n : NodeId) (i : ℕ) → child_at (bare t) n i ≡ child_at t n i
 unfolding bare
 child_bare t n i = child_mapped stripped t n i

@@ -17,13 +17,13 @@ use Rattle.tree_rules.specs.Orders.{in_order}
 use Rattle.placing.specs.declared.contexts.Above.TheVariants as above
 use Rattle.placing.specs.declared.contexts.Context.{Context}
 use Rattle.placing.specs.declared.contexts.Placed.{Placed}
-use Rattle.placing.specs.Areas.{HasChildren, IsPlaced, child_in, entries_at, numbered_area, orders_at, placed_of, siblings_at}
-use Rattle.placing.specs.Children.{IsNext}
+use Rattle.placing.specs.Areas.{HasChildren, IsPlaced, child_in, entries_at, numbered_area, placed_of, siblings_at}
+use Rattle.placing.specs.Children.{IsNext, IsTree}
 use Rattle.placing.specs.Insides.{AreInside, IsInside}
 use Rattle.placing.specs.Nodes.{BareTrees, above_at, kid_at, kids_at, sight_at}
 use Rattle.placing.specs.Order.{item_of, items_of}
 use Rattle.placing.specs.Seats.{IsSeat, context_at, context_of, seat_of}
-use Rattle.placing.proofs.Numbers.{Differ, differ_in_order, head_is, items_in_order, of_number_at, within_order}
+use Rattle.placing.proofs.Numbers.{Differ, differ_in_order, head_is, items_in_order, of_number_at}
 use Rattle.placing.proofs.Seated.{seat_with}
 
 -- ---- lists side by side
@@ -72,12 +72,6 @@ module _ (b : BareTrees) (id : NodeId) (p : Placed) (i n : ℕ) (e : NodeId × A
     where
       first : drop i (map (child_at b id) p.numbers) ≡ child_at b id n ∷ map (child_at b id) (drop (i + 1) p.numbers) → drop i (map child_in p.areas) ≡ Some e.0 ∷ map child_in (drop (i + 1) p.areas) → child_at b id n ≡ Some e.0
       first x y = let z : child_at b id n ∷ map (child_at b id) (drop (i + 1) p.numbers) ≡ Some e.0 ∷ map child_in (drop (i + 1) p.areas) = sym x ∙ ap (drop i) named.children ∙ y in cc
-
-  pub same_child : (c : NodeId) → IsNext b id n c → drop i p.areas ≡ (c, e.1) ∷ drop (i + 1) p.areas
-  same_child c next =
-      let s : Some e.0 ≡ Some c = sym child_there ∙ next.number in
-      let same : e.0 ≡ c = cc in
-      areas ∙ ap (λ (x : NodeId). (x, e.1) ∷ drop (i + 1) p.areas) same
 
   area_there : drop i (placed_of p).areas ≡ (n, e.1) ∷ zipped numbered_area (drop (i + 1) p.numbers) (drop (i + 1) p.areas)
   area_there = zipped_drop numbered_area p.numbers (drop (i + 1) p.numbers) p.areas (drop (i + 1) p.areas) i n e numbers areas
@@ -141,11 +135,41 @@ alone_there b c a none = go (sight_at b c).chain refl none
     go [] same h = record { seat = ap (λ x. seat_of x (reverse [])) (sym same); inside = tt }
     go (x ∷ l) same h = absurd (true≢false h)
 
--- its number is one of a child
-pub number_within : (b : BareTrees) (id : NodeId) (p : Placed) (numbers : List ℕ) (i : ℕ) → HasChildren b id p → numbers ≡ p.numbers → i < length numbers → get_or numbers i 0 < length (kids_at b id)
-number_within b id p numbers i named same h =
-    let w : get_or numbers i 0 < length (orders_at b id) = within_order (orders_at b id) numbers (same ∙ named.numbers) i 0 h in
-    omega (arith, w, length-map (kids_at b id) (λ (k : Kid). k.label.grid.order))
-
 pub counts : (b : BareTrees) (id : NodeId) (p : Placed) → HasChildren b id p → length p.numbers ≡ length p.areas
 counts b id p named = sym (length-map p.numbers (child_at b id)) ∙ ap length named.children ∙ length-map p.areas child_in
+
+-- ---- the entry at an index
+
+pub record IsEntry (b : BareTrees) (id : NodeId) (p : Placed) (i n : ℕ) (e : NodeId × Area) : Type 0 where
+  pub next : IsNext b id n e.0
+  pub entry : drop i (entries_at b id p) ≡ record { number = n; kid = kid_at b e.0; area = e.1 } ∷ drop (i + 1) (entries_at b id p)
+  pub inside : (c : rules.Context) → IsPlaced b id c p → IsInside c e.1
+  pub seat : (c : Context) (reps : List Pair) → context_of c ≡ context_at (sight_at b id) reps → IsPlaced b id (context_of c) p → has_chain (sight_at b e.0).chain ≡ true → IsSeat (sight_at b e.0) reps (above.Grid c) e.1
+
+listed : {A : Type 0} (l all : List A) (i : ℕ) (d : A) → l ≡ all → i < length l → drop i all ≡ get_or l i d ∷ drop (i + 1) all
+listed {A} l all i d e h = subst (λ (x : List A). drop i x ≡ get_or l i d ∷ drop (i + 1) x) e (at_index l i d h)
+
+pub is_entry : (b : BareTrees) (id : NodeId) (p : Placed) (numbers : List ℕ) (areas : List (NodeId × Area)) (i : ℕ) (d : NodeId × Area) → IsTree b → HasChildren b id p → numbers ≡ p.numbers → areas ≡ p.areas → i < length p.areas
+    → IsEntry b id p i (get_or numbers i 0) (get_or areas i d)
+is_entry b id p numbers areas i d whole named x y h =
+    record {
+      next = next;
+      entry = entry_there b id p i n e named at_number at_area next;
+      inside = inside_there b id p i n e named at_number at_area;
+      seat = seat_there b id p i n e named at_number at_area next;
+    }
+  where
+    n : ℕ
+    n = get_or numbers i 0
+
+    e : NodeId × Area
+    e = get_or areas i d
+
+    at_number : drop i p.numbers ≡ n ∷ drop (i + 1) p.numbers
+    at_number = listed numbers p.numbers i 0 x (omega (arith, h, ap length x, counts b id p named))
+
+    at_area : drop i p.areas ≡ e ∷ drop (i + 1) p.areas
+    at_area = listed areas p.areas i d y (omega (arith, h, ap length y))
+
+    next : IsNext b id n e.0
+    next = whole.next id e.0 n (child_there b id p i n e named at_number at_area)

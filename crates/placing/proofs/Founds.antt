@@ -6,7 +6,7 @@ use Rattle.node_arena.specs.declared.number.NodeId.{NodeId}
 use Rattle.tree_rules.specs.declared.query.Query.{Query}
 use Rattle.tree_rules.specs.Queries.{answer_of}
 use Rattle.placing.specs.declared.node.Answer.{Answer}
-use Rattle.placing.specs.Kept.{IsRight, NamesChildren, kept_at, plain_answer}
+use Rattle.placing.specs.Kept.{IsRight, IsOfNode, kept_at, plain_answer}
 use Rattle.placing.specs.Nodes.{NodeTrees, bare, children_at, sight_at}
 use Rattle.placing.proofs.Puts.{each_found}
 
@@ -19,6 +19,6 @@ pub found_value : (t : NodeTrees) (n : NodeId) (q : Query) (o : Option Answer) �
 found_value t n q None r e = tt
 found_value t n q (Some a) r e = (each_found _ q a (kept_at t n) (r.lists n).each (sym e)).answer
 
-pub found_children : (t : NodeTrees) (n : NodeId) (q : Query) (o : Option Answer) → IsRight t → o ≡ answer_to q (kept_at t n) → IfSome o (λ a. NamesChildren (children_at (bare t) n) a)
+pub found_children : (t : NodeTrees) (n : NodeId) (q : Query) (o : Option Answer) → IsRight t → o ≡ answer_to q (kept_at t n) → IfSome o (λ a. IsOfNode (sight_at (bare t) n) (children_at (bare t) n) q a)
 found_children t n q None r e = tt
-found_children t n q (Some a) r e = each_found (λ (p : Query) (x : Answer). NamesChildren (children_at (bare t) n) x) q a (kept_at t n) (r.children n) (sym e)
+found_children t n q (Some a) r e = each_found (λ (p : Query) (x : Answer). IsOfNode (sight_at (bare t) n) (children_at (bare t) n) p x) q a (kept_at t n) (r.children n) (sym e)

@@ -15,7 +15,7 @@ use Rattle.tree_rules.proofs.KeptLists.{none_right as empty_right}
 use Rattle.placing.specs.declared.node.Answer.{Answer}
 use Rattle.placing.specs.declared.node.Node.{Node}
 use Rattle.placing.specs.Keeping.{KeepsNone, KeepsOn, without_answers}
-use Rattle.placing.specs.Kept.{IsRight, NamesChildren, kept_at, kept_of, plain_answer}
+use Rattle.placing.specs.Kept.{IsRight, IsOfNode, kept_at, kept_of, plain_answer}
 use Rattle.placing.specs.Nodes.{NodeTrees, bare, bare_of, children_at, sight_at}
 use Rattle.placing.proofs.Mapped.{mapped_same, mapped_twice, value_by, value_mapped}
 use Rattle.placing.proofs.Puts.{each_found}
@@ -23,8 +23,8 @@ use Rattle.placing.proofs.Puts.{each_found}
 pub read_value : (t : NodeTrees) (n : NodeId) (q : Query) (a : Answer) → IsRight t → answer_to q (kept_at t n) ≡ Some a → plain_answer a ≡ answer_of (sight_at (bare t) n) q
 read_value t n q a r e = (each_found _ q a (kept_at t n) (r.lists n).each e).answer
 
-pub read_children : (t : NodeTrees) (n : NodeId) (q : Query) (a : Answer) → IsRight t → answer_to q (kept_at t n) ≡ Some a → NamesChildren (children_at (bare t) n) a
-read_children t n q a r e = each_found (λ (p : Query) (x : Answer). NamesChildren (children_at (bare t) n) x) q a (kept_at t n) (r.children n) e
+pub read_children : (t : NodeTrees) (n : NodeId) (q : Query) (a : Answer) → IsRight t → answer_to q (kept_at t n) ≡ Some a → IsOfNode (sight_at (bare t) n) (children_at (bare t) n) q a
+read_children t n q a r e = each_found (λ (p : Query) (x : Answer). IsOfNode (sight_at (bare t) n) (children_at (bare t) n) p x) q a (kept_at t n) (r.children n) e
 
 -- ---- nothing kept
 part_kept : (c : Bool) (w o p : Option (Part Node)) → kept_of (value_of w) ≡ [] → kept_of (value_of o) ≡ [] → kept_of (value_of p) ≡ [] → kept_of (value_of (cond c w (either o p))) ≡ []
@@ -44,17 +44,18 @@ still_right t u r h = record { lists = λ n. list n (h n); children = λ n. name
     list n (inl e) = subst (AreRight (sight_at (bare u) n) plain_answer) (sym e) (empty_right (sight_at (bare u) n) plain_answer)
     list n (inr k) = subst (λ s. AreRight s plain_answer (kept_at u n)) (sym k.sight) (subst (AreRight (sight_at (bare t) n) plain_answer) (sym k.kept) (r.lists n))
 
-    named : (n : NodeId) → KeepsOn t u n → EachPair (λ (q : Query) (a : Answer). NamesChildren (children_at (bare u) n) a) (kept_at u n)
-    named n (inl e) = subst (EachPair (λ (q : Query) (a : Answer). NamesChildren (children_at (bare u) n) a)) (sym e) tt
+    named : (n : NodeId) → KeepsOn t u n → EachPair (λ (q : Query) (a : Answer). IsOfNode (sight_at (bare u) n) (children_at (bare u) n) q a) (kept_at u n)
+    named n (inl e) = subst (EachPair (λ (q : Query) (a : Answer). IsOfNode (sight_at (bare u) n) (children_at (bare u) n) q a)) (sym e) tt
     named n (inr k) =
-        subst (λ l. EachPair (λ (q : Query) (a : Answer). NamesChildren l a) (kept_at u n)) (sym k.children)
-        (subst (EachPair (λ (q : Query) (a : Answer). NamesChildren (children_at (bare t) n) a)) (sym k.kept) (r.children n))
+        subst (λ s. EachPair (λ (q : Query) (a : Answer). IsOfNode s (children_at (bare u) n) q a) (kept_at u n)) (sym k.sight)
+        (subst (λ l. EachPair (λ (q : Query) (a : Answer). IsOfNode (sight_at (bare t) n) l q a) (kept_at u n)) (sym k.children)
+        (subst (EachPair (λ (q : Query) (a : Answer). IsOfNode (sight_at (bare t) n) (children_at (bare t) n) q a)) (sym k.kept) (r.children n)))
 
 pub none_right : (t : NodeTrees) → KeepsNone t → IsRight t
 none_right t h =
     record {
       lists = λ n. subst (AreRight (sight_at (bare t) n) plain_answer) (sym (none_at t n h)) (empty_right (sight_at (bare t) n) plain_answer);
-      children = λ n. subst (EachPair (λ (q : Query) (a : Answer). NamesChildren (children_at (bare t) n) a)) (sym (none_at t n h)) tt;
+      children = λ n. subst (EachPair (λ (q : Query) (a : Answer). IsOfNode (sight_at (bare t) n) (children_at (bare t) n) q a)) (sym (none_at t n h)) tt;
     }
 
 -- ---- answers let go

@@ -1,9 +1,9 @@
 -- Numbered items sorted by their values of `order`.
 use Rattle.std.proofs.Common.{◌≡◌, ◌≢◌, refl, sym, ap, ◌∙◌, arith, subst, ℕ, zero, suc, ◌+◌, ◌<◌, ◌≤◌, ℤ, int_le, Bool, true, false, List, [], ◌∷◌, ◌++◌, take, drop, length, map, if◌then◌else◌, add-one}
-use Rattle.std.specs.Prelude.{All, get_or, ◌==◌, ◌&&◌, ◌<ℤ◌, ◌≤ℤ◌}
+use Rattle.std.specs.List.{range_with_len}
+use Rattle.std.specs.Prelude.{All, get_or, ◌==◌, ◌&&◌}
 use Rattle.placing.proofs.Each.{Each, all_each, each_map}
 use Rattle.std.proofs.lemmas.Bool.{and_parts, eqb-false, eqb-true}
-use Rattle.std.proofs.lemmas.Int.{ints}
 use Rattle.std.proofs.lemmas.List.{length-map, length-take-le, take_more}
 use Rattle.part_rules.specs.Lists.{zipped}
 use Rattle.tree_rules.specs.Orders.{put_before, sorted_by, numbered_from, in_order, of_number}
@@ -237,47 +237,7 @@ of_number_at other (x ∷ xs) rest (suc i) n a d e = go (x.0 == n) refl (of_numb
 pub count_order : (orders : List ℤ) (numbers : List ℕ) → numbers ≡ numbers_in_order orders → length numbers ≡ length orders
 count_order orders numbers e = ap length e ∙ numbers_length orders
 
-pub ruleset number_laws = (within_order, count_order)
-
 -- ---- values that ascend stay where they are
-
-not_le : (a b : ℤ) → b <ℤ a → int_le a b ≡ false
-not_le a b h = go (int_le a b) refl
-  where
-    go : (t : Bool) → int_le a b ≡ t → t ≡ false
-    go true e = absurd (omega (arith, ints))
-    go false e = refl
-
-is_le : (a b : ℤ) → a ≤ℤ b → int_le a b ≡ true
-is_le a b h = go (int_le a b) refl
-  where
-    go : (t : Bool) → int_le a b ≡ t → t ≡ true
-    go true e = refl
-    go false e = absurd (omega (arith, ints))
-
--- a value that is less than the last one ends the order
-pub falls : (last : ℤ) (orders : List ℤ) (i : ℕ) (d : ℤ) → i < length orders → get_or orders i d <ℤ last → are_ascending last (drop i orders) ≡ false
-falls last [] zero d h l = absurd (omega (arith, h))
-falls last [] (suc i) d h l = absurd (omega (arith, h))
-falls last (x ∷ xs) zero d h l = ap (λ b. b && are_ascending x xs) (not_le last x l)
-falls last (x ∷ xs) (suc i) d h l = falls last xs i d (omega (arith, h)) l
-
-rises_on : (last : ℤ) (orders : List ℤ) (i : ℕ) (d : ℤ) → i < length orders → last ≤ℤ get_or orders i d → are_ascending last (drop i orders) ≡ are_ascending (get_or orders i d) (drop (suc i) orders)
-rises_on last [] zero d h l = absurd (omega (arith, h))
-rises_on last [] (suc i) d h l = absurd (omega (arith, h))
-rises_on last (x ∷ xs) zero d h l = ap (λ b. b && are_ascending x xs) (is_le last x l)
-rises_on last (x ∷ xs) (suc i) d h l = rises_on last xs i d (omega (arith, h)) l
-
-pub rises : (last : ℤ) (orders : List ℤ) (i : ℕ) (d : ℤ) → i < length orders → last ≤ℤ get_or orders i d → are_ascending last (drop i orders) ≡ are_ascending (get_or orders i d) (drop (i + 1) orders)
-rises last orders i d h l = rises_on last orders i d h l ∙ ap (λ m. are_ascending (get_or orders i d) (drop m orders)) (sym (add-one i))
-
-pub ended : (last : ℤ) (orders : List ℤ) (i : ℕ) → length orders ≤ i → are_ascending last (drop i orders) ≡ true
-ended last [] zero h = refl
-ended last [] (suc i) h = refl
-ended last (x ∷ xs) zero h = absurd (omega (arith, h))
-ended last (x ∷ xs) (suc i) h = ended last xs i (omega (arith, h))
-
-pub ruleset ascending_laws = (falls, rises, ended)
 
 unmoved_from : (least : ℤ) (n : ℕ) (orders : List ℤ) → are_ascending least orders ≡ true → sorted_by (λ (e : ℕ × ℤ). e.1) (numbered_from n orders) ≡ numbered_from n orders
 unmoved_from least n [] h = refl
@@ -288,7 +248,16 @@ unmoved_from least n (x ∷ y ∷ rest) h =
     ap (put_before (λ (e : ℕ × ℤ). e.1) (n, x)) (unmoved_from x (n + 1) (y ∷ rest) first.1)
     ∙ ap (λ (b : Bool). if b then (n, x) ∷ (n + 1, y) ∷ numbered_from (n + 1 + 1) rest else (n + 1, y) ∷ put_before (λ (e : ℕ × ℤ). e.1) (n, x) (numbered_from (n + 1 + 1) rest)) next.0
 
-pub unmoved : (least : ℤ) (orders : List ℤ) → are_ascending least orders ≡ true → map (λ (e : ℕ × ℤ). e.0) (numbered_from 0 orders) ≡ numbers_in_order orders
-unmoved least orders h = ap (map (λ (e : ℕ × ℤ). e.0)) (sym (unmoved_from least 0 orders h))
+range_next : (a n : ℕ) → range_with_len a (suc n) ≡ range_with_len a n ++ (a + n) ∷ []
+range_next a zero = (let e : a ≡ a + 0 = omega arith in ap (λ x. x ∷ []) e)
+range_next a (suc n) = (let e : a + 1 + n ≡ a + suc n = omega arith in ap (λ l. a ∷ l) (range_next (a + 1) n ∙ ap (λ x. range_with_len (a + 1) n ++ x ∷ []) e))
 
-pub ruleset unmoved_laws = (unmoved)
+pub range_more : (n : ℕ) → range_with_len 0 (n + 1) ≡ range_with_len 0 n ++ n ∷ []
+range_more n = (let e : 0 + n ≡ n = omega arith in ap (range_with_len 0) (add-one n) ∙ range_next 0 n ∙ ap (λ x. range_with_len 0 n ++ x ∷ []) e)
+
+numbered_range : (n : ℕ) (orders : List ℤ) → map (λ (e : ℕ × ℤ). e.0) (numbered_from n orders) ≡ range_with_len n (length orders)
+numbered_range n [] = refl
+numbered_range n (x ∷ rest) = ap (λ l. n ∷ l) (numbered_range (n + 1) rest)
+
+pub unmoved : (least : ℤ) (orders : List ℤ) (count : ℕ) → are_ascending least orders ≡ true → count ≡ length orders → range_with_len 0 count ≡ numbers_in_order orders
+unmoved least orders count h e = ap (range_with_len 0) e ∙ sym (numbered_range 0 orders) ∙ ap (map (λ (e : ℕ × ℤ). e.0)) (sym (unmoved_from least 0 orders h))

@@ -19,7 +19,7 @@ use Rattle.placing.specs.declared.node.Answer.{Answer}
 use Rattle.placing.specs.declared.node.Node.{Node}
 use Rattle.placing.specs.Children.{IsOutside}
 use Rattle.placing.specs.Keeping.{Keeps, with_answer}
-use Rattle.placing.specs.Kept.{IsRight, NamesChildren, kept_at, kept_of, plain_answer}
+use Rattle.placing.specs.Kept.{IsRight, IsOfNode, kept_at, kept_of, plain_answer}
 use Rattle.placing.specs.Nodes.{NodeTrees, bare, bare_of, children_at, sight_at}
 use Rattle.placing.specs.Walks.{Asks, Entry, State, Walk, Walked, WalkedBelow, bare_in, events_at, events_of, frame_of_arena, itself, kept_in, kept_with, rising}
 use Rattle.placing.proofs.Mapped.{value_by, value_mapped}
@@ -91,13 +91,13 @@ module _ (t : NodeTrees) (n : NodeId) (v : Node) (q : Query) (a : Answer) (u : I
   own_put = kept_same t n v (with_answer q a v) e ∙ ap (λ k. kept_with k ((q, a) ∷ [])) (kept_there t n v e)
 
   abbrev Named : NodeId → Query → Answer → Type 0
-  Named m p x = NamesChildren (children_at (bare t) m) x
+  Named m p x = IsOfNode (sight_at (bare t) m) (children_at (bare t) m) p x
 
-  pub all_right : IsRight t → IsAbsent q (kept_at t n) → Fits (sight_at (bare t) n) q → plain_answer a ≡ answer_of (sight_at (bare t) n) q → NamesChildren (children_at (bare t) n) a → IsRight put_tree
+  pub all_right : IsRight t → IsAbsent q (kept_at t n) → Fits (sight_at (bare t) n) q → plain_answer a ≡ answer_of (sight_at (bare t) n) q → IsOfNode (sight_at (bare t) n) (children_at (bare t) n) q a → IsRight put_tree
   all_right r absent fits value names =
       record {
         lists = λ m. subst (λ b. AreRight (sight_at b m) plain_answer (kept_at put_tree m)) (sym bare_put) (list m (cases_Bool (same m n)));
-        children = λ m. subst (λ b. EachPair (λ (p : Query) (x : Answer). NamesChildren (children_at b m) x) (kept_at put_tree m)) (sym bare_put) (named m (cases_Bool (same m n)));
+        children = λ m. subst (λ b. EachPair (λ (p : Query) (x : Answer). IsOfNode (sight_at b m) (children_at b m) p x) (kept_at put_tree m)) (sym bare_put) (named m (cases_Bool (same m n)));
       }
     where
       own_list : AreRight (sight_at (bare t) n) plain_answer (kept_at put_tree n)
@@ -125,7 +125,7 @@ module _ (s w : State) (n : NodeId) (q : Query) (a : Answer) (k : Keeps s.arena 
   pub keeps_own : kept_in w n ≡ kept_with (kept_in s n) ((q, a) ∷ [])
   keeps_own = ap (λ z. kept_at z n) (sym tree_is) ∙ own_put s.arena.tree n k.value q a k.numbered k.there
 
-  pub keeps_right : IsAbsent q (kept_in s n) → Fits (sight_at (bare_in s) n) q → plain_answer a ≡ answer_of (sight_at (bare_in s) n) q → NamesChildren (children_at (bare_in s) n) a → IsRight w.arena.tree
+  pub keeps_right : IsAbsent q (kept_in s n) → Fits (sight_at (bare_in s) n) q → plain_answer a ≡ answer_of (sight_at (bare_in s) n) q → IsOfNode (sight_at (bare_in s) n) (children_at (bare_in s) n) q a → IsRight w.arena.tree
   keeps_right absent fits value names = subst IsRight tree_is (all_right s.arena.tree n k.value q a k.numbered k.there r absent fits value names)
 
   keeps_other : (m : NodeId) → same m n ≡ false → kept_in w m ≡ kept_in s m

@@ -61,6 +61,8 @@ orders_count kids orders e = ap length e ∙ length-map kids (λ (k : Kid). k.la
 pub all_below : (kids : List Kid) (orders : List ℤ) (numbers : List ℕ) → orders ≡ map (λ (k : Kid). k.label.grid.order) kids → All (λ n. n < length orders) numbers → All (λ n. n < length kids) numbers
 all_below kids orders numbers e h = subst (λ m. All (λ n. n < m) numbers) (orders_count kids orders e) h
 
-pub ruleset order_laws = (orders_count, all_below)
+-- numbers of as many items
+pub all_within : {k n : ℕ} (numbers seen : List ℕ) → seen ≡ numbers → k ≡ n → All (λ x. x < n) numbers → All (λ x. x < k) seen
+all_within {k} {n} numbers seen e count h = subst (λ m. All (λ x. x < m) seen) (sym count) (subst (All (λ x. x < n)) (sym e) h)
 
 pub ruleset wish_laws = (sibling_there)

@@ -1,6 +1,6 @@
 -- What the rules see of a number: by its place, and of a child under its parent.
-use Rattle.std.proofs.Common.{◌≡◌, ◌≢◌, ℕ, zero, suc, ◌+◌, ◌<◌, ◌≤◌, false, [], ◌∷◌, ◌++◌, Option, Some, None, IsSome, is_some, length, drop, refl, sym, ap, ◌∙◌, arith, inl, inr, add-one, subst}
-use Rattle.std.specs.Prelude.{slice_get, ◌⊎◌}
+use Rattle.std.proofs.Common.{◌≡◌, ◌≢◌, ℕ, zero, suc, ◌+◌, ◌<◌, ◌≤◌, false, [], ◌∷◌, ◌++◌, List, Option, Some, None, IsSome, is_some, length, drop, refl, sym, ap, ◌∙◌, arith, inl, inr, add-one, subst}
+use Rattle.std.specs.Prelude.{slice_get, get_or, ◌⊎◌}
 use Rattle.std.proofs.lemmas.Bool.{cases_eq, false≢true}
 use Rattle.plain_tree.specs.Trees.{Trees, leafless, tree, map_trees, size_of, count_of}
 use Rattle.node_arena.specs.declared.number.NodeId.{NodeId}
@@ -346,3 +346,12 @@ child_top (tree x below after) (suc i) h = child_top after i (omega arith)
 
 pub child_some : {A : Type 0} (t : Trees (NodeId × A)) (n : NodeId) (i : ℕ) → i < count_of (below_at t n) → IsSome (child_at t n i)
 child_some t n i h = child_top (below_at t n) i h
+
+top_listed : {A : Type 0} (u : Trees (NodeId × A)) (i : ℕ) (d : NodeId) → i < length (top_numbers u) → number_of (slice_get (tops u) i) ≡ Some (get_or (top_numbers u) i d)
+top_listed leafless i d h = absurd (omega (arith, h))
+top_listed (tree x below after) zero d h = refl
+top_listed (tree x below after) (suc i) d h = top_listed after i d (omega (arith, h))
+
+-- the child of an index in the list of the children
+pub child_listed : {A : Type 0} (t : Trees (NodeId × A)) (n : NodeId) (list : List NodeId) (i : ℕ) (d : NodeId) → list ≡ top_numbers (below_at t n) → i < length list → child_at t n i ≡ Some (get_or list i d)
+child_listed t n list i d e h = top_listed (below_at t n) i d (omega (arith, h, ap length e)) ∙ ap (λ l. Some (get_or l i d)) (sym e)

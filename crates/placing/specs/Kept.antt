@@ -5,12 +5,14 @@ use Rattle.node_arena.specs.Numbers.{value_at}
 use Rattle.tree_rules.specs.declared.query.Query.{Query}
 use Rattle.tree_rules.specs.Answers as rules
 use Rattle.tree_rules.specs.KeptAnswers.{AreRight, EachPair}
+use Rattle.tree_rules.specs.Places.{Seen}
 use Rattle.tree_rules.specs.Queries as queries
 use Rattle.placing.specs.declared.node.Answer.{Answer}
-use Rattle.placing.specs.declared.node.Answer.TheVariants.{Sizes, Lent, Block, Frames}
+use Rattle.placing.specs.declared.node.Answer.TheVariants.{Sizes, Lent, Block, Laid, Frames}
 use Rattle.placing.specs.declared.node.Frame.{Frame}
 use Rattle.placing.specs.declared.node.Node.{Node}
 use Rattle.placing.specs.Nodes.{NodeTrees, bare, children_at, sight_at}
+use Rattle.placing.specs.Wides.{HoldsWide}
 
 -- a frame without the number of its child
 abbrev pub frame_of : Frame → rules.Frame
@@ -21,14 +23,17 @@ abbrev pub plain_answer : Answer → queries.Answer
 plain_answer (Sizes low high) = queries.inline_sizes (low, high)
 plain_answer (Lent items) = queries.lent_items items
 plain_answer (Block size) = queries.block_size size
+plain_answer (Laid size wide) = queries.block_size size
 plain_answer (Frames frames) = queries.child_frames (map frame_of frames)
 
--- frames are those of these children, in order
-abbrev pub NamesChildren : List NodeId → Answer → Type 0
-NamesChildren children (Sizes low high) = Unit {0}
-NamesChildren children (Lent items) = Unit {0}
-NamesChildren children (Block size) = Unit {0}
-NamesChildren children (Frames frames) = map (λ (f : Frame). f.child) frames ≡ children
+-- What an answer to a question holds besides is of a node of which the rules see this and which has these children: frames are those of the
+-- children, in order, and a grid in its columns is the one by the counts and the width of the question.
+abbrev pub IsOfNode : Seen → List NodeId → Query → Answer → Type 0
+IsOfNode s children q (Sizes low high) = Unit {0}
+IsOfNode s children q (Lent items) = Unit {0}
+IsOfNode s children q (Block size) = Unit {0}
+IsOfNode s children q (Laid size wide) = HoldsWide s children q.reps q.inline wide
+IsOfNode s children q (Frames frames) = map (λ (f : Frame). f.child) frames ≡ children
 
 abbrev pub kept_of : Option Node → List (Query × Answer)
 kept_of None = []
@@ -38,8 +43,8 @@ kept_of (Some v) = v.kept
 unfoldable pub kept_at : NodeTrees → NodeId → List (Query × Answer)
 kept_at t n = kept_of (value_at t n)
 
--- Every kept answer is right: no list has a question twice, each question fits its node, each answer is the defined one, and frames are those
--- of the node's children.
+-- Every kept answer is right: no list has a question twice, each question fits its node, each answer is the defined one, and what it holds
+-- besides is of its node.
 pub record IsRight (t : NodeTrees) : Type 0 where
   pub lists : (n : NodeId) → AreRight (sight_at (bare t) n) plain_answer (kept_at t n)
-  pub children : (n : NodeId) → EachPair (λ (q : Query) (a : Answer). NamesChildren (children_at (bare t) n) a) (kept_at t n)
+  pub children : (n : NodeId) → EachPair (IsOfNode (sight_at (bare t) n) (children_at (bare t) n)) (kept_at t n)

@@ -11,7 +11,9 @@ pub mod Nodes
 pub mod Order
 pub mod Ranges
 pub mod Seats
+pub mod Spread
 pub mod Walks
+pub mod Wides
 pub mod Wishes
 pub mod Written
 pub use Rattle.layout_cache.specs.Kept as CacheKept

@@ -15,7 +15,7 @@ ghost use Rattle.placing.specs.declared.contexts.Context.{Context};
 
 use crate::contexts::Placed;
 use crate::node::Node;
-use crate::sight::child;
+use crate::sight::root;
 use crate::style::is_subgrid;
 use crate::wishes::is_grid;
 use lunit::Area;
@@ -60,10 +60,11 @@ pub fn entry(tree: &Arena<Node>, id: NodeId, placed: &Placed, index: usize) -> C
     ensures seat { (c : Context) (reps : List Pair) → context_of c ≡ context_at (sight_at (bare tree.now.tree) id) reps → IsPlaced (bare tree.now.tree) id (context_of c) placed.now → has_chain (sight_at (bare tree.now.tree) result.child).chain ≡ true → IsSeat (sight_at (bare tree.now.tree) result.child) reps (above.Grid c) result.area }
     ensures alone { has_chain (sight_at (bare tree.now.tree) result.child).chain ≡ false → IsSeat (sight_at (bare tree.now.tree) result.child) [] above.Nothing result.area }
 {
+    root(tree);
     let number = placed.numbers.as_slice()[index];
-    let (_, area) = placed.areas.as_slice()[index];
+    let (child, area) = placed.areas.as_slice()[index];
     ChildArea {
-        child: child(tree, id, number),
+        child,
         number,
         area,
     }

@@ -12,7 +12,7 @@ ghost use Rattle.tree_rules.specs.Frames.{given_size};
 ghost use Rattle.tree_rules.specs.KeptAnswers.{IsAbsent};
 ghost use Rattle.tree_rules.specs.Queries.{answer_of, block_size, inline_sizes, Fits};
 ghost use Rattle.word_leaf.specs.Leaves.{IsMeasurable};
-ghost use Rattle.placing.specs.Kept.{kept_at, plain_answer, IsRight, NamesChildren};
+ghost use Rattle.placing.specs.Kept.{kept_at, plain_answer, IsRight, IsOfNode};
 ghost use Rattle.placing.specs.declared.node.Answer.TheVariants as answer;
 ghost use Rattle.placing.specs.Keeping.{Counts, CountsSome, is_leaf, Keeps};
 ghost use Rattle.placing.specs.Nodes.{bare, children_at, sight_at, IsLive};
@@ -21,7 +21,7 @@ ghost use Rattle.placing.specs.Walks.{events_at, kept_with, state, State, Stoppe
 
 use crate::node::{Answer, Node};
 use crate::sight::node_at;
-use layout_cache::{Given, Query};
+use layout_cache::{Ask, Given, Query};
 use lunit::{Lu, Name, NoMemory};
 use node_arena::{Arena, NodeId};
 use outside::{Ruler, Tally, Width};
@@ -34,12 +34,34 @@ pub fn find<'a>(tree: &'a Arena<Node>, id: NodeId, query: &Query) -> Option<&'a 
     requires right { IsRight tree.now.tree }
     ensures kept { option_copied result ≡ answer_to query.now (kept_at tree.now.tree id) }
     ensures value { IfSome (option_copied result) (λ answer. plain_answer answer ≡ answer_of (sight_at (bare tree.now.tree) id) query.now) }
-    ensures children { IfSome (option_copied result) (λ answer. NamesChildren (children_at (bare tree.now.tree) id) answer) }
+    ensures children { IfSome (option_copied result) (λ answer. IsOfNode (sight_at (bare tree.now.tree) id) (children_at (bare tree.now.tree) id) query.now answer) }
     ensures absent { IfNone result (IsAbsent query.now (kept_at tree.now.tree id)) }
     ensures start { (s : State) → s.arena ≡ tree.now → WalkedBelow id query.now 0 s s }
     ensures found { (s : State) → s.arena ≡ tree.now → Walked id query.now s s }
 {
     node_at(tree, id).kept.find(query)
+}
+
+/// The answer that a node keeps for the question of these parts; `None` exactly where it keeps none. The question itself need not
+/// be made.
+pub fn find_by<'a>(
+    tree: &'a Arena<Node>,
+    id: NodeId,
+    ask: Ask,
+    reps: &[(u32, u32)],
+    inline: &Given,
+    block: &Given,
+) -> Option<&'a Answer>
+    requires live { IsLive (bare tree.now.tree) id }
+    requires right { IsRight tree.now.tree }
+    ensures kept { option_copied result ≡ answer_to (record { ask = ask; reps = reps.now; inline = inline.now; block = block.now }) (kept_at tree.now.tree id) }
+    ensures value { IfSome (option_copied result) (λ answer. plain_answer answer ≡ answer_of (sight_at (bare tree.now.tree) id) (record { ask = ask; reps = reps.now; inline = inline.now; block = block.now })) }
+    ensures children { IfSome (option_copied result) (λ answer. IsOfNode (sight_at (bare tree.now.tree) id) (children_at (bare tree.now.tree) id) (record { ask = ask; reps = reps.now; inline = inline.now; block = block.now }) answer) }
+    ensures absent { IfNone result (IsAbsent (record { ask = ask; reps = reps.now; inline = inline.now; block = block.now }) (kept_at tree.now.tree id)) }
+    ensures start { (s : State) → s.arena ≡ tree.now → WalkedBelow id (record { ask = ask; reps = reps.now; inline = inline.now; block = block.now }) 0 s s }
+    ensures found { (s : State) → s.arena ≡ tree.now → Walked id (record { ask = ask; reps = reps.now; inline = inline.now; block = block.now }) s s }
+{
+    node_at(tree, id).kept.find_by(ask, reps, inline, block)
 }
 
 /// Keeps an answer in a node, and nothing else.
@@ -59,7 +81,7 @@ pub fn put(tree: &mut Arena<Node>, id: NodeId, query: Query, answer: Answer, tal
     requires absent { IsAbsent query (kept_at tree.old.tree id) }
     requires fits { Fits (sight_at (bare tree.old.tree) id) query }
     requires value { plain_answer answer ≡ answer_of (sight_at (bare tree.old.tree) id) query }
-    requires children { NamesChildren (children_at (bare tree.old.tree) id) answer }
+    requires children { IsOfNode (sight_at (bare tree.old.tree) id) (children_at (bare tree.old.tree) id) query answer }
     requires quiet { events_at (bare tree.old.tree) id query ≡ [] }
     ensures right { IsRight tree.new.tree }
     ensures same { bare tree.new.tree ≡ bare tree.old.tree }

@@ -8,7 +8,7 @@ ghost use Rattle.node_arena.specs.Numbers.{is_among, EachNode, IsNarrow};
 ghost use Rattle.tree_rules.specs.Queries.{answer_of};
 ghost use Rattle.tree_rules.specs.declared.query.Query.{Query};
 ghost use Rattle.placing.specs.declared.node.Answer.{Answer};
-ghost use Rattle.placing.specs.Kept.{kept_at, plain_answer, IsRight, NamesChildren};
+ghost use Rattle.placing.specs.Kept.{kept_at, plain_answer, IsRight, IsOfNode};
 ghost use Rattle.placing.specs.Keeping.{without_answers, KeepsOn, KeepsNone};
 ghost use Rattle.placing.specs.Nodes.{bare, children_at, label_of_bare, sight_at, BareTrees, NodeTrees};
 ghost use Rattle.placing.specs.Ranges.{AreReadable, IsReadable};
@@ -17,7 +17,7 @@ ghost use Rattle.placing.specs.Ranges.{AreReadable, IsReadable};
 /// A kept answer is the one of the definitions, and its frames are those of the node's children, in document order.
 pub fn kept_answers_are_defined()
     ensures value { (t : NodeTrees) (n : NodeId) (q : Query) (a : Answer) → IsRight t → answer_to q (kept_at t n) ≡ Some a → plain_answer a ≡ answer_of (sight_at (bare t) n) q }
-    ensures children { (t : NodeTrees) (n : NodeId) (q : Query) (a : Answer) → IsRight t → answer_to q (kept_at t n) ≡ Some a → NamesChildren (children_at (bare t) n) a }
+    ensures children { (t : NodeTrees) (n : NodeId) (q : Query) (a : Answer) → IsRight t → answer_to q (kept_at t n) ≡ Some a → IsOfNode (sight_at (bare t) n) (children_at (bare t) n) q a }
 {}
 
 #[tactic(auto, using(crate::proofs::KeptTrees::none_right, crate::proofs::KeptTrees::still_right))]

@@ -23,12 +23,13 @@ mod shared;
 mod sight;
 pub mod style;
 pub mod template;
+mod wide;
 mod wishes;
 
 pub use contexts::{Above, AxisContext, Context, Placed};
 pub use grids::context_in;
 pub use items::{ChildArea, entry, has_subgrid};
-pub use keeping::{find, leaf_height, leaf_sizes, put};
+pub use keeping::{find, find_by, leaf_height, leaf_sizes, put};
 pub use laws::{
     forgetting_keeps_the_rest, kept_answers_are_defined, readable_node_by_node,
     right_where_seen_the_same,
@@ -36,6 +37,7 @@ pub use laws::{
 pub use node::{Answer, Frame, Node};
 pub use placement::{areas_in, ordered};
 pub use seats::{areas, context, seat};
-pub use shared::SharedFrames;
+pub use shared::{SharedFrames, SharedWide};
 pub use sight::{child, count, node_at, parent, root};
 pub use tree_rules::NodeKind;
+pub use wide::{GridBase, GridParts, GridWide, WideChild};

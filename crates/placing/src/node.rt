@@ -1,4 +1,4 @@
-use crate::shared::SharedFrames;
+use crate::shared::{SharedFrames, SharedWide};
 use layout_cache::Kept;
 use lunit::{Item, Lu, Name, Rect, Sequence};
 use node_arena::NodeId;
@@ -42,6 +42,8 @@ pub enum Answer {
     Lent(Sequence<Item>),
     /// The block size of the content.
     Block(Lu),
+    /// The block size of the content of a grid, and the grid in its columns.
+    Laid(Lu, SharedWide),
     /// The children, in document order.
     Frames(SharedFrames),
 }

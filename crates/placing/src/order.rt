@@ -1,8 +1,9 @@
 //! Children in order-modified document order (CSS Grid 2, 6.3).
 
-ghost use Rattle.std.specs.Prelude.{◌≡◌, ◌<◌, ℕ, ℤ, length, map, All, IfOk, OnOk};
+ghost use Rattle.std.specs.Prelude.{◌≡◌, ℕ, ℤ, map, IfOk, OnOk};
+ghost use Rattle.std.specs.List.{range_with_len};
 ghost use Rattle.tree_rules.specs.Orders.{in_order, numbered_from, sorted_by};
-ghost use Rattle.placing.specs.Order.{are_ascending, numbers_in_order};
+ghost use Rattle.placing.specs.Order.{numbers_in_order};
 
 use lunit::{NoMemory, Sequence};
 use std::alloc::Global;
@@ -46,51 +47,21 @@ fn numbers_of(alloc: Global, pairs: &[(usize, i32)]) -> Result<Sequence<usize>, 
     Ok(Sequence::from_vec(numbers))
 }
 
-#[tactic(auto, using(crate::proofs::Numbers::ascending_laws))]
-/// Whether none of these values is less than this one, nor than one before it.
-fn are_ascending(least: i32, orders: &[i32]) -> bool
-    ensures { result ≡ are_ascending least orders.now }
+/// So many numbers, from 0 on.
+pub(crate) fn numbers_as_they_come(alloc: Global, count: usize) -> Result<Sequence<usize>, NoMemory>
+    ensures { IfOk result (λ numbers. numbers ≡ range_with_len 0 count) }
 {
-    let mut last = least;
-    for order in orders {
-        if *order < last {
-            return false;
-        }
-        last = *order;
-    }
-    true
-}
-
-/// The numbers from 0 of so many values.
-fn numbers_as_they_come(alloc: Global, orders: &[i32]) -> Result<Sequence<usize>, NoMemory>
-    ensures { IfOk result (λ numbers. numbers ≡ map (λ (e : ℕ × ℤ). e.0) (numbered_from 0 orders.now)) }
-{
-    let mut numbers = Vec::with_capacity(alloc, orders.len())?;
-    for number in 0..orders.len() {
+    let mut numbers = Vec::with_capacity(alloc, count)?;
+    for number in 0..count {
         numbers.push(number)?;
     }
     Ok(Sequence::from_vec(numbers))
 }
 
-#[tactic(auto, using(crate::proofs::Numbers::unmoved_laws))]
-/// The numbers of values of `order`, from 0, by the values and then as they come. Values that ascend are not sorted.
-fn sorted_numbers(alloc: Global, orders: &[i32]) -> Result<Sequence<usize>, NoMemory>
-    ensures { IfOk result (λ numbers. numbers ≡ numbers_in_order orders.now) }
-{
-    if are_ascending(i32::MIN, orders) {
-        return numbers_as_they_come(alloc, orders);
-    }
-    let pairs = sorted(alloc, orders)?;
-    numbers_of(alloc, &pairs)
-}
-
-#[tactic(auto, using(crate::proofs::Numbers::number_laws))]
 /// The numbers of values of `order`, from 0, by the values and then as they come. `NoMemory` where memory is wanting.
 pub(crate) fn numbers_in_order(alloc: Global, orders: &[i32]) -> Result<Sequence<usize>, NoMemory>
-    ensures value { IfOk result (λ numbers. numbers ≡ numbers_in_order orders.now) }
-    ensures count { IfOk result (λ numbers. length numbers ≡ length orders.now) }
-    ensures within { IfOk result (λ numbers. All (λ n. n < length orders.now) numbers) }
+    ensures { IfOk result (λ numbers. numbers ≡ numbers_in_order orders.now) }
 {
-    let numbers = sorted_numbers(alloc, orders)?;
-    Ok(numbers)
+    let pairs = sorted(alloc, orders)?;
+    numbers_of(alloc, &pairs)
 }

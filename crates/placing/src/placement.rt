@@ -13,16 +13,16 @@ ghost use Rattle.tree_rules.specs.Labels.{grid_of};
 ghost use Rattle.placing.specs.Areas.{IsPlaced, child_in, orders_at, placed_of, siblings_at};
 ghost use Rattle.placing.specs.Along.{span_along};
 ghost use Rattle.placing.specs.Insides.{AreFull, IsInside, IsWithin, cut_to};
-ghost use Rattle.placing.specs.Nodes.{bare, kids_at, sight_at, IsLive};
-ghost use Rattle.placing.specs.Order.{numbers_in_order};
+ghost use Rattle.placing.specs.Nodes.{bare, children_at, kids_at, sight_at, IsLive};
+ghost use Rattle.placing.specs.Order.{are_ascending, numbers_in_order};
 ghost use Rattle.placing.specs.Ranges.{AreReadable};
 ghost use Rattle.placing.specs.Seats.{context_of};
 ghost use Rattle.placing.specs.Wishes.{IsLimitOf, areas_by, limit_of};
 
 use crate::contexts::{Context, Placed};
 use crate::node::Node;
-use crate::order::numbers_in_order;
-use crate::sight::{child, count, node_at};
+use crate::order::{numbers_as_they_come, numbers_in_order};
+use crate::sight::{child_among, children, node_at};
 use crate::style::{is_column_flow, is_dense, order};
 use crate::wishes::wishes;
 use cell_index::IntervalCells;
@@ -33,20 +33,60 @@ use std::alloc::Global;
 use style_types::Style;
 
 /// The values of `order` of the children of a node, in document order.
-fn orders(alloc: Global, tree: &Arena<Node>, id: NodeId) -> Result<Vec<i32>, NoMemory>
-    requires { IsLive (bare tree.now.tree) id }
+fn orders(
+    alloc: Global,
+    tree: &Arena<Node>,
+    id: NodeId,
+    children: &[NodeId],
+) -> Result<Vec<i32>, NoMemory>
+    requires list { children.now ≡ children_at (bare tree.now.tree) id }
+    requires count { length children.now ≡ length (kids_at (bare tree.now.tree) id) }
     ensures { IfOk result (λ orders. orders.items ≡ orders_at (bare tree.now.tree) id) }
 {
-    let children = count(tree, id);
-    let mut orders = Vec::with_capacity(alloc, children)?;
-    for index in 0..children {
-        let child = child(tree, id, index);
+    let mut orders = Vec::with_capacity(alloc, children.len())?;
+    for index in 0..children.len() {
+        let child = child_among(tree, id, children, index);
         orders.push(order(&node_at(tree, child).style))?;
     }
     Ok(orders)
 }
 
-#[tactic(auto, using(crate::proofs::Siblings::order_laws))]
+/// Whether no value of `order` of the children of a node is less than this one, nor than one before it.
+fn are_ascending(tree: &Arena<Node>, id: NodeId, children: &[NodeId], least: i32) -> bool
+    requires list { children.now ≡ children_at (bare tree.now.tree) id }
+    requires count { length children.now ≡ length (kids_at (bare tree.now.tree) id) }
+    ensures { result ≡ are_ascending least (orders_at (bare tree.now.tree) id) }
+{
+    let mut last = least;
+    for index in 0..children.len() {
+        let child = child_among(tree, id, children, index);
+        let order = order(&node_at(tree, child).style);
+        if order < last {
+            return false;
+        }
+        last = order;
+    }
+    true
+}
+
+/// The numbers of the children of a node in order-modified document order. Values of `order` that ascend are not sorted.
+fn sorted_numbers(
+    alloc: Global,
+    tree: &Arena<Node>,
+    id: NodeId,
+    children: &[NodeId],
+) -> Result<Sequence<usize>, NoMemory>
+    requires list { children.now ≡ children_at (bare tree.now.tree) id }
+    requires count { length children.now ≡ length (kids_at (bare tree.now.tree) id) }
+    ensures { IfOk result (λ numbers. numbers ≡ numbers_in_order (orders_at (bare tree.now.tree) id)) }
+{
+    if are_ascending(tree, id, children, i32::MIN) {
+        return numbers_as_they_come(alloc, children.len());
+    }
+    let orders = orders(alloc, tree, id, children)?;
+    numbers_in_order(alloc, &orders)
+}
+
 /// The numbers of the children of a node in order-modified document order (CSS Grid 2, 6.3). `NoMemory` where memory is
 /// wanting.
 pub fn ordered(alloc: Global, tree: &Arena<Node>, id: NodeId) -> Result<Sequence<usize>, NoMemory>
@@ -55,8 +95,7 @@ pub fn ordered(alloc: Global, tree: &Arena<Node>, id: NodeId) -> Result<Sequence
     ensures count { IfOk result (λ numbers. length numbers ≡ length (kids_at (bare tree.now.tree) id)) }
     ensures within { IfOk result (λ numbers. All (λ n. n < length (kids_at (bare tree.now.tree) id)) numbers) }
 {
-    let orders = orders(alloc, tree, id)?;
-    let numbers = numbers_in_order(alloc, &orders)?;
+    let numbers = sorted_numbers(alloc, tree, id, children(tree, id))?;
     Ok(numbers)
 }
 
@@ -124,12 +163,13 @@ fn cut_areas(
     alloc: Global,
     tree: &Arena<Node>,
     id: NodeId,
+    children: &[NodeId],
     limits: Area,
     numbers: &[usize],
     areas: &[Area],
 ) -> Result<Sequence<(NodeId, Area)>, NoMemory>
-    requires live { IsLive (bare tree.now.tree) id }
-    requires numbers { All (λ n. n < length (kids_at (bare tree.now.tree) id)) numbers.now }
+    requires list { children.now ≡ children_at (bare tree.now.tree) id }
+    requires numbers { All (λ n. n < length children.now) numbers.now }
     requires count { length areas.now ≡ length numbers.now }
     requires columns { IsLimit limits.columns }
     requires rows { IsLimit limits.rows }
@@ -138,7 +178,7 @@ fn cut_areas(
 {
     let mut cut = Vec::with_capacity(alloc, numbers.len())?;
     for index in 0..numbers.len() {
-        let child = child(tree, id, numbers[index]);
+        let child = child_among(tree, id, children, numbers[index]);
         cut.push((child, cut_area(limits, areas[index])))?;
     }
     Ok(Sequence::from_vec(cut))
@@ -182,12 +222,14 @@ fn placed(
     alloc: Global,
     tree: &Arena<Node>,
     id: NodeId,
+    children: &[NodeId],
     context: &Context,
     numbers: &[usize],
 ) -> Result<Vec<Area>, NoMemory>
     requires live { IsLive (bare tree.now.tree) id }
     requires readable { AreReadable (bare tree.now.tree) }
-    requires numbers { All (λ n. n < length (kids_at (bare tree.now.tree) id)) numbers.now }
+    requires list { children.now ≡ children_at (bare tree.now.tree) id }
+    requires numbers { All (λ n. n < length children.now) numbers.now }
     requires few { length numbers.now ≤ 65536 }
     requires columns { IsLimitOf context.now.columns.table }
     requires rows { IsLimitOf context.now.rows.table }
@@ -195,7 +237,7 @@ fn placed(
     ensures full { IfOk result (λ areas. AreFull areas.items) }
     ensures count { IfOk result (λ areas. length areas.items ≡ length numbers.now) }
 {
-    let wishes = wishes(alloc, tree, id, context, numbers)?;
+    let wishes = wishes(alloc, tree, id, children, context, numbers)?;
     let mut cells = IntervalCells::new(alloc);
     place(
         alloc,
@@ -218,9 +260,18 @@ pub fn areas_in(
     ensures { IfOk result (λ placed. IsPlaced (bare tree.now.tree) id (context_of context.now) placed) }
 {
     let limits = limits(context);
+    let children = children(tree, id);
     let numbers = ordered(alloc, tree, id)?;
-    let areas = placed(alloc, tree, id, context, numbers.as_slice())?;
-    let areas = cut_areas(alloc, tree, id, limits, numbers.as_slice(), &areas)?;
+    let areas = placed(alloc, tree, id, children, context, numbers.as_slice())?;
+    let areas = cut_areas(
+        alloc,
+        tree,
+        id,
+        children,
+        limits,
+        numbers.as_slice(),
+        &areas,
+    )?;
     let columns = range(0, context.columns.table.tracks(), areas.as_slice());
     let rows = range(1, context.rows.table.tracks(), areas.as_slice());
     Ok(Placed {

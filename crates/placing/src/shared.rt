@@ -1,8 +1,9 @@
-//! The list of frames that a node keeps, which all who read it share.
+//! What a node keeps and all who read it share: a list of frames, a grid in its columns.
 
 ghost use Rattle.std.specs.Prelude.{◌≡◌, IfOk};
 
 use crate::node::Frame;
+use crate::wide::GridWide;
 use lunit::{NoMemory, Sequence};
 use std::alloc::Global;
 use std::marker::Model;
@@ -51,5 +52,49 @@ impl SharedFrames {
         ensures { result.now ≡ self.now }
     {
         self.frames.as_ref().as_slice()
+    }
+}
+
+/// A grid with its columns and its children in them. It is made once, and all who read it share it.
+#[derive(Drop)]
+pub struct SharedWide {
+    wide: Rc<GridWide>,
+}
+
+impl Model for SharedWide {
+    ghost use Rattle.placing.specs.declared.wide.GridWide.{GridWide};
+    ghost use Rattle.placing.specs.contracts.wide.GridWide as grid_wide;
+
+    ghost Value = { GridWide };
+
+    ghost coded = { grid_wide.the_row.coded };
+
+    ghost view = { λ a. a.wide.value };
+}
+
+impl SharedWide {
+    /// This grid; `NoMemory` where memory is wanting.
+    pub fn new(alloc: Global, wide: GridWide) -> Result<SharedWide, NoMemory>
+        ensures { IfOk result (λ made. made ≡ wide) }
+    {
+        Ok(SharedWide {
+            wide: Rc::new(alloc, wide)?,
+        })
+    }
+
+    /// The same grid once more. Takes no memory; `NoMemory` only where it is shared more often than can be counted.
+    pub fn again(&self) -> Result<SharedWide, NoMemory>
+        ensures { IfOk result (λ other. other ≡ self.now) }
+    {
+        Ok(SharedWide {
+            wide: self.wide.clone()?,
+        })
+    }
+
+    /// The grid.
+    pub fn grid(&self) -> &GridWide
+        ensures { result.now ≡ self.now }
+    {
+        self.wide.as_ref()
     }
 }

@@ -55,6 +55,29 @@ pub fn count(tree: &Arena<Node>, id: NodeId) -> usize
     tree.count(id)
 }
 
+/// The numbers of a node's children, in document order.
+pub(crate) fn children(tree: &Arena<Node>, id: NodeId) -> &[NodeId]
+    ensures list { result.now ≡ children_at (bare tree.now.tree) id }
+    ensures count { length result.now ≡ length (kids_at (bare tree.now.tree) id) }
+{
+    tree.children(id)
+}
+
+/// The child of an index among the children of a node.
+pub(crate) fn child_among(
+    tree: &Arena<Node>,
+    id: NodeId,
+    children: &[NodeId],
+    index: usize,
+) -> NodeId
+    requires list { children.now ≡ children_at (bare tree.now.tree) id }
+    requires index { index < length children.now }
+    ensures { IsNext (bare tree.now.tree) id index result }
+{
+    stands(tree);
+    children[index]
+}
+
 /// The child of an index, in document order.
 pub fn child(tree: &Arena<Node>, id: NodeId, index: usize) -> NodeId
     requires { index < length (kids_at (bare tree.now.tree) id) }

@@ -9,7 +9,7 @@ ghost use Rattle.tree_rules.specs.Contexts.{automatic_span, wish_of};
 ghost use Rattle.tree_rules.specs.Labels.{grid_of};
 ghost use Rattle.placing.specs.Areas.{siblings_at};
 ghost use Rattle.placing.specs.Insides.{AreFilled, IsFilled};
-ghost use Rattle.placing.specs.Nodes.{bare, bare_of, label_of_bare, kids_at, IsLive};
+ghost use Rattle.placing.specs.Nodes.{bare, bare_of, children_at, label_of_bare};
 ghost use Rattle.placing.specs.Ranges.{AreReadable, IsGridStyle};
 ghost use Rattle.placing.specs.Seats.{context_of};
 ghost use Rattle.placing.specs.Axes.{grid_axis};
@@ -17,7 +17,7 @@ ghost use Rattle.placing.specs.Wishes.{spot_along, wish_by, IsLimitOf};
 
 use crate::contexts::Context;
 use crate::node::Node;
-use crate::sight::{child, node_at};
+use crate::sight::{child_among, node_at};
 use crate::style::{end_line, start_line, subgrid_sets};
 use line_names::LineTable;
 use lunit::{LineValue, NoMemory, Spot};
@@ -81,29 +81,36 @@ fn wish(context: &Context, node: &Node) -> Wish
 }
 
 /// Where the child of a number is to stand.
-fn wish_at(tree: &Arena<Node>, id: NodeId, context: &Context, number: usize) -> Wish
-    requires live { IsLive (bare tree.now.tree) id }
+fn wish_at(
+    tree: &Arena<Node>,
+    id: NodeId,
+    children: &[NodeId],
+    context: &Context,
+    number: usize,
+) -> Wish
     requires readable { AreReadable (bare tree.now.tree) }
-    requires number { number < length (kids_at (bare tree.now.tree) id) }
+    requires list { children.now ≡ children_at (bare tree.now.tree) id }
+    requires number { number < length children.now }
     ensures value { result ≡ wish_by (context_of context.now) (siblings_at (bare tree.now.tree) id) number }
     ensures column { IsLimitOf context.now.columns.table → IsFilled result.column }
     ensures row { IsLimitOf context.now.rows.table → IsFilled result.row }
 {
-    let child = child(tree, id, number);
+    let child = child_among(tree, id, children, number);
     wish(context, node_at(tree, child))
 }
 
-/// Where the children of these numbers are to stand. `NoMemory` where memory is wanting.
+/// Where the children of these numbers, of all children of a node, are to stand. `NoMemory` where memory is wanting.
 pub(crate) fn wishes(
     alloc: Global,
     tree: &Arena<Node>,
     id: NodeId,
+    children: &[NodeId],
     context: &Context,
     numbers: &[usize],
 ) -> Result<Vec<Wish>, NoMemory>
-    requires live { IsLive (bare tree.now.tree) id }
     requires readable { AreReadable (bare tree.now.tree) }
-    requires numbers { All (λ n. n < length (kids_at (bare tree.now.tree) id)) numbers.now }
+    requires list { children.now ≡ children_at (bare tree.now.tree) id }
+    requires numbers { All (λ n. n < length children.now) numbers.now }
     requires columns { IsLimitOf context.now.columns.table }
     requires rows { IsLimitOf context.now.rows.table }
     ensures value { IfOk result (λ wishes. wishes.items ≡ map (wish_by (context_of context.now) (siblings_at (bare tree.now.tree) id)) numbers.now) }
@@ -111,7 +118,7 @@ pub(crate) fn wishes(
 {
     let mut wishes = Vec::with_capacity(alloc, numbers.len())?;
     for number in numbers {
-        wishes.push(wish_at(tree, id, context, *number))?;
+        wishes.push(wish_at(tree, id, children, context, *number))?;
     }
     Ok(wishes)
 }

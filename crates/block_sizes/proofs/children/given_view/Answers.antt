@@ -1,7 +1,7 @@
 use Rattle.std.proofs.Common.{◌∙◌, ◌+◌, ◌^◌, ◌≤ℤ◌, ap, length, pos, subst, sym}
 use Rattle.part_rules.specs.declared.view.View.{View}
 use Rattle.inline_sizes.specs.Styled.{grid_at}
-use Rattle.block_sizes.specs.Spread.{AreSpread}
+use Rattle.placing.specs.Spread.{AreSpread}
 use Rattle.block_sizes.proofs.Seen.{view_counted, view_gap, view_spread}
 use Rattle.block_sizes.proofs.children.given_view.Goals as goal
 

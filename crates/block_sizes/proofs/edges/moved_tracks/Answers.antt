@@ -5,7 +5,7 @@ use Rattle.part_rules.specs.declared.track.Rule.{Rule}
 use Rattle.tree_rules.specs.Distribution.{edges_from}
 use Rattle.inline_sizes.proofs.Edges.{collapsed_next, counted_next}
 use Rattle.block_sizes.specs.Moving.{first_place, last_place, moved_by}
-use Rattle.block_sizes.specs.Spread.{AreBetween}
+use Rattle.placing.specs.Spread.{AreBetween}
 use Rattle.block_sizes.proofs.Seams.{between_more, collapsed_more, open_step}
 use Rattle.block_sizes.proofs.edges.moved_tracks.Goals as goal
 

@@ -1,7 +1,7 @@
 use Rattle.std.proofs.Common.{◌≡◌, ◌+◌, ◌*◌, ◌++◌, ◌≤ℤ◌, pos, neg_ℤ, drop, length}
 use Rattle.tree_rules.specs.Distribution.{edges_from, open_tracks}
 use Rattle.block_sizes.specs.Moving.{first_place, last_place, moved_by}
-use Rattle.block_sizes.specs.Spread.{AreBetween}
+use Rattle.placing.specs.Spread.{AreBetween}
 use Rattle.block_sizes.proofs.edges.moved_tracks.Given as goal
 
 abbrev pub invariant-loop-at : goal.invariant-loop-at

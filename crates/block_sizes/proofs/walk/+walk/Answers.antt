@@ -25,12 +25,17 @@ use Rattle.inline_sizes.proofs.Asked.{walked_stopped}
 use Rattle.inline_sizes.specs.Grids.{IsGrid, pairs_seen}
 use Rattle.block_sizes.proofs.Answered.{column_answer, flex_quiet, grid_answer, grid_quiet, items_are, lent_answer, row_answer, size_is}
 use Rattle.block_sizes.proofs.Fitting.{given_some, asked_as, block_fit, block_own, lent_fit, pairs_all, rows_told, shared_chain}
+use Rattle.block_sizes.proofs.HeldWide.{grows_by_block, on_ok_by, some_or_none, wide_held}
+use Rattle.placing.specs.Kept.{kept_at}
+use Rattle.placing.specs.Nodes.{children_at}
+use Rattle.placing.specs.Wides.{HoldsWide}
 use Rattle.block_sizes.proofs.Joined.{joined_below, joined_stopped}
 use Rattle.block_sizes.proofs.Leading.{leads_down}
 use Rattle.block_sizes.proofs.Widths.{all_there, below_then, child_more, entries_least, items_more, rows_items, sizes_there, stops_then, turn, IsTurn}
-use Rattle.block_sizes.specs.Spread.{AreSpread, IsSpread}
-use Rattle.block_sizes.specs.Wides.{AreWide, IsWide, LeadsDown, asked_of, block_seen, child_of, columns_seen, farthest, items_from, items_seen, wides_seen}
-use Rattle.block_sizes.specs.declared.wide.WideChild.{WideChild}
+use Rattle.placing.specs.Spread.{AreSpread, IsSpread}
+use Rattle.block_sizes.specs.Wides.{AreWide, IsWide, LeadsDown, asked_of, block_seen, columns_seen, farthest, items_from, items_seen, wides_seen}
+use Rattle.placing.specs.Wides.{child_of}
+use Rattle.placing.specs.declared.wide.WideChild.{WideChild}
 use Rattle.std.specs.Prelude.{Some, ◌≤ℤ◌}
 use Rattle.part_rules.specs.declared.flex.FlexItem.{FlexItem}
 use Rattle.flex_lines.specs.Lines.{AreRanges}
@@ -66,6 +71,20 @@ ask_lent-lend_rows_at-requires g t c =
     let small : 8 * size_at (bare c.args.tree.now.tree) c.args.entry.child + 4 < 8 * size_at (bare c.args.tree.now.tree) c.args.entry.child + 5 = omega arith in
     search rules
 
+pub ask_lent-returns-in-Some-clause-walked : goal.ask_lent-returns-in-Some-clause-walked
+ask_lent-returns-in-Some-clause-walked g t c = on_ok _ _ (found_walked c.args.entry.child _ (state c.args.tree.now c.args.tally.now c.args.passes.now (g.R.Ruler.log c.args.ruler.now)) c.requires.right)
+
+pub ask_lent-returns-in-Some-clause-stopped : goal.ask_lent-returns-in-Some-clause-stopped
+ask_lent-returns-in-Some-clause-stopped g t c = on_err _ _ (walked_stopped _ _ _ _ (found_walked c.args.entry.child _ (state c.args.tree.now c.args.tally.now c.args.passes.now (g.R.Ruler.log c.args.ruler.now)) c.requires.right))
+
+pub ask_lent-returns-in-Some-clause-items : goal.ask_lent-returns-in-Some-clause-items
+ask_lent-returns-in-Some-clause-items g t c =
+    let kept : c.as_slice.result.now ≡ ((kid_at (bare c.args.tree.now.tree) c.args.entry.child).answers.down (pairs_seen (bare c.args.tree.now.tree) c.args.base.now c.args.entry) c.args.width.now).lend_rows =
+    c.as_slice.ensures ∙ items_are _ _ c.in-Some.ensures.value ∙ ap (λ (r : List Pair). ((kid_at (bare c.args.tree.now.tree) c.args.entry.child).answers.down r c.args.width.now).lend_rows) (c.as_slice-reps.ensures ∙ sym (pairs_all (bare c.args.tree.now.tree) c.args.id c.args.base.now c.args.entry c.requires.entry (shared_chain (bare c.args.tree.now.tree) c.args.id c.args.base.now c.args.entry c.requires.entry c.requires.shared))) in
+    on_ok_by c.append.result (c.append.new.items ≡ c.args.items.now ++ c.as_slice.result.now)
+    (c.append.new.items ≡ c.args.items.now ++ ((kid_at (bare c.args.tree.now.tree) c.args.entry.child).answers.down (pairs_seen (bare c.args.tree.now.tree) c.args.base.now c.args.entry) c.args.width.now).lend_rows)
+    (λ e. e ∙ ap (λ (l : List Item). c.args.items.now ++ l) kept) c.append.ensures
+
 pub ask_lent-returns-in_err-lent-clause-stopped : goal.ask_lent-returns-in_err-lent-clause-stopped
 ask_lent-returns-in_err-lent-clause-stopped g t c =
     on_err _ _ (subst (λ (q : Query). Stopped c.args.entry.child q (state c.args.tree.now c.args.tally.now c.args.passes.now (g.R.Ruler.log c.args.ruler.now)) (state c.lend_rows_at.new.tree c.lend_rows_at.new.tally c.lend_rows_at.new.passes (g.R.Ruler.log c.lend_rows_at.new.ruler))) (ap (λ (r : List Pair). block_query true r c.args.width.now) (c.as_slice-reps.ensures ∙ sym (pairs_all (bare c.args.tree.now.tree) c.args.id c.args.base.now c.args.entry c.requires.entry (shared_chain (bare c.args.tree.now.tree) c.args.id c.args.base.now c.args.entry c.requires.entry c.requires.shared)))) c.in_err-lent.ensures.stopped)
@@ -80,7 +99,7 @@ ask_lent-returns-clause-walked g t c =
 
 pub ask_lent-returns-clause-items : goal.ask_lent-returns-clause-items
 ask_lent-returns-clause-items g t c =
-    c.in_ok-append.ensures ∙ ap (λ (l : List Item). c.args.items.now ++ l) (c.as_slice.ensures ∙ items_are _ _ c.in_ok-lent.ensures.value ∙ ap (λ (r : List Pair). ((kid_at (bare c.args.tree.now.tree) c.args.entry.child).answers.down r c.args.width.now).lend_rows) (c.as_slice-reps.ensures ∙ sym (pairs_all (bare c.args.tree.now.tree) c.args.id c.args.base.now c.args.entry c.requires.entry (shared_chain (bare c.args.tree.now.tree) c.args.id c.args.base.now c.args.entry c.requires.entry c.requires.shared))))
+    c.in_ok-append.ensures ∙ ap (λ (l : List Item). c.args.items.now ++ l) (c.as_slice-2.ensures ∙ items_are _ _ c.in_ok-lent.ensures.value ∙ ap (λ (r : List Pair). ((kid_at (bare c.args.tree.now.tree) c.args.entry.child).answers.down r c.args.width.now).lend_rows) (c.as_slice-reps.ensures ∙ sym (pairs_all (bare c.args.tree.now.tree) c.args.id c.args.base.now c.args.entry c.requires.entry (shared_chain (bare c.args.tree.now.tree) c.args.id c.args.base.now c.args.entry c.requires.entry c.requires.shared))))
 
 pub ask_block-block_at-requires : goal.ask_block-block_at-requires
 ask_block-block_at-requires g t c =
@@ -277,6 +296,7 @@ wide_at-returns-clause-value g t c =
       counted = c.in_ok-columns.ensures.counted;
       gap = c.in_ok-columns.ensures.gap;
       range = c.in_ok-columns.ensures.range;
+      far = c.in_ok-columns.ensures.far;
       spread = subst (λ (z : BareTrees). AreSpread (farthest (level_at z c.args.id)) c.in_ok-columns.columns.edges) (c.in_ok-parts.ensures.below (block_query false c.args.reps.now c.args.width.now) refl refl).walk.bare_same c.in_ok-columns.ensures.spread;
     }
 
@@ -339,8 +359,26 @@ grid_anew-returns-in_err-size-clause-stopped g t c = on_err _ _ (stopped c.args.
 pub grid_anew-returns-clause-walked : goal.grid_anew-returns-clause-walked
 grid_anew-returns-clause-walked g t c = c.put.ensures.joins _ 2 _ _ (omega arith) (ticked c.args.id c.args.query 1 1 _ _ c.rows_total.new.passes c.rows_total.ensures.ticks (c.in_ok-wide.ensures.below c.args.query (sym c.as_slice-reps.ensures) refl (ap (λ (q : Query). needs_inline q.ask) c.requires.query)))
 
+pub grid_anew-returns-in_err-held-clause-stopped : goal.grid_anew-returns-in_err-held-clause-stopped
+grid_anew-returns-in_err-held-clause-stopped g t c = on_err _ _ (stopped c.args.id c.args.query 2 _ _ (ticked c.args.id c.args.query 1 1 _ _ c.rows_total.new.passes c.rows_total.ensures.ticks (c.in_ok-wide.ensures.below c.args.query (sym c.as_slice-reps.ensures) refl (ap (λ (q : Query). needs_inline q.ask) c.requires.query))))
+
+pub grid_anew-put-requires-clause-children : goal.grid_anew-put-requires-clause-children
+grid_anew-put-requires-clause-children g t c =
+    let by_query : IsWide (bare c.args.tree.now.tree) c.args.id c.args.query.reps c.args.query.inline c.in_ok-wide.wide = subst (λ (r : List Pair). IsWide (bare c.args.tree.now.tree) c.args.id r c.args.query.inline c.in_ok-wide.wide) c.as_slice-reps.ensures c.in_ok-wide.ensures.value in
+    let held : IsWide (bare c.args.tree.now.tree) c.args.id c.args.query.reps c.args.query.inline c.in_ok-held.held = subst (IsWide (bare c.args.tree.now.tree) c.args.id c.args.query.reps c.args.query.inline) (sym c.in_ok-held.ensures) by_query in
+    subst (λ (z : BareTrees). HoldsWide (sight_at z c.args.id) (children_at z c.args.id) c.args.query.reps c.args.query.inline c.in_ok-held.held) (sym (c.in_ok-wide.ensures.below c.args.query (sym c.as_slice-reps.ensures) refl (ap (λ (q : Query). needs_inline q.ask) c.requires.query)).walk.bare_same) (wide_held (bare c.args.tree.now.tree) c.args.id c.args.query.reps c.args.query.inline c.in_ok-held.held held)
+
 pub grid_anew-returns-clause-own : goal.grid_anew-returns-clause-own
-grid_anew-returns-clause-own g t c = c.put.ensures.own ∙ ap (λ l. kept_with l ((c.args.query, answer.Block c.in_ok-size.size) ∷ [])) (c.in_ok-wide.ensures.below c.args.query (sym c.as_slice-reps.ensures) refl (ap (λ (q : Query). needs_inline q.ask) c.requires.query)).own
+grid_anew-returns-clause-own g t c = (answer.Laid c.in_ok-size.size c.in_ok-held.held, (refl, c.put.ensures.own ∙ ap (λ l. kept_with l ((c.args.query, answer.Laid c.in_ok-size.size c.in_ok-held.held) ∷ [])) (c.in_ok-wide.ensures.below c.args.query (sym c.as_slice-reps.ensures) refl (ap (λ (q : Query). needs_inline q.ask) c.requires.query)).own))
+
+pub block_anew-returns-then-is_leaf-clause-own : goal.block_anew-returns-then-is_leaf-clause-own
+block_anew-returns-then-is_leaf-clause-own g t c = grows_by_block c.leaf_height.result (kept_at c.args.tree.now.tree c.args.id) (kept_at c.leaf_height.new.tree.tree c.args.id) c.args.query c.leaf_height.ensures.own
+
+pub block_anew-returns-then-is_column-clause-own : goal.block_anew-returns-then-is_column-clause-own
+block_anew-returns-then-is_column-clause-own g t c = grows_by_block c.column_anew.result (kept_at c.args.tree.now.tree c.args.id) (kept_at c.column_anew.new.tree.tree c.args.id) c.args.query c.column_anew.ensures.own
+
+pub block_anew-returns-clause-own : goal.block_anew-returns-clause-own
+block_anew-returns-clause-own g t c = grows_by_block c.row_anew.result (kept_at c.args.tree.now.tree c.args.id) (kept_at c.row_anew.new.tree.tree c.args.id) c.args.query c.row_anew.ensures.own
 
 pub rows_anew-wide_at-requires : goal.rows_anew-wide_at-requires
 rows_anew-wide_at-requires g t c =
@@ -599,6 +637,9 @@ column_at-returns-clause-value g t c =
 
 pub block_at-returns-in_err-query-clause-stopped : goal.block_at-returns-in_err-query-clause-stopped
 block_at-returns-in_err-query-clause-stopped g t c = on_err _ _ (stopped c.args.id _ 0 _ _ (walked_none c.args.id (block_query false c.args.reps.now c.args.width.now) (state c.args.tree.now c.args.tally.now c.args.passes.now (g.R.Ruler.log c.args.ruler.now)) c.requires.right))
+
+pub block_at-returns-in-Some-clause-own : goal.block_at-returns-in-Some-clause-own
+block_at-returns-in-Some-clause-own g t c = λ none. some_or_none _ c.in-Some.ensures.kept none
 
 pub block_at-returns-in-Some-clause-walked : goal.block_at-returns-in-Some-clause-walked
 block_at-returns-in-Some-clause-walked g t c = found_walked c.args.id (block_query false c.args.reps.now c.args.width.now) (state c.args.tree.now c.args.tally.now c.args.passes.now (g.R.Ruler.log c.args.ruler.now)) c.requires.right

@@ -6,7 +6,8 @@ use Rattle.placing.specs.Nodes.{bare, size_at}
 use Rattle.placing.specs.Walks.{state, WalkedBelow}
 use Rattle.tree_rules.specs.declared.query.Query.{Query}
 use Rattle.block_sizes.specs.Settling.{LeadsTo, block_of, settled_seen}
-use Rattle.block_sizes.specs.Wides.{LeadsDown, child_of, items_from, wides_seen}
+use Rattle.block_sizes.specs.Wides.{LeadsDown, items_from, wides_seen}
+use Rattle.placing.specs.Wides.{child_of}
 use Rattle.block_sizes.proofs.walk.+walk.Given as goal
 
 abbrev pub decreases-ask_lent : goal.decreases-ask_lent

@@ -37,3 +37,6 @@ returns-clause-gap g c =
 
 pub returns-clause-spread : goal.returns-clause-spread
 returns-clause-spread g c = c.in_ok-view.ensures.spread _ (far_enough (level_at (bare c.args.tree.now.tree) c.args.id)) c.requires.spread
+
+pub returns-clause-far : goal.returns-clause-far
+returns-clause-far g c = λ by few given. c.in_ok-view.ensures.spread by few given

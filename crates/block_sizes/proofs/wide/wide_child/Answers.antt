@@ -8,7 +8,7 @@ use Rattle.tree_rules.specs.Queries.{IsGivenFor}
 use Rattle.tree_rules.specs.declared.kind.NodeKind.TheVariants as kind
 use Rattle.block_sizes.proofs.Fitting.{child_fits, columns_told, farthest_near, farthest_next, spread_near}
 use Rattle.block_sizes.specs.Children.{inline_of_child}
-use Rattle.block_sizes.specs.Spread.{IsSpread}
+use Rattle.placing.specs.Spread.{IsSpread}
 use Rattle.block_sizes.proofs.wide.wide_child.Goals as goal
 
 pub child_inline-requires-clause-near : goal.child_inline-requires-clause-near

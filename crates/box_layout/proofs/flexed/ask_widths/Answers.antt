@@ -14,7 +14,7 @@ use Rattle.tree_rules.specs.Queries.{Fits}
 use Rattle.tree_rules.specs.declared.query.Given.{Given}
 use Rattle.tree_rules.specs.declared.query.Query.{Query}
 use Rattle.block_sizes.proofs.AskMembers.{fits_block, spread_none}
-use Rattle.block_sizes.specs.Spread.{IsSpread}
+use Rattle.placing.specs.Spread.{IsSpread}
 use Rattle.block_sizes.specs.Wides.{farthest}
 use Rattle.box_layout.specs.FlexFrames.{AsksWidths}
 use Rattle.box_layout.proofs.FrameWidths.{IsWidened, widened, widths_lead}

@@ -1,7 +1,4 @@
-use Rattle.std.proofs.Common.{◌≡◌, ◌∙◌, Some, sym, subst}
-use Rattle.layout_cache.specs.Kept.{answer_to}
-use Rattle.placing.specs.Kept.{kept_at}
-use Rattle.placing.specs.declared.node.Answer.TheVariants as answer
+use Rattle.std.proofs.Common.{◌∙◌, sym, subst}
 use Rattle.box_layout.proofs.LeafFrames.{known}
 use Rattle.placing.specs.Nodes.{bare}
 use Rattle.placing.specs.Walks.{state}
@@ -25,7 +22,7 @@ returns-in-Some-clause-stopped g c = on_err _ _ (stopped c.args.id _ 0 _ _ (walk
 
 pub returns-in-Some-clause-leaves : goal.returns-in-Some-clause-leaves
 returns-in-Some-clause-leaves g c =
-    let all : MeasuresLeaves (bare c.args.tree.now.tree) c.args.id (frames_asked c.args.reps.now c.args.inline.now c.args.block.now) (state c.args.tree.now c.args.tally.now c.args.passes.now (g.R.Ruler.log c.args.ruler.now)) (state c.args.tree.now c.args.tally.now c.args.passes.now (g.R.Ruler.log c.args.ruler.now)) = λ grid none. known _ (sym (subst (λ (q : Query). answer_to q (kept_at c.args.tree.now.tree c.args.id) ≡ Some (answer.Frames c.in-Some.frames.now)) c.in_ok-query.ensures c.in-Some.ensures.kept) ∙ none) in
+    let all : MeasuresLeaves (bare c.args.tree.now.tree) c.args.id (frames_asked c.args.reps.now c.args.inline.now c.args.block.now) (state c.args.tree.now c.args.tally.now c.args.passes.now (g.R.Ruler.log c.args.ruler.now)) (state c.args.tree.now c.args.tally.now c.args.passes.now (g.R.Ruler.log c.args.ruler.now)) = λ grid none. known _ (sym c.in-Some.ensures.kept ∙ none) in
     on_ok _ _ all
 
 pub returns-clause-leaves : goal.returns-clause-leaves

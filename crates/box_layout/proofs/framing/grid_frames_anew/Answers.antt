@@ -4,6 +4,7 @@ use Rattle.placing.specs.Nodes.{BareTrees, IsLive, bare, children_at, level_at, 
 use Rattle.placing.specs.Ranges.{AreReadable}
 use Rattle.placing.specs.Seats.{IsSeat}
 use Rattle.placing.specs.Walks.{kept_with}
+use Rattle.placing.specs.declared.wide.GridWide.{GridWide}
 use Rattle.placing.specs.declared.node.Answer.TheVariants as answer
 use Rattle.placing.specs.declared.node.Frame.{Frame as NodeFrame}
 use Rattle.placing.proofs.Leaves.{on_err}
@@ -14,14 +15,15 @@ use Rattle.tree_rules.specs.KeptAnswers.{IsAbsent}
 use Rattle.tree_rules.specs.Queries.{Fits, IsGivenFor, answer_of, child_frames, needs_block, needs_inline, outer_context, sees_columns, sees_rows}
 use Rattle.tree_rules.specs.declared.kind.NodeKind.TheVariants as kind
 use Rattle.tree_rules.specs.declared.query.Query.{Query}
-use Rattle.block_sizes.specs.Spread.{IsSpread}
+use Rattle.placing.specs.Spread.{IsSpread}
 use Rattle.block_sizes.specs.Wides.{IsWide, farthest, rows_seen}
+use Rattle.box_layout.specs.GridFrames.{AreTracks}
 use Rattle.box_layout.proofs.FramesAnswered.{frames_answer, frames_in, grid_quiet}
 use Rattle.box_layout.proofs.OwnRows.{are_tracks}
 use Rattle.box_layout.proofs.framing.grid_frames_anew.Goals as goal
 
-pub wide_at-requires : goal.wide_at-requires
-wide_at-requires g c =
+pub wide_for-requires : goal.wide_for-requires
+wide_for-requires g c =
     let grid : (sight_at (bare c.args.tree.now.tree) c.args.id).label.kind ≡ kind.Grid = c.requires.grid in
     let counts : length c.as_slice-reps.result.now ≡ length (sight_at (bare c.args.tree.now.tree) c.args.id).chain = ap length c.as_slice-reps.ensures ∙ c.requires.fits.reps in
     let seat : IsSeat (sight_at (bare c.args.tree.now.tree) c.args.id) c.as_slice-reps.result.now c.args.above.now c.args.area = subst (λ (r : List Pair). IsSeat (sight_at (bare c.args.tree.now.tree) c.args.id) r c.args.above.now c.args.area) (sym c.as_slice-reps.ensures) c.requires.seat in
@@ -41,7 +43,9 @@ pub rows_of-requires-clause-kind : goal.rows_of-requires-clause-kind
 rows_of-requires-clause-kind g c = subst (λ (z : BareTrees). (sight_at z c.args.id).label.kind ≡ kind.Grid) (sym (c.in_ok-wide.ensures.below c.args.query (sym c.as_slice-reps.ensures) refl (ap (λ (q : Query). needs_inline q.ask) c.requires.query)).walk.bare_same) c.requires.grid
 
 pub rows_of-requires-clause-wide : goal.rows_of-requires-clause-wide
-rows_of-requires-clause-wide g c = subst (λ (z : BareTrees). IsWide z c.args.id c.as_slice-reps.result.now c.args.query.inline c.in_ok-wide.wide) (sym (c.in_ok-wide.ensures.below c.args.query (sym c.as_slice-reps.ensures) refl (ap (λ (q : Query). needs_inline q.ask) c.requires.query)).walk.bare_same) c.in_ok-wide.ensures.value
+rows_of-requires-clause-wide g c =
+    subst (λ (w : GridWide). IsWide (bare c.wide_for.new.tree.tree) c.args.id c.as_slice-reps.result.now c.args.query.inline w) (sym c.grid-held.ensures)
+    (subst (λ (z : BareTrees). IsWide z c.args.id c.as_slice-reps.result.now c.args.query.inline c.in_ok-wide.wide) (sym (c.in_ok-wide.ensures.below c.args.query (sym c.as_slice-reps.ensures) refl (ap (λ (q : Query). needs_inline q.ask) c.requires.query)).walk.bare_same) c.in_ok-wide.ensures.value)
 
 pub grid_frames-requires-clause-live : goal.grid_frames-requires-clause-live
 grid_frames-requires-clause-live g c = subst (λ (z : BareTrees). IsLive z c.args.id) (sym (c.in_ok-wide.ensures.below c.args.query (sym c.as_slice-reps.ensures) refl (ap (λ (q : Query). needs_inline q.ask) c.requires.query)).walk.bare_same) c.requires.live
@@ -53,7 +57,9 @@ pub grid_frames-requires-clause-kind : goal.grid_frames-requires-clause-kind
 grid_frames-requires-clause-kind g c = subst (λ (z : BareTrees). (sight_at z c.args.id).label.kind ≡ kind.Grid) (sym (c.in_ok-wide.ensures.below c.args.query (sym c.as_slice-reps.ensures) refl (ap (λ (q : Query). needs_inline q.ask) c.requires.query)).walk.bare_same) c.requires.grid
 
 pub grid_frames-requires-clause-wide : goal.grid_frames-requires-clause-wide
-grid_frames-requires-clause-wide g c = subst (λ (z : BareTrees). IsWide z c.args.id c.as_slice-reps.result.now c.args.query.inline c.in_ok-wide.wide) (sym (c.in_ok-wide.ensures.below c.args.query (sym c.as_slice-reps.ensures) refl (ap (λ (q : Query). needs_inline q.ask) c.requires.query)).walk.bare_same) c.in_ok-wide.ensures.value
+grid_frames-requires-clause-wide g c =
+    subst (λ (w : GridWide). IsWide (bare c.wide_for.new.tree.tree) c.args.id c.as_slice-reps.result.now c.args.query.inline w) (sym c.grid-held.ensures)
+    (subst (λ (z : BareTrees). IsWide z c.args.id c.as_slice-reps.result.now c.args.query.inline c.in_ok-wide.wide) (sym (c.in_ok-wide.ensures.below c.args.query (sym c.as_slice-reps.ensures) refl (ap (λ (q : Query). needs_inline q.ask) c.requires.query)).walk.bare_same) c.in_ok-wide.ensures.value)
 
 pub rows_of-requires-clause-block : goal.rows_of-requires-clause-block
 rows_of-requires-clause-block g c = subst (λ (z : BareTrees). IsGivenFor true (sees_rows (sight_at z c.args.id)) (outer_context (sight_at z c.args.id) c.as_slice-reps.result.now).rows.table.tracks c.args.query.block) (sym (c.in_ok-wide.ensures.below c.args.query (sym c.as_slice-reps.ensures) refl (ap (λ (q : Query). needs_inline q.ask) c.requires.query)).walk.bare_same) (subst (λ (r : List Pair). IsGivenFor true (sees_rows (sight_at (bare c.args.tree.now.tree) c.args.id)) (outer_context (sight_at (bare c.args.tree.now.tree) c.args.id) r).rows.table.tracks c.args.query.block) (sym c.as_slice-reps.ensures)
@@ -63,7 +69,9 @@ pub rows_of-requires-clause-spread : goal.rows_of-requires-clause-spread
 rows_of-requires-clause-spread g c = subst (λ (z : BareTrees). IsSpread (farthest (level_at z c.args.id)) c.args.query.block) (sym (c.in_ok-wide.ensures.below c.args.query (sym c.as_slice-reps.ensures) refl (ap (λ (q : Query). needs_inline q.ask) c.requires.query)).walk.bare_same) c.requires.rows
 
 pub grid_frames-requires-clause-columns : goal.grid_frames-requires-clause-columns
-grid_frames-requires-clause-columns g c = are_tracks c.in_ok-wide.wide.parts.base.placed.columns c.in_ok-wide.wide.columns.edges (level_at (bare c.args.tree.now.tree) c.args.id) (c.root.ensures.tree.level c.args.id) c.in_ok-wide.ensures.value.counted c.in_ok-wide.ensures.value.spread
+grid_frames-requires-clause-columns g c =
+    subst (λ (w : GridWide). AreTracks w.parts.base.placed.columns w.columns.edges) (sym c.grid-held.ensures)
+    (are_tracks c.in_ok-wide.wide.parts.base.placed.columns c.in_ok-wide.wide.columns.edges (level_at (bare c.args.tree.now.tree) c.args.id) (c.root.ensures.tree.level c.args.id) c.in_ok-wide.ensures.value.counted c.in_ok-wide.ensures.value.spread)
 
 pub put-requires-clause-live : goal.put-requires-clause-live
 put-requires-clause-live g c = subst (λ (z : BareTrees). IsLive z c.args.id) (sym (c.in_ok-wide.ensures.below c.args.query (sym c.as_slice-reps.ensures) refl (ap (λ (q : Query). needs_inline q.ask) c.requires.query)).walk.bare_same) c.requires.live
@@ -75,20 +83,20 @@ pub put-requires-clause-fits : goal.put-requires-clause-fits
 put-requires-clause-fits g c = subst (λ (z : BareTrees). Fits (sight_at z c.args.id) c.args.query) (sym (c.in_ok-wide.ensures.below c.args.query (sym c.as_slice-reps.ensures) refl (ap (λ (q : Query). needs_inline q.ask) c.requires.query)).walk.bare_same) c.requires.fits
 
 pub put-requires-clause-quiet : goal.put-requires-clause-quiet
-put-requires-clause-quiet g c = grid_quiet (bare c.wide_at.new.tree.tree) c.args.id c.args.query (subst (λ (z : BareTrees). (sight_at z c.args.id).label.kind ≡ kind.Grid) (sym (c.in_ok-wide.ensures.below c.args.query (sym c.as_slice-reps.ensures) refl (ap (λ (q : Query). needs_inline q.ask) c.requires.query)).walk.bare_same) c.requires.grid)
+put-requires-clause-quiet g c = grid_quiet (bare c.wide_for.new.tree.tree) c.args.id c.args.query (subst (λ (z : BareTrees). (sight_at z c.args.id).label.kind ≡ kind.Grid) (sym (c.in_ok-wide.ensures.below c.args.query (sym c.as_slice-reps.ensures) refl (ap (λ (q : Query). needs_inline q.ask) c.requires.query)).walk.bare_same) c.requires.grid)
 
 pub put-requires-clause-value : goal.put-requires-clause-value
-put-requires-clause-value g c = ap (λ (l : List NodeFrame). child_frames (map frame_of l)) c.in_ok-shared.ensures ∙ ap child_frames (c.in_ok-frames.ensures.value ∙ ap (frames_in (bare c.wide_at.new.tree.tree) c.args.id c.as_slice-reps.result.now c.args.query.inline) c.in_ok-rows.ensures.value
-    ∙ ap (λ (r : List Pair). frames_in (bare c.wide_at.new.tree.tree) c.args.id r c.args.query.inline (view_by {axis = 1} (rows_seen (bare c.wide_at.new.tree.tree) c.args.id r c.args.query.inline) c.args.query.block)) c.as_slice-reps.ensures)
-    ∙ frames_answer (bare c.wide_at.new.tree.tree) c.args.id c.args.query (subst (λ (z : BareTrees). (sight_at z c.args.id).label.kind ≡ kind.Grid) (sym (c.in_ok-wide.ensures.below c.args.query (sym c.as_slice-reps.ensures) refl (ap (λ (q : Query). needs_inline q.ask) c.requires.query)).walk.bare_same) c.requires.grid) (ap (λ (q : Query). q.ask) c.requires.query)
+put-requires-clause-value g c = ap (λ (l : List NodeFrame). child_frames (map frame_of l)) c.in_ok-shared.ensures ∙ ap child_frames (c.in_ok-frames.ensures.value ∙ ap (frames_in (bare c.wide_for.new.tree.tree) c.args.id c.as_slice-reps.result.now c.args.query.inline) c.in_ok-rows.ensures.value
+    ∙ ap (λ (r : List Pair). frames_in (bare c.wide_for.new.tree.tree) c.args.id r c.args.query.inline (view_by {axis = 1} (rows_seen (bare c.wide_for.new.tree.tree) c.args.id r c.args.query.inline) c.args.query.block)) c.as_slice-reps.ensures)
+    ∙ frames_answer (bare c.wide_for.new.tree.tree) c.args.id c.args.query (subst (λ (z : BareTrees). (sight_at z c.args.id).label.kind ≡ kind.Grid) (sym (c.in_ok-wide.ensures.below c.args.query (sym c.as_slice-reps.ensures) refl (ap (λ (q : Query). needs_inline q.ask) c.requires.query)).walk.bare_same) c.requires.grid) (ap (λ (q : Query). q.ask) c.requires.query)
 
 pub put-requires-clause-children : goal.put-requires-clause-children
 put-requires-clause-children g c = ap (map (λ (f : NodeFrame). f.child)) c.in_ok-shared.ensures ∙ c.in_ok-frames.ensures.children
 
 pub returns-clause-value : goal.returns-clause-value
-returns-clause-value g c = ap (λ (l : List NodeFrame). child_frames (map frame_of l)) (c.in_ok-told.ensures ∙ c.in_ok-shared.ensures) ∙ ap child_frames (c.in_ok-frames.ensures.value ∙ ap (frames_in (bare c.wide_at.new.tree.tree) c.args.id c.as_slice-reps.result.now c.args.query.inline) c.in_ok-rows.ensures.value
-    ∙ ap (λ (r : List Pair). frames_in (bare c.wide_at.new.tree.tree) c.args.id r c.args.query.inline (view_by {axis = 1} (rows_seen (bare c.wide_at.new.tree.tree) c.args.id r c.args.query.inline) c.args.query.block)) c.as_slice-reps.ensures)
-    ∙ frames_answer (bare c.wide_at.new.tree.tree) c.args.id c.args.query (subst (λ (z : BareTrees). (sight_at z c.args.id).label.kind ≡ kind.Grid) (sym (c.in_ok-wide.ensures.below c.args.query (sym c.as_slice-reps.ensures) refl (ap (λ (q : Query). needs_inline q.ask) c.requires.query)).walk.bare_same) c.requires.grid) (ap (λ (q : Query). q.ask) c.requires.query) ∙ ap (λ (z : BareTrees). answer_of (sight_at z c.args.id) c.args.query) (c.in_ok-wide.ensures.below c.args.query (sym c.as_slice-reps.ensures) refl (ap (λ (q : Query). needs_inline q.ask) c.requires.query)).walk.bare_same
+returns-clause-value g c = ap (λ (l : List NodeFrame). child_frames (map frame_of l)) (c.in_ok-told.ensures ∙ c.in_ok-shared.ensures) ∙ ap child_frames (c.in_ok-frames.ensures.value ∙ ap (frames_in (bare c.wide_for.new.tree.tree) c.args.id c.as_slice-reps.result.now c.args.query.inline) c.in_ok-rows.ensures.value
+    ∙ ap (λ (r : List Pair). frames_in (bare c.wide_for.new.tree.tree) c.args.id r c.args.query.inline (view_by {axis = 1} (rows_seen (bare c.wide_for.new.tree.tree) c.args.id r c.args.query.inline) c.args.query.block)) c.as_slice-reps.ensures)
+    ∙ frames_answer (bare c.wide_for.new.tree.tree) c.args.id c.args.query (subst (λ (z : BareTrees). (sight_at z c.args.id).label.kind ≡ kind.Grid) (sym (c.in_ok-wide.ensures.below c.args.query (sym c.as_slice-reps.ensures) refl (ap (λ (q : Query). needs_inline q.ask) c.requires.query)).walk.bare_same) c.requires.grid) (ap (λ (q : Query). q.ask) c.requires.query) ∙ ap (λ (z : BareTrees). answer_of (sight_at z c.args.id) c.args.query) (c.in_ok-wide.ensures.below c.args.query (sym c.as_slice-reps.ensures) refl (ap (λ (q : Query). needs_inline q.ask) c.requires.query)).walk.bare_same
 
 pub returns-clause-children : goal.returns-clause-children
 returns-clause-children g c = ap (map (λ (f : NodeFrame). f.child)) (c.in_ok-told.ensures ∙ c.in_ok-shared.ensures) ∙ c.in_ok-frames.ensures.children ∙ ap (λ (z : BareTrees). children_at z c.args.id) (c.in_ok-wide.ensures.below c.args.query (sym c.as_slice-reps.ensures) refl (ap (λ (q : Query). needs_inline q.ask) c.requires.query)).walk.bare_same

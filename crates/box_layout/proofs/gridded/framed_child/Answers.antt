@@ -7,6 +7,6 @@ use Rattle.box_layout.proofs.gridded.framed_child.Goals as goal
 pub returns : goal.returns
 returns c =
     framed_here (bare c.args.tree.now.tree) c.args.id c.args.reps.now c.args.width.now c.args.wide.now c.requires.wide c.args.index c.child_over-entry.result (drop (c.args.index + 1) (entries_at (bare c.args.tree.now.tree) c.args.id c.args.wide.now.parts.base.placed)) c.child_over-entry.ensures.next
-    c.args.rows.now c.node_at-container.result.now.style c.node_at-node.result.now.style c.shares-in_columns.result c.shares-in_rows.result c.wide_child_at-child.result.now c.from_first-columns.result c.from_first-across.result c.child_over-entry.ensures.entry
-    c.node_at-container.ensures.grid c.node_at-container.ensures.content c.node_at-node.ensures.grid c.node_at-node.ensures.content c.shares-in_columns.ensures c.shares-in_rows.ensures c.wide_child_at-child.ensures c.from_first-columns.ensures.value c.from_first-across.ensures.value
+    c.args.rows.now c.node_at-container.result.now.style c.node_at-node.result.now.style c.shares-shared.result.0 c.shares-shared.result.1 c.wide_child_at-child.result.now c.from_first-columns.result c.from_first-across.result c.child_over-entry.ensures.entry
+    c.node_at-container.ensures.grid c.node_at-container.ensures.content c.node_at-node.ensures.grid c.node_at-node.ensures.content c.shares-shared.ensures.columns c.shares-shared.ensures.rows c.wide_child_at-child.ensures c.from_first-columns.ensures.value c.from_first-across.ensures.value
     c.frame_over.result c.frame_over.ensures.child c.frame_over.ensures.value

@@ -7,10 +7,10 @@ use Rattle.placing.specs.Walks.{state}
 use Rattle.tree_rules.specs.AskedQueries.{block_query}
 use Rattle.tree_rules.specs.Queries.{Fits}
 use Rattle.block_sizes.proofs.AskMembers.{fits_block, spread_none}
-use Rattle.block_sizes.specs.Spread.{IsSpread}
+use Rattle.placing.specs.Spread.{IsSpread}
 use Rattle.block_sizes.specs.Wides.{farthest}
 use Rattle.box_layout.specs.LeafHeights.{IsLeafStopped}
-use Rattle.box_layout.proofs.KeptPaths.{asked_kept}
+use Rattle.box_layout.proofs.KeptPaths.{sized_kept}
 use Rattle.box_layout.proofs.leaves.ask_leaf.Goals as goal
 
 pub returns-then-not-is_leaf-clause-held : goal.returns-then-not-is_leaf-clause-held
@@ -31,7 +31,7 @@ returns-clause-asked g c =
     inr (leaf, c.in_ok-block_of.ensures.walked)
 
 pub returns-clause-held : goal.returns-clause-held
-returns-clause-held g c = λ leaf. asked_kept c.args.frame.now.child (block_query false [] c.args.frame.now.inline) (state c.args.tree.now c.args.tally.now c.args.passes.now (g.R.Ruler.log c.args.ruler.now)) (state c.block_of.new.tree c.block_of.new.tally c.block_of.new.passes (g.R.Ruler.log c.block_of.new.ruler)) _ c.block_of.ensures.found c.in_ok-block_of.ensures.own
+returns-clause-held g c = λ leaf. sized_kept c.args.frame.now.child (block_query false [] c.args.frame.now.inline) (state c.args.tree.now c.args.tally.now c.args.passes.now (g.R.Ruler.log c.args.ruler.now)) (state c.block_of.new.tree c.block_of.new.tally c.block_of.new.passes (g.R.Ruler.log c.block_of.new.ruler)) _ c.block_of.ensures.found c.in_ok-block_of.ensures.own
 
 pub returns-in_err-block_of-clause-stopped : goal.returns-in_err-block_of-clause-stopped
 returns-in_err-block_of-clause-stopped g c =

@@ -10,7 +10,7 @@ use Rattle.tree_rules.specs.AskedQueries.{block_query, inline_query}
 use Rattle.tree_rules.specs.NodeSizes.{inner}
 use Rattle.tree_rules.specs.Queries.{Fits, IsGivenFor}
 use Rattle.inline_sizes.proofs.Limits.{content_some}
-use Rattle.block_sizes.specs.Spread.{IsSpread}
+use Rattle.placing.specs.Spread.{IsSpread}
 use Rattle.block_sizes.specs.Wides.{farthest}
 use Rattle.box_layout.proofs.RootFramed.{block_fits, framed_root, given_root, inline_fits}
 use Rattle.box_layout.proofs.RootFits.{frames_fit_alone}

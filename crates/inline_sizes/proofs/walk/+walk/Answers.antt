@@ -44,9 +44,21 @@ ask_children-loop-index-init g t c =
       right = c.requires.right;
       same = refl;
       walked = λ q leads. walked_none c.args.id q (state c.args.tree.now c.args.tally.now c.args.passes.now (g.R.Ruler.log c.args.ruler.now)) c.requires.right;
-      inlines = ap (λ l. l ++ map (inline_of_entry c.args.base.now.pairs) (entries_at (bare c.args.tree.now.tree) c.args.id c.args.base.now.placed)) c.new-inlines.ensures;
-      items = ap (λ l. l ++ items_from (context_at (sight_at (bare c.args.tree.now.tree) c.args.id) c.args.base.now.pairs).columns c.args.base.now.pairs (entries_at (bare c.args.tree.now.tree) c.args.id c.args.base.now.placed)) c.new-items.ensures;
+      inlines = ap (λ l. l ++ map (inline_of_entry c.args.base.now.pairs) (entries_at (bare c.args.tree.now.tree) c.args.id c.args.base.now.placed)) c.in_ok-inlines.ensures;
+      items = ap (λ l. l ++ items_from (context_at (sight_at (bare c.args.tree.now.tree) c.args.id) c.args.base.now.pairs).columns c.args.base.now.pairs (entries_at (bare c.args.tree.now.tree) c.args.id c.args.base.now.placed)) c.in_ok-items.ensures;
     }
+
+pub ask_children-returns-in_err-inlines-clause-stopped : goal.ask_children-returns-in_err-inlines-clause-stopped
+ask_children-returns-in_err-inlines-clause-stopped g t c =
+    let all : (q : Query) → LeadsOn (bare c.args.tree.now.tree) c.args.id c.args.base.now q → Stopped c.args.id q (state c.args.tree.now c.args.tally.now c.args.passes.now (g.R.Ruler.log c.args.ruler.now)) (state c.args.tree.now c.args.tally.now c.args.passes.now (g.R.Ruler.log c.args.ruler.now)) =
+    λ q leads. stopped c.args.id q 0 _ _ (walked_none c.args.id q (state c.args.tree.now c.args.tally.now c.args.passes.now (g.R.Ruler.log c.args.ruler.now)) c.requires.right) in
+    on_err _ _ all
+
+pub ask_children-returns-in_err-items-clause-stopped : goal.ask_children-returns-in_err-items-clause-stopped
+ask_children-returns-in_err-items-clause-stopped g t c =
+    let all : (q : Query) → LeadsOn (bare c.args.tree.now.tree) c.args.id c.args.base.now q → Stopped c.args.id q (state c.args.tree.now c.args.tally.now c.args.passes.now (g.R.Ruler.log c.args.ruler.now)) (state c.args.tree.now c.args.tally.now c.args.passes.now (g.R.Ruler.log c.args.ruler.now)) =
+    λ q leads. stopped c.args.id q 0 _ _ (walked_none c.args.id q (state c.args.tree.now c.args.tally.now c.args.passes.now (g.R.Ruler.log c.args.ruler.now)) c.requires.right) in
+    on_err _ _ all
 
 pub ask_children-entry-entry-requires-clause-live : goal.ask_children-entry-entry-requires-clause-live
 ask_children-entry-entry-requires-clause-live g t c = subst (λ (z : BareTrees). IsLive z c.args.id) (sym c.loop-index.invariant.same) c.requires.live
@@ -95,7 +107,7 @@ ask_children-loop-index-preserved g t c =
 
 pub ask_children-returns-clause-answers : goal.ask_children-returns-clause-answers
 ask_children-returns-clause-answers g t c =
-    let few : length (entries_at (bare c.args.tree.now.tree) c.args.id c.args.base.now.placed) ≤ c.loop-index.index = omega (arith, entries_few (bare c.args.tree.now.tree) c.args.id c.args.base.now.placed, c.len-index-end.ensures) in
+    let few : length (entries_at (bare c.args.tree.now.tree) c.args.id c.args.base.now.placed) ≤ c.loop-index.index = omega (arith, entries_few (bare c.args.tree.now.tree) c.args.id c.args.base.now.placed, c.len-count.ensures) in
     record {
       inlines = all_there (map (inline_of_entry c.args.base.now.pairs)) (entries_at (bare c.args.tree.now.tree) c.args.id c.args.base.now.placed) c.loop-index.index c.loop-index.inlines (map (inline_of_entry c.args.base.now.pairs) (entries_at (bare c.args.tree.now.tree) c.args.id c.args.base.now.placed)) refl few c.loop-index.invariant.inlines;
       items = all_there (items_from (context_at (sight_at (bare c.args.tree.now.tree) c.args.id) c.args.base.now.pairs).columns c.args.base.now.pairs) (entries_at (bare c.args.tree.now.tree) c.args.id c.args.base.now.placed) c.loop-index.index _ _ refl few c.loop-index.invariant.items;
@@ -242,14 +254,20 @@ flex_at-returns-in_err-numbers-clause-stopped g t c =
     λ q. stopped c.args.id q 0 _ _ (walked_none c.args.id q (state c.args.tree.now c.args.tally.now c.args.passes.now (g.R.Ruler.log c.args.ruler.now)) c.requires.right) in
     on_err _ _ all
 
+pub flex_at-returns-in_err-members-clause-stopped : goal.flex_at-returns-in_err-members-clause-stopped
+flex_at-returns-in_err-members-clause-stopped g t c =
+    let all : (q : Query) → Stopped c.args.id q (state c.args.tree.now c.args.tally.now c.args.passes.now (g.R.Ruler.log c.args.ruler.now)) (state c.args.tree.now c.args.tally.now c.args.passes.now (g.R.Ruler.log c.args.ruler.now)) =
+    λ q. stopped c.args.id q 0 _ _ (walked_none c.args.id q (state c.args.tree.now c.args.tally.now c.args.passes.now (g.R.Ruler.log c.args.ruler.now)) c.requires.right) in
+    on_err _ _ all
+
 pub flex_at-loop-number-init : goal.flex_at-loop-number-init
 flex_at-loop-number-init g t c =
     record {
       right = c.requires.right;
       same = refl;
       walked = λ q. walked_none c.args.id q (state c.args.tree.now c.args.tally.now c.args.passes.now (g.R.Ruler.log c.args.ruler.now)) c.requires.right;
-      members = ap (λ l. map (member_of (bare c.args.tree.now.tree)) l ++ members_from (bare c.args.tree.now.tree) c.args.id 0) c.new-members.ensures ∙ members_first (bare c.args.tree.now.tree) c.args.id;
-      children = λ k d h. absurd (omega (arith, ap length c.new-members.ensures));
+      members = ap (λ l. map (member_of (bare c.args.tree.now.tree)) l ++ members_from (bare c.args.tree.now.tree) c.args.id 0) c.in_ok-members.ensures ∙ members_first (bare c.args.tree.now.tree) c.args.id;
+      children = λ k d h. absurd (omega (arith, ap length c.in_ok-members.ensures));
     }
 
 pub flex_at-child-child-requires : goal.flex_at-child-child-requires

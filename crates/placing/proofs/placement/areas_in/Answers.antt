@@ -9,11 +9,18 @@ use Rattle.placing.specs.Insides.{cut_to}
 use Rattle.placing.specs.Nodes.{bare, sight_at}
 use Rattle.placing.specs.Seats.{context_of}
 use Rattle.placing.specs.Wishes.{areas_by}
+use Rattle.placing.proofs.Siblings.{all_within}
 use Rattle.placing.proofs.Whole.{is_placed}
 use Rattle.placing.proofs.placement.areas_in.Goals as goal
 
 pub placed-requires-clause-few : goal.placed-requires-clause-few
 placed-requires-clause-few c = omega (arith, ap length c.as_slice.ensures, c.in_ok-numbers.ensures.count, c.requires.readable.children c.args.id)
+
+pub placed-requires-clause-numbers : goal.placed-requires-clause-numbers
+placed-requires-clause-numbers c = all_within c.in_ok-numbers.numbers c.as_slice.result.now c.as_slice.ensures c.children-children.ensures.count c.in_ok-numbers.ensures.within
+
+pub cut_areas-requires-clause-numbers : goal.cut_areas-requires-clause-numbers
+cut_areas-requires-clause-numbers c = all_within c.in_ok-numbers.numbers c.as_slice-2.result.now c.as_slice-2.ensures c.children-children.ensures.count c.in_ok-numbers.ensures.within
 
 pub returns : goal.returns
 returns c =

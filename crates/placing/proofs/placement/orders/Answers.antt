@@ -10,7 +10,7 @@ pub loop-index-preserved : goal.loop-index-preserved
 loop-index-preserved c =
     let b = bare c.args.tree.now.tree in
     let kids = kids_at b c.args.id in
-    let same : c.order.result ≡ (kid_at b c.child-child.result).label.grid.order = search rules in
+    let same : c.order.result ≡ (kid_at b c.child_among-child.result).label.grid.order = search rules in
     let fits : FitsSigned w32 c.order.result = search rules in
-    orders_step kids (drop (c.loop-index.index + 1) kids) c.loop-index.index c.loop-index.orders.items c.push.new.self.items (orders_at b c.args.id) (kid_at b c.child-child.result) c.order.result
-    c.loop-index.invariant c.child-child.ensures.next.kids (c.in_ok-push.ensures.items ∙ ap (λ (x : ℤ). c.loop-index.orders.items ++ x ∷ []) (to_z-of_z w32 c.order.result fits)) same
+    orders_step kids (drop (c.loop-index.index + 1) kids) c.loop-index.index c.loop-index.orders.items c.push.new.self.items (orders_at b c.args.id) (kid_at b c.child_among-child.result) c.order.result
+    c.loop-index.invariant c.child_among-child.ensures.kids (c.in_ok-push.ensures.items ∙ ap (λ (x : ℤ). c.loop-index.orders.items ++ x ∷ []) (to_z-of_z w32 c.order.result fits)) same

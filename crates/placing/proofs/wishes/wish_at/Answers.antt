@@ -13,4 +13,4 @@ returns-clause-value c =
     let kids = kids_at b c.args.id in
     c.wish.ensures.value
     ∙ ap (λ (x : Label). wish_of (context_of c.args.context.now) (sibling_of x)) c.node_at.ensures.label
-    ∙ ap (wish_of (context_of c.args.context.now)) (sym (sibling_there kids (drop (c.args.number + 1) kids) c.args.number (kid_at b c.child-child.result) c.child-child.ensures.next.kids))
+    ∙ ap (wish_of (context_of c.args.context.now)) (sym (sibling_there kids (drop (c.args.number + 1) kids) c.args.number (kid_at b c.child_among-child.result) c.child_among-child.ensures.kids))
