@@ -1,7 +1,7 @@
 -- The children of a container one after the other, on the way of the boxes.
 use Rattle.std.proofs.Common.{arith, ◌≡◌, ℕ, ◌+◌, ◌≤◌, ◌<◌, ◌&&◌, ◌∷◌, ◌++◌, [], List, Bool, true, false, if◌then◌else◌, length, map, drop, sym, ap, ◌∙◌, subst, ℤ, Some, inl, inr, OnOk, Ok, Err}
 use Rattle.std.specs.Prelude.{Contains, Result, get_or}
-use Rattle.std.proofs.lemmas.List.{length-map}
+use Rattle.std.proofs.lemmas.List.{get_or-map, length-map}
 use Rattle.lunit.specs.declared.geometry.Area.{Area}
 use Rattle.lunit.specs.declared.geometry.Rect.{Rect}
 use Rattle.node_arena.specs.declared.number.NodeId.{NodeId}
@@ -13,8 +13,9 @@ use Rattle.placing.specs.Nodes.{BareTrees, children_at, kid_at, kids_at, level_a
 use Rattle.placing.specs.Seats.{IsSeat}
 use Rattle.placing.specs.Walks.{State, bare_in}
 use Rattle.placing.specs.declared.contexts.Above.{Above}
+use Rattle.placing.specs.declared.contexts.Above.TheVariants as above
 use Rattle.placing.specs.declared.node.Frame.{Frame as NodeFrame}
-use Rattle.placing.proofs.Sights.{count_children, count_kids}
+use Rattle.placing.proofs.Sights.{child_listed, count_children, count_kids}
 use Rattle.tree_rules.specs.Answers.{Box, Frame, Pair}
 use Rattle.tree_rules.specs.AskedQueries.{pairs_below}
 use Rattle.tree_rules.specs.Frames.{moved_by}
@@ -90,6 +91,13 @@ fit_seen b n reps inline block fit = fit
 pub frames_counted : (b : BareTrees) (n : NodeId) (frames listed : List NodeFrame) → map (λ (f : NodeFrame). f.child) frames ≡ children_at b n → listed ≡ frames → length listed ≡ length (kids_at b n)
 frames_counted b n frames listed named same = ap length same ∙ sym (length-map frames (λ (f : NodeFrame). f.child)) ∙ ap length named ∙ count_children b n ∙ sym (count_kids b n)
 
+-- the child that the frame of an index is of
+pub child_framed : (b : BareTrees) (n : NodeId) (frames : List NodeFrame) (i : ℕ) (other : NodeFrame) → IsTree b → map (λ (f : NodeFrame). f.child) frames ≡ children_at b n → i < length frames → IsNext b n i (get_or frames i other).child
+child_framed b n frames i other tree named within =
+    tree.next n (get_or frames i other).child i
+    (child_listed b n (map (λ (f : NodeFrame). f.child) frames) i other.child named (omega (arith, within, length-map frames (λ (f : NodeFrame). f.child)))
+    ∙ ap (λ c. Some c) (get_or-map (λ (f : NodeFrame). f.child) frames i other other.child within))
+
 -- what is known of a child with its frame and its seat
 pub record IsTurn (b : BareTrees) (n : NodeId) (q : Query) (x y : ℤ) (i : ℕ) (c : NodeId) (reps : List Pair) (up : Above) (area : Area) (f : NodeFrame) : Type 0 where
   pub next : IsNext b n i c
@@ -103,7 +111,7 @@ pub record IsTurn (b : BareTrees) (n : NodeId) (q : Query) (x y : ℤ) (i : ℕ)
   pub passes : is_container (sight_at b c).label.kind ≡ true → Contains (passes_at b n q) (i, frames_asked reps f.inline f.block)
 
 pub turn_here : (b : BareTrees) (n : NodeId) (outer : List Pair) (inline block : Given) (listed : List NodeFrame) (seats : ChildSeats) (x y : ℤ) → IsBelow b n (frames_asked outer inline block) listed seats x y → (i : ℕ) (c : NodeId) → IsNext b n i c → i < length listed
-    → (lower : Bool) → lower ≡ (seats.some && has_subgrid_kind (sight_at b c).label) → (reps : List Pair) → reps ≡ (if lower then pairs_held seats.held else []) → (up : Above) → up ≡ (if lower then above_held seats.held seats.nothing else seats.nothing)
+    → (lower : Bool) → lower ≡ (seats.some && has_subgrid_kind (sight_at b c).label) → (reps : List Pair) → reps ≡ (if lower then pairs_held seats.held else []) → (up : Above) → up ≡ (if lower then above_held seats.held above.Nothing else above.Nothing)
     → (area : Area) → (i < length seats.areas → (d : Area) → area ≡ get_or seats.areas i d) → (f : NodeFrame) → f ≡ get_or listed i f → IsTurn b n (frames_asked outer inline block) x y i c reps up area f
 turn_here b n outer inline block listed seats x y below i c next within lower is reps same up above_is area area_is f at =
     let q = frames_asked outer inline block in

@@ -82,23 +82,22 @@ module _ (b : BareTrees) (n : NodeId) (tree : IsTree b) where
   told_here : (i : ℕ) (c : NodeId) → child_at b n i ≡ Some c → has_chain (sight_at b c).chain ≡ ((above_at b n).is_grid && has_subgrid_kind (sight_at b c).label)
   told_here i c child = ap has_chain (tree.next n c i child).chain ∙ chain_is (above_at b n).is_grid (has_subgrid_kind (sight_at b c).label) _ (sight_at b n).chain
 
-  no_seats_by : (seats : ChildSeats) → seats.some ≡ false → seats.nothing ≡ above.Nothing → ((i : ℕ) (c : NodeId) → child_at b n i ≡ Some c → has_chain (sight_at b c).chain ≡ false) → AreSeats b n seats
-  no_seats_by seats none nothing all =
+  no_seats_by : (seats : ChildSeats) → seats.some ≡ false → ((i : ℕ) (c : NodeId) → child_at b n i ≡ Some c → has_chain (sight_at b c).chain ≡ false) → AreSeats b n seats
+  no_seats_by seats none all =
       record {
-        nothing = nothing;
         told = λ i c child. all i c child ∙ ap (λ t. t && has_subgrid_kind (sight_at b c).label) (sym none);
         seated = λ i c child some. absurd (false≢true (sym (all i c child) ∙ some));
       }
 
-  pub seats_in_flex : (seats : ChildSeats) → seats.some ≡ false → seats.nothing ≡ above.Nothing → is_grid_kind (sight_at b n).label.kind ≡ false → AreSeats b n seats
-  seats_in_flex seats none nothing other = no_seats_by seats none nothing (λ i c child. told_here i c child ∙ ap (λ t. t && has_subgrid_kind (sight_at b c).label) other)
+  pub seats_in_flex : (seats : ChildSeats) → seats.some ≡ false → is_grid_kind (sight_at b n).label.kind ≡ false → AreSeats b n seats
+  seats_in_flex seats none other = no_seats_by seats none (λ i c child. told_here i c child ∙ ap (λ t. t && has_subgrid_kind (sight_at b c).label) other)
 
   both_false : (x y : Bool) → y ≡ false → (x && y) ≡ false
   both_false true y e = e
   both_false false y e = refl
 
-  pub seats_none : (seats : ChildSeats) → seats.some ≡ false → seats.nothing ≡ above.Nothing → ((i : ℕ) (c : NodeId) → child_at b n i ≡ Some c → has_subgrid_kind (sight_at b c).label ≡ false) → AreSeats b n seats
-  seats_none seats none nothing all = no_seats_by seats none nothing (λ i c child. told_here i c child ∙ both_false (above_at b n).is_grid (has_subgrid_kind (sight_at b c).label) (all i c child))
+  pub seats_none : (seats : ChildSeats) → seats.some ≡ false → ((i : ℕ) (c : NodeId) → child_at b n i ≡ Some c → has_subgrid_kind (sight_at b c).label ≡ false) → AreSeats b n seats
+  seats_none seats none all = no_seats_by seats none (λ i c child. told_here i c child ∙ both_false (above_at b n).is_grid (has_subgrid_kind (sight_at b c).label) (all i c child))
 
   -- ---- seats in a grid
 
@@ -109,11 +108,10 @@ module _ (b : BareTrees) (n : NodeId) (tree : IsTree b) where
 
   pub seats_made : (outer : List Pair) (width : Given) (held : HeldBase) (base : GridBase) (areas : List Area) (seats : ChildSeats) → base ≡ base_held held → IsBase b n outer width base → is_grid_kind (sight_at b n).label.kind ≡ true →
       length areas ≡ length (kids_at b n) → ((i : ℕ) → i < length (kids_at b n) → (d : Area) → IsAreaOf b n base.placed i (get_or areas i d)) →
-      seats ≡ record { some = true; held = Some held; areas = areas; nothing = above.Nothing } → AreSeats b n seats
+      seats ≡ record { some = true; held = Some held; areas = areas } → AreSeats b n seats
   seats_made outer width held base areas seats same made grid counted area is =
       subst (AreSeats b n) (sym is)
       (record {
-        nothing = refl;
         told = λ i c child. told_here i c child ∙ ap (λ t. t && has_subgrid_kind (sight_at b c).label) grid;
         seated = λ i c child some. record {
           counts = ap (λ (x : GridBase). length x.pairs) (sym same)
@@ -126,7 +124,7 @@ module _ (b : BareTrees) (n : NodeId) (tree : IsTree b) where
       })
 
 pub pairs_made : (b : BareTrees) (n : NodeId) (outer : List Pair) (width : Given) (held : HeldBase) (areas : List Area) (seats : ChildSeats) (q : Query) → IsBase b n outer width (base_held held) → (sight_at b n).label.kind ≡ kind.Grid →
-    seats ≡ record { some = true; held = Some held; areas = areas; nothing = above.Nothing } → q.reps ≡ outer → q.inline ≡ width → HasPairs b n q seats
+    seats ≡ record { some = true; held = Some held; areas = areas } → q.reps ≡ outer → q.inline ≡ width → HasPairs b n q seats
 unfolding pairs_below_at
 pairs_made b n outer width held areas seats q made grid is reps inline some =
     ap (λ (s : ChildSeats). pairs_held s.held) is
@@ -138,6 +136,12 @@ pairs_made b n outer width held areas seats q made grid is reps inline some =
 -- the base in a grid in its columns that is kept
 pub kept_base : (b : BareTrees) (n : NodeId) (outer : List Pair) (width : Given) (wide again : GridWide) → HoldsWide (sight_at b n) (children_at b n) outer width wide → again ≡ wide → IsBase b n outer width again.parts.base
 kept_base b n outer width wide again kept same = subst (λ (w : GridWide). IsBase b n outer width w.parts.base) (sym same) (held_base b n outer width wide.parts.base kept.grid.base)
+
+-- the base that is made, behind a pointer
+pub made_base : (b : BareTrees) (n : NodeId) (outer : List Pair) (width : Given) (base made : GridBase) → IsBase b n outer width base → made ≡ base → IsBase b n outer width made
+made_base b n outer width base made is same = subst (IsBase b n outer width) (sym same) is
+
+pub ruleset bases = (kept_base, made_base)
 
 pub grid_kind_is : (k : NodeKind) → is_grid_kind k ≡ true → k ≡ kind.Grid
 grid_kind_is kind.Grid e = refl
@@ -222,14 +226,14 @@ module _ (b : BareTrees) (n c : NodeId) (i : ℕ) (seats : ChildSeats) (are : Ar
       at true e = (are.seated i c child (sym e)).counts
       at false e = ap length (sym (no_chain (sight_at b c).chain (sym e)))
 
-  pub seat_here : (up : Above) (area : Area) → up ≡ (if lower then above_held seats.held seats.nothing else seats.nothing) → (i < length seats.areas → (d : Area) → area ≡ get_or seats.areas i d) → IsSeat (sight_at b c) reps up area
+  pub seat_here : (up : Above) (area : Area) → up ≡ (if lower then above_held seats.held above.Nothing else above.Nothing) → (i < length seats.areas → (d : Area) → area ≡ get_or seats.areas i d) → IsSeat (sight_at b c) reps up area
   seat_here up area above_is area_is = at lower lower_is same above_is
     where
-      at : (t : Bool) → t ≡ has_chain (sight_at b c).chain → reps ≡ (if t then pairs_held seats.held else []) → up ≡ (if t then above_held seats.held seats.nothing else seats.nothing) → IsSeat (sight_at b c) reps up area
+      at : (t : Bool) → t ≡ has_chain (sight_at b c).chain → reps ≡ (if t then pairs_held seats.held else []) → up ≡ (if t then above_held seats.held above.Nothing else above.Nothing) → IsSeat (sight_at b c) reps up area
       at true e r u =
           let seated = are.seated i c child (sym e) in
           subst (λ a. IsSeat (sight_at b c) reps up a) (sym (area_is seated.there area)) (subst (λ z. IsSeat (sight_at b c) z up (get_or seats.areas i area)) (sym r) (subst (λ z. IsSeat (sight_at b c) (pairs_held seats.held) z (get_or seats.areas i area)) (sym u) (seated.seat area)))
-      at false e r u = subst (λ z. IsSeat (sight_at b c) z up area) (sym r) (subst (λ z. IsSeat (sight_at b c) [] z area) (sym (u ∙ are.nothing)) (alone_there b c area (sym e)))
+      at false e r u = subst (λ z. IsSeat (sight_at b c) z up area) (sym r) (subst (λ z. IsSeat (sight_at b c) [] z area) (sym u) (alone_there b c area (sym e)))
 
   pub pairs_here : (q : Query) → HasPairs b n q seats → reps ≡ pairs_for (kid_at b c) (pairs_below_at b n q)
   pairs_here q have = same ∙ at seats.some refl ∙ ap (λ (t : Bool). if t then pairs_below_at b n q else []) lower_is

@@ -22,7 +22,7 @@ use Rattle.box_layout.specs.declared.child_seats.HeldBase.TheVariants as held
 
 -- the grid before its children are asked, wherever it is held
 abbrev pub base_held : HeldBase → GridBase
-base_held (held.Made base) = base
+base_held (held.Made base) = base.value
 base_held (held.Kept wide) = wide.parts.base
 
 -- what its subgrids see of it: the counts of the repetitions, the topmost grid first
@@ -44,11 +44,10 @@ IsAreaOf b n p number a =
 pub record IsSeated (b : BareTrees) (c : NodeId) (number : ℕ) (seats : ChildSeats) : Type 0 where
   pub counts : length (pairs_held seats.held) ≡ length (sight_at b c).chain
   pub there : number < length seats.areas
-  pub seat : (d : Area) → IsSeat (sight_at b c) (pairs_held seats.held) (above_held seats.held seats.nothing) (get_or seats.areas number d)
+  pub seat : (d : Area) → IsSeat (sight_at b c) (pairs_held seats.held) (above_held seats.held above.Nothing) (get_or seats.areas number d)
 
 -- These are the seats of the children of a node: which of them are subgrids of it, and where these stand.
 pub record AreSeats (b : BareTrees) (n : NodeId) (seats : ChildSeats) : Type 0 where
-  pub nothing : seats.nothing ≡ above.Nothing
   pub told : (number : ℕ) (c : NodeId) → child_at b n number ≡ Some c → has_chain (sight_at b c).chain ≡ (seats.some && has_subgrid_kind (sight_at b c).label)
   pub seated : (number : ℕ) (c : NodeId) → child_at b n number ≡ Some c → has_chain (sight_at b c).chain ≡ true → IsSeated b c number seats
 

@@ -26,6 +26,7 @@ use placing::{
     root,
 };
 use std::alloc::Global;
+use std::rc::Rc;
 
 /// No area.
 const NO_AREA: Area = Area {
@@ -36,8 +37,8 @@ const NO_AREA: Area = Area {
 /// A grid before its children are asked.
 #[derive(Drop)]
 pub(crate) enum HeldBase {
-    /// Made for its children.
-    Made(GridBase),
+    /// Made for its children; behind a pointer, so that the seats are small.
+    Made(Rc<GridBase>),
     /// In the grid in its columns that its answer for the block size holds.
     Kept(SharedWide),
 }
@@ -51,8 +52,6 @@ pub(crate) struct ChildSeats {
     pub(crate) held: Option<HeldBase>,
     /// The area of each child, in document order.
     pub(crate) areas: Sequence<Area>,
-    /// What other children see.
-    pub(crate) nothing: Above,
 }
 
 /// Whether a node is a grid.
@@ -114,13 +113,12 @@ fn areas_by_number(
 
 /// No child is a subgrid of the node. It takes no memory.
 pub(crate) fn no_seats(alloc: Global) -> ChildSeats
-    ensures { result ≡ record { some = false; held = None; areas = []; nothing = above.Nothing } }
+    ensures { result ≡ record { some = false; held = None; areas = [] } }
 {
     ChildSeats {
         some: false,
         held: None,
         areas: Sequence::new(alloc),
-        nothing: Above::Nothing,
     }
 }
 
@@ -129,12 +127,12 @@ fn base_of(held: &HeldBase) -> &GridBase
     ensures { result.now ≡ base_held held.now }
 {
     match held {
-        HeldBase::Made(base) => base,
+        HeldBase::Made(base) => base.as_ref(),
         HeldBase::Kept(wide) => &wide.grid().parts.base,
     }
 }
 
-#[tactic(auto, using(crate::proofs::Seating::kept_base))]
+#[tactic(auto, using(crate::proofs::Seating::bases))]
 /// A grid in its seat before its children are asked: as its answer for the block size holds it, or made anew. `NoMemory` where memory
 /// is wanting.
 fn held_base(
@@ -159,18 +157,18 @@ fn held_base(
         return Ok(HeldBase::Kept(wide));
     }
     let base = base_at(alloc, tree, id, reps, above, area, inline)?;
-    Ok(HeldBase::Made(base))
+    let made = Rc::new(alloc, base)?;
+    Ok(HeldBase::Made(made))
 }
 
 /// The seats in a grid, with the areas of its children.
 fn seats_in(held: HeldBase, areas: Sequence<Area>) -> ChildSeats
-    ensures { result ≡ record { some = true; held = Some held; areas = areas; nothing = above.Nothing } }
+    ensures { result ≡ record { some = true; held = Some held; areas = areas } }
 {
     ChildSeats {
         some: true,
         held: Some(held),
         areas,
-        nothing: Above::Nothing,
     }
 }
 
@@ -230,16 +228,17 @@ pub(crate) fn pairs_for(seats: &ChildSeats, lower: bool) -> &[(u32, u32)]
     }
 }
 
-/// What a child sees above it.
-pub(crate) fn above_for(seats: &ChildSeats, lower: bool) -> &Above
-    ensures { result.now ≡ (if lower then above_held seats.now.held seats.now.nothing else seats.now.nothing) }
+/// What a child sees above it, where the others see nothing.
+pub(crate) fn above_for<'a>(seats: &'a ChildSeats, nothing: &'a Above, lower: bool) -> &'a Above
+    requires { nothing.now ≡ above.Nothing }
+    ensures { result.now ≡ (if lower then above_held seats.now.held above.Nothing else above.Nothing) }
 {
     if !lower {
-        return &seats.nothing;
+        return nothing;
     }
     match &seats.held {
         Some(held) => &base_of(held).above,
-        None => &seats.nothing,
+        None => nothing,
     }
 }
 

@@ -66,13 +66,15 @@ pub fn walk_boxes<R: Ruler, L: Ledger>(
     let frame = root_frame(alloc, tree, id, width, height, ruler, tally, passes)?;
     let x = Along::of(0);
     let y = Along::of(0);
+    let nothing = Above::Nothing;
     let mut told = room_for(alloc, tree);
     boxes_of(
         alloc,
         tree,
         id,
         &[],
-        &Above::Nothing,
+        &nothing,
+        &nothing,
         NO_AREA,
         &frame,
         x,

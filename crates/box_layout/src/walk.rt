@@ -1,13 +1,16 @@
 //! The walk down the tree on the way of the boxes: each container is asked once for its frames, and the seat of each child is handed
 //! down, so that a context is made at most once a grid, and only where a child is a subgrid of it.
 
-ghost use Rattle.std.specs.Prelude.{◌≡◌, ◌++◌, ◌≤◌, true, length, OnOk, OnErr};
+ghost use Rattle.std.specs.Prelude.{◌≡◌, ◌++◌, ◌≤◌, ◌<◌, true, length, map, OnOk, OnErr};
 ghost use Rattle.node_arena.specs.Numbers.{IsDistinct};
+ghost use Rattle.placing.specs.Children.{IsNext, IsTree};
 ghost use Rattle.placing.specs.Kept.{frame_of, IsRight};
-ghost use Rattle.placing.specs.Nodes.{bare, level_at, sight_at, IsLive};
+ghost use Rattle.placing.specs.Nodes.{bare, children_at, level_at, sight_at, IsLive};
 ghost use Rattle.placing.specs.Ranges.{AreReadable};
 ghost use Rattle.placing.specs.Seats.{IsSeat};
 ghost use Rattle.placing.specs.Walks.{state};
+ghost use Rattle.placing.specs.declared.contexts.Above.TheVariants as seen;
+ghost use Rattle.placing.specs.declared.node.Frame.{Frame as NodeFrame};
 ghost use Rattle.tree_rules.specs.Queries.{is_container, Fits};
 ghost use Rattle.box_layout.specs.Asking.{frames_asked};
 ghost use Rattle.box_layout.specs.BoxesSeen.{AreNear, IsNearAt, boxes_seen, boxes_with, reach};
@@ -24,7 +27,7 @@ use layout_cache::Given;
 use lunit::{Along, Area, BLOCK, INLINE, Name, NoMemory, Rect, Sequence, Steps};
 use node_arena::{Arena, NodeId};
 use outside::{Ruler, Tally};
-use placing::{Above, Frame, Node, NodeKind, child, node_at, root};
+use placing::{Above, Frame, Node, NodeKind, node_at, root};
 use std::alloc::Global;
 use std::sync::ledger::Ledger;
 
@@ -39,12 +42,14 @@ fn is_container(kind: &NodeKind) -> bool
     }
 }
 
-/// The name of a node.
-fn name_of(tree: &Arena<Node>, id: NodeId) -> Name
-    requires { IsLive (bare tree.now.tree) id }
-    ensures { result ≡ (sight_at (bare tree.now.tree) id).label.name }
+/// The child of a node that the frame of an index among its children's frames is of.
+fn child_of_frame(tree: &Arena<Node>, id: NodeId, frames: &[Frame], index: usize) -> NodeId
+    requires tree { IsTree (bare tree.now.tree) }
+    requires children { map (λ (f : NodeFrame). f.child) frames.now ≡ children_at (bare tree.now.tree) id }
+    requires index { index < length frames.now }
+    ensures { IsNext (bare tree.now.tree) id index result }
 {
-    node_at(tree, id).name
+    frames[index].child
 }
 
 /// No two nodes of an arena have one number.
@@ -56,13 +61,14 @@ fn differ(tree: &Arena<Node>) -> NodeId
 
 #[cycle(boxes)]
 /// The box of a node in its seat that has this frame, and the boxes below it, where its parent's border box is at this position,
-/// are put after others.
+/// are put after others. What a node sees that is no subgrid is handed down.
 pub(crate) fn boxes_of<R: Ruler, L: Ledger>(
     alloc: Global,
     tree: &mut Arena<Node>,
     id: NodeId,
     reps: &[(u32, u32)],
     above: &Above,
+    nothing: &Above,
     area: Area,
     frame: &Frame,
     x: Along<INLINE>,
@@ -77,6 +83,7 @@ pub(crate) fn boxes_of<R: Ruler, L: Ledger>(
     requires readable { AreReadable (bare tree.old.tree) }
     requires reps { length reps.now ≡ length (sight_at (bare tree.old.tree) id).chain }
     requires seat { IsSeat (sight_at (bare tree.old.tree) id) reps.now above.now area }
+    requires nothing { nothing.now ≡ seen.Nothing }
     requires fits { is_container (sight_at (bare tree.old.tree) id).label.kind ≡ true → Fits (sight_at (bare tree.old.tree) id) (frames_asked reps.now frame.now.inline frame.now.block) }
     requires level { 1 ≤ level_at (bare tree.old.tree) id }
     requires near { IsNearAt (level_at (bare tree.old.tree) id) x y (frame_of frame.now) }
@@ -90,12 +97,14 @@ pub(crate) fn boxes_of<R: Ruler, L: Ledger>(
     ensures quiet { (is_container (sight_at (bare tree.old.tree) id).label.kind ≡ true → AreKeptBelow (bare tree.old.tree) id (frames_asked reps.now frame.now.inline frame.now.block) (state tree.old tally.old passes.old (R.log ruler.old))) → state tree.new tally.new passes.new (R.log ruler.new) ≡ state tree.old tally.old passes.old (R.log ruler.old) }
 {
     root(tree);
+    let node = node_at(tree, id);
+    let name = node.name;
+    let container = is_container(&node.kind);
     let rect = moved_by(x, y, &frame.rect);
     let x = rect.x;
     let y = rect.y;
-    let name = name_of(tree, id);
     told.push((name, rect))?;
-    if !is_container(&node_at(tree, id).kind) {
+    if !container {
         return Ok(());
     }
     boxes_below(
@@ -104,6 +113,7 @@ pub(crate) fn boxes_of<R: Ruler, L: Ledger>(
         id,
         reps,
         above,
+        nothing,
         area,
         &frame.inline,
         &frame.block,
@@ -125,6 +135,7 @@ fn boxes_below<R: Ruler, L: Ledger>(
     id: NodeId,
     reps: &[(u32, u32)],
     above: &Above,
+    nothing: &Above,
     area: Area,
     inline: &Given,
     block: &Given,
@@ -140,6 +151,7 @@ fn boxes_below<R: Ruler, L: Ledger>(
     requires readable { AreReadable (bare tree.old.tree) }
     requires fits { Fits (sight_at (bare tree.old.tree) id) (frames_asked reps.now inline.now block.now) }
     requires seat { IsSeat (sight_at (bare tree.old.tree) id) reps.now above.now area }
+    requires nothing { nothing.now ≡ seen.Nothing }
     requires level { 1 ≤ level_at (bare tree.old.tree) id }
     requires columns { IsGivenNear (level_at (bare tree.old.tree) id) inline.now }
     requires rows { IsGivenNear (level_at (bare tree.old.tree) id) block.now }
@@ -164,14 +176,15 @@ fn boxes_below<R: Ruler, L: Ledger>(
     let seats = seats_below(alloc, tree, id, reps, above, area, inline)?;
     let listed = frames.as_slice();
     for index in 0..listed.len() {
-        let child = child(tree, id, index);
+        let child = child_of_frame(tree, id, listed, index);
         let lower = is_lower(tree, &seats, child);
         boxes_of(
             alloc,
             tree,
             child,
             pairs_for(&seats, lower),
-            above_for(&seats, lower),
+            above_for(&seats, nothing, lower),
+            nothing,
             area_for(&seats, index),
             &listed[index],
             x,

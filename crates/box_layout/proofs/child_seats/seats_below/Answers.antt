@@ -8,12 +8,12 @@ use Rattle.box_layout.proofs.child_seats.seats_below.Goals as goal
 
 pub returns-then-not-is_grid-clause-seats : goal.returns-then-not-is_grid-clause-seats
 returns-then-not-is_grid-clause-seats c =
-    seats_in_flex (bare c.args.tree.now.tree) c.args.id c.root.ensures.tree c.no_seats.result (ap (λ (s : ChildSeats). s.some) c.no_seats.ensures) (ap (λ (s : ChildSeats). s.nothing) c.no_seats.ensures)
+    seats_in_flex (bare c.args.tree.now.tree) c.args.id c.root.ensures.tree c.no_seats.result (ap (λ (s : ChildSeats). s.some) c.no_seats.ensures)
     (ap is_grid_kind (sym c.node_at.ensures.kind) ∙ sym c.is_grid.ensures ∙ c.if-not-is_grid.true)
 
 pub returns-then-not-has_subgrids-clause-seats : goal.returns-then-not-has_subgrids-clause-seats
 returns-then-not-has_subgrids-clause-seats c =
-    seats_none (bare c.args.tree.now.tree) c.args.id c.root.ensures.tree c.no_seats-then-not-has_subgrids.result (ap (λ (s : ChildSeats). s.some) c.no_seats-then-not-has_subgrids.ensures) (ap (λ (s : ChildSeats). s.nothing) c.no_seats-then-not-has_subgrids.ensures) (c.has_subgrids.ensures c.if-not-has_subgrids.true)
+    seats_none (bare c.args.tree.now.tree) c.args.id c.root.ensures.tree c.no_seats-then-not-has_subgrids.result (ap (λ (s : ChildSeats). s.some) c.no_seats-then-not-has_subgrids.ensures) (c.has_subgrids.ensures c.if-not-has_subgrids.true)
 
 pub returns-clause-seats : goal.returns-clause-seats
 returns-clause-seats c =

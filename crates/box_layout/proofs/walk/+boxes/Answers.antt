@@ -3,10 +3,13 @@ use Rattle.std.proofs.lemmas.Bool.{false≢true}
 use Rattle.std.proofs.lemmas.List.{length-map}
 use Rattle.lunit.specs.declared.geometry.Rect.{Rect}
 use Rattle.placing.specs.Kept.{IsRight, frame_of}
-use Rattle.placing.specs.Nodes.{BareTrees, IsLive, bare, kids_at, level_at, sight_at, size_at}
+use Rattle.placing.specs.Children.{IsTree}
+use Rattle.placing.specs.Nodes.{BareTrees, IsLive, bare, children_at, kids_at, level_at, sight_at, size_at}
 use Rattle.placing.specs.Ranges.{AreReadable}
 use Rattle.placing.specs.Seats.{IsSeat}
 use Rattle.placing.specs.Walks.{state}
+use Rattle.placing.specs.declared.contexts.Above.TheVariants as above
+use Rattle.placing.specs.declared.node.Frame.{Frame as NodeFrame}
 use Rattle.placing.proofs.Leaves.{on_err}
 use Rattle.tree_rules.specs.Queries.{Fits, is_container}
 use Rattle.box_layout.specs.Asking.{frames_asked}
@@ -33,24 +36,25 @@ boxes_of-moved_by-rect-requires-clause-x g t c = long (level_at (bare c.args.tre
 pub boxes_of-moved_by-rect-requires-clause-y : goal.boxes_of-moved_by-rect-requires-clause-y
 boxes_of-moved_by-rect-requires-clause-y g t c = long (level_at (bare c.args.tree.now.tree) c.args.id) _ c.requires.near.y
 
-pub boxes_of-returns-then-not-is_container-clause-value : goal.boxes_of-returns-then-not-is_container-clause-value
-boxes_of-returns-then-not-is_container-clause-value g t c =
-    leaf_told (bare c.args.tree.now.tree) c.args.id c.args.reps.now (frame_of c.args.frame.now) (c.args.x, c.args.y) c.args.told.now c.push.new.self c.name_of-name.result c.moved_by-rect.result
-    (kind_is c.node_at.result.now.kind (sight_at (bare c.args.tree.now.tree) c.args.id).label.kind c.is_container.result c.node_at.ensures.kind c.is_container.ensures ∙ c.if-not-is_container.true) c.in_ok-push.ensures.ok c.name_of-name.ensures c.moved_by-rect.ensures
+pub boxes_of-returns-then-not-container-clause-value : goal.boxes_of-returns-then-not-container-clause-value
+boxes_of-returns-then-not-container-clause-value g t c =
+    leaf_told (bare c.args.tree.now.tree) c.args.id c.args.reps.now (frame_of c.args.frame.now) (c.args.x, c.args.y) c.args.told.now c.push.new.self c.node_at-node.result.now.name c.moved_by-rect.result
+    (kind_is c.node_at-node.result.now.kind (sight_at (bare c.args.tree.now.tree) c.args.id).label.kind c.is_container-container.result c.node_at-node.ensures.kind c.is_container-container.ensures ∙ c.if-not-container.true) c.in_ok-push.ensures.ok c.node_at-node.ensures.name c.moved_by-rect.ensures
 
-pub boxes_of-returns-then-not-is_container-clause-near : goal.boxes_of-returns-then-not-is_container-clause-near
-boxes_of-returns-then-not-is_container-clause-near g t c =
-    near_told (level_at (bare c.args.tree.now.tree) c.args.id) c.args.x c.args.y (frame_of c.args.frame.now) c.args.told.now c.push.new.self c.name_of-name.result c.moved_by-rect.result c.in_ok-push.ensures.ok c.moved_by-rect.ensures c.requires.near
+pub boxes_of-returns-then-not-container-clause-near : goal.boxes_of-returns-then-not-container-clause-near
+boxes_of-returns-then-not-container-clause-near g t c =
+    near_told (level_at (bare c.args.tree.now.tree) c.args.id) c.args.x c.args.y (frame_of c.args.frame.now) c.args.told.now c.push.new.self c.node_at-node.result.now.name c.moved_by-rect.result c.in_ok-push.ensures.ok c.moved_by-rect.ensures c.requires.near
 
 pub boxes_of-boxes_below-requires : goal.boxes_of-boxes_below-requires
 boxes_of-boxes_below-requires g t c =
-    let container : is_container (sight_at (bare c.args.tree.now.tree) c.args.id).label.kind ≡ true = kind_is c.node_at.result.now.kind (sight_at (bare c.args.tree.now.tree) c.args.id).label.kind c.is_container.result c.node_at.ensures.kind c.is_container.ensures ∙ c.if-not-is_container.false in
+    let container : is_container (sight_at (bare c.args.tree.now.tree) c.args.id).label.kind ≡ true = kind_is c.node_at-node.result.now.kind (sight_at (bare c.args.tree.now.tree) c.args.id).label.kind c.is_container-container.result c.node_at-node.ensures.kind c.is_container-container.ensures ∙ c.if-not-container.false in
     let fits : Fits (sight_at (bare c.args.tree.now.tree) c.args.id) (frames_asked c.args.reps.now c.args.frame.now.inline c.args.frame.now.block) = c.requires.fits container in
     let level : 1 ≤ level_at (bare c.args.tree.now.tree) c.args.id = c.requires.level in
     let columns : IsGivenNear (level_at (bare c.args.tree.now.tree) c.args.id) c.args.frame.now.inline = c.requires.near.inline in
     let rows : IsGivenNear (level_at (bare c.args.tree.now.tree) c.args.id) c.args.frame.now.block = c.requires.near.block in
     let x : IsWithin (reach (level_at (bare c.args.tree.now.tree) c.args.id)) c.moved_by-rect.result.x = subst (λ (r : Rect). IsWithin (reach (level_at (bare c.args.tree.now.tree) c.args.id)) r.x) (sym c.moved_by-rect.ensures) c.requires.near.x in
     let y : IsWithin (reach (level_at (bare c.args.tree.now.tree) c.args.id)) c.moved_by-rect.result.y = subst (λ (r : Rect). IsWithin (reach (level_at (bare c.args.tree.now.tree) c.args.id)) r.y) (sym c.moved_by-rect.ensures) c.requires.near.y in
+    let nothing : c.args.nothing.now ≡ above.Nothing = c.requires.nothing in
     let small : 2 * size_at (bare c.args.tree.now.tree) c.args.id < 2 * size_at (bare c.args.tree.now.tree) c.args.id + 1 = omega arith in
     search rules
 
@@ -58,7 +62,7 @@ pub boxes_of-returns-clause-near : goal.boxes_of-returns-clause-near
 boxes_of-returns-clause-near g t c =
     ok_then c.boxes_below.result _ _
     (λ (more : AreNear c.push.new.self → AreNear c.boxes_below.new.told) (all : AreNear c.args.told.now).
-    more (near_told (level_at (bare c.args.tree.now.tree) c.args.id) c.args.x c.args.y (frame_of c.args.frame.now) c.args.told.now c.push.new.self c.name_of-name.result c.moved_by-rect.result c.in_ok-push.ensures.ok c.moved_by-rect.ensures c.requires.near all))
+    more (near_told (level_at (bare c.args.tree.now.tree) c.args.id) c.args.x c.args.y (frame_of c.args.frame.now) c.args.told.now c.push.new.self c.node_at-node.result.now.name c.moved_by-rect.result c.in_ok-push.ensures.ok c.moved_by-rect.ensures c.requires.near all))
     c.boxes_below.ensures.near
 
 -- ---- below a container
@@ -124,67 +128,71 @@ boxes_below-loop-index-init g t c =
       quiet = λ kept. c.frames_at.ensures.found (kept c.args.id (frames_asked c.args.reps.now c.args.inline.now c.args.block.now) (its_own c.args.id (frames_asked c.args.reps.now c.args.inline.now c.args.block.now)));
     }
 
-pub boxes_below-child-child-requires : goal.boxes_below-child-child-requires
-boxes_below-child-child-requires g t c =
-    subst (λ (z : BareTrees). c.loop-index.index < length (kids_at z c.args.id)) (sym c.loop-index.invariant.same) (omega (arith, c.loop-index.invariant.below.counted, c.loop-index-test.true))
+pub boxes_below-child_of_frame-child-requires-clause-tree : goal.boxes_below-child_of_frame-child-requires-clause-tree
+boxes_below-child_of_frame-child-requires-clause-tree g t c = subst IsTree (sym c.loop-index.invariant.same) c.loop-index.invariant.below.tree
+
+pub boxes_below-child_of_frame-child-requires-clause-children : goal.boxes_below-child_of_frame-child-requires-clause-children
+boxes_below-child_of_frame-child-requires-clause-children g t c =
+    ap (map (λ (f : NodeFrame). f.child)) c.as_slice-listed.ensures ∙ c.in_ok-frames.ensures.children ∙ ap (λ (z : BareTrees). children_at z c.args.id) (sym c.loop-index.invariant.same)
 
 pub boxes_below-is_lower-lower-requires : goal.boxes_below-is_lower-lower-requires
-boxes_below-is_lower-lower-requires g t c = c.child-child.ensures.next.live
+boxes_below-is_lower-lower-requires g t c = c.child_of_frame-child.ensures.live
 
 pub boxes_below-boxes_of-requires : goal.boxes_below-boxes_of-requires
 boxes_below-boxes_of-requires g t c =
-    let turn : IsTurn (bare c.loop-index.tree.tree) c.args.id (frames_asked c.args.reps.now c.args.inline.now c.args.block.now) c.args.x c.args.y c.loop-index.index c.child-child.result c.pairs_for.result.now c.above_for.result.now c.area_for.result c.index-listed-index.result = turn_here (bare c.loop-index.tree.tree) c.args.id c.args.reps.now c.args.inline.now c.args.block.now c.as_slice-listed.result.now c.in_ok-seats.seats c.args.x c.args.y
-    (subst (λ (z : BareTrees). IsBelow z c.args.id (frames_asked c.args.reps.now c.args.inline.now c.args.block.now) c.as_slice-listed.result.now c.in_ok-seats.seats c.args.x c.args.y) (sym c.loop-index.invariant.same) c.loop-index.invariant.below) c.loop-index.index c.child-child.result c.child-child.ensures.next
+    let turn : IsTurn (bare c.loop-index.tree.tree) c.args.id (frames_asked c.args.reps.now c.args.inline.now c.args.block.now) c.args.x c.args.y c.loop-index.index c.child_of_frame-child.result c.pairs_for.result.now c.above_for.result.now c.area_for.result c.index-listed-index.result = turn_here (bare c.loop-index.tree.tree) c.args.id c.args.reps.now c.args.inline.now c.args.block.now c.as_slice-listed.result.now c.in_ok-seats.seats c.args.x c.args.y
+    (subst (λ (z : BareTrees). IsBelow z c.args.id (frames_asked c.args.reps.now c.args.inline.now c.args.block.now) c.as_slice-listed.result.now c.in_ok-seats.seats c.args.x c.args.y) (sym c.loop-index.invariant.same) c.loop-index.invariant.below) c.loop-index.index c.child_of_frame-child.result c.child_of_frame-child.ensures
     (omega (arith, c.loop-index-test.true)) c.is_lower-lower.result c.is_lower-lower.ensures c.pairs_for.result.now c.pairs_for.ensures c.above_for.result.now c.above_for.ensures c.area_for.result c.area_for.ensures
     c.index-listed-index.result c.index-listed-index.is in
-    let live : IsLive (bare c.loop-index.tree.tree) c.child-child.result = turn.next.live in
+    let live : IsLive (bare c.loop-index.tree.tree) c.child_of_frame-child.result = turn.next.live in
     let right : IsRight c.loop-index.tree.tree = c.loop-index.invariant.right in
     let readable : AreReadable (bare c.loop-index.tree.tree) = subst AreReadable (sym c.loop-index.invariant.same) c.requires.readable in
-    let reps : length c.pairs_for.result.now ≡ length (sight_at (bare c.loop-index.tree.tree) c.child-child.result).chain = turn.counts in
-    let seat : IsSeat (sight_at (bare c.loop-index.tree.tree) c.child-child.result) c.pairs_for.result.now c.above_for.result.now c.area_for.result = turn.seat in
-    let fits : is_container (sight_at (bare c.loop-index.tree.tree) c.child-child.result).label.kind ≡ true → Fits (sight_at (bare c.loop-index.tree.tree) c.child-child.result) (frames_asked c.pairs_for.result.now c.index-listed-index.result.inline c.index-listed-index.result.block) = turn.fits in
-    let level : 1 ≤ level_at (bare c.loop-index.tree.tree) c.child-child.result = turn.level in
-    let near : IsNearAt (level_at (bare c.loop-index.tree.tree) c.child-child.result) c.args.x c.args.y (frame_of c.index-listed-index.result) = turn.near in
-    let small : 2 * size_at (bare c.loop-index.tree.tree) c.child-child.result + 1 < 2 * size_at (bare c.args.tree.now.tree) c.args.id = omega (arith, turn.next.smaller, ap (λ (z : BareTrees). size_at z c.args.id) c.loop-index.invariant.same) in
+    let reps : length c.pairs_for.result.now ≡ length (sight_at (bare c.loop-index.tree.tree) c.child_of_frame-child.result).chain = turn.counts in
+    let seat : IsSeat (sight_at (bare c.loop-index.tree.tree) c.child_of_frame-child.result) c.pairs_for.result.now c.above_for.result.now c.area_for.result = turn.seat in
+    let fits : is_container (sight_at (bare c.loop-index.tree.tree) c.child_of_frame-child.result).label.kind ≡ true → Fits (sight_at (bare c.loop-index.tree.tree) c.child_of_frame-child.result) (frames_asked c.pairs_for.result.now c.index-listed-index.result.inline c.index-listed-index.result.block) = turn.fits in
+    let level : 1 ≤ level_at (bare c.loop-index.tree.tree) c.child_of_frame-child.result = turn.level in
+    let near : IsNearAt (level_at (bare c.loop-index.tree.tree) c.child_of_frame-child.result) c.args.x c.args.y (frame_of c.index-listed-index.result) = turn.near in
+    let nothing : c.args.nothing.now ≡ above.Nothing = c.requires.nothing in
+    let small : 2 * size_at (bare c.loop-index.tree.tree) c.child_of_frame-child.result + 1 < 2 * size_at (bare c.args.tree.now.tree) c.args.id = omega (arith, turn.next.smaller, ap (λ (z : BareTrees). size_at z c.args.id) c.loop-index.invariant.same) in
     search rules
 
 pub boxes_below-returns-in_err-boxes_of-clause-part : goal.boxes_below-returns-in_err-boxes_of-clause-part
 boxes_below-returns-in_err-boxes_of-clause-part g t c =
-    let turn : IsTurn (bare c.loop-index.tree.tree) c.args.id (frames_asked c.args.reps.now c.args.inline.now c.args.block.now) c.args.x c.args.y c.loop-index.index c.child-child.result c.pairs_for.result.now c.above_for.result.now c.area_for.result c.index-listed-index.result = turn_here (bare c.loop-index.tree.tree) c.args.id c.args.reps.now c.args.inline.now c.args.block.now c.as_slice-listed.result.now c.in_ok-seats.seats c.args.x c.args.y
-    (subst (λ (z : BareTrees). IsBelow z c.args.id (frames_asked c.args.reps.now c.args.inline.now c.args.block.now) c.as_slice-listed.result.now c.in_ok-seats.seats c.args.x c.args.y) (sym c.loop-index.invariant.same) c.loop-index.invariant.below) c.loop-index.index c.child-child.result c.child-child.ensures.next
+    let turn : IsTurn (bare c.loop-index.tree.tree) c.args.id (frames_asked c.args.reps.now c.args.inline.now c.args.block.now) c.args.x c.args.y c.loop-index.index c.child_of_frame-child.result c.pairs_for.result.now c.above_for.result.now c.area_for.result c.index-listed-index.result = turn_here (bare c.loop-index.tree.tree) c.args.id c.args.reps.now c.args.inline.now c.args.block.now c.as_slice-listed.result.now c.in_ok-seats.seats c.args.x c.args.y
+    (subst (λ (z : BareTrees). IsBelow z c.args.id (frames_asked c.args.reps.now c.args.inline.now c.args.block.now) c.as_slice-listed.result.now c.in_ok-seats.seats c.args.x c.args.y) (sym c.loop-index.invariant.same) c.loop-index.invariant.below) c.loop-index.index c.child_of_frame-child.result c.child_of_frame-child.ensures
     (omega (arith, c.loop-index-test.true)) c.is_lower-lower.result c.is_lower-lower.ensures c.pairs_for.result.now c.pairs_for.ensures c.above_for.result.now c.above_for.ensures c.area_for.result c.area_for.ensures
     c.index-listed-index.result c.index-listed-index.is in
-    on_err _ _ (part_next (bare c.args.tree.now.tree) (bare c.loop-index.tree.tree) c.loop-index.invariant.same c.args.id (frames_asked c.args.reps.now c.args.inline.now c.args.block.now) c.args.x c.args.y c.loop-index.index c.child-child.result c.pairs_for.result.now c.above_for.result.now c.area_for.result c.index-listed-index.result turn (state c.args.tree.now c.args.tally.now c.args.passes.now (g.R.Ruler.log c.args.ruler.now)) (state c.loop-index.tree c.loop-index.tally c.loop-index.passes (g.R.Ruler.log c.loop-index.ruler)) (state c.boxes_of.new.tree c.boxes_of.new.tally c.boxes_of.new.passes (g.R.Ruler.log c.boxes_of.new.ruler)) refl c.loop-index.invariant.laid c.in_err-boxes_of.ensures.part)
+    on_err _ _ (part_next (bare c.args.tree.now.tree) (bare c.loop-index.tree.tree) c.loop-index.invariant.same c.args.id (frames_asked c.args.reps.now c.args.inline.now c.args.block.now) c.args.x c.args.y c.loop-index.index c.child_of_frame-child.result c.pairs_for.result.now c.above_for.result.now c.area_for.result c.index-listed-index.result turn (state c.args.tree.now c.args.tally.now c.args.passes.now (g.R.Ruler.log c.args.ruler.now)) (state c.loop-index.tree c.loop-index.tally c.loop-index.passes (g.R.Ruler.log c.loop-index.ruler)) (state c.boxes_of.new.tree c.boxes_of.new.tally c.boxes_of.new.passes (g.R.Ruler.log c.boxes_of.new.ruler)) refl c.loop-index.invariant.laid c.in_err-boxes_of.ensures.part)
 
 pub boxes_below-returns-in_err-boxes_of-clause-quiet : goal.boxes_below-returns-in_err-boxes_of-clause-quiet
 boxes_below-returns-in_err-boxes_of-clause-quiet g t c =
-    let turn : IsTurn (bare c.loop-index.tree.tree) c.args.id (frames_asked c.args.reps.now c.args.inline.now c.args.block.now) c.args.x c.args.y c.loop-index.index c.child-child.result c.pairs_for.result.now c.above_for.result.now c.area_for.result c.index-listed-index.result = turn_here (bare c.loop-index.tree.tree) c.args.id c.args.reps.now c.args.inline.now c.args.block.now c.as_slice-listed.result.now c.in_ok-seats.seats c.args.x c.args.y
-    (subst (λ (z : BareTrees). IsBelow z c.args.id (frames_asked c.args.reps.now c.args.inline.now c.args.block.now) c.as_slice-listed.result.now c.in_ok-seats.seats c.args.x c.args.y) (sym c.loop-index.invariant.same) c.loop-index.invariant.below) c.loop-index.index c.child-child.result c.child-child.ensures.next
+    let turn : IsTurn (bare c.loop-index.tree.tree) c.args.id (frames_asked c.args.reps.now c.args.inline.now c.args.block.now) c.args.x c.args.y c.loop-index.index c.child_of_frame-child.result c.pairs_for.result.now c.above_for.result.now c.area_for.result c.index-listed-index.result = turn_here (bare c.loop-index.tree.tree) c.args.id c.args.reps.now c.args.inline.now c.args.block.now c.as_slice-listed.result.now c.in_ok-seats.seats c.args.x c.args.y
+    (subst (λ (z : BareTrees). IsBelow z c.args.id (frames_asked c.args.reps.now c.args.inline.now c.args.block.now) c.as_slice-listed.result.now c.in_ok-seats.seats c.args.x c.args.y) (sym c.loop-index.invariant.same) c.loop-index.invariant.below) c.loop-index.index c.child_of_frame-child.result c.child_of_frame-child.ensures
     (omega (arith, c.loop-index-test.true)) c.is_lower-lower.result c.is_lower-lower.ensures c.pairs_for.result.now c.pairs_for.ensures c.above_for.result.now c.above_for.ensures c.area_for.result c.area_for.ensures
     c.index-listed-index.result c.index-listed-index.is in
-    quiet_next (bare c.args.tree.now.tree) (bare c.loop-index.tree.tree) c.loop-index.invariant.same c.args.id (frames_asked c.args.reps.now c.args.inline.now c.args.block.now) c.args.x c.args.y c.loop-index.index c.child-child.result c.pairs_for.result.now c.above_for.result.now c.area_for.result c.index-listed-index.result turn (state c.args.tree.now c.args.tally.now c.args.passes.now (g.R.Ruler.log c.args.ruler.now)) (state c.loop-index.tree c.loop-index.tally c.loop-index.passes (g.R.Ruler.log c.loop-index.ruler)) (state c.boxes_of.new.tree c.boxes_of.new.tally c.boxes_of.new.passes (g.R.Ruler.log c.boxes_of.new.ruler)) c.loop-index.invariant.quiet c.boxes_of.ensures.quiet
+    quiet_next (bare c.args.tree.now.tree) (bare c.loop-index.tree.tree) c.loop-index.invariant.same c.args.id (frames_asked c.args.reps.now c.args.inline.now c.args.block.now) c.args.x c.args.y c.loop-index.index c.child_of_frame-child.result c.pairs_for.result.now c.above_for.result.now c.area_for.result c.index-listed-index.result turn (state c.args.tree.now c.args.tally.now c.args.passes.now (g.R.Ruler.log c.args.ruler.now)) (state c.loop-index.tree c.loop-index.tally c.loop-index.passes (g.R.Ruler.log c.loop-index.ruler)) (state c.boxes_of.new.tree c.boxes_of.new.tally c.boxes_of.new.passes (g.R.Ruler.log c.boxes_of.new.ruler)) c.loop-index.invariant.quiet c.boxes_of.ensures.quiet
 
 pub boxes_below-loop-index-preserved : goal.boxes_below-loop-index-preserved
 boxes_below-loop-index-preserved g t c =
-    let turn : IsTurn (bare c.loop-index.tree.tree) c.args.id (frames_asked c.args.reps.now c.args.inline.now c.args.block.now) c.args.x c.args.y c.loop-index.index c.child-child.result c.pairs_for.result.now c.above_for.result.now c.area_for.result c.index-listed-index.result = turn_here (bare c.loop-index.tree.tree) c.args.id c.args.reps.now c.args.inline.now c.args.block.now c.as_slice-listed.result.now c.in_ok-seats.seats c.args.x c.args.y
-    (subst (λ (z : BareTrees). IsBelow z c.args.id (frames_asked c.args.reps.now c.args.inline.now c.args.block.now) c.as_slice-listed.result.now c.in_ok-seats.seats c.args.x c.args.y) (sym c.loop-index.invariant.same) c.loop-index.invariant.below) c.loop-index.index c.child-child.result c.child-child.ensures.next
+    let turn : IsTurn (bare c.loop-index.tree.tree) c.args.id (frames_asked c.args.reps.now c.args.inline.now c.args.block.now) c.args.x c.args.y c.loop-index.index c.child_of_frame-child.result c.pairs_for.result.now c.above_for.result.now c.area_for.result c.index-listed-index.result = turn_here (bare c.loop-index.tree.tree) c.args.id c.args.reps.now c.args.inline.now c.args.block.now c.as_slice-listed.result.now c.in_ok-seats.seats c.args.x c.args.y
+    (subst (λ (z : BareTrees). IsBelow z c.args.id (frames_asked c.args.reps.now c.args.inline.now c.args.block.now) c.as_slice-listed.result.now c.in_ok-seats.seats c.args.x c.args.y) (sym c.loop-index.invariant.same) c.loop-index.invariant.below) c.loop-index.index c.child_of_frame-child.result c.child_of_frame-child.ensures
     (omega (arith, c.loop-index-test.true)) c.is_lower-lower.result c.is_lower-lower.ensures c.pairs_for.result.now c.pairs_for.ensures c.above_for.result.now c.above_for.ensures c.area_for.result c.area_for.ensures
     c.index-listed-index.result c.index-listed-index.is in
     record {
       right = c.boxes_of.ensures.right;
-      same = child_same (bare c.loop-index.tree.tree) c.child-child.result _ _ _ c.in_ok-boxes_of.ensures.laid ∙ c.loop-index.invariant.same;
-      laid = laid_next (bare c.args.tree.now.tree) (bare c.loop-index.tree.tree) c.loop-index.invariant.same c.args.id (frames_asked c.args.reps.now c.args.inline.now c.args.block.now) c.args.x c.args.y c.loop-index.index c.child-child.result c.pairs_for.result.now c.above_for.result.now c.area_for.result c.index-listed-index.result turn (state c.args.tree.now c.args.tally.now c.args.passes.now (g.R.Ruler.log c.args.ruler.now)) (state c.loop-index.tree c.loop-index.tally c.loop-index.passes (g.R.Ruler.log c.loop-index.ruler)) (state c.boxes_of.new.tree c.boxes_of.new.tally c.boxes_of.new.passes (g.R.Ruler.log c.boxes_of.new.ruler)) refl c.loop-index.invariant.laid c.in_ok-boxes_of.ensures.laid;
-      value = value_next (bare c.args.tree.now.tree) (bare c.loop-index.tree.tree) c.loop-index.invariant.same c.args.id (frames_asked c.args.reps.now c.args.inline.now c.args.block.now) c.args.x c.args.y c.loop-index.index c.child-child.result c.pairs_for.result.now c.above_for.result.now c.area_for.result c.index-listed-index.result turn c.loop-index.told c.boxes_of.new.told _ c.in_ok-boxes_of.ensures.value c.loop-index.invariant.value;
+      same = child_same (bare c.loop-index.tree.tree) c.child_of_frame-child.result _ _ _ c.in_ok-boxes_of.ensures.laid ∙ c.loop-index.invariant.same;
+      laid = laid_next (bare c.args.tree.now.tree) (bare c.loop-index.tree.tree) c.loop-index.invariant.same c.args.id (frames_asked c.args.reps.now c.args.inline.now c.args.block.now) c.args.x c.args.y c.loop-index.index c.child_of_frame-child.result c.pairs_for.result.now c.above_for.result.now c.area_for.result c.index-listed-index.result turn (state c.args.tree.now c.args.tally.now c.args.passes.now (g.R.Ruler.log c.args.ruler.now)) (state c.loop-index.tree c.loop-index.tally c.loop-index.passes (g.R.Ruler.log c.loop-index.ruler)) (state c.boxes_of.new.tree c.boxes_of.new.tally c.boxes_of.new.passes (g.R.Ruler.log c.boxes_of.new.ruler)) refl c.loop-index.invariant.laid c.in_ok-boxes_of.ensures.laid;
+      value = value_next (bare c.args.tree.now.tree) (bare c.loop-index.tree.tree) c.loop-index.invariant.same c.args.id (frames_asked c.args.reps.now c.args.inline.now c.args.block.now) c.args.x c.args.y c.loop-index.index c.child_of_frame-child.result c.pairs_for.result.now c.above_for.result.now c.area_for.result c.index-listed-index.result turn c.loop-index.told c.boxes_of.new.told _ c.in_ok-boxes_of.ensures.value c.loop-index.invariant.value;
       below = c.loop-index.invariant.below;
-      own = own_next (bare c.args.tree.now.tree) c.differ.ensures c.args.id c.args.reps.now c.args.inline.now c.args.block.now c.args.x c.args.y c.loop-index.index c.child-child.result c.pairs_for.result.now c.above_for.result.now c.area_for.result c.index-listed-index.result (subst (λ (z : BareTrees). IsTurn z c.args.id (frames_asked c.args.reps.now c.args.inline.now c.args.block.now) c.args.x c.args.y c.loop-index.index c.child-child.result c.pairs_for.result.now c.above_for.result.now c.area_for.result c.index-listed-index.result) c.loop-index.invariant.same turn) (state c.loop-index.tree c.loop-index.tally c.loop-index.passes (g.R.Ruler.log c.loop-index.ruler)) (state c.boxes_of.new.tree c.boxes_of.new.tally c.boxes_of.new.passes (g.R.Ruler.log c.boxes_of.new.ruler)) (outside_same (bare c.args.tree.now.tree) c.child-child.result (frames_asked c.pairs_for.result.now c.index-listed-index.result.inline c.index-listed-index.result.block) (state c.loop-index.tree c.loop-index.tally c.loop-index.passes (g.R.Ruler.log c.loop-index.ruler)) (state c.boxes_of.new.tree c.boxes_of.new.tally c.boxes_of.new.passes (g.R.Ruler.log c.boxes_of.new.ruler)) c.loop-index.invariant.same (subst (λ (z : BareTrees). IsChildLaid z c.child-child.result (frames_asked c.pairs_for.result.now c.index-listed-index.result.inline c.index-listed-index.result.block) (state c.loop-index.tree c.loop-index.tally c.loop-index.passes (g.R.Ruler.log c.loop-index.ruler)) (state c.boxes_of.new.tree c.boxes_of.new.tally c.boxes_of.new.passes (g.R.Ruler.log c.boxes_of.new.ruler))) c.loop-index.invariant.same c.in_ok-boxes_of.ensures.laid)) (frames_asked c.args.reps.now c.args.inline.now c.args.block.now) c.loop-index.invariant.own;
-      done = done_next (bare c.args.tree.now.tree) c.differ.ensures c.args.id c.args.reps.now c.args.inline.now c.args.block.now c.args.x c.args.y c.loop-index.index c.child-child.result c.pairs_for.result.now c.above_for.result.now c.area_for.result c.index-listed-index.result (subst (λ (z : BareTrees). IsTurn z c.args.id (frames_asked c.args.reps.now c.args.inline.now c.args.block.now) c.args.x c.args.y c.loop-index.index c.child-child.result c.pairs_for.result.now c.above_for.result.now c.area_for.result c.index-listed-index.result) c.loop-index.invariant.same turn) (state c.loop-index.tree c.loop-index.tally c.loop-index.passes (g.R.Ruler.log c.loop-index.ruler)) (state c.boxes_of.new.tree c.boxes_of.new.tally c.boxes_of.new.passes (g.R.Ruler.log c.boxes_of.new.ruler)) (outside_same (bare c.args.tree.now.tree) c.child-child.result (frames_asked c.pairs_for.result.now c.index-listed-index.result.inline c.index-listed-index.result.block) (state c.loop-index.tree c.loop-index.tally c.loop-index.passes (g.R.Ruler.log c.loop-index.ruler)) (state c.boxes_of.new.tree c.boxes_of.new.tally c.boxes_of.new.passes (g.R.Ruler.log c.boxes_of.new.ruler)) c.loop-index.invariant.same (subst (λ (z : BareTrees). IsChildLaid z c.child-child.result (frames_asked c.pairs_for.result.now c.index-listed-index.result.inline c.index-listed-index.result.block) (state c.loop-index.tree c.loop-index.tally c.loop-index.passes (g.R.Ruler.log c.loop-index.ruler)) (state c.boxes_of.new.tree c.boxes_of.new.tally c.boxes_of.new.passes (g.R.Ruler.log c.boxes_of.new.ruler))) c.loop-index.invariant.same c.in_ok-boxes_of.ensures.laid)) c.loop-index.invariant.done
-          (subst (λ (z : BareTrees). is_container (sight_at z c.child-child.result).label.kind ≡ true → AreKeptBelow z c.child-child.result (frames_asked c.pairs_for.result.now c.index-listed-index.result.inline c.index-listed-index.result.block) (state c.boxes_of.new.tree c.boxes_of.new.tally c.boxes_of.new.passes (g.R.Ruler.log c.boxes_of.new.ruler))) c.loop-index.invariant.same c.in_ok-boxes_of.ensures.paths);
-      leaves = own_measured (bare c.args.tree.now.tree) c.differ.ensures c.args.id c.args.reps.now c.args.inline.now c.args.block.now c.args.x c.args.y c.loop-index.index c.child-child.result c.pairs_for.result.now c.above_for.result.now c.area_for.result c.index-listed-index.result (subst (λ (z : BareTrees). IsTurn z c.args.id (frames_asked c.args.reps.now c.args.inline.now c.args.block.now) c.args.x c.args.y c.loop-index.index c.child-child.result c.pairs_for.result.now c.above_for.result.now c.area_for.result c.index-listed-index.result) c.loop-index.invariant.same turn) (state c.args.tree.now c.args.tally.now c.args.passes.now (g.R.Ruler.log c.args.ruler.now)) (state c.loop-index.tree c.loop-index.tally c.loop-index.passes (g.R.Ruler.log c.loop-index.ruler)) (state c.boxes_of.new.tree c.boxes_of.new.tally c.boxes_of.new.passes (g.R.Ruler.log c.boxes_of.new.ruler)) (outside_same (bare c.args.tree.now.tree) c.child-child.result (frames_asked c.pairs_for.result.now c.index-listed-index.result.inline c.index-listed-index.result.block) (state c.loop-index.tree c.loop-index.tally c.loop-index.passes (g.R.Ruler.log c.loop-index.ruler)) (state c.boxes_of.new.tree c.boxes_of.new.tally c.boxes_of.new.passes (g.R.Ruler.log c.boxes_of.new.ruler)) c.loop-index.invariant.same (subst (λ (z : BareTrees). IsChildLaid z c.child-child.result (frames_asked c.pairs_for.result.now c.index-listed-index.result.inline c.index-listed-index.result.block) (state c.loop-index.tree c.loop-index.tally c.loop-index.passes (g.R.Ruler.log c.loop-index.ruler)) (state c.boxes_of.new.tree c.boxes_of.new.tally c.boxes_of.new.passes (g.R.Ruler.log c.boxes_of.new.ruler))) c.loop-index.invariant.same c.in_ok-boxes_of.ensures.laid)) (untold (bare c.args.tree.now.tree) c.child-child.result (frames_asked c.pairs_for.result.now c.index-listed-index.result.inline c.index-listed-index.result.block) (state c.loop-index.tree c.loop-index.tally c.loop-index.passes (g.R.Ruler.log c.loop-index.ruler)) (state c.boxes_of.new.tree c.boxes_of.new.tally c.boxes_of.new.passes (g.R.Ruler.log c.boxes_of.new.ruler)) (subst (λ (z : BareTrees). IsChildLaid z c.child-child.result (frames_asked c.pairs_for.result.now c.index-listed-index.result.inline c.index-listed-index.result.block) (state c.loop-index.tree c.loop-index.tally c.loop-index.passes (g.R.Ruler.log c.loop-index.ruler)) (state c.boxes_of.new.tree c.boxes_of.new.tally c.boxes_of.new.passes (g.R.Ruler.log c.boxes_of.new.ruler))) c.loop-index.invariant.same c.in_ok-boxes_of.ensures.laid)) c.loop-index.invariant.leaves;
-      measured = measured_next (bare c.args.tree.now.tree) c.differ.ensures c.args.id c.args.reps.now c.args.inline.now c.args.block.now c.args.x c.args.y c.loop-index.index c.child-child.result c.pairs_for.result.now c.above_for.result.now c.area_for.result c.index-listed-index.result (subst (λ (z : BareTrees). IsTurn z c.args.id (frames_asked c.args.reps.now c.args.inline.now c.args.block.now) c.args.x c.args.y c.loop-index.index c.child-child.result c.pairs_for.result.now c.above_for.result.now c.area_for.result c.index-listed-index.result) c.loop-index.invariant.same turn) (state c.args.tree.now c.args.tally.now c.args.passes.now (g.R.Ruler.log c.args.ruler.now)) (state c.loop-index.tree c.loop-index.tally c.loop-index.passes (g.R.Ruler.log c.loop-index.ruler)) (state c.boxes_of.new.tree c.boxes_of.new.tally c.boxes_of.new.passes (g.R.Ruler.log c.boxes_of.new.ruler)) (outside_same (bare c.args.tree.now.tree) c.child-child.result (frames_asked c.pairs_for.result.now c.index-listed-index.result.inline c.index-listed-index.result.block) (state c.loop-index.tree c.loop-index.tally c.loop-index.passes (g.R.Ruler.log c.loop-index.ruler)) (state c.boxes_of.new.tree c.boxes_of.new.tally c.boxes_of.new.passes (g.R.Ruler.log c.boxes_of.new.ruler)) c.loop-index.invariant.same (subst (λ (z : BareTrees). IsChildLaid z c.child-child.result (frames_asked c.pairs_for.result.now c.index-listed-index.result.inline c.index-listed-index.result.block) (state c.loop-index.tree c.loop-index.tally c.loop-index.passes (g.R.Ruler.log c.loop-index.ruler)) (state c.boxes_of.new.tree c.boxes_of.new.tally c.boxes_of.new.passes (g.R.Ruler.log c.boxes_of.new.ruler))) c.loop-index.invariant.same c.in_ok-boxes_of.ensures.laid)) c.loop-index.invariant.measured c.loop-index.invariant.absent
-          (subst (λ (z : BareTrees). is_container (sight_at z c.child-child.result).label.kind ≡ true → MeasuresBelow z c.child-child.result (frames_asked c.pairs_for.result.now c.index-listed-index.result.inline c.index-listed-index.result.block) (state c.loop-index.tree c.loop-index.tally c.loop-index.passes (g.R.Ruler.log c.loop-index.ruler)) (state c.boxes_of.new.tree c.boxes_of.new.tally c.boxes_of.new.passes (g.R.Ruler.log c.boxes_of.new.ruler))) c.loop-index.invariant.same c.in_ok-boxes_of.ensures.leaves);
-      absent = absent_next (bare c.args.tree.now.tree) c.differ.ensures c.args.id c.args.reps.now c.args.inline.now c.args.block.now c.args.x c.args.y c.loop-index.index c.child-child.result c.pairs_for.result.now c.above_for.result.now c.area_for.result c.index-listed-index.result (subst (λ (z : BareTrees). IsTurn z c.args.id (frames_asked c.args.reps.now c.args.inline.now c.args.block.now) c.args.x c.args.y c.loop-index.index c.child-child.result c.pairs_for.result.now c.above_for.result.now c.area_for.result c.index-listed-index.result) c.loop-index.invariant.same turn) (state c.args.tree.now c.args.tally.now c.args.passes.now (g.R.Ruler.log c.args.ruler.now)) (state c.loop-index.tree c.loop-index.tally c.loop-index.passes (g.R.Ruler.log c.loop-index.ruler)) (state c.boxes_of.new.tree c.boxes_of.new.tally c.boxes_of.new.passes (g.R.Ruler.log c.boxes_of.new.ruler)) (outside_same (bare c.args.tree.now.tree) c.child-child.result (frames_asked c.pairs_for.result.now c.index-listed-index.result.inline c.index-listed-index.result.block) (state c.loop-index.tree c.loop-index.tally c.loop-index.passes (g.R.Ruler.log c.loop-index.ruler)) (state c.boxes_of.new.tree c.boxes_of.new.tally c.boxes_of.new.passes (g.R.Ruler.log c.boxes_of.new.ruler)) c.loop-index.invariant.same (subst (λ (z : BareTrees). IsChildLaid z c.child-child.result (frames_asked c.pairs_for.result.now c.index-listed-index.result.inline c.index-listed-index.result.block) (state c.loop-index.tree c.loop-index.tally c.loop-index.passes (g.R.Ruler.log c.loop-index.ruler)) (state c.boxes_of.new.tree c.boxes_of.new.tally c.boxes_of.new.passes (g.R.Ruler.log c.boxes_of.new.ruler))) c.loop-index.invariant.same c.in_ok-boxes_of.ensures.laid)) c.loop-index.invariant.absent;
+      own = own_next (bare c.args.tree.now.tree) c.differ.ensures c.args.id c.args.reps.now c.args.inline.now c.args.block.now c.args.x c.args.y c.loop-index.index c.child_of_frame-child.result c.pairs_for.result.now c.above_for.result.now c.area_for.result c.index-listed-index.result (subst (λ (z : BareTrees). IsTurn z c.args.id (frames_asked c.args.reps.now c.args.inline.now c.args.block.now) c.args.x c.args.y c.loop-index.index c.child_of_frame-child.result c.pairs_for.result.now c.above_for.result.now c.area_for.result c.index-listed-index.result) c.loop-index.invariant.same turn) (state c.loop-index.tree c.loop-index.tally c.loop-index.passes (g.R.Ruler.log c.loop-index.ruler)) (state c.boxes_of.new.tree c.boxes_of.new.tally c.boxes_of.new.passes (g.R.Ruler.log c.boxes_of.new.ruler)) (outside_same (bare c.args.tree.now.tree) c.child_of_frame-child.result (frames_asked c.pairs_for.result.now c.index-listed-index.result.inline c.index-listed-index.result.block) (state c.loop-index.tree c.loop-index.tally c.loop-index.passes (g.R.Ruler.log c.loop-index.ruler)) (state c.boxes_of.new.tree c.boxes_of.new.tally c.boxes_of.new.passes (g.R.Ruler.log c.boxes_of.new.ruler)) c.loop-index.invariant.same (subst (λ (z : BareTrees). IsChildLaid z c.child_of_frame-child.result (frames_asked c.pairs_for.result.now c.index-listed-index.result.inline c.index-listed-index.result.block) (state c.loop-index.tree c.loop-index.tally c.loop-index.passes (g.R.Ruler.log c.loop-index.ruler)) (state c.boxes_of.new.tree c.boxes_of.new.tally c.boxes_of.new.passes (g.R.Ruler.log c.boxes_of.new.ruler))) c.loop-index.invariant.same c.in_ok-boxes_of.ensures.laid)) (frames_asked c.args.reps.now c.args.inline.now c.args.block.now) c.loop-index.invariant.own;
+      done = done_next (bare c.args.tree.now.tree) c.differ.ensures c.args.id c.args.reps.now c.args.inline.now c.args.block.now c.args.x c.args.y c.loop-index.index c.child_of_frame-child.result c.pairs_for.result.now c.above_for.result.now c.area_for.result c.index-listed-index.result (subst (λ (z : BareTrees). IsTurn z c.args.id (frames_asked c.args.reps.now c.args.inline.now c.args.block.now) c.args.x c.args.y c.loop-index.index c.child_of_frame-child.result c.pairs_for.result.now c.above_for.result.now c.area_for.result c.index-listed-index.result) c.loop-index.invariant.same turn) (state c.loop-index.tree c.loop-index.tally c.loop-index.passes (g.R.Ruler.log c.loop-index.ruler)) (state c.boxes_of.new.tree c.boxes_of.new.tally c.boxes_of.new.passes (g.R.Ruler.log c.boxes_of.new.ruler)) (outside_same (bare c.args.tree.now.tree) c.child_of_frame-child.result (frames_asked c.pairs_for.result.now c.index-listed-index.result.inline c.index-listed-index.result.block) (state c.loop-index.tree c.loop-index.tally c.loop-index.passes (g.R.Ruler.log c.loop-index.ruler)) (state c.boxes_of.new.tree c.boxes_of.new.tally c.boxes_of.new.passes (g.R.Ruler.log c.boxes_of.new.ruler)) c.loop-index.invariant.same (subst (λ (z : BareTrees). IsChildLaid z c.child_of_frame-child.result (frames_asked c.pairs_for.result.now c.index-listed-index.result.inline c.index-listed-index.result.block) (state c.loop-index.tree c.loop-index.tally c.loop-index.passes (g.R.Ruler.log c.loop-index.ruler)) (state c.boxes_of.new.tree c.boxes_of.new.tally c.boxes_of.new.passes (g.R.Ruler.log c.boxes_of.new.ruler))) c.loop-index.invariant.same c.in_ok-boxes_of.ensures.laid)) c.loop-index.invariant.done
+          (subst (λ (z : BareTrees). is_container (sight_at z c.child_of_frame-child.result).label.kind ≡ true → AreKeptBelow z c.child_of_frame-child.result (frames_asked c.pairs_for.result.now c.index-listed-index.result.inline c.index-listed-index.result.block) (state c.boxes_of.new.tree c.boxes_of.new.tally c.boxes_of.new.passes (g.R.Ruler.log c.boxes_of.new.ruler))) c.loop-index.invariant.same c.in_ok-boxes_of.ensures.paths);
+      leaves = own_measured (bare c.args.tree.now.tree) c.differ.ensures c.args.id c.args.reps.now c.args.inline.now c.args.block.now c.args.x c.args.y c.loop-index.index c.child_of_frame-child.result c.pairs_for.result.now c.above_for.result.now c.area_for.result c.index-listed-index.result (subst (λ (z : BareTrees). IsTurn z c.args.id (frames_asked c.args.reps.now c.args.inline.now c.args.block.now) c.args.x c.args.y c.loop-index.index c.child_of_frame-child.result c.pairs_for.result.now c.above_for.result.now c.area_for.result c.index-listed-index.result) c.loop-index.invariant.same turn) (state c.args.tree.now c.args.tally.now c.args.passes.now (g.R.Ruler.log c.args.ruler.now)) (state c.loop-index.tree c.loop-index.tally c.loop-index.passes (g.R.Ruler.log c.loop-index.ruler)) (state c.boxes_of.new.tree c.boxes_of.new.tally c.boxes_of.new.passes (g.R.Ruler.log c.boxes_of.new.ruler)) (outside_same (bare c.args.tree.now.tree) c.child_of_frame-child.result (frames_asked c.pairs_for.result.now c.index-listed-index.result.inline c.index-listed-index.result.block) (state c.loop-index.tree c.loop-index.tally c.loop-index.passes (g.R.Ruler.log c.loop-index.ruler)) (state c.boxes_of.new.tree c.boxes_of.new.tally c.boxes_of.new.passes (g.R.Ruler.log c.boxes_of.new.ruler)) c.loop-index.invariant.same (subst (λ (z : BareTrees). IsChildLaid z c.child_of_frame-child.result (frames_asked c.pairs_for.result.now c.index-listed-index.result.inline c.index-listed-index.result.block) (state c.loop-index.tree c.loop-index.tally c.loop-index.passes (g.R.Ruler.log c.loop-index.ruler)) (state c.boxes_of.new.tree c.boxes_of.new.tally c.boxes_of.new.passes (g.R.Ruler.log c.boxes_of.new.ruler))) c.loop-index.invariant.same c.in_ok-boxes_of.ensures.laid)) (untold (bare c.args.tree.now.tree) c.child_of_frame-child.result (frames_asked c.pairs_for.result.now c.index-listed-index.result.inline c.index-listed-index.result.block) (state c.loop-index.tree c.loop-index.tally c.loop-index.passes (g.R.Ruler.log c.loop-index.ruler)) (state c.boxes_of.new.tree c.boxes_of.new.tally c.boxes_of.new.passes (g.R.Ruler.log c.boxes_of.new.ruler)) (subst (λ (z : BareTrees). IsChildLaid z c.child_of_frame-child.result (frames_asked c.pairs_for.result.now c.index-listed-index.result.inline c.index-listed-index.result.block) (state c.loop-index.tree c.loop-index.tally c.loop-index.passes (g.R.Ruler.log c.loop-index.ruler)) (state c.boxes_of.new.tree c.boxes_of.new.tally c.boxes_of.new.passes (g.R.Ruler.log c.boxes_of.new.ruler))) c.loop-index.invariant.same c.in_ok-boxes_of.ensures.laid)) c.loop-index.invariant.leaves;
+      measured = measured_next (bare c.args.tree.now.tree) c.differ.ensures c.args.id c.args.reps.now c.args.inline.now c.args.block.now c.args.x c.args.y c.loop-index.index c.child_of_frame-child.result c.pairs_for.result.now c.above_for.result.now c.area_for.result c.index-listed-index.result (subst (λ (z : BareTrees). IsTurn z c.args.id (frames_asked c.args.reps.now c.args.inline.now c.args.block.now) c.args.x c.args.y c.loop-index.index c.child_of_frame-child.result c.pairs_for.result.now c.above_for.result.now c.area_for.result c.index-listed-index.result) c.loop-index.invariant.same turn) (state c.args.tree.now c.args.tally.now c.args.passes.now (g.R.Ruler.log c.args.ruler.now)) (state c.loop-index.tree c.loop-index.tally c.loop-index.passes (g.R.Ruler.log c.loop-index.ruler)) (state c.boxes_of.new.tree c.boxes_of.new.tally c.boxes_of.new.passes (g.R.Ruler.log c.boxes_of.new.ruler)) (outside_same (bare c.args.tree.now.tree) c.child_of_frame-child.result (frames_asked c.pairs_for.result.now c.index-listed-index.result.inline c.index-listed-index.result.block) (state c.loop-index.tree c.loop-index.tally c.loop-index.passes (g.R.Ruler.log c.loop-index.ruler)) (state c.boxes_of.new.tree c.boxes_of.new.tally c.boxes_of.new.passes (g.R.Ruler.log c.boxes_of.new.ruler)) c.loop-index.invariant.same (subst (λ (z : BareTrees). IsChildLaid z c.child_of_frame-child.result (frames_asked c.pairs_for.result.now c.index-listed-index.result.inline c.index-listed-index.result.block) (state c.loop-index.tree c.loop-index.tally c.loop-index.passes (g.R.Ruler.log c.loop-index.ruler)) (state c.boxes_of.new.tree c.boxes_of.new.tally c.boxes_of.new.passes (g.R.Ruler.log c.boxes_of.new.ruler))) c.loop-index.invariant.same c.in_ok-boxes_of.ensures.laid)) c.loop-index.invariant.measured c.loop-index.invariant.absent
+          (subst (λ (z : BareTrees). is_container (sight_at z c.child_of_frame-child.result).label.kind ≡ true → MeasuresBelow z c.child_of_frame-child.result (frames_asked c.pairs_for.result.now c.index-listed-index.result.inline c.index-listed-index.result.block) (state c.loop-index.tree c.loop-index.tally c.loop-index.passes (g.R.Ruler.log c.loop-index.ruler)) (state c.boxes_of.new.tree c.boxes_of.new.tally c.boxes_of.new.passes (g.R.Ruler.log c.boxes_of.new.ruler))) c.loop-index.invariant.same c.in_ok-boxes_of.ensures.leaves);
+      absent = absent_next (bare c.args.tree.now.tree) c.differ.ensures c.args.id c.args.reps.now c.args.inline.now c.args.block.now c.args.x c.args.y c.loop-index.index c.child_of_frame-child.result c.pairs_for.result.now c.above_for.result.now c.area_for.result c.index-listed-index.result (subst (λ (z : BareTrees). IsTurn z c.args.id (frames_asked c.args.reps.now c.args.inline.now c.args.block.now) c.args.x c.args.y c.loop-index.index c.child_of_frame-child.result c.pairs_for.result.now c.above_for.result.now c.area_for.result c.index-listed-index.result) c.loop-index.invariant.same turn) (state c.args.tree.now c.args.tally.now c.args.passes.now (g.R.Ruler.log c.args.ruler.now)) (state c.loop-index.tree c.loop-index.tally c.loop-index.passes (g.R.Ruler.log c.loop-index.ruler)) (state c.boxes_of.new.tree c.boxes_of.new.tally c.boxes_of.new.passes (g.R.Ruler.log c.boxes_of.new.ruler)) (outside_same (bare c.args.tree.now.tree) c.child_of_frame-child.result (frames_asked c.pairs_for.result.now c.index-listed-index.result.inline c.index-listed-index.result.block) (state c.loop-index.tree c.loop-index.tally c.loop-index.passes (g.R.Ruler.log c.loop-index.ruler)) (state c.boxes_of.new.tree c.boxes_of.new.tally c.boxes_of.new.passes (g.R.Ruler.log c.boxes_of.new.ruler)) c.loop-index.invariant.same (subst (λ (z : BareTrees). IsChildLaid z c.child_of_frame-child.result (frames_asked c.pairs_for.result.now c.index-listed-index.result.inline c.index-listed-index.result.block) (state c.loop-index.tree c.loop-index.tally c.loop-index.passes (g.R.Ruler.log c.loop-index.ruler)) (state c.boxes_of.new.tree c.boxes_of.new.tally c.boxes_of.new.passes (g.R.Ruler.log c.boxes_of.new.ruler))) c.loop-index.invariant.same c.in_ok-boxes_of.ensures.laid)) c.loop-index.invariant.absent;
       near = λ h. c.in_ok-boxes_of.ensures.near (c.loop-index.invariant.near h);
-      quiet = quiet_next (bare c.args.tree.now.tree) (bare c.loop-index.tree.tree) c.loop-index.invariant.same c.args.id (frames_asked c.args.reps.now c.args.inline.now c.args.block.now) c.args.x c.args.y c.loop-index.index c.child-child.result c.pairs_for.result.now c.above_for.result.now c.area_for.result c.index-listed-index.result turn (state c.args.tree.now c.args.tally.now c.args.passes.now (g.R.Ruler.log c.args.ruler.now)) (state c.loop-index.tree c.loop-index.tally c.loop-index.passes (g.R.Ruler.log c.loop-index.ruler)) (state c.boxes_of.new.tree c.boxes_of.new.tally c.boxes_of.new.passes (g.R.Ruler.log c.boxes_of.new.ruler)) c.loop-index.invariant.quiet c.boxes_of.ensures.quiet;
+      quiet = quiet_next (bare c.args.tree.now.tree) (bare c.loop-index.tree.tree) c.loop-index.invariant.same c.args.id (frames_asked c.args.reps.now c.args.inline.now c.args.block.now) c.args.x c.args.y c.loop-index.index c.child_of_frame-child.result c.pairs_for.result.now c.above_for.result.now c.area_for.result c.index-listed-index.result turn (state c.args.tree.now c.args.tally.now c.args.passes.now (g.R.Ruler.log c.args.ruler.now)) (state c.loop-index.tree c.loop-index.tally c.loop-index.passes (g.R.Ruler.log c.loop-index.ruler)) (state c.boxes_of.new.tree c.boxes_of.new.tally c.boxes_of.new.passes (g.R.Ruler.log c.boxes_of.new.ruler)) c.loop-index.invariant.quiet c.boxes_of.ensures.quiet;
     }
 
 pub boxes_below-returns-clause-value : goal.boxes_below-returns-clause-value
@@ -209,9 +217,9 @@ boxes_below-returns-clause-paths g t c =
     all_done (bare c.args.tree.now.tree) c.args.id (frames_asked c.args.reps.now c.args.inline.now c.args.block.now) (state c.loop-index.tree c.loop-index.tally c.loop-index.passes (g.R.Ruler.log c.loop-index.ruler)) c.loop-index.invariant.own
     (λ k e r child passed. c.loop-index.invariant.done k e r (omega (arith, number_there (bare c.args.tree.now.tree) c.args.id e k c.root.ensures.tree child, c.loop-index.invariant.below.counted, c.loop-index-test.false)) child passed)
 
-pub boxes_of-returns-then-not-is_container-clause-paths : goal.boxes_of-returns-then-not-is_container-clause-paths
-boxes_of-returns-then-not-is_container-clause-paths g t c =
-    λ container. absurd (false≢true (sym (kind_is c.node_at.result.now.kind (sight_at (bare c.args.tree.now.tree) c.args.id).label.kind c.is_container.result c.node_at.ensures.kind c.is_container.ensures ∙ c.if-not-is_container.true) ∙ container))
+pub boxes_of-returns-then-not-container-clause-paths : goal.boxes_of-returns-then-not-container-clause-paths
+boxes_of-returns-then-not-container-clause-paths g t c =
+    λ container. absurd (false≢true (sym (kind_is c.node_at-node.result.now.kind (sight_at (bare c.args.tree.now.tree) c.args.id).label.kind c.is_container-container.result c.node_at-node.ensures.kind c.is_container-container.ensures ∙ c.if-not-container.true) ∙ container))
 
 pub boxes_of-returns-clause-paths : goal.boxes_of-returns-clause-paths
 boxes_of-returns-clause-paths g t c = ok_then c.boxes_below.result _ _ (λ kept container. kept) c.boxes_below.ensures.paths
@@ -221,9 +229,9 @@ boxes_below-returns-clause-leaves g t c =
     all_measured (bare c.args.tree.now.tree) c.args.id (frames_asked c.args.reps.now c.args.inline.now c.args.block.now) (state c.args.tree.now c.args.tally.now c.args.passes.now (g.R.Ruler.log c.args.ruler.now)) (state c.loop-index.tree c.loop-index.tally c.loop-index.passes (g.R.Ruler.log c.loop-index.ruler)) c.loop-index.invariant.leaves
     (λ k e r child passed. c.loop-index.invariant.measured k e r (omega (arith, number_there (bare c.args.tree.now.tree) c.args.id e k c.root.ensures.tree child, c.loop-index.invariant.below.counted, c.loop-index-test.false)) child passed)
 
-pub boxes_of-returns-then-not-is_container-clause-leaves : goal.boxes_of-returns-then-not-is_container-clause-leaves
-boxes_of-returns-then-not-is_container-clause-leaves g t c =
-    λ container. absurd (false≢true (sym (kind_is c.node_at.result.now.kind (sight_at (bare c.args.tree.now.tree) c.args.id).label.kind c.is_container.result c.node_at.ensures.kind c.is_container.ensures ∙ c.if-not-is_container.true) ∙ container))
+pub boxes_of-returns-then-not-container-clause-leaves : goal.boxes_of-returns-then-not-container-clause-leaves
+boxes_of-returns-then-not-container-clause-leaves g t c =
+    λ container. absurd (false≢true (sym (kind_is c.node_at-node.result.now.kind (sight_at (bare c.args.tree.now.tree) c.args.id).label.kind c.is_container-container.result c.node_at-node.ensures.kind c.is_container-container.ensures ∙ c.if-not-container.true) ∙ container))
 
 pub boxes_of-returns-clause-leaves : goal.boxes_of-returns-clause-leaves
 boxes_of-returns-clause-leaves g t c = ok_then c.boxes_below.result _ _ (λ kept container. kept) c.boxes_below.ensures.leaves
