@@ -193,7 +193,7 @@ pub(crate) fn computed_entries(
 ) -> Result<Vec<(Prop, Value)>, NoMemory>
     ensures { IfOk result (λ made. made.items ≡ values_mapped (computed_value em rem) entries.now) }
 {
-    let mut made = Vec::new(alloc);
+    let mut made = Vec::with_capacity(alloc, entries.len())?;
     for (p, declared) in entries {
         made.push((*p, computed_value(alloc, em, rem, declared)?))?;
     }

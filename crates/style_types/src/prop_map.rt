@@ -165,7 +165,7 @@ impl PropMap<DeclaredValue> {
 
 impl<T: Copied + Drop> Copied for PropMap<T> {
     fn copy(&self, alloc: Global) -> Result<PropMap<T>, NoMemory> {
-        let mut entries = Vec::new(alloc);
+        let mut entries = Vec::with_capacity(alloc, self.entries.len())?;
         for (p, held) in &self.entries {
             entries.push((*p, held.copy(alloc)?))?;
         }
