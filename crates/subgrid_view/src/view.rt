@@ -137,7 +137,7 @@ fn moved(
     requires near { AreNear tracks.now }
     ensures { IfOk result (λ edges. edges ≡ moved_from moves.now 0 tracks.now) }
 {
-    let mut edges = Sequence::new(alloc);
+    let mut edges = Sequence::from_vec(Vec::with_capacity(alloc, tracks.len())?);
     for (place, track) in tracks.iter().enumerate() {
         let start = moved_start(moves, place, track);
         let end = moved_end(moves, track, &tracks[place + 1..]);
