@@ -146,6 +146,7 @@ fn moved(
     Ok(edges)
 }
 
+#[inline(always)]
 /// The tracks as a subgrid over them sees them, with a gutter that differs by so much from theirs.
 fn seen(
     alloc: Global,
