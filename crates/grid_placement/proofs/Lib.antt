@@ -12,3 +12,4 @@ pub mod Left
 pub mod Same
 pub mod Whole
 pub mod Fills
+pub mod Bands

@@ -1,6 +1,7 @@
 pub mod Near
 pub mod InRow
 pub mod Wishes
+pub mod Heights
 pub mod Dense
 pub mod Entries
 pub mod Starts

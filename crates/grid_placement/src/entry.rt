@@ -16,7 +16,7 @@ pub struct Entry {
 }
 
 /// The item as the flow sees it: flow `column` exchanges the axes.
-fn wish_in_flow(column_flow: bool, wish: Wish) -> Wish
+pub fn wish_in_flow(column_flow: bool, wish: Wish) -> Wish
     ensures { result ≡ wish_in_flow column_flow wish }
 {
     if column_flow {
@@ -84,7 +84,7 @@ pub fn begin<O: Occupancy>(
     ensures entries { IfOk result (λ entries. all_seen entries.items ≡ map begun (map (wish_in_flow column_flow) items.now)) }
     ensures cells { OnOk result (O.areas cells.new ≡ areas_of (map begun (map (wish_in_flow column_flow) items.now))) }
 {
-    let mut entries = Vec::new(alloc);
+    let mut entries = Vec::with_capacity(alloc, items.len())?;
     for item in items {
         let wish = wish_in_flow(column_flow, *item);
         let area = fixed_area(wish);

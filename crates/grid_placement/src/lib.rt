@@ -11,6 +11,7 @@ ghost use Rattle.grid_placement.specs.Wishes.{are_placeable, explicit_columns};
 
 mod entry;
 mod field;
+mod level;
 mod line;
 mod reached;
 mod rest;
@@ -20,6 +21,7 @@ mod starts;
 
 use crate::entry::begin;
 use crate::field::field_of;
+use crate::level::{common_height, place_level};
 use crate::rest::place_rest;
 use crate::rows::place_rows;
 use lunit::{Area, NoMemory, Occupancy};
@@ -48,6 +50,44 @@ pub fn place<O: Occupancy>(
     ensures areas { IfOk result (λ areas. areas.items ≡ placed items.now shape) }
     ensures apart { IfOk result (λ areas. NoOverlap items.now areas.items) }
     ensures dense { IfOk result (λ areas. FillsHoles items.now shape areas.items) }
+{
+    let areas = place_all(alloc, items, shape, cells)?;
+    Ok(areas)
+}
+
+/// The areas of items. Those that are all of one height and free in both axes are placed without a look at the cells, in sparse
+/// mode.
+fn place_all<O: Occupancy>(
+    alloc: Global,
+    items: &[Wish],
+    shape: Shape,
+    cells: &mut O,
+) -> Result<Vec<Area>, NoMemory>
+    requires empty { O.areas cells.old ≡ [] }
+    requires count { length items.now ≤ 65536 }
+    requires spans { IsTrue (are_placeable items.now) }
+    ensures { IfOk result (λ areas. areas.items ≡ placed items.now shape) }
+{
+    if !shape.dense {
+        let rows = common_height(items, shape.column_flow);
+        if rows >= 1 {
+            return place_level(alloc, items, shape, rows);
+        }
+    }
+    place_in_steps(alloc, items, shape, cells)
+}
+
+/// The areas of any items, step by step.
+fn place_in_steps<O: Occupancy>(
+    alloc: Global,
+    items: &[Wish],
+    shape: Shape,
+    cells: &mut O,
+) -> Result<Vec<Area>, NoMemory>
+    requires empty { O.areas cells.old ≡ [] }
+    requires count { length items.now ≤ 65536 }
+    requires spans { IsTrue (are_placeable items.now) }
+    ensures { IfOk result (λ areas. areas.items ≡ placed items.now shape) }
 {
     let flow = shape.column_flow;
     let mut entries = begin(alloc, items, flow, cells)?;

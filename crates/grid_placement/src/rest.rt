@@ -171,7 +171,7 @@ pub fn place_rest<O: Occupancy>(
     requires room { AllHaveRoom field.first field.last (all_seen entries.now) }
     ensures { IfOk result (λ areas. areas.items ≡ map (final_area column_flow) (rest_placed (field_of field) (O.areas cells.old) (record { column = field.first; row = field.row }) (all_seen entries.now))) }
 {
-    let mut areas = Vec::new(alloc);
+    let mut areas = Vec::with_capacity(alloc, entries.len())?;
     let mut cursor = Position {
         column: field.first,
         row: field.row,
