@@ -1,5 +1,5 @@
 -- Entries as the map that they stand for: a look-up by place, a write, an entry at the end, and entries taken out.
-use Rattle.std.proofs.Common.{◌≡◌, ℕ, suc, ◌+◌, ◌<◌, Bool, true, false, cond, not, ◌==◌, List, [], ◌∷◌, ◌++◌, length, filter, Option, Some, None, get_or, slice_set, refl, ap, sym, subst, ◌∙◌, arith}
+use Rattle.std.proofs.Common.{◌≡◌, ℕ, suc, ◌+◌, ◌<◌, Bool, true, false, cond, ◌==◌, List, [], ◌∷◌, ◌++◌, length, Option, Some, None, get_or, slice_set, refl, ap, sym, subst, ◌∙◌, arith}
 use Rattle.std.proofs.lemmas.Bool.Decides.{nat_tests}
 use Rattle.std.specs.List.{position_from}
 use Rattle.std.specs.Option.{unwrap_or}
@@ -11,14 +11,14 @@ use Rattle.style_types.specs.Styles.{StyleMap, value_of}
 use Rattle.style_types.specs.Table.{initial}
 use Rattle.style_types.specs.declared.prop.Prop.{Prop}
 
-abbrev Entries : Type 0 → Type 0
+abbrev pub Entries : Type 0 → Type 0
 Entries V = List (Prop × V)
 
 abbrev PropMapOf : Type 0 → Type 0
 PropMapOf V = map.FinMap prop_cmp V
 
 -- the value of the first entry of the property
-abbrev value_in : {V : Type 0} → Prop → Entries V → Option V
+abbrev pub value_in : {V : Type 0} → Prop → Entries V → Option V
 value_in q [] = None
 value_in q (e ∷ es) = cond (is_entry_of q e) (Some e.1) (value_in q es)
 
@@ -38,10 +38,6 @@ hidden m k n x y z h = grind (arith, nat_tests)
 -- values at two places may be looked for in either order
 swapped : {A : Type 0} (m k n : ℕ) (x y z : A) → (m == k) ≡ false → cond (m == n) y (cond (k == n) x z) ≡ cond (k == n) x (cond (m == n) y z)
 swapped m k n x y z h = grind (arith, nat_tests)
-
--- a value that is kept unless it stands at k
-kept : {A : Type 0} (m k n : ℕ) (x y z : A) → cond (not (m == k)) (cond (m == n) y (cond (k == n) x z)) (cond (k == n) x z) ≡ cond (k == n) x (cond (m == n) y z)
-kept m k n x y z = grind (arith, nat_tests)
 
 -- ---- a place that was found
 
@@ -87,23 +83,9 @@ neither_way : {A : Type 0} (b : Bool) (n : ℕ) (r : Option ℕ) (x z : Option A
 neither_way true n r x z h rest = absurd (cc)
 neither_way false n r x z h rest = rest h
 
-absent_from : {V : Type 0} → (n : ℕ) (p : Prop) (es : Entries V) → position_from (is_entry_of p) n es ≡ None → value_in p es ≡ None
+pub absent_from : {V : Type 0} → (n : ℕ) (p : Prop) (es : Entries V) → position_from (is_entry_of p) n es ≡ None → value_in p es ≡ None
 absent_from n p [] h = refl
 absent_from n p (e ∷ es) h = neither_way (is_entry_of p e) n (position_from (is_entry_of p) (n + 1) es) (Some e.1) (value_in p es) h (absent_from (n + 1) p es)
-
--- ---- entries taken out
-
-value_of_either : {V : Type 0} → (b : Bool) (q : Prop) (es fs : Entries V) → value_in q (cond b es fs) ≡ cond b (value_in q es) (value_in q fs)
-value_of_either true q es fs = refl
-value_of_either false q es fs = refl
-
-taken_out : {V : Type 0} → (p q : Prop) (es : Entries V) → value_in q (filter (λ e. not (is_entry_of p e)) es) ≡ cond (place_of p == place_of q) None (value_in q es)
-taken_out p q [] = grind (arith, nat_tests)
-taken_out {V = V} p q (e ∷ es) =
-    let rest : Entries V = filter (λ x. not (is_entry_of p x)) es in
-    value_of_either (not (is_entry_of p e)) q (e ∷ rest) rest
-    ∙ ap (λ w. cond (not (is_entry_of p e)) (cond (is_entry_of q e) (Some e.1) w) w) (taken_out p q es)
-    ∙ kept (place_of e.0) (place_of p) (place_of q) None (Some e.1) (value_in q es)
 
 -- ---- as maps
 
@@ -114,7 +96,7 @@ find_is : {V : Type 0} → (q : Prop) (es : Entries V) → map.find prop_cmp q e
 find_is q [] = refl
 find_is q (e ∷ es) = ap (λ b. cond b (Some e.1) (map.find prop_cmp q es)) (ties (place_of q) (place_of e.0)) ∙ ap (cond (is_entry_of q e) (Some e.1)) (find_is q es)
 
-get_is : {V : Type 0} → (es : Entries V) (q : Prop) → map.get (map_of es) q ≡ value_in q es
+pub get_is : {V : Type 0} → (es : Entries V) (q : Prop) → map.get (map_of es) q ≡ value_in q es
 get_is es q = map.get-from_entries prop_cmp_total es q ∙ find_is q es
 
 pub at_place : {A : Type 0} (p q : Prop) (x y : A) → cond (eq_by_cmp prop_cmp q p) x y ≡ cond (place_of p == place_of q) x y
@@ -139,10 +121,6 @@ insert_found es p i v h = same_as_insert es (slice_set es i (p, v)) p v ((found 
 
 pub insert_absent : {V : Type 0} → (es : Entries V) (p : Prop) (v : V) → position_from (is_entry_of p) 0 es ≡ None → map_of (es ++ (p, v) ∷ []) ≡ map.insert (map_of es) p v
 insert_absent es p v h = map.from_entries_push prop_cmp_total prop_cmp-IsAntisymmetric es p v (find_is p es ∙ absent_from 0 p es h)
-
-pub remove_taken : {V : Type 0} → (es : Entries V) (p : Prop) → map_of (filter (λ e. not (is_entry_of p e)) es) ≡ map.remove (map_of es) p
-remove_taken es p = map.same_map prop_cmp_total prop_cmp-IsAntisymmetric (map_of (filter (λ e. not (is_entry_of p e)) es)) (map.remove (map_of es) p) (λ q.
-    get_is (filter (λ e. not (is_entry_of p e)) es) q ∙ taken_out p q es ∙ sym (map.get-remove prop_cmp_total (map_of es) p q ∙ at_place p q None (map.get (map_of es) q) ∙ ap (cond (place_of p == place_of q) None) (get_is es q)))
 
 -- a property that is taken out has its initial value
 pub value_of_removed : (m : StyleMap) (p : Prop) → value_of (map.remove m p) p ≡ initial p

@@ -1,9 +1,10 @@
-ghost use Rattle.std.specs.Prelude.{◌≡◌, ◌<◌, length, false, slice_index_or, slice_set, filter, not, IfOk, OnOk, OnErr, IsOk, IsSome};
+ghost use Rattle.std.specs.Prelude.{◌≡◌, ◌<◌, ◌+◌, length, slice_index_or, slice_set, Some, None, IfOk, OnOk, OnErr, IsOk, IsSome};
 ghost use Rattle.std.specs.List.{position_from};
 ghost use Rattle.std.specs.Option.{option_copied};
 ghost use Rattle.std.specs.FinMap as map;
-ghost use Rattle.style_types.specs.Entries.{is_entry_of};
-ghost use Rattle.style_types.specs.Order.{place_of};
+ghost use Rattle.style_types.specs.Entries.{is_entry_of, places_of};
+ghost use Rattle.style_types.specs.Marks.{IsMarked};
+ghost use Rattle.style_types.specs.Order.{place_of, prop_cmp};
 ghost use Rattle.style_types.specs.Computed.{computed_style};
 
 use crate::computed::computed_entries;
@@ -20,11 +21,11 @@ const PROPERTIES: usize = 45;
 /// Properties, each with what belongs to it.
 ///
 /// Contracts see the finite map. In memory it is a list of the properties that are there, so that a node pays for
-/// these alone, and a mark for each property of the table, so that a look-up goes over these few entries only where it
-/// finds one.
+/// these alone, and a mark for each property of the table, which says where its entry is, so that a look-up goes over no
+/// entries.
 pub(crate) struct PropMap<T> {
     entries: Vec<(Prop, T)>,
-    marks: [bool; PROPERTIES],
+    marks: [u8; PROPERTIES],
 }
 
 // By hand: a crate that drops maps then proves one call, and not again the drop of each part of an entry.
@@ -44,39 +45,45 @@ impl<T> Model for PropMap<T> {
 
     ghost coded = { map.code prop.the_row.coded T.code };
 
+    ghost use Rattle.style_types.specs.Entries.{places_of};
     ghost use Rattle.style_types.specs.Marks.{IsMarked};
 
     ghost view = { λ a. map.from_entries a.entries.items };
 
-    ghost invariant = { λ a. IsMarked a.marks (map.from_entries a.entries.items) };
+    ghost invariant = { λ a. IsMarked a.marks (places_of a.entries.items) };
 }
 
-/// Whether the entry is one of the property.
-fn is_of<T>(entry: &(Prop, T), p: Prop) -> bool
-    ensures { result ≡ is_entry_of p entry.now }
-{
-    entry.0 as u8 == p as u8
-}
-
-/// Whether the property is marked.
-fn is_marked(marks: &[bool; PROPERTIES], p: Prop) -> bool
-    ensures { result ≡ slice_index_or marks.now (place_of p) false }
+/// The mark of the property: 0 where it is not there, else one more than the index of its entry.
+fn mark_of(marks: &[u8; PROPERTIES], p: Prop) -> u8
+    ensures { result ≡ slice_index_or marks.now (place_of p) 0 }
 {
     marks[p as u8 as usize]
 }
 
 /// Gives the property this mark.
-fn mark(marks: &mut [bool; PROPERTIES], p: Prop, there: bool)
-    ensures { marks.new ≡ slice_set marks.old (place_of p) there }
+fn mark(marks: &mut [u8; PROPERTIES], p: Prop, mark: u8)
+    ensures { marks.new ≡ slice_set marks.old (place_of p) mark }
 {
-    marks[p as u8 as usize] = there;
+    marks[p as u8 as usize] = mark;
 }
 
-/// The place of the property's entry.
-fn place_in<T>(entries: &[(Prop, T)], p: Prop) -> Option<usize>
+/// The mark of an entry at this index.
+fn mark_at(index: usize) -> u8
+    requires { index < 45 }
+    ensures { result ≡ index + 1 }
+{
+    index as u8 + 1
+}
+
+/// The index of the property's entry, by its mark alone: the entries are those that the marks are of.
+fn place_in<T>(marks: &[u8; PROPERTIES], entries: &[(Prop, T)], p: Prop) -> Option<usize>
+    requires { IsMarked marks.now (places_of entries.now) }
     ensures { result ≡ position_from (is_entry_of p) 0 entries.now }
 {
-    entries.iter().position(|entry| is_of(entry, p))
+    match mark_of(marks, p) {
+        0 => None,
+        mark => Some(mark as usize - 1),
+    }
 }
 
 /// Puts an entry in the place of another.
@@ -87,11 +94,41 @@ fn replace<T: Drop>(entries: &mut Vec<(Prop, T)>, place: usize, entry: (Prop, T)
     entries[place] = entry;
 }
 
-/// Takes the entries of the property out.
-fn take_out<T: Drop>(entries: &mut Vec<(Prop, T)>, p: Prop)
-    ensures { entries.new.items ≡ filter (λ entry. not (is_entry_of p entry)) entries.old.items }
+/// Puts an entry for a property that is not there at the end.
+fn add<T: Drop>(
+    entries: &mut Vec<(Prop, T)>,
+    marks: &mut [u8; PROPERTIES],
+    p: Prop,
+    held: T,
+) -> Result<(), NoMemory>
+    requires marked { IsMarked marks.old (places_of entries.old.items) }
+    requires absent { position_from (is_entry_of p) 0 entries.old.items ≡ None }
+    ensures ok { OnOk result (map.from_entries {R = prop_cmp} entries.new.items ≡ map.insert (map.from_entries {R = prop_cmp} entries.old.items) p held) }
+    ensures err { OnErr result (map.from_entries {R = prop_cmp} entries.new.items ≡ map.from_entries {R = prop_cmp} entries.old.items) }
+    ensures marked { IsMarked marks.new (places_of entries.new.items) }
 {
-    entries.retain(|entry| !is_of(entry, p));
+    let last = mark_at(entries.len());
+    entries.push((p, held))?;
+    mark(marks, p, last);
+    Ok(())
+}
+
+/// Takes the entry of a property at this index out. The last entry comes in its place.
+fn take_out<T: Drop>(
+    entries: &mut Vec<(Prop, T)>,
+    marks: &mut [u8; PROPERTIES],
+    p: Prop,
+    place: usize,
+)
+    requires marked { IsMarked marks.old (places_of entries.old.items) }
+    requires found { position_from (is_entry_of p) 0 entries.old.items ≡ Some place }
+    ensures taken { map.from_entries {R = prop_cmp} entries.new.items ≡ map.remove (map.from_entries {R = prop_cmp} entries.old.items) p }
+    ensures marked { IsMarked marks.new (places_of entries.new.items) }
+{
+    let last = entries[entries.len() - 1].0;
+    mark(marks, last, mark_at(place));
+    mark(marks, p, 0);
+    let _ = entries.swap_remove(place);
 }
 
 impl<T> PropMap<T> {
@@ -101,7 +138,7 @@ impl<T> PropMap<T> {
     {
         PropMap {
             entries: Vec::new(alloc),
-            marks: [false; PROPERTIES],
+            marks: [0; PROPERTIES],
         }
     }
 
@@ -110,10 +147,7 @@ impl<T> PropMap<T> {
     pub(crate) fn get(&self, p: Prop) -> Option<&T>
         ensures { option_copied result ≡ map.get self.now p }
     {
-        if !is_marked(&self.marks, p) {
-            return None;
-        }
-        let place = place_in(&self.entries, p)?;
+        let place = place_in(&self.marks, &self.entries, p)?;
         Some(&self.entries[place].1)
     }
 }
@@ -127,11 +161,10 @@ impl<T: Drop> PropMap<T> {
         ensures err { OnErr result (self.new ≡ self.old) }
         ensures replaced { IsSome (map.get self.old p) → IsOk result }
     {
-        match place_in(&self.entries, p) {
+        match place_in(&self.marks, &self.entries, p) {
             Some(place) => replace(&mut self.entries, place, (p, held)),
-            None => self.entries.push((p, held))?,
+            None => return add(&mut self.entries, &mut self.marks, p, held),
         }
-        mark(&mut self.marks, p, true);
         Ok(())
     }
 
@@ -139,8 +172,10 @@ impl<T: Drop> PropMap<T> {
     pub(crate) fn unset(&mut self, p: Prop)
         ensures { self.new ≡ map.remove self.old p }
     {
-        take_out(&mut self.entries, p);
-        mark(&mut self.marks, p, false);
+        match place_in(&self.marks, &self.entries, p) {
+            Some(place) => take_out(&mut self.entries, &mut self.marks, p, place),
+            None => {}
+        }
     }
 }
 
