@@ -69,6 +69,7 @@ pub fn first_start(tracks: &[(i64, i64)]) -> Wide
     }
 }
 
+#[inline(always)]
 #[tactic(auto, using(inline_sizes::proofs::Limits::content_some))]
 /// What a child is given that has a border box of this size along an axis: the size of its content box, which is at least 0 where
 /// the border box is at least as great as borders and paddings.

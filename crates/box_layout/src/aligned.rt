@@ -146,6 +146,7 @@ fn aligned(align: &Align, margins: &Margins, start: Wide, size: Lu, box_size: Lu
     placed(start, margin(&margins.start), before, by)
 }
 
+#[inline(always)]
 /// Where the border box of an item of this size starts, in an area of this start and size: its `auto` margins take the free space
 /// first, and its self value places it in what is left (CSS Box Alignment 3, section 6; CSS Grid 2, 11.2). It is exact, and at most
 /// 2^36 from the start of the area.

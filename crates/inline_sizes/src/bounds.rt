@@ -140,6 +140,7 @@ fn content(inner: Lu, size: Option<Wide>) -> Option<Lu>
 }
 
 impl Bounds {
+    #[inline(always)]
     /// The border-box sizes of a declared size, minimum and maximum, where percentages are of this size, or of none.
     pub fn of(
         border_box: bool,

@@ -52,6 +52,7 @@ pub fn lifted(levels: &[Level], span: Span) -> Span
     }
 }
 
+#[inline(always)]
 #[tactic(auto, using(crate::proofs::Limits::both_pair))]
 /// The extra margins of an item over this span of a subgrid's lines (CSS Grid 2, section 9). It is exact.
 pub fn extra_margins(levels: &[Level], span: Span) -> Wide

@@ -52,6 +52,7 @@ pub fn inner_end<const AXIS: u8>(style: &Style) -> Lu
     sum_of_two(border_end::<AXIS>(style), padding_end::<AXIS>(style))
 }
 
+#[inline(always)]
 #[tactic(auto, using(crate::proofs::InRange::side_laws))]
 /// The sum of borders and paddings.
 pub fn inner<const AXIS: u8>(style: &Style) -> Lu

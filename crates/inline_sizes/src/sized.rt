@@ -20,6 +20,7 @@ use part_rules::Level;
 use placing::style::{is_border_box, least, margin_end, margin_start, most, scrolls, size};
 use style_types::{Align, Style};
 
+#[inline(always)]
 /// The declared sizes of a node along an axis, where percentages are of this size; without one they are none (own rule).
 pub fn bounds_of<const AXIS: u8>(style: &Style, base: Option<Lu>) -> Bounds
     requires { IsGridAxis (grid_at AXIS style.now) }
@@ -49,6 +50,7 @@ fn is_open<const AXIS: u8>(style: &Style) -> bool
     is_auto(&size::<AXIS>(style)) && has_margins::<AXIS>(style)
 }
 
+#[inline(always)]
 /// Whether a node with this self value is stretched along the axis: the value says so, its size is `auto`, and neither of its
 /// margins is (CSS Box Alignment 3, section 6).
 pub fn is_stretched<const AXIS: u8>(align: &Align, style: &Style) -> bool
