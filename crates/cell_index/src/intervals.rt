@@ -54,6 +54,7 @@ impl IntervalCells {
 impl Occupancy for IntervalCells {
     ghost areas = { λ cells. cells };
 
+    #[inline(always)]
     fn free(&self, area: Area) -> bool {
         if self.whole && has_cells(area) {
             return self.blocks.is_free(area);
