@@ -6,7 +6,7 @@ use Rattle.node_arena.specs.declared.number.NodeId.{NodeId}
 use Rattle.node_arena.specs.Numbers.{same, Part, part_at, value_of, value_at, below_of, below_at, tops, top_numbers, number_of, whole_of, way_up, way_of, is_among, IsChild}
 use Rattle.node_arena.proofs.Reading.{stale_way}
 use Rattle.node_arena.proofs.Same.{part_here, same_refl}
-use Rattle.layout_cache.specs.Reach.{is_above, reached, reached_by, from_tree, NextChild}
+use Rattle.layout_cache.specs.Reach.{is_above, reached, reached_by, from_tree, subgrid_by, NextChild, JoinedChild}
 
 -- ---- children by index
 module _ {A : Type 0} where
@@ -59,7 +59,22 @@ module _ {A : Type 0} where
   pub child_falls : (subgrid : A → Bool) (t : Trees (NodeId × A)) (n : NodeId) (i : ℕ) (c : NodeId) (b : Bool) → NextChild subgrid t n i c b → size_of (below_at t c) < size_of (below_at t n)
   child_falls subgrid t n i c b h = omega (arith, from_size (below_at t n) i, ap size_of h.next)
 
-pub ruleset falls = (child_falls)
+  pub joined_child : (subgrid : A → Bool) (t : Trees (NodeId × A)) (n : NodeId) (i : ℕ) (felt : Bool) (c : NodeId) (j : Bool) → IsChild t n i c → j ≡ (felt && subgrid_by subgrid (value_at t c)) → JoinedChild subgrid t n i felt c j
+  joined_child subgrid t n i felt c j h e = at (slice_get (tops (below_at t n)) i) refl h.number h.whole
+    where
+      at : (o : Option (NodeId × Part A)) → slice_get (tops (below_at t n)) i ≡ o → number_of o ≡ Some c → part_at t c ≡ whole_of o → JoinedChild subgrid t n i felt c j
+      at None f g w = absurd cc
+      at (Some top) f g w =
+          record {
+            is_sub = subgrid top.1.0;
+            child = next_child subgrid t n i c top.1.0 _ h (sym (ap value_of w)) refl;
+            is = e ∙ ap (λ o. felt && subgrid_by subgrid o) (ap value_of w);
+          }
+
+  pub joined_falls : (subgrid : A → Bool) (t : Trees (NodeId × A)) (n : NodeId) (i : ℕ) (felt : Bool) (c : NodeId) (j : Bool) → JoinedChild subgrid t n i felt c j → size_of (below_at t c) < size_of (below_at t n)
+  joined_falls subgrid t n i felt c j h = child_falls subgrid t n i c h.is_sub h.child
+
+pub ruleset falls = (joined_falls)
 
 pub from_end : {A : Type 0} (u : Trees (NodeId × A)) (i : ℕ) → count_of u ≤ i → from_tree i u ≡ leafless
 from_end leafless zero h = refl
@@ -94,18 +109,21 @@ above_next t n xs i d old new whole h e w =
 
 -- ---- what is reached
 module _ {A : Type 0} (subgrid : A → Bool) (touched above : NodeId → Bool) (grid : Bool) where
-  pub passed_over : (t : Trees (NodeId × A)) (n : NodeId) (i : ℕ) (c : NodeId) (b felt : Bool) → NextChild subgrid t n i c b → (above c || (felt && b)) ≡ false →
-      reached subgrid touched above grid felt (from_tree i (below_at t n)) ≡ reached subgrid touched above grid felt (from_tree (i + 1) (below_at t n))
-  passed_over t n i c b felt h e =
-      ap (reached subgrid touched above grid felt) h.next
-      ∙ ap (λ z. (if z then c ∷ reached subgrid touched above grid ((grid && touched c) || (felt && subgrid h.value)) (below_at t c) else []) ++ reached subgrid touched above grid felt (from_tree (i + 1) (below_at t n))) (ap (λ s. above c || (felt && s)) h.is ∙ e)
+  joined_is : (t : Trees (NodeId × A)) (n : NodeId) (i : ℕ) (felt : Bool) (c : NodeId) (j : Bool) (h : JoinedChild subgrid t n i felt c j) → (felt && subgrid h.child.value) ≡ j
+  joined_is t n i felt c j h = ap (λ s. felt && s) h.child.is ∙ sym h.is
 
-  pub gone_into : (t : Trees (NodeId × A)) (n : NodeId) (i : ℕ) (c : NodeId) (b felt : Bool) → NextChild subgrid t n i c b → (above c || (felt && b)) ≡ true →
-      reached subgrid touched above grid felt (from_tree i (below_at t n)) ≡ c ∷ reached subgrid touched above grid ((grid && touched c) || (felt && b)) (below_at t c) ++ reached subgrid touched above grid felt (from_tree (i + 1) (below_at t n))
-  gone_into t n i c b felt h e =
-      ap (reached subgrid touched above grid felt) h.next
-      ∙ ap (λ z. (if z then c ∷ reached subgrid touched above grid ((grid && touched c) || (felt && subgrid h.value)) (below_at t c) else []) ++ reached subgrid touched above grid felt (from_tree (i + 1) (below_at t n))) (ap (λ s. above c || (felt && s)) h.is ∙ e)
-      ∙ ap (λ s. c ∷ reached subgrid touched above grid ((grid && touched c) || (felt && s)) (below_at t c) ++ reached subgrid touched above grid felt (from_tree (i + 1) (below_at t n))) h.is
+  pub passed_over : (t : Trees (NodeId × A)) (n : NodeId) (i : ℕ) (felt : Bool) (c : NodeId) (j : Bool) → JoinedChild subgrid t n i felt c j → (above c || j) ≡ false →
+      reached subgrid touched above grid felt (from_tree i (below_at t n)) ≡ reached subgrid touched above grid felt (from_tree (i + 1) (below_at t n))
+  passed_over t n i felt c j h e =
+      ap (reached subgrid touched above grid felt) h.child.next
+      ∙ ap (λ z. (if z then c ∷ reached subgrid touched above grid ((grid && touched c) || (felt && subgrid h.child.value)) (below_at t c) else []) ++ reached subgrid touched above grid felt (from_tree (i + 1) (below_at t n))) (ap (λ s. above c || s) (joined_is t n i felt c j h) ∙ e)
+
+  pub gone_into : (t : Trees (NodeId × A)) (n : NodeId) (i : ℕ) (felt : Bool) (c : NodeId) (j : Bool) → JoinedChild subgrid t n i felt c j → (above c || j) ≡ true →
+      reached subgrid touched above grid felt (from_tree i (below_at t n)) ≡ c ∷ reached subgrid touched above grid ((grid && touched c) || j) (below_at t c) ++ reached subgrid touched above grid felt (from_tree (i + 1) (below_at t n))
+  gone_into t n i felt c j h e =
+      ap (reached subgrid touched above grid felt) h.child.next
+      ∙ ap (λ z. (if z then c ∷ reached subgrid touched above grid ((grid && touched c) || (felt && subgrid h.child.value)) (below_at t c) else []) ++ reached subgrid touched above grid felt (from_tree (i + 1) (below_at t n))) (ap (λ s. above c || s) (joined_is t n i felt c j h) ∙ e)
+      ∙ ap (λ s. c ∷ reached subgrid touched above grid ((grid && touched c) || s) (below_at t c) ++ reached subgrid touched above grid felt (from_tree (i + 1) (below_at t n))) (joined_is t n i felt c j h)
 
   -- what was found, with one node and what is below it
   pub added : (found pushed after below rest whole : List NodeId) (c : NodeId) → pushed ≡ found ++ c ∷ [] → after ≡ pushed ++ below → found ++ (c ∷ below ++ rest) ≡ whole → after ++ rest ≡ whole

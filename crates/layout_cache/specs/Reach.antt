@@ -1,6 +1,6 @@
 -- Which nodes an edit reaches (own rule): a touched node and every node above it; and where the edit is felt by subgrids, each node that is joined to a
 -- touched node above it by subgrids alone.
-use Rattle.std.specs.Prelude.{◌≡◌, ℕ, zero, suc, ◌+◌, Bool, false, ◌&&◌, ◌||◌, List, [], ◌∷◌, ◌++◌, if◌then◌else◌}
+use Rattle.std.specs.Prelude.{◌≡◌, ℕ, zero, suc, ◌+◌, Bool, false, ◌&&◌, ◌||◌, List, [], ◌∷◌, ◌++◌, Option, Some, None, if◌then◌else◌}
 use Rattle.plain_tree.specs.Trees.{Trees, leafless, tree}
 use Rattle.node_arena.specs.declared.number.NodeId.{NodeId}
 use Rattle.node_arena.specs.Numbers.{same, mapped, is_among, one, way_up, below_at}
@@ -34,6 +34,17 @@ pub record NextChild {A : Type 0} (subgrid : A → Bool) (t : Trees (NodeId × A
   pub value : A
   pub next : from_tree index (below_at t n) ≡ tree (c, value) (below_at t c) (from_tree (index + 1) (below_at t n))
   pub is : subgrid value ≡ is_sub
+
+-- whether there is a value, and it is a subgrid
+abbrev pub subgrid_by : {A : Type 0} → (A → Bool) → Option A → Bool
+subgrid_by subgrid None = false
+subgrid_by subgrid (Some v) = subgrid v
+
+-- the child of an index, and whether it is joined to a node above it, as its parent is or is not
+pub record JoinedChild {A : Type 0} (subgrid : A → Bool) (t : Trees (NodeId × A)) (n : NodeId) (index : ℕ) (felt : Bool) (c : NodeId) (joined : Bool) : Type 0 where
+  pub is_sub : Bool
+  pub child : NextChild subgrid t n index c is_sub
+  pub is : joined ≡ (felt && is_sub)
 
 -- the tree with a value under a number as it is once its kept answers are gone
 abbrev pub forgot : {A : Type 0} → (A → A) → NodeId → Trees (NodeId × A) → Trees (NodeId × A)

@@ -1,8 +1,8 @@
 ghost use Rattle.std.specs.Prelude.{◌≡◌, ◌≤◌, ◌++◌, ◌||◌, ◌&&◌, IfOk, IfSome, IfNone, OnOk, OnErr};
 ghost use Rattle.plain_tree.specs.Trees.{leafless};
-ghost use Rattle.node_arena.specs.Numbers.{is_among, way_up, below_at, count_at};
+ghost use Rattle.node_arena.specs.Numbers.{is_among, way_up, below_at, count_at, value_at};
 ghost use Rattle.node_arena.specs.declared.number.NodeId.{NodeId};
-ghost use Rattle.layout_cache.specs.Reach.{is_above, reached, reached_by, from_tree, NextChild, all_forgot, occurs};
+ghost use Rattle.layout_cache.specs.Reach.{is_above, reached, reached_by, from_tree, JoinedChild, subgrid_by, all_forgot, occurs};
 
 use crate::linked::Linked;
 use crate::numbers::NumberSet;
@@ -102,17 +102,33 @@ fn add_way<T: Drop>(tree: &Arena<T>, id: NodeId, above: &mut NumberSet) -> Resul
     Ok(())
 }
 
-/// A child, and whether it is a subgrid.
-fn child_at<T: Linked + Drop>(tree: &Arena<T>, id: NodeId, index: usize) -> Option<(NodeId, bool)>
+/// A child, and whether it feels the edit as a subgrid below a node that does.
+fn child_at<T: Linked + Drop>(
+    tree: &Arena<T>,
+    id: NodeId,
+    index: usize,
+    felt: bool,
+) -> Option<(NodeId, bool)>
     ensures none { IfNone result (from_tree index (below_at tree.now.tree id) ≡ leafless) }
-    ensures some { IfSome result (λ child. NextChild T.Linked.subgrid tree.now.tree id index child.0 child.1) }
+    ensures some { IfSome result (λ child. JoinedChild T.Linked.subgrid tree.now.tree id index felt child.0 child.1) }
 {
     match tree.child(id, index) {
-        Some(child) => match tree.get(child) {
-            Some(node) => Some((child, node.is_subgrid())),
-            None => None,
-        },
+        Some(child) => Some((child, feels_too(tree, child, felt))),
         None => None,
+    }
+}
+
+/// Whether a node is a subgrid, where its parent feels the edit. The node is read only there: an edit seldom reaches far, and
+/// looks at all children of what it reaches.
+fn feels_too<T: Linked + Drop>(tree: &Arena<T>, id: NodeId, felt: bool) -> bool
+    ensures { result ≡ (felt && subgrid_by T.Linked.subgrid (value_at tree.now.tree id)) }
+{
+    if !felt {
+        return false;
+    }
+    match tree.get(id) {
+        Some(node) => node.is_subgrid(),
+        None => false,
     }
 }
 
@@ -128,10 +144,9 @@ fn visit<T: Linked + Drop>(
     ensures { OnOk result (found.new.items ≡ found.old.items ++ reached T.Linked.subgrid (λ n. is_among n marks.now.touched) (λ n. is_among n marks.now.above) marks.now.grid felt (below_at tree.now.tree id)) }
 {
     for index in 0..tree.count(id) {
-        let Some((child, subgrid)) = child_at(tree, id, index) else {
+        let Some((child, joined)) = child_at(tree, id, index, felt) else {
             continue;
         };
-        let joined = both(felt, subgrid);
         if !marks.reaches(child, joined) {
             continue;
         }

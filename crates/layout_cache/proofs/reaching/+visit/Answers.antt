@@ -1,5 +1,4 @@
 use Rattle.std.proofs.Common.{◌++◌, ◌+◌, ◌∷◌, sym, ap, ◌∙◌, arith, append-nil}
-use Rattle.std.specs.Prelude.{◌||◌, ◌&&◌}
 use Rattle.node_arena.specs.Numbers.{below_at, is_among}
 use Rattle.layout_cache.specs.Reach.{reached, from_tree}
 use Rattle.layout_cache.proofs.Reaches.{none_reached, past_none, from_end, gone_into, added}
@@ -21,9 +20,9 @@ loop-index-preserved g t c =
     (ap (λ l. c.loop-index.found.items ++ l)
     (ap (λ b. c.in-Some.child ∷ reached g.T.Linked.subgrid (λ n. is_among n c.args.marks.now.touched) (λ n. is_among n c.args.marks.now.above) c.args.marks.now.grid b (below_at c.args.tree.now.tree c.in-Some.child)
     ++ reached g.T.Linked.subgrid (λ n. is_among n c.args.marks.now.touched) (λ n. is_among n c.args.marks.now.above) c.args.marks.now.grid c.args.felt (from_tree (c.loop-index.index + 1) (below_at c.args.tree.now.tree c.args.id)))
-    (c.feels.ensures ∙ ap (λ j. (c.args.marks.now.grid && is_among c.in-Some.child c.args.marks.now.touched) || j) c.both-joined.ensures)
-    ∙ sym (gone_into g.T.Linked.subgrid (λ n. is_among n c.args.marks.now.touched) (λ n. is_among n c.args.marks.now.above) c.args.marks.now.grid c.args.tree.now.tree c.args.id c.loop-index.index c.in-Some.child c.in-Some.subgrid c.args.felt c.in-Some.ensures.some
-    (sym (c.reaches.ensures ∙ ap (λ j. is_among c.in-Some.child c.args.marks.now.above || j) c.both-joined.ensures) ∙ c.if-not-reaches.false)))
+    c.feels.ensures
+    ∙ sym (gone_into g.T.Linked.subgrid (λ n. is_among n c.args.marks.now.touched) (λ n. is_among n c.args.marks.now.above) c.args.marks.now.grid c.args.tree.now.tree c.args.id c.loop-index.index c.args.felt c.in-Some.child c.in-Some.joined c.in-Some.ensures.some
+    (sym c.reaches.ensures ∙ c.if-not-reaches.false)))
     ∙ c.loop-index.invariant)
 
 pub returns : goal.returns
