@@ -184,7 +184,7 @@ fn fixed(limit: Span, start: i64, end: i64) -> Spot
 
 #[tactic(auto, using(crate::proofs::Counted::width))]
 /// A free place for so many tracks, which are no more than the limit has.
-fn free(limit: Span, count: u32) -> Spot
+pub(crate) fn free(limit: Span, count: u32) -> Spot
     requires { IsLimit limit }
     ensures { result ≡ cut_spot limit.start limit.end (Free count) }
 {

@@ -1,12 +1,13 @@
 ghost use Rattle.std.specs.Prelude.{◌≡◌, ◌+◌, ◌-◌, ◌≤◌, ◌<◌, ◌++◌, [], length, get_or, pos, neg_ℤ, ◌+ℤ◌, ◌≤ℤ◌, ◌<ℤ◌, IsTrue, IfOk, OnOk};
 ghost use Rattle.lunit.specs.declared.geometry.Span.{Span};
-ghost use Rattle.part_rules.specs.LineNames.{cut_areas, named_lines, names_at, names_by_areas, own_table, resolved, subgrid_table};
+ghost use Rattle.lunit.specs.declared.geometry.Spot.TheVariants.{Free};
+ghost use Rattle.part_rules.specs.LineNames.{cut_areas, cut_spot, named_lines, names_at, names_by_areas, own_table, resolved, subgrid_table};
 ghost use Rattle.line_names.specs.Sides.{has_edges};
 
 use crate::cutting::{cut_all, tracks_within};
 use crate::index::NameIndex;
 use crate::naming::{add_areas, add_names, own_lines};
-use crate::places::place;
+use crate::places::{free, place};
 use crate::side::side_of;
 use lunit::{LineValue, Name, NameSet, NoMemory, Sequence, Span, Spot};
 use std::alloc::Global;
@@ -211,6 +212,14 @@ impl LineTable {
         ensures { result.now ≡ named_lines self.now name.now }
     {
         self.index.lines_of(name)
+    }
+
+    /// The place of an item in this axis of which no line is told, for the tracks that it spans (CSS Grid 2, 8.3), cut to the limit.
+    /// Takes no memory.
+    pub fn free_place(&self, tracks: u32) -> Spot
+        ensures { result ≡ cut_spot self.now.low self.now.high (Free tracks) }
+    {
+        free(self.limit, tracks)
     }
 
     /// The place of an item in this axis, by the two line values of its placement properties and the span of an item that has

@@ -11,6 +11,7 @@ pub mod Loans
 pub mod Mapped
 pub mod Named
 pub mod Numbers
+pub mod Open
 pub mod Parents
 pub mod Puts
 pub mod Readable

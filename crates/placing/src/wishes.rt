@@ -1,8 +1,10 @@
 //! Where the children of a grid are to stand (CSS Grid 2, 8.3).
 
-ghost use Rattle.std.specs.Prelude.{◌≡◌, ◌<◌, ℕ, List, All, length, map, IfOk, IsTrue};
+ghost use Rattle.std.specs.Prelude.{◌≡◌, ◌<◌, ℕ, List, All, length, map, IfOk, IfSome, IsTrue};
+ghost use Rattle.std.specs.Option.{option_copied, unwrap_or};
 ghost use Rattle.line_names.specs.Tables.{IsLimit};
 ghost use Rattle.lunit.specs.declared.geometry.Span.{Span};
+ghost use Rattle.lunit.specs.declared.line_value.LineValue.TheVariants.{Auto};
 ghost use Rattle.part_rules.specs.LineNames.{resolved};
 ghost use Rattle.tree_rules.specs.Chains.{is_grid_kind, sibling_of};
 ghost use Rattle.tree_rules.specs.Contexts.{automatic_span, wish_of};
@@ -13,7 +15,7 @@ ghost use Rattle.placing.specs.Nodes.{bare, bare_of, children_at, label_of_bare}
 ghost use Rattle.placing.specs.Ranges.{AreReadable, IsGridStyle};
 ghost use Rattle.placing.specs.Seats.{context_of};
 ghost use Rattle.placing.specs.Axes.{grid_axis};
-ghost use Rattle.placing.specs.Wishes.{spot_along, wish_by, IsLimitOf};
+ghost use Rattle.placing.specs.Wishes.{spot_along, wish_by, IsLimitOf, IsOpen, IsTold};
 
 use crate::contexts::Context;
 use crate::node::Node;
@@ -50,6 +52,67 @@ fn automatic_span<const AXIS: u8>(is_grid: bool, style: &Style) -> u32
     (subgrid_sets::<AXIS>(style).len().saturating_sub(1) as u32).max(1)
 }
 
+/// What a line value tells: nothing, a span of tracks, or a line or a name.
+#[derive(Clone, Copy)]
+enum Told {
+    Nothing,
+    Span(u32),
+    Line,
+}
+
+/// What a line value tells; one that is not set is `auto`.
+fn read(value: Option<&LineValue>) -> Told
+    ensures { IsTold result (unwrap_or (option_copied value.entry) Auto) }
+{
+    match value {
+        None => Told::Nothing,
+        Some(LineValue::Auto) => Told::Nothing,
+        Some(LineValue::Reach(tracks, None)) => Told::Span(*tracks),
+        Some(_) => Told::Line,
+    }
+}
+
+#[tactic(auto, using(crate::proofs::Open::open_laws))]
+/// The tracks that a child spans along an axis of which no line is told; `None` where one is told, or a name.
+fn open_span<const AXIS: u8>(
+    start: Option<&LineValue>,
+    end: Option<&LineValue>,
+    is_grid: bool,
+    style: &Style,
+) -> Option<u32>
+    requires { IsGridStyle (grid_of style.now) }
+    ensures { IfSome result (λ tracks. IsOpen (unwrap_or (option_copied start.entry) Auto) (unwrap_or (option_copied end.entry) Auto) (automatic_span is_grid (grid_axis AXIS (grid_of style.now)).template) tracks) }
+{
+    match (read(start), read(end)) {
+        (Told::Nothing, Told::Nothing) => Some(automatic_span::<AXIS>(is_grid, style)),
+        (Told::Nothing, Told::Span(tracks)) => Some(tracks),
+        (Told::Span(tracks), Told::Nothing) => Some(tracks),
+        (Told::Span(tracks), Told::Span(_)) => Some(tracks),
+        _ => None,
+    }
+}
+
+/// Where a child is to stand along an axis, by these line values.
+fn spot_by<const AXIS: u8>(
+    table: &LineTable,
+    start: Option<&LineValue>,
+    end: Option<&LineValue>,
+    is_grid: bool,
+    style: &Style,
+) -> Spot
+    requires grid { IsGridStyle (grid_of style.now) }
+    requires start { unwrap_or (option_copied start) Auto ≡ (grid_axis AXIS (grid_of style.now)).start_line }
+    requires end { unwrap_or (option_copied end) Auto ≡ (grid_axis AXIS (grid_of style.now)).end_line }
+    ensures { result ≡ spot_along AXIS table.now is_grid (grid_of style.now) }
+{
+    if let Some(tracks) = open_span::<AXIS>(start, end, is_grid, style) {
+        return table.free_place(tracks);
+    }
+    let span = automatic_span::<AXIS>(is_grid, style);
+    let auto = LineValue::Auto;
+    table.resolve(start.unwrap_or(&auto), end.unwrap_or(&auto), span)
+}
+
 #[tactic(auto, using(crate::proofs::Filled::filled))]
 /// Where a child is to stand along an axis.
 fn spot<const AXIS: u8>(table: &LineTable, is_grid: bool, style: &Style) -> Spot
@@ -57,13 +120,9 @@ fn spot<const AXIS: u8>(table: &LineTable, is_grid: bool, style: &Style) -> Spot
     ensures value { result ≡ spot_along AXIS table.now is_grid (grid_of style.now) }
     ensures filled { IsLimitOf table.now → IsFilled result }
 {
-    let span = automatic_span::<AXIS>(is_grid, style);
-    let auto = LineValue::Auto;
-    table.resolve(
-        start_line::<AXIS>(style).unwrap_or(&auto),
-        end_line::<AXIS>(style).unwrap_or(&auto),
-        span,
-    )
+    let start = start_line::<AXIS>(style);
+    let end = end_line::<AXIS>(style);
+    spot_by::<AXIS>(table, start, end, is_grid, style)
 }
 
 #[tactic(auto, using(crate::proofs::Siblings::wish_is))]
