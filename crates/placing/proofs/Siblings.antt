@@ -1,5 +1,5 @@
 -- The children that a grid sees, by their numbers.
-use Rattle.std.proofs.Common.{◌≡◌, sym, ap, ◌∙◌, subst, arith, refl, ℕ, zero, suc, ◌+◌, ◌-◌, ◌<◌, ◌≤◌, ℤ, List, [], ◌∷◌, ◌++◌, drop, take, length, map, max, true}
+use Rattle.std.proofs.Common.{◌≡◌, sym, ap, ◌∙◌, subst, arith, refl, ℕ, zero, suc, ◌+◌, ◌-◌, ◌<◌, ◌≤◌, ℤ, List, [], ◌∷◌, ◌++◌, drop, take, length, map, max, true, false, Bool}
 use Rattle.std.specs.Prelude.{All, get_or}
 use Rattle.std.proofs.lemmas.List.{length-map, map-append, take_more, append_assoc}
 use Rattle.lunit.specs.declared.geometry.Spot.{Spot}
@@ -45,7 +45,23 @@ few_sets template.Absent h = omega arith
 few_sets (template.Tracks l) h = omega arith
 few_sets (template.Subgrid sets) h = h
 
-pub ruleset span_laws = (span_of_sets, few_sets)
+-- Name sets for a track at most, or for none, tell the span of a child of any kind.
+pub span_of_few : (is_grid : Bool) (t : Template) → length (subgrid_sets t) ≤ 2 → 1 ≡ rules.automatic_span is_grid t
+span_of_few false t h = refl
+span_of_few true template.Absent h = refl
+span_of_few true (template.Tracks l) h = refl
+span_of_few true (template.Subgrid []) h = refl
+span_of_few true (template.Subgrid (x ∷ [])) h = refl
+span_of_few true (template.Subgrid (x ∷ y ∷ [])) h = refl
+span_of_few true (template.Subgrid (x ∷ y ∷ z ∷ rest)) h = absurd (omega (arith, h))
+
+pub span_of_other : (is_grid : Bool) (t : Template) → is_grid ≡ false → 1 ≡ rules.automatic_span is_grid t
+span_of_other is_grid t e = ap (λ x. rules.automatic_span x t) (sym e)
+
+pub span_of_grid : (is_grid : Bool) (t : Template) (n : ℕ) → is_grid ≡ true → n ≡ max 1 (length (subgrid_sets t) - 1) → n ≡ rules.automatic_span is_grid t
+span_of_grid is_grid t n e h = h ∙ span_of_sets t ∙ ap (λ x. rules.automatic_span x t) (sym e)
+
+pub ruleset span_laws = (span_of_few, span_of_other, span_of_grid, few_sets)
 
 pub orders_step : (kids rest : List Kid) (i : ℕ) (old new all : List ℤ) (kid : Kid) (x : ℤ) → old ++ map (λ (k : Kid). k.label.grid.order) (drop i kids) ≡ all → drop i kids ≡ kid ∷ rest → new ≡ old ++ x ∷ [] → x ≡ kid.label.grid.order
     → new ++ map (λ (k : Kid). k.label.grid.order) rest ≡ all

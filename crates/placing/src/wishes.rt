@@ -41,15 +41,20 @@ pub(crate) fn is_grid(kind: &NodeKind) -> bool
 }
 
 #[tactic(auto, using(crate::proofs::Siblings::span_laws))]
-/// The automatic span of a child along an axis (CSS Grid 2, 8.3 and section 9).
-fn automatic_span<const AXIS: u8>(is_grid: bool, style: &Style) -> u32
+/// The automatic span of a child along an axis (CSS Grid 2, 8.3 and section 9). Its kind counts only where it has name sets for
+/// more than a track.
+fn automatic_span<const AXIS: u8>(kind: &NodeKind, style: &Style) -> u32
     requires { IsGridStyle (grid_of style.now) }
-    ensures { result ≡ automatic_span is_grid (grid_axis AXIS (grid_of style.now)).template }
+    ensures { result ≡ automatic_span (is_grid_kind kind.now) (grid_axis AXIS (grid_of style.now)).template }
 {
-    if !is_grid {
+    let sets = subgrid_sets::<AXIS>(style).len();
+    if sets <= 2 {
         return 1;
     }
-    (subgrid_sets::<AXIS>(style).len().saturating_sub(1) as u32).max(1)
+    if !is_grid(kind) {
+        return 1;
+    }
+    (sets.saturating_sub(1) as u32).max(1)
 }
 
 /// What a line value tells: nothing, a span of tracks, or a line or a name.
@@ -77,19 +82,43 @@ fn read(value: Option<&LineValue>) -> Told
 fn open_span<const AXIS: u8>(
     start: Option<&LineValue>,
     end: Option<&LineValue>,
-    is_grid: bool,
+    kind: &NodeKind,
     style: &Style,
 ) -> Option<u32>
     requires { IsGridStyle (grid_of style.now) }
-    ensures { IfSome result (λ tracks. IsOpen (unwrap_or (option_copied start.entry) Auto) (unwrap_or (option_copied end.entry) Auto) (automatic_span is_grid (grid_axis AXIS (grid_of style.now)).template) tracks) }
+    ensures { IfSome result (λ tracks. IsOpen (unwrap_or (option_copied start.entry) Auto) (unwrap_or (option_copied end.entry) Auto) (automatic_span (is_grid_kind kind.now) (grid_axis AXIS (grid_of style.now)).template) tracks) }
 {
-    match (read(start), read(end)) {
-        (Told::Nothing, Told::Nothing) => Some(automatic_span::<AXIS>(is_grid, style)),
-        (Told::Nothing, Told::Span(tracks)) => Some(tracks),
-        (Told::Span(tracks), Told::Nothing) => Some(tracks),
-        (Told::Span(tracks), Told::Span(_)) => Some(tracks),
-        _ => None,
+    match read(start) {
+        Told::Nothing => match read(end) {
+            Told::Nothing => Some(automatic_span::<AXIS>(kind, style)),
+            Told::Span(tracks) => Some(tracks),
+            Told::Line => None,
+        },
+        Told::Span(tracks) => match read(end) {
+            Told::Nothing => Some(tracks),
+            Told::Span(_) => Some(tracks),
+            Told::Line => None,
+        },
+        Told::Line => None,
     }
+}
+
+/// Where a child is to stand along an axis, by these line values and the lines of the table.
+fn spot_by_lines<const AXIS: u8>(
+    table: &LineTable,
+    start: Option<&LineValue>,
+    end: Option<&LineValue>,
+    kind: &NodeKind,
+    style: &Style,
+) -> Spot
+    requires grid { IsGridStyle (grid_of style.now) }
+    requires start { unwrap_or (option_copied start) Auto ≡ (grid_axis AXIS (grid_of style.now)).start_line }
+    requires end { unwrap_or (option_copied end) Auto ≡ (grid_axis AXIS (grid_of style.now)).end_line }
+    ensures { result ≡ spot_along AXIS table.now (is_grid_kind kind.now) (grid_of style.now) }
+{
+    let span = automatic_span::<AXIS>(kind, style);
+    let auto = LineValue::Auto;
+    table.resolve(start.unwrap_or(&auto), end.unwrap_or(&auto), span)
 }
 
 /// Where a child is to stand along an axis, by these line values.
@@ -97,32 +126,30 @@ fn spot_by<const AXIS: u8>(
     table: &LineTable,
     start: Option<&LineValue>,
     end: Option<&LineValue>,
-    is_grid: bool,
+    kind: &NodeKind,
     style: &Style,
 ) -> Spot
     requires grid { IsGridStyle (grid_of style.now) }
     requires start { unwrap_or (option_copied start) Auto ≡ (grid_axis AXIS (grid_of style.now)).start_line }
     requires end { unwrap_or (option_copied end) Auto ≡ (grid_axis AXIS (grid_of style.now)).end_line }
-    ensures { result ≡ spot_along AXIS table.now is_grid (grid_of style.now) }
+    ensures { result ≡ spot_along AXIS table.now (is_grid_kind kind.now) (grid_of style.now) }
 {
-    if let Some(tracks) = open_span::<AXIS>(start, end, is_grid, style) {
-        return table.free_place(tracks);
+    match open_span::<AXIS>(start, end, kind, style) {
+        Some(tracks) => table.free_place(tracks),
+        None => spot_by_lines::<AXIS>(table, start, end, kind, style),
     }
-    let span = automatic_span::<AXIS>(is_grid, style);
-    let auto = LineValue::Auto;
-    table.resolve(start.unwrap_or(&auto), end.unwrap_or(&auto), span)
 }
 
 #[tactic(auto, using(crate::proofs::Filled::filled))]
 /// Where a child is to stand along an axis.
-fn spot<const AXIS: u8>(table: &LineTable, is_grid: bool, style: &Style) -> Spot
+fn spot<const AXIS: u8>(table: &LineTable, kind: &NodeKind, style: &Style) -> Spot
     requires { IsGridStyle (grid_of style.now) }
-    ensures value { result ≡ spot_along AXIS table.now is_grid (grid_of style.now) }
+    ensures value { result ≡ spot_along AXIS table.now (is_grid_kind kind.now) (grid_of style.now) }
     ensures filled { IsLimitOf table.now → IsFilled result }
 {
     let start = start_line::<AXIS>(style);
     let end = end_line::<AXIS>(style);
-    spot_by::<AXIS>(table, start, end, is_grid, style)
+    spot_by::<AXIS>(table, start, end, kind, style)
 }
 
 #[tactic(auto, using(crate::proofs::Siblings::wish_is))]
@@ -133,9 +160,8 @@ fn wish(context: &Context, node: &Node) -> Wish
     ensures column { IsLimitOf context.now.columns.table → IsFilled result.column }
     ensures row { IsLimitOf context.now.rows.table → IsFilled result.row }
 {
-    let is_grid = is_grid(&node.kind);
-    let column = spot::<0>(&context.columns.table, is_grid, &node.style);
-    let row = spot::<1>(&context.rows.table, is_grid, &node.style);
+    let column = spot::<0>(&context.columns.table, &node.kind, &node.style);
+    let row = spot::<1>(&context.rows.table, &node.kind, &node.style);
     Wish { column, row }
 }
 
