@@ -28,3 +28,4 @@ pub mod Passed
 pub mod Still
 pub mod Known
 pub mod Lonely
+pub mod Unchanged

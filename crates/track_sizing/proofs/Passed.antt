@@ -145,7 +145,7 @@ none_raised affected items (t ∷ ts) w =
 no_limits : (s : LimitStep) (gap : ℤ) (items : List Item) (ts : List Track) → ((t : Track) → s.affected t ≡ false) → limit_distributed s gap items ts ≡ ts
 no_limits s gap items ts w = ap (map (raised_limit_by s.affected items)) (sym (limits_unplanned s gap items ts (none_at_all s.affected ts w))) ∙ none_raised s.affected items ts w
 
-no_mark : (t : Track) → mark_endless t t ≡ unmarked t
+pub no_mark : (t : Track) → mark_endless t t ≡ unmarked t
 no_mark t = ap (λ (mark : Bool). record t { endless = mark }) (go t.limit)
   where
     go : (limit : Option ℤ) → (is_none limit && is_some limit) ≡ false

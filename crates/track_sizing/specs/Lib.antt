@@ -10,3 +10,4 @@ pub mod Flex
 pub mod Whole
 pub mod Ordered
 pub mod Reached
+pub mod Calm

@@ -7,6 +7,7 @@ ghost use Rattle.track_sizing.specs.Placed.{AreIn, AreSet, IsIn};
 ghost use Rattle.track_sizing.specs.Spans.{is_of_span};
 
 use crate::alone::fit_alone;
+use crate::calm::{are_calm, are_quiet};
 use crate::distribute::place_of;
 use crate::group::{fit_group, pass_group};
 use crate::item::{some_flexible, span_length};
@@ -222,7 +223,9 @@ fn fit_crossing<const AXIS: u8>(
     Ok(())
 }
 
+#[tactic(auto, using(crate::proofs::Unchanged::nothing_changed))]
 /// Groups of items of two tracks and more, and last the items that cross a flexible track, given the tracks as they were at first.
+/// Where such items ask for nothing and the tracks have growth limits, all stay as they are.
 fn size_groups<const AXIS: u8>(
     alloc: Global,
     space: &Space<AXIS>,
@@ -242,6 +245,9 @@ fn size_groups<const AXIS: u8>(
     ensures rows { OnOk result (rows.new ≡ map close_limit (group_fitted space.now gap true (filter (crosses_flexible start.now) items.now) (spans_fitted space.now gap items.now (length rows.old) 2 rows.old))) }
     ensures set { OnOk result (AreSet first rows.new) }
 {
+    if are_calm(rows) && are_quiet(gap, items) {
+        return Ok(());
+    }
     fit_spans(alloc, space, gap, first, items, rows, takers)?;
     fit_crossing(alloc, space, gap, first, items, start, rows, takers)?;
     close_set_limits(first, rows);

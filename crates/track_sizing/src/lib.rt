@@ -4,6 +4,7 @@
 #![tactic(auto)]
 
 mod alone;
+mod calm;
 mod content;
 mod distribute;
 mod factors;

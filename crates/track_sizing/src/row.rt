@@ -4,6 +4,7 @@ ghost use Rattle.std.specs.Prelude.{◌≡◌, ◌≤ℤ◌, ◌+ℤ◌, pos, tr
 ghost use Rattle.std.specs.Int.{int_max};
 ghost use Rattle.lunit.specs.Units.{IsLong, IsUnits, clamp};
 ghost use Rattle.part_rules.specs.Tracks.{close_limit, fixed_least, fixed_most, full, grow_base, incur, initial, limit_of, plan, raise_limit, raised_base, raised_limit};
+ghost use Rattle.track_sizing.specs.Calm.{IsSure};
 ghost use Rattle.track_sizing.specs.Reached.{Stays};
 ghost use Rattle.track_sizing.specs.Rows.{IsLimit};
 
@@ -225,6 +226,22 @@ impl Row {
         }
         match self.limit {
             Some(limit) => stays_with(limit, self.planned),
+            None => false,
+        }
+    }
+
+    /// Whether the track surely stays as it is in a step that gives it nothing.
+    pub fn is_sure(&self) -> bool
+        ensures { result ≡ true → IsSure self.now }
+    {
+        if self.endless {
+            return false;
+        }
+        if !is_nothing(self.planned) {
+            return false;
+        }
+        match self.limit {
+            Some(limit) => self.base.units() <= limit.units(),
             None => false,
         }
     }

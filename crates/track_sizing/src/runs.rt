@@ -16,7 +16,7 @@ fn tracks_of(item: &Item) -> i64
 }
 
 /// Whether an item spans two tracks or more.
-fn is_wide(item: &Item) -> bool
+pub fn is_wide(item: &Item) -> bool
     ensures { result ≡ is_wide item.now }
 {
     1 < tracks_of(item)
