@@ -149,6 +149,7 @@ fn put_minus(room: &mut [u8; ROOM], end: usize, units: i64) -> usize
     }
 }
 
+#[inline(always)]
 /// The same of a number of px, with a space before it.
 fn put_px(room: &mut [u8; ROOM], end: usize, units: i64) -> usize
     requires space { 29 ≤ end }
