@@ -1,5 +1,5 @@
 -- Where no track and no item of two tracks or more asks for a change, the steps for groups change nothing.
-use Rattle.std.proofs.Common.{arith, ap, subst, ◌≡◌, ◌∙◌, sym, refl, ℕ, zero, suc, ◌+◌, ◌<◌, ◌≤◌, ℤ, pos, ◌+ℤ◌, ◌≤ℤ◌, ◌<ℤ◌, Bool, true, false, not, ◌&&◌, ◌||◌, List, [], ◌∷◌, ◌++◌, map, drop, length, get_or, cond, filter, Option, Some, None, int_lt, if◌then◌else◌, true≢false}
+use Rattle.std.proofs.Common.{arith, ap, subst, ◌≡◌, ◌∙◌, sym, refl, ℕ, zero, suc, ◌+◌, ◌<◌, ◌≤◌, ℤ, pos, ◌+ℤ◌, ◌≤ℤ◌, ◌<ℤ◌, Bool, true, false, not, ◌&&◌, ◌||◌, List, [], ◌∷◌, ◌++◌, map, drop, length, get_or, cond, Option, Some, int_lt, if◌then◌else◌, true≢false}
 use Rattle.std.specs.Prelude.{unwrap_or, option_map}
 use Rattle.std.specs.Int.{int_max}
 use Rattle.std.specs.List.{list_any}
@@ -10,7 +10,7 @@ use Rattle.lunit.specs.Units.{IsUnits, clamp}
 use Rattle.lunit.specs.declared.item.Item.{Item}
 use Rattle.part_rules.specs.declared.track.Space.{Space}
 use Rattle.part_rules.specs.Lists.{zipped}
-use Rattle.part_rules.specs.Tracks.{Track, BaseStep, base_distributed, base_planned_by_all, close_limit, crosses_flexible, each_distributed, flexible, group_fitted, has_intrinsic_least, high_limits, in_group, is_definite, is_max_content, limit_distributed, limit_of, limit_planned_by_all, low_limits, mark_endless, of_span, raise_limit, raised_base, raised_limit_by, some_fitted, span_length, spans_fitted, unmarked}
+use Rattle.part_rules.specs.Tracks.{Track, BaseStep, base_distributed, base_planned_by_all, close_limit, crosses_flexible, each_distributed, group_fitted, has_intrinsic_least, high_limits, is_definite, is_max_content, limit_distributed, limit_planned_by_all, low_limits, mark_endless, of_span, raise_limit, raised_base, raised_limit_by, some_fitted, span_length, spans_fitted, unmarked}
 use Rattle.track_sizing.specs.declared.kinds.Affected.{Affected}
 use Rattle.track_sizing.specs.declared.kinds.Kind.{Kind}
 use Rattle.track_sizing.specs.declared.kinds.Kind.TheVariants as kind
@@ -21,7 +21,7 @@ use Rattle.track_sizing.specs.Groups.{affecting, base_steps_of, passed}
 use Rattle.track_sizing.specs.Here.{HaveLengths, IsIdle}
 use Rattle.track_sizing.specs.Kinds.{affected_of}
 use Rattle.track_sizing.specs.Placed.{AreReady, AreSet, base_step_of, limit_step_in}
-use Rattle.track_sizing.specs.Reached.{AllStay, Stays}
+use Rattle.track_sizing.specs.Reached.{AllStay}
 use Rattle.track_sizing.specs.Spans.{is_wide}
 use Rattle.track_sizing.proofs.Groups.{ready_of}
 use Rattle.track_sizing.proofs.Order.{that_number}

@@ -1,5 +1,5 @@
 -- Tracks and items of which the steps for groups change nothing.
-use Rattle.std.specs.Prelude.{◌≡◌, ℤ, pos, ◌≤ℤ◌, Bool, true, false, List, [], ◌∷◌, Option, Some, None}
+use Rattle.std.specs.Prelude.{◌≡◌, ℤ, pos, ◌≤ℤ◌, true, false, List, [], ◌∷◌}
 use Rattle.lunit.specs.declared.item.Item.{Item}
 use Rattle.part_rules.specs.Tracks.{Track, close_limit, flexible, limit_of, raise_limit, raised_base}
 use Rattle.track_sizing.specs.Here.{IsIdle}
