@@ -28,7 +28,7 @@ none_got : (rooms : List (Option ℤ)) → gots (map with_nothing (map roomy roo
 none_got [] = refl
 none_got (room ∷ rest) = ap (λ (zs : List ℤ). pos 0 ∷ zs) (none_got rest)
 
-none_shared : (rooms : List (Option ℤ)) → shares (pos 0) rooms ≡ nothings rooms
+pub none_shared : (rooms : List (Option ℤ)) → shares (pos 0) rooms ≡ nothings rooms
 unfolding rounds
 none_shared rooms = shares_are (pos 0) rooms ∙ none_got rooms
 

@@ -1,5 +1,5 @@
 -- What an item makes of the track that it spans alone, by that track alone.
-use Rattle.std.proofs.Common.{arith, ap, ◌≡◌, ◌∙◌, sym, refl, ℕ, ◌<◌, ℤ, pos, ◌+ℤ◌, ◌-ℤ◌, ◌*ℤ◌, Bool, true, false, not, ◌&&◌, ◌||◌, List, [], ◌∷◌, map, take, length, get_or, Option, Some, None, if◌then◌else◌}
+use Rattle.std.proofs.Common.{arith, ap, subst, ◌≡◌, ◌∙◌, sym, refl, ℕ, ◌<◌, ℤ, pos, ◌+ℤ◌, ◌-ℤ◌, ◌*ℤ◌, Bool, true, false, not, ◌&&◌, ◌||◌, List, [], ◌∷◌, map, take, length, get_or, Option, Some, None, if◌then◌else◌}
 use Rattle.std.specs.Int.{int_max}
 use Rattle.std.specs.List.{list_any}
 use Rattle.std.specs.Option.{option_map}
@@ -11,11 +11,12 @@ use Rattle.lunit.specs.declared.item.Floor.{Floor}
 use Rattle.lunit.specs.declared.item.Floor.TheVariants.{Known, Content}
 use Rattle.part_rules.specs.declared.track.Least.{Least}
 use Rattle.part_rules.specs.declared.track.Least.TheVariants as least
+use Rattle.part_rules.specs.declared.track.Most.{Most}
 use Rattle.part_rules.specs.declared.track.Space.{Space}
 use Rattle.part_rules.specs.Lists.{at_most, sum_of_known}
 use Rattle.part_rules.specs.Tracks.{Track, auto_asks, capped_most, content_based, crosses_flexible, fixed_most, fixed_sum, inner_gutters, is_auto_least, is_content_based, is_definite, minimum, minimum_by, span_length, spanned}
 use Rattle.track_sizing.specs.declared.alone.Single.{Single}
-use Rattle.track_sizing.specs.Alone.{base_alone, base_more, limit_ask, single_alone, single_asks, single_least, single_more}
+use Rattle.track_sizing.specs.Alone.{base_alone, base_more, content_end, limit_ask, single_alone, single_asks, single_content, single_least, single_more}
 use Rattle.track_sizing.specs.Placed.{AreSet}
 use Rattle.track_sizing.proofs.Order.{is_it, that_number}
 use Rattle.track_sizing.proofs.Singles.{spanned_at}
@@ -81,9 +82,14 @@ base_is space gap ts i t base least.MinContent h e = refl
 base_is space gap ts i t base least.MaxContent h e = refl
 base_is space gap ts i t base least.Auto h e = ap (λ (z : ℤ). int_max z base) (asks_are space gap ts i t h e)
 
-pub content_range : (end : Option ℤ) (none size least now : ℤ) → none ≡ pos 0 → IsUnits size → least ≡ at_most end size → now ≡ int_max none least → IsUnits now
-content_range None none size least now z u e v = (omega (arith, ints, clamps, z, u.0, u.1, e, v), omega (arith, ints, clamps, z, u.0, u.1, e, v))
-content_range (Some x) none size least now z u e v = (omega (arith, ints, clamps, z, u.0, u.1, e, v), omega (arith, ints, clamps, z, u.0, u.1, e, v))
+ended_by : (fixed : Option ℤ) (size margins : ℤ) → IsUnits size → int_max (pos 0) (at_most (option_map (λ x. clamp (x -ℤ margins)) fixed) size) ≡ int_max (pos 0) (at_most (option_map (λ x. x -ℤ margins) fixed) size)
+unfolding clamp
+ended_by None size margins u = refl
+ended_by (Some x) size margins u = omega (arith, ints, clamps, u.0, u.1)
+
+pub content_ended : (m : Most) (size margins units none least now : ℤ) (end : Option ℤ) → units ≡ size → IsUnits units → none ≡ pos 0 → end ≡ content_end m margins → least ≡ at_most end size → now ≡ int_max none least → now ≡ single_content m size margins
+content_ended m size margins units none least now end e u z d l v =
+    v ∙ ap (λ (x : ℤ). int_max x least) z ∙ ap (int_max (pos 0)) (l ∙ ap (λ (x : Option ℤ). at_most x size) d) ∙ ended_by (fixed_most m) size margins (subst IsUnits e u)
 
 pub alone_is : {axis : ℕ} (space : Space axis) (gap first : ℤ) (ts : List Track) (i : Item) (at : ℕ) (t : Track) (s : Single) → AreSet first ts → i.span.start ≡ first +ℤ pos at → int_eq i.span.end (i.span.start +ℤ pos 1) ≡ true → at < length ts → t ≡ get_or ts at t
     → single_alone (is_definite space) i t s ≡ single_more space gap ts i t s

@@ -29,3 +29,4 @@ pub mod Still
 pub mod Known
 pub mod Lonely
 pub mod Unchanged
+pub mod Ungrown

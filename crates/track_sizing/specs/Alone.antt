@@ -78,6 +78,10 @@ fit_single t s =
 abbrev pub single_content : Most → ℤ → ℤ → ℤ
 single_content m size margins = int_max (pos 0) (at_most (option_map (λ x. x -ℤ margins) (fixed_most m)) size)
 
+-- the most that it can be, limited to the range of lengths
+abbrev pub content_end : Most → ℤ → Option ℤ
+content_end m margins = option_map (λ x. clamp (x -ℤ margins)) (fixed_most m)
+
 -- the minimum contribution there
 abbrev pub single_least : Most → Floor → ℤ
 single_least m (Known x) = x

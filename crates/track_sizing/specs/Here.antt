@@ -171,6 +171,11 @@ abbrev pub HaveLengths : List Track → Type 0
 HaveLengths [] = Unit {0}
 HaveLengths (t ∷ rest) = ((pos 0 ≤ℤ t.base) × (pos 0 ≤ℤ limit_of t)) × HaveLengths rest
 
+-- tracks of which each base size is in the range of lengths
+abbrev pub HaveUnits : List Track → Type 0
+HaveUnits [] = Unit {0}
+HaveUnits (t ∷ rest) = IsUnits t.base × HaveUnits rest
+
 -- ---- what is kept
 
 -- a track to which the item at hand has given at most so much

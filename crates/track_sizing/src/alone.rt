@@ -2,17 +2,16 @@
 
 ghost use Rattle.std.specs.Prelude.{◌≡◌, ◌<◌, ◌^◌, ◌+ℤ◌, IfOk, length, map, pos};
 ghost use Rattle.std.specs.Ordering.{int_eq};
-ghost use Rattle.lunit.specs.Units.{IsUnits};
 ghost use Rattle.part_rules.specs.Lists.{zipped};
 ghost use Rattle.part_rules.specs.Tracks.{fit_alone};
-ghost use Rattle.track_sizing.specs.Alone.{base_alone, fit_single, limit_ask, limit_most, limit_single, single_alone, single_asks, single_by, single_content, single_least, single_none, single_of};
+ghost use Rattle.track_sizing.specs.Alone.{base_alone, content_end, fit_single, limit_ask, limit_most, limit_single, single_alone, single_asks, single_by, single_content, single_least, single_none, single_of};
 ghost use Rattle.track_sizing.specs.Placed.{AreIn, AreSet, IsIn};
 
 use crate::distribute::place_of;
 use crate::group::is_definite;
 use crate::item::capped_most;
 use crate::kinds::flexible;
-use crate::numbers::{at_most, at_most_limit, greater, longer, shorter};
+use crate::numbers::{at_most_limit, longer, shorter};
 use crate::row::{Row, fixed_most};
 use lunit::{Floor, Item, Lu, NoMemory, Wide};
 use part_rules::{Least, Most, Rule, Space};
@@ -40,17 +39,24 @@ fn single_none(row: &Row) -> Single
     }
 }
 
+/// The most that the automatic minimum can be in a track with a fixed max function.
+fn content_end(most: &Most, margins: Lu) -> Option<Lu>
+    ensures { result ≡ content_end most.now margins }
+{
+    match fixed_most(most) {
+        Some(fixed) => Some((fixed.wide() - margins.wide()).clamp()),
+        None => None,
+    }
+}
+
+#[tactic(auto, using(crate::proofs::Known::content_ended), unfolding(lunit::specs::Units::clamp))]
 /// The automatic minimum of an item in a track with the min function `auto` that it spans alone: it is content-based there
 /// (CSS Grid 2, 6.6).
-fn single_content(most: &Most, size: Lu, margins: Lu) -> Wide
-    ensures value { result ≡ single_content most.now size margins }
-    ensures range { IsUnits result }
+fn single_content(most: &Most, size: Lu, margins: Lu) -> Lu
+    ensures { result ≡ single_content most.now size margins }
 {
-    let end = match fixed_most(most) {
-        Some(fixed) => Some(fixed.wide() - margins.wide()),
-        None => None,
-    };
-    greater(Wide::of(0), at_most(end, size.wide()))
+    let _units = size.units();
+    longer(Lu::of(0), at_most_limit(content_end(most, margins), size))
 }
 
 /// The minimum contribution of such an item (CSS Grid 2, 12.5).
@@ -65,7 +71,7 @@ fn single_least(most: &Most, item: &Item) -> Lu
             inner,
         } => {
             let content = single_content(most, size, margins);
-            (margins.wide() + greater(inner.wide(), content)).clamp()
+            (margins.wide() + longer(inner, content).wide()).clamp()
         }
     }
 }

@@ -4,12 +4,12 @@ ghost use Rattle.std.specs.Prelude.{◌≡◌, ◌<◌, ◌^◌, ◌+◌, ◌≤
 ghost use Rattle.lunit.specs.Units.{IsUnits};
 ghost use Rattle.part_rules.specs.Lists.{zipped};
 ghost use Rattle.part_rules.specs.Tracks.{Track, all_gutters, close_limit, free_of, full, grown, maximised, maximised_within, stretch_space, stretched, stretched_over, total};
-ghost use Rattle.track_sizing.specs.Here.{HaveShares, IsSum, grow_share, room_of};
+ghost use Rattle.track_sizing.specs.Here.{HaveShares, HaveUnits, IsSum, grow_share, room_of};
 ghost use Rattle.track_sizing.specs.Fits.{IsKnownSpace};
 ghost use Rattle.track_sizing.specs.Placed.{AreSet};
 
 use crate::item::{base_sum, limit_sum};
-use crate::numbers::shared;
+use crate::numbers::{is_nothing, shared};
 use crate::rooms::Rooms;
 use crate::row::Row;
 use crate::turn::set_rooms;
@@ -75,11 +75,28 @@ fn grow_by_shares(rows: &mut [Row], takers: &[Share])
     }
 }
 
-/// Grows the base sizes by a space in equal parts, as far as there is room.
+#[tactic(auto, using(crate::proofs::Ungrown::units_read))]
+/// Reads the base sizes once: all are in the range of lengths, so one stays as it is where it grows by nothing.
+fn read_bases(rows: &[Row])
+    ensures { HaveUnits rows.now }
+{
+    for row in rows {
+        let base = row.base();
+        let _units = base.units();
+    }
+}
+
+#[tactic(auto, using(crate::proofs::Ungrown::grown_none))]
+/// Grows the base sizes by a space in equal parts, as far as there is room. Where the space is 0, they stay as they are.
 fn grow(rooms: &Rooms, space: Lu, rows: &mut [Row], takers: &mut [Share])
     requires length { length takers.old ≡ length rows.old }
+    requires some { pos 0 ≤ℤ space }
     ensures { rows.new ≡ grown (room_of rooms.now) space rows.old }
 {
+    if is_nothing(space) {
+        read_bases(rows);
+        return;
+    }
     set_rooms(rooms, rows, takers);
     let _left = hand_out(space, takers);
     grow_by_shares(rows, takers);
