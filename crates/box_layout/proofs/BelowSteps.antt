@@ -1,5 +1,5 @@
 -- The children of a container one after the other, on the way of the boxes.
-use Rattle.std.proofs.Common.{arith, ◌≡◌, ℕ, ◌+◌, ◌≤◌, ◌<◌, ◌&&◌, ◌∷◌, ◌++◌, [], List, Bool, true, false, if◌then◌else◌, length, map, drop, sym, ap, ◌∙◌, subst, ℤ, Some, inl, inr, OnOk, Ok, Err}
+use Rattle.std.proofs.Common.{arith, ◌≡◌, ℕ, ◌+◌, ◌≤◌, ◌<◌, ◌∷◌, ◌++◌, [], List, Bool, true, false, if◌then◌else◌, length, map, drop, sym, ap, ◌∙◌, subst, ℤ, Some, inl, inr, OnOk, Ok, Err}
 use Rattle.std.specs.Prelude.{Contains, Result, get_or}
 use Rattle.std.proofs.lemmas.List.{get_or-map, length-map}
 use Rattle.lunit.specs.declared.geometry.Area.{Area}
@@ -18,6 +18,7 @@ use Rattle.placing.specs.declared.node.Frame.{Frame as NodeFrame}
 use Rattle.placing.proofs.Sights.{child_listed, count_children, count_kids}
 use Rattle.tree_rules.specs.Answers.{Box, Frame, Pair}
 use Rattle.tree_rules.specs.AskedQueries.{pairs_below}
+use Rattle.tree_rules.specs.Chains.{has_chain}
 use Rattle.tree_rules.specs.Frames.{moved_by}
 use Rattle.tree_rules.specs.Places.{answers_of}
 use Rattle.tree_rules.specs.GridSizes.{pairs_for}
@@ -26,9 +27,8 @@ use Rattle.tree_rules.specs.declared.kind.NodeKind.{NodeKind}
 use Rattle.tree_rules.specs.declared.query.Given.{Given}
 use Rattle.tree_rules.specs.declared.query.Given.TheVariants as given
 use Rattle.tree_rules.specs.declared.query.Query.{Query}
-use Rattle.inline_sizes.specs.Grids.{has_subgrid_kind}
 use Rattle.box_layout.specs.Asking.{frames_asked}
-use Rattle.box_layout.specs.Beneath.{AreSeats, HasPairs, above_held, pairs_held}
+use Rattle.box_layout.specs.Beneath.{AreSeats, AreTelling, HasPairs, above_held, is_lower, pairs_held}
 use Rattle.box_layout.specs.BoxesSeen.{AreNear, IsNearAt, IsNearRect, boxes_with, frames_seen, pairs_seen, reach}
 use Rattle.box_layout.specs.KidBoxes.{boxes_from}
 use Rattle.box_layout.specs.Paths.{AreKeptBelow, IsChildLaid, IsChildPart, IsLaidOut, IsLaidPart, passes_at}
@@ -74,6 +74,7 @@ pub record IsBelow (b : BareTrees) (n : NodeId) (q : Query) (listed : List NodeF
   pub counted : length listed ≡ length (kids_at b n)
   pub stand : StandBelow (level_at b n) (frames_seen b n q)
   pub fit : (index : ℕ) (c : NodeId) (f : Frame) (rest : List Frame) → child_at b n index ≡ Some c → drop index (frames_seen b n q) ≡ f ∷ rest → is_container (sight_at b c).label.kind ≡ true → Fits (sight_at b c) (frames_asked (pairs_for (kid_at b c) (pairs_seen b n q)) f.inline f.block)
+  pub tell : AreTelling b n (frames_seen b n q)
   pub seated : AreSeats b n seats
   pub pairs : HasPairs b n q seats
   pub some : 1 ≤ level_at b n
@@ -111,17 +112,18 @@ pub record IsTurn (b : BareTrees) (n : NodeId) (q : Query) (x y : ℤ) (i : ℕ)
   pub passes : is_container (sight_at b c).label.kind ≡ true → Contains (passes_at b n q) (i, frames_asked reps f.inline f.block)
 
 pub turn_here : (b : BareTrees) (n : NodeId) (outer : List Pair) (inline block : Given) (listed : List NodeFrame) (seats : ChildSeats) (x y : ℤ) → IsBelow b n (frames_asked outer inline block) listed seats x y → (i : ℕ) (c : NodeId) → IsNext b n i c → i < length listed
-    → (lower : Bool) → lower ≡ (seats.some && has_subgrid_kind (sight_at b c).label) → (reps : List Pair) → reps ≡ (if lower then pairs_held seats.held else []) → (up : Above) → up ≡ (if lower then above_held seats.held above.Nothing else above.Nothing)
-    → (area : Area) → (i < length seats.areas → (d : Area) → area ≡ get_or seats.areas i d) → (f : NodeFrame) → f ≡ get_or listed i f → IsTurn b n (frames_asked outer inline block) x y i c reps up area f
-turn_here b n outer inline block listed seats x y below i c next within lower is reps same up above_is area area_is f at =
+    → (f : NodeFrame) → f ≡ get_or listed i f → (lower : Bool) → lower ≡ is_lower (frame_of f) → (reps : List Pair) → reps ≡ (if lower then pairs_held seats.held else []) → (up : Above) → up ≡ (if lower then above_held seats.held above.Nothing else above.Nothing)
+    → (area : Area) → (i < length seats.areas → (d : Area) → area ≡ get_or seats.areas i d) → IsTurn b n (frames_asked outer inline block) x y i c reps up area f
+turn_here b n outer inline block listed seats x y below i c next within f at lower is reps same up above_is area area_is =
     let q = frames_asked outer inline block in
     let frame = frame_there (frames_seen b n q) listed i f below.seen within at in
-    let pairs = pairs_here b n c i seats below.seated next.number lower is reps same q below.pairs in
+    let chained : lower ≡ has_chain (sight_at b c).chain = is ∙ sym (below.tell i c (frame_of f) _ next.number frame) in
+    let pairs = pairs_here b n c i seats below.seated next.number lower chained reps same q below.pairs in
     record {
       next = next;
       level = omega (arith, next.level);
-      counts = counts_here b n c i seats below.seated next.number lower is reps same;
-      seat = seat_here b n c i seats below.seated next.number lower is reps same up area above_is area_is;
+      counts = counts_here b n c i seats below.seated next.number lower chained reps same;
+      seat = seat_here b n c i seats below.seated next.number lower chained reps same up area above_is area_is;
       near = near_child (level_at b n) (level_at b c) x y (frame_of f) below.some next.level (below.tree.level c) below.place_x below.place_y (stands_at (level_at b n) (frames_seen b n q) _ i (frame_of f) below.stand frame);
       fits = λ container. subst (λ (r : List Pair). Fits (sight_at b c) (frames_asked r f.inline f.block)) (sym pairs) (below.fit i c (frame_of f) _ next.number frame container);
       frame = frame;

@@ -29,6 +29,7 @@ mod LaidWalks
 mod LeafFrames
 mod LeafSteps
 mod LeafWalks
+pub mod Lower
 pub mod Named
 pub mod Near
 mod NearBoxes

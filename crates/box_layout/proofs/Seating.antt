@@ -19,9 +19,8 @@ use Rattle.placing.specs.declared.items.ChildArea.{ChildArea}
 use Rattle.placing.proofs.Entries.{alone_there, counts}
 use Rattle.placing.proofs.Numbers.{count_order, drop_within, has, has_all, numbers_of_items}
 use Rattle.tree_rules.specs.Answers.{Kid, Pair}
-use Rattle.tree_rules.specs.Chains.{Link, has_chain, has_subgrid, is_grid_kind}
+use Rattle.tree_rules.specs.Chains.{Link, has_chain, is_grid_kind}
 use Rattle.tree_rules.specs.GridSizes.{Entry, entry_of, pairs_for}
-use Rattle.tree_rules.specs.Labels.{GridStyle, Label}
 use Rattle.tree_rules.specs.Orders.{in_order}
 use Rattle.tree_rules.specs.AskedQueries.{pairs_below}
 use Rattle.tree_rules.specs.Repetitions.{own_pair}
@@ -61,28 +60,13 @@ child_within b n c i next = drop_within (kids_at b n) _ i (kid_at b c) next.kids
 pub number_there : (b : BareTrees) (n c : NodeId) (i : ℕ) → IsTree b → child_at b n i ≡ Some c → i < length (kids_at b n)
 number_there b n c i tree child = child_within b n c i (tree.next n c i child)
 
--- one child more that is no subgrid
-pub subgrids_more : (b : BareTrees) (n c : NodeId) (i : ℕ) → child_at b n i ≡ Some c → has_subgrid_kind (sight_at b c).label ≡ false → ((k : ℕ) (d : NodeId) → k < i → child_at b n k ≡ Some d → has_subgrid_kind (sight_at b d).label ≡ false)
-    → (k : ℕ) (d : NodeId) → k < i + 1 → child_at b n k ≡ Some d → has_subgrid_kind (sight_at b d).label ≡ false
-subgrids_more b n c i here none so_far k d within there = go (k == i) refl
-  where
-    some_is : (x y : NodeId) → Some x ≡ Some y → x ≡ y
-    some_is x y e = cc
-
-    go : (t : Bool) → (k == i) ≡ t → has_subgrid_kind (sight_at b d).label ≡ false
-    go true is = ap (λ z. has_subgrid_kind (sight_at b z).label) (some_is d c (sym there ∙ ap (child_at b n) (eqb-true k i is) ∙ here)) ∙ none
-    go false is = let other : k ≢ i = eqb-false k i is in so_far k d (omega (arith, within, other)) there
-
-pub kind_by : (x : Label) (k : NodeKind) (g : GridStyle) (t : Bool) → k ≡ x.kind → g ≡ x.grid → t ≡ (is_grid_kind k && has_subgrid g) → has_subgrid_kind x ≡ t
-kind_by x k g t kind_is grid_is is = (λ i. is_grid_kind (sym kind_is i) && has_subgrid (sym grid_is i)) ∙ sym is
-
 -- ---- no seats
 
 module _ (b : BareTrees) (n : NodeId) (tree : IsTree b) where
   told_here : (i : ℕ) (c : NodeId) → child_at b n i ≡ Some c → has_chain (sight_at b c).chain ≡ ((above_at b n).is_grid && has_subgrid_kind (sight_at b c).label)
   told_here i c child = ap has_chain (tree.next n c i child).chain ∙ chain_is (above_at b n).is_grid (has_subgrid_kind (sight_at b c).label) _ (sight_at b n).chain
 
-  no_seats_by : (seats : ChildSeats) → seats.some ≡ false → ((i : ℕ) (c : NodeId) → child_at b n i ≡ Some c → has_chain (sight_at b c).chain ≡ false) → AreSeats b n seats
+  pub no_seats_by : (seats : ChildSeats) → seats.some ≡ false → ((i : ℕ) (c : NodeId) → child_at b n i ≡ Some c → has_chain (sight_at b c).chain ≡ false) → AreSeats b n seats
   no_seats_by seats none all =
       record {
         told = λ i c child. all i c child ∙ ap (λ t. t && has_subgrid_kind (sight_at b c).label) (sym none);
@@ -91,13 +75,6 @@ module _ (b : BareTrees) (n : NodeId) (tree : IsTree b) where
 
   pub seats_in_flex : (seats : ChildSeats) → seats.some ≡ false → is_grid_kind (sight_at b n).label.kind ≡ false → AreSeats b n seats
   seats_in_flex seats none other = no_seats_by seats none (λ i c child. told_here i c child ∙ ap (λ t. t && has_subgrid_kind (sight_at b c).label) other)
-
-  both_false : (x y : Bool) → y ≡ false → (x && y) ≡ false
-  both_false true y e = e
-  both_false false y e = refl
-
-  pub seats_none : (seats : ChildSeats) → seats.some ≡ false → ((i : ℕ) (c : NodeId) → child_at b n i ≡ Some c → has_subgrid_kind (sight_at b c).label ≡ false) → AreSeats b n seats
-  seats_none seats none all = no_seats_by seats none (λ i c child. told_here i c child ∙ both_false (above_at b n).is_grid (has_subgrid_kind (sight_at b c).label) (all i c child))
 
   -- ---- seats in a grid
 
@@ -215,19 +192,16 @@ module _ (b : BareTrees) (n : NodeId) (p : Placed) where
 
 -- ---- the seat of a child
 
-module _ (b : BareTrees) (n c : NodeId) (i : ℕ) (seats : ChildSeats) (are : AreSeats b n seats) (child : child_at b n i ≡ Some c) (lower : Bool) (is : lower ≡ (seats.some && has_subgrid_kind (sight_at b c).label)) (reps : List Pair) (same : reps ≡ (if lower then pairs_held seats.held else [])) where
-  lower_is : lower ≡ has_chain (sight_at b c).chain
-  lower_is = is ∙ sym (are.told i c child)
-
+module _ (b : BareTrees) (n c : NodeId) (i : ℕ) (seats : ChildSeats) (are : AreSeats b n seats) (child : child_at b n i ≡ Some c) (lower : Bool) (is : lower ≡ has_chain (sight_at b c).chain) (reps : List Pair) (same : reps ≡ (if lower then pairs_held seats.held else [])) where
   pub counts_here : length reps ≡ length (sight_at b c).chain
-  counts_here = ap length same ∙ at lower lower_is
+  counts_here = ap length same ∙ at lower is
     where
       at : (t : Bool) → t ≡ has_chain (sight_at b c).chain → length (if t then pairs_held seats.held else []) ≡ length (sight_at b c).chain
       at true e = (are.seated i c child (sym e)).counts
       at false e = ap length (sym (no_chain (sight_at b c).chain (sym e)))
 
   pub seat_here : (up : Above) (area : Area) → up ≡ (if lower then above_held seats.held above.Nothing else above.Nothing) → (i < length seats.areas → (d : Area) → area ≡ get_or seats.areas i d) → IsSeat (sight_at b c) reps up area
-  seat_here up area above_is area_is = at lower lower_is same above_is
+  seat_here up area above_is area_is = at lower is same above_is
     where
       at : (t : Bool) → t ≡ has_chain (sight_at b c).chain → reps ≡ (if t then pairs_held seats.held else []) → up ≡ (if t then above_held seats.held above.Nothing else above.Nothing) → IsSeat (sight_at b c) reps up area
       at true e r u =
@@ -236,10 +210,10 @@ module _ (b : BareTrees) (n c : NodeId) (i : ℕ) (seats : ChildSeats) (are : Ar
       at false e r u = subst (λ z. IsSeat (sight_at b c) z up area) (sym r) (subst (λ z. IsSeat (sight_at b c) [] z area) (sym u) (alone_there b c area (sym e)))
 
   pub pairs_here : (q : Query) → HasPairs b n q seats → reps ≡ pairs_for (kid_at b c) (pairs_below_at b n q)
-  pairs_here q have = same ∙ at seats.some refl ∙ ap (λ (t : Bool). if t then pairs_below_at b n q else []) lower_is
+  pairs_here q have = same ∙ at seats.some refl ∙ ap (λ (t : Bool). if t then pairs_below_at b n q else []) is
     where
       at : (t : Bool) → seats.some ≡ t → (if lower then pairs_held seats.held else []) ≡ (if lower then pairs_below_at b n q else [])
       at true e = ap (λ (p : List Pair). if lower then p else []) (have e)
       at false e =
-          let no : lower ≡ false = is ∙ ap (λ (t : Bool). t && has_subgrid_kind (sight_at b c).label) e in
+          let no : lower ≡ false = is ∙ are.told i c child ∙ ap (λ (t : Bool). t && has_subgrid_kind (sight_at b c).label) e in
           ap (λ (t : Bool). if t then pairs_held seats.held else []) no ∙ sym (ap (λ (t : Bool). if t then pairs_below_at b n q else []) no)

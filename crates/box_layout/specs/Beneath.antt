@@ -1,5 +1,5 @@
 -- What the children of a node see of it, as the code holds it (CSS Grid 2, section 9).
-use Rattle.std.specs.Prelude.{◌≡◌, ℕ, ◌<◌, ◌&&◌, true, List, [], length, get_or, Option, None, Some}
+use Rattle.std.specs.Prelude.{◌≡◌, ℕ, ◌<◌, ◌&&◌, ◌||◌, Bool, true, false, List, [], ◌∷◌, length, drop, get_or, Option, None, Some}
 use Rattle.lunit.specs.declared.geometry.Area.{Area}
 use Rattle.node_arena.specs.declared.number.NodeId.{NodeId}
 use Rattle.node_arena.specs.Numbers.{child_at}
@@ -11,14 +11,34 @@ use Rattle.placing.specs.declared.contexts.Above.TheVariants as above
 use Rattle.placing.specs.declared.contexts.Context.{Context}
 use Rattle.placing.specs.declared.contexts.Placed.{Placed}
 use Rattle.placing.specs.declared.wide.GridBase.{GridBase}
-use Rattle.tree_rules.specs.Answers.{Pair}
+use Rattle.tree_rules.specs.Answers.{Frame, Pair}
 use Rattle.tree_rules.specs.Chains.{has_chain}
+use Rattle.tree_rules.specs.declared.query.Given.{Given}
+use Rattle.tree_rules.specs.declared.query.Given.TheVariants as given
 use Rattle.tree_rules.specs.declared.query.Query.{Query}
 use Rattle.inline_sizes.specs.Grids.{has_subgrid_kind}
 use Rattle.box_layout.specs.BoxesSeen.{pairs_seen}
 use Rattle.box_layout.specs.declared.child_seats.ChildSeats.{ChildSeats}
 use Rattle.box_layout.specs.declared.child_seats.HeldBase.{HeldBase}
 use Rattle.box_layout.specs.declared.child_seats.HeldBase.TheVariants as held
+
+-- whether tracks are given
+abbrev pub is_tracks : Given → Bool
+is_tracks (given.Tracks edges gap) = true
+is_tracks (given.Size x) = false
+is_tracks given.None = false
+
+-- whether the child of a frame is given tracks in an axis
+abbrev pub is_lower : Frame → Bool
+is_lower f = is_tracks f.inline || is_tracks f.block
+
+abbrev pub has_lower : List Frame → Bool
+has_lower [] = false
+has_lower (f ∷ rest) = is_lower f || has_lower rest
+
+-- The frames of the children of a node tell which of them are subgrids of it: those that are given tracks.
+abbrev pub AreTelling : BareTrees → NodeId → List Frame → Type 0
+AreTelling b n frames = (index : ℕ) (c : NodeId) (f : Frame) (rest : List Frame) → child_at b n index ≡ Some c → drop index frames ≡ f ∷ rest → has_chain (sight_at b c).chain ≡ is_lower f
 
 -- the grid before its children are asked, wherever it is held
 abbrev pub base_held : HeldBase → GridBase

@@ -1,30 +1,26 @@
 //! Where the children of a grid stand that are subgrids of it: found once a grid, and only where there is one (CSS Grid 2, section 9).
 
-ghost use Rattle.std.specs.Prelude.{◌≡◌, ◌<◌, ◌&&◌, [], true, false, ℕ, List, None, Some, length, map, get_or, if◌then◌else◌, IfOk};
+ghost use Rattle.std.specs.Prelude.{◌≡◌, ◌<◌, [], true, false, ℕ, None, Some, length, map, get_or, if◌then◌else◌, IfOk};
 ghost use Rattle.lunit.specs.declared.geometry.Area.{Area};
-ghost use Rattle.node_arena.specs.Numbers.{child_at};
 ghost use Rattle.node_arena.specs.declared.number.NodeId.{NodeId};
 ghost use Rattle.placing.specs.Areas.{HasChildren};
 ghost use Rattle.placing.specs.Counted.{IsGivenSize};
-ghost use Rattle.placing.specs.Kept.{IsRight};
+ghost use Rattle.placing.specs.Kept.{IsRight, frame_of};
 ghost use Rattle.placing.specs.Nodes.{bare, kids_at, sight_at, IsLive};
 ghost use Rattle.placing.specs.Ranges.{AreReadable};
 ghost use Rattle.placing.specs.Seats.{IsSeat};
 ghost use Rattle.placing.specs.declared.contexts.Above.TheVariants as above;
 ghost use Rattle.tree_rules.specs.Chains.{is_grid_kind};
 ghost use Rattle.tree_rules.specs.declared.query.Query.{Query};
-ghost use Rattle.inline_sizes.specs.Grids.{IsBase, has_subgrid_kind};
-ghost use Rattle.box_layout.specs.Beneath.{AreSeats, HasPairs, IsAreaOf, above_held, base_held, pairs_held};
+ghost use Rattle.inline_sizes.specs.Grids.{IsBase};
+ghost use Rattle.box_layout.specs.Beneath.{AreSeats, AreTelling, HasPairs, IsAreaOf, above_held, base_held, has_lower, is_lower, is_tracks, pairs_held};
 
 use block_sizes::kept_wide;
 use inline_sizes::base_at;
 use layout_cache::Given;
 use lunit::{Area, NoMemory, Sequence, Span};
 use node_arena::{Arena, NodeId};
-use placing::{
-    Above, GridBase, Node, NodeKind, Placed, SharedWide, child, count, entry, has_subgrid, node_at,
-    root,
-};
+use placing::{Above, Frame, GridBase, Node, NodeKind, Placed, SharedWide, entry, node_at, root};
 use std::alloc::Global;
 use std::rc::Rc;
 
@@ -65,14 +61,30 @@ fn is_grid(kind: &NodeKind) -> bool
     }
 }
 
-/// Whether some child of a grid is a subgrid of it.
-fn has_subgrids(tree: &Arena<Node>, id: NodeId) -> bool
-    ensures { result ≡ false → (number : ℕ) (c : NodeId) → child_at (bare tree.now.tree) id number ≡ Some c → has_subgrid_kind (sight_at (bare tree.now.tree) c).label ≡ false }
+/// Whether tracks are given.
+fn is_tracks(given: &Given) -> bool
+    ensures { result ≡ is_tracks given.now }
 {
-    root(tree);
-    for index in 0..count(tree, id) {
-        let child = child(tree, id, index);
-        if has_subgrid(node_at(tree, child)) {
+    match given {
+        Given::Tracks(_, _) => true,
+        Given::Size(_) => false,
+        Given::None => false,
+    }
+}
+
+/// Whether the child of a frame is a subgrid of its parent: then it is given tracks in an axis.
+pub(crate) fn is_lower(frame: &Frame) -> bool
+    ensures { result ≡ is_lower (frame_of frame.now) }
+{
+    is_tracks(&frame.inline) || is_tracks(&frame.block)
+}
+
+/// Whether some child is a subgrid of its parent, by the frames of all children.
+fn has_lower(frames: &[Frame]) -> bool
+    ensures { result ≡ has_lower (map frame_of frames.now) }
+{
+    for index in 0..frames.len() {
+        if is_lower(&frames[index]) {
             return true;
         }
     }
@@ -173,8 +185,8 @@ fn seats_in(held: HeldBase, areas: Sequence<Area>) -> ChildSeats
 }
 
 /// The seats of the children of a node in its own seat, by the counts of the repetitions above it and what it is given in the inline
-/// axis. The context of a grid is made only where some child is a subgrid of it and the grid keeps none. `NoMemory` where memory is
-/// wanting.
+/// axis. The frames of its children tell which of them are subgrids of it, so that no child is looked up. The context of a grid is made
+/// only where there is one and the grid keeps none. `NoMemory` where memory is wanting.
 pub(crate) fn seats_below(
     alloc: Global,
     tree: &Arena<Node>,
@@ -183,6 +195,7 @@ pub(crate) fn seats_below(
     above: &Above,
     area: Area,
     inline: &Given,
+    frames: &[Frame],
 ) -> Result<ChildSeats, NoMemory>
     requires live { IsLive (bare tree.now.tree) id }
     requires readable { AreReadable (bare tree.now.tree) }
@@ -190,14 +203,16 @@ pub(crate) fn seats_below(
     requires right { IsRight tree.now.tree }
     requires seat { IsSeat (sight_at (bare tree.now.tree) id) reps.now above.now area }
     requires width { IsGivenSize inline.now }
+    requires tell { AreTelling (bare tree.now.tree) id (map frame_of frames.now) }
+    requires counted { length frames.now ≡ length (kids_at (bare tree.now.tree) id) }
     ensures seats { IfOk result (AreSeats (bare tree.now.tree) id) }
     ensures pairs { IfOk result (λ seats. (q : Query) → q.reps ≡ reps.now → q.inline ≡ inline.now → HasPairs (bare tree.now.tree) id q seats) }
 {
     root(tree);
-    if !is_grid(&node_at(tree, id).kind) {
+    if !has_lower(frames) {
         return Ok(no_seats(alloc));
     }
-    if !has_subgrids(tree, id) {
+    if !is_grid(&node_at(tree, id).kind) {
         return Ok(no_seats(alloc));
     }
     let held = held_base(alloc, tree, id, reps, above, area, inline)?;
@@ -205,14 +220,6 @@ pub(crate) fn seats_below(
     let areas = areas_by_number(alloc, tree, id, &base.placed)?;
     let seats = seats_in(held, areas);
     Ok(seats)
-}
-
-/// Whether a child is a subgrid of its parent.
-pub(crate) fn is_lower(tree: &Arena<Node>, seats: &ChildSeats, child: NodeId) -> bool
-    requires { IsLive (bare tree.now.tree) child }
-    ensures { result ≡ (seats.now.some && has_subgrid_kind (sight_at (bare tree.now.tree) child).label) }
-{
-    seats.some && has_subgrid(node_at(tree, child))
 }
 
 /// The counts of the repetitions that a child sees.

@@ -16,6 +16,7 @@ ghost use Rattle.tree_rules.specs.Places.{answers_of};
 ghost use Rattle.tree_rules.specs.Queries.{is_container, Fits};
 ghost use Rattle.tree_rules.specs.declared.query.Given.{Given};
 ghost use Rattle.box_layout.specs.Asking.{frames_asked};
+ghost use Rattle.box_layout.specs.Beneath.{AreTelling};
 ghost use Rattle.box_layout.specs.Near.{AreSized, AreUnits, StandNear};
 ghost use Rattle.box_layout.specs.Sittings.{flex_numbered};
 ghost use Rattle.box_layout.specs.Stands.{IsGivenNear, StandBelow};
@@ -58,6 +59,17 @@ pub fn frames_stand_near(tree: &Arena<Node>, id: NodeId)
 pub fn frames_fit_below(tree: &Arena<Node>, id: NodeId)
     requires { AreReadable (bare tree.now.tree) }
     ensures { (reps : List Pair) (inline block : Given) → Fits (sight_at (bare tree.now.tree) id) (frames_asked reps inline block) → (index : ℕ) (c : NodeId) (f : Frame) (rest : List Frame) → child_at (bare tree.now.tree) id index ≡ Some c → drop index (((answers_of (sight_at (bare tree.now.tree) id)).down reps inline).frames block) ≡ f ∷ rest → is_container (sight_at (bare tree.now.tree) c).label.kind ≡ true → Fits (sight_at (bare tree.now.tree) c) (frames_asked (pairs_for (kid_at (bare tree.now.tree) c) (pairs_below (sight_at (bare tree.now.tree) id).label.kind (sight_at (bare tree.now.tree) id).label (sight_at (bare tree.now.tree) id).chain (kids_at (bare tree.now.tree) id) (frames_asked reps inline block))) f.inline f.block) }
+{
+    root(tree);
+    sound(tree);
+}
+
+#[tactic(auto, using(crate::proofs::Lower::frames_tell))]
+/// In a tree whose values a text reads as, the frames of the children of a node tell which of them are subgrids of it: those that are
+/// given tracks. The function does next to nothing: the law is its contract.
+pub(crate) fn frames_tell_subgrids(tree: &Arena<Node>, id: NodeId)
+    requires { AreReadable (bare tree.now.tree) }
+    ensures { (reps : List Pair) (inline block : Given) → Fits (sight_at (bare tree.now.tree) id) (frames_asked reps inline block) → AreTelling (bare tree.now.tree) id (((answers_of (sight_at (bare tree.now.tree) id)).down reps inline).frames block) }
 {
     root(tree);
     sound(tree);

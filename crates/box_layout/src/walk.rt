@@ -22,7 +22,7 @@ ghost use Rattle.box_layout.specs.Stands.{IsGivenNear};
 use crate::child_seats::{above_for, area_for, is_lower, pairs_for, seats_below};
 use crate::frames::moved_by;
 use crate::framing::frames_at;
-use crate::laws::{frames_fit_below, frames_stand_near};
+use crate::laws::{frames_fit_below, frames_stand_near, frames_tell_subgrids};
 use layout_cache::Given;
 use lunit::{Along, Area, BLOCK, INLINE, Name, NoMemory, Rect, Sequence, Steps};
 use node_arena::{Arena, NodeId};
@@ -60,9 +60,9 @@ fn differ(tree: &Arena<Node>) -> NodeId
 }
 
 #[cycle(boxes)]
-/// The box of a node in its seat that has this frame, and the boxes below it, where its parent's border box is at this position,
-/// are put after others. What a node sees that is no subgrid is handed down.
-pub(crate) fn boxes_of<R: Ruler, L: Ledger>(
+/// The box of a child, and the boxes below it, are put after others, as `boxes_of` says. It is called in one place, so that it is put in
+/// line there: a leaf costs no call.
+fn child_boxes<R: Ruler, L: Ledger>(
     alloc: Global,
     tree: &mut Arena<Node>,
     id: NodeId,
@@ -170,15 +170,17 @@ fn boxes_below<R: Ruler, L: Ledger>(
     differ(tree);
     frames_stand_near(tree, id);
     frames_fit_below(tree, id);
+    frames_tell_subgrids(tree, id);
     let frames = frames_at(
         alloc, tree, id, reps, above, area, inline, block, ruler, tally, passes,
     )?;
-    let seats = seats_below(alloc, tree, id, reps, above, area, inline)?;
     let listed = frames.as_slice();
+    let seats = seats_below(alloc, tree, id, reps, above, area, inline, listed)?;
     for index in 0..listed.len() {
         let child = child_of_frame(tree, id, listed, index);
-        let lower = is_lower(tree, &seats, child);
-        boxes_of(
+        let frame = &listed[index];
+        let lower = is_lower(frame);
+        child_boxes(
             alloc,
             tree,
             child,
@@ -186,7 +188,7 @@ fn boxes_below<R: Ruler, L: Ledger>(
             above_for(&seats, nothing, lower),
             nothing,
             area_for(&seats, index),
-            &listed[index],
+            frame,
             x,
             y,
             told,
@@ -196,4 +198,70 @@ fn boxes_below<R: Ruler, L: Ledger>(
         )?;
     }
     Ok(())
+}
+
+/// The box of a node in its seat that has this frame, and the boxes below it, where its parent's border box is at this position,
+/// are put after others. What a node sees that is no subgrid is handed down.
+pub(crate) fn boxes_of<R: Ruler, L: Ledger>(
+    alloc: Global,
+    tree: &mut Arena<Node>,
+    id: NodeId,
+    reps: &[(u32, u32)],
+    above: &Above,
+    nothing: &Above,
+    area: Area,
+    frame: &Frame,
+    x: Along<INLINE>,
+    y: Along<BLOCK>,
+    told: &mut Sequence<(Name, Rect)>,
+    ruler: &mut R,
+    tally: &mut Tally,
+    passes: &mut Steps<L>,
+) -> Result<(), NoMemory>
+    requires live { IsLive (bare tree.old.tree) id }
+    requires right { IsRight tree.old.tree }
+    requires readable { AreReadable (bare tree.old.tree) }
+    requires reps { length reps.now ≡ length (sight_at (bare tree.old.tree) id).chain }
+    requires seat { IsSeat (sight_at (bare tree.old.tree) id) reps.now above.now area }
+    requires nothing { nothing.now ≡ seen.Nothing }
+    requires fits { is_container (sight_at (bare tree.old.tree) id).label.kind ≡ true → Fits (sight_at (bare tree.old.tree) id) (frames_asked reps.now frame.now.inline frame.now.block) }
+    requires level { 1 ≤ level_at (bare tree.old.tree) id }
+    requires near { IsNearAt (level_at (bare tree.old.tree) id) x y (frame_of frame.now) }
+    ensures value { OnOk result (told.new ≡ told.old ++ boxes_with (bare tree.old.tree) id reps.now (frame_of frame.now) (x, y)) }
+    ensures near { OnOk result (AreNear told.old → AreNear told.new) }
+    ensures right { IsRight tree.new.tree }
+    ensures laid { OnOk result (IsChildLaid (bare tree.old.tree) id (frames_asked reps.now frame.now.inline frame.now.block) (state tree.old tally.old passes.old (R.log ruler.old)) (state tree.new tally.new passes.new (R.log ruler.new))) }
+    ensures part { OnErr result (IsChildPart (bare tree.old.tree) id (frames_asked reps.now frame.now.inline frame.now.block) (state tree.old tally.old passes.old (R.log ruler.old)) (state tree.new tally.new passes.new (R.log ruler.new))) }
+    ensures leaves { OnOk result (is_container (sight_at (bare tree.old.tree) id).label.kind ≡ true → MeasuresBelow (bare tree.old.tree) id (frames_asked reps.now frame.now.inline frame.now.block) (state tree.old tally.old passes.old (R.log ruler.old)) (state tree.new tally.new passes.new (R.log ruler.new))) }
+    ensures paths { OnOk result (is_container (sight_at (bare tree.old.tree) id).label.kind ≡ true → AreKeptBelow (bare tree.old.tree) id (frames_asked reps.now frame.now.inline frame.now.block) (state tree.new tally.new passes.new (R.log ruler.new))) }
+    ensures quiet { (is_container (sight_at (bare tree.old.tree) id).label.kind ≡ true → AreKeptBelow (bare tree.old.tree) id (frames_asked reps.now frame.now.inline frame.now.block) (state tree.old tally.old passes.old (R.log ruler.old))) → state tree.new tally.new passes.new (R.log ruler.new) ≡ state tree.old tally.old passes.old (R.log ruler.old) }
+{
+    root(tree);
+    let node = node_at(tree, id);
+    let name = node.name;
+    let container = is_container(&node.kind);
+    let rect = moved_by(x, y, &frame.rect);
+    let x = rect.x;
+    let y = rect.y;
+    told.push((name, rect))?;
+    if !container {
+        return Ok(());
+    }
+    boxes_below(
+        alloc,
+        tree,
+        id,
+        reps,
+        above,
+        nothing,
+        area,
+        &frame.inline,
+        &frame.block,
+        x,
+        y,
+        told,
+        ruler,
+        tally,
+        passes,
+    )
 }

@@ -13,7 +13,7 @@ use Rattle.placing.specs.declared.node.Frame.{Frame as NodeFrame}
 use Rattle.placing.proofs.Leaves.{on_err}
 use Rattle.tree_rules.specs.Queries.{Fits, is_container}
 use Rattle.box_layout.specs.Asking.{frames_asked}
-use Rattle.box_layout.specs.Beneath.{AreSeats, HasPairs}
+use Rattle.box_layout.specs.Beneath.{AreSeats, AreTelling, HasPairs}
 use Rattle.box_layout.specs.BoxesSeen.{AreNear, IsNearAt, frames_seen, pairs_seen, reach}
 use Rattle.box_layout.specs.LeafHeights.{MeasuresBelow}
 use Rattle.box_layout.specs.Paths.{AreKeptBelow, IsChildLaid, its_own}
@@ -22,6 +22,7 @@ use Rattle.box_layout.specs.Stands.{IsGivenNear}
 use Rattle.box_layout.proofs.BelowSteps.{IsBelow, IsTurn, child_same, fit_seen, frames_counted, given_some, kind_is, laid_next, leaf_told, near_told, ok_then, part_next, quiet_next, turn_here, value_next}
 use Rattle.box_layout.proofs.BoxSteps.{boxes_all, boxes_are, frames_told}
 use Rattle.box_layout.proofs.KeptPaths.{all_done, asked_kept, done_next, none_done, outside_same, own_next}
+use Rattle.box_layout.proofs.Lower.{tell_seen}
 use Rattle.box_layout.proofs.Seating.{number_there}
 use Rattle.box_layout.proofs.LaidWalks.{laid_first, part_first, part_laid}
 use Rattle.box_layout.proofs.LeafSteps.{absent_next, all_absent, all_measured, measured_next, none_measured, own_measured, untold}
@@ -30,23 +31,23 @@ use Rattle.box_layout.proofs.walk.+boxes.Goals as goal
 
 -- ---- one node
 
-pub boxes_of-moved_by-rect-requires-clause-x : goal.boxes_of-moved_by-rect-requires-clause-x
-boxes_of-moved_by-rect-requires-clause-x g t c = long (level_at (bare c.args.tree.now.tree) c.args.id) _ c.requires.near.x
+pub child_boxes-moved_by-rect-requires-clause-x : goal.child_boxes-moved_by-rect-requires-clause-x
+child_boxes-moved_by-rect-requires-clause-x g t c = long (level_at (bare c.args.tree.now.tree) c.args.id) _ c.requires.near.x
 
-pub boxes_of-moved_by-rect-requires-clause-y : goal.boxes_of-moved_by-rect-requires-clause-y
-boxes_of-moved_by-rect-requires-clause-y g t c = long (level_at (bare c.args.tree.now.tree) c.args.id) _ c.requires.near.y
+pub child_boxes-moved_by-rect-requires-clause-y : goal.child_boxes-moved_by-rect-requires-clause-y
+child_boxes-moved_by-rect-requires-clause-y g t c = long (level_at (bare c.args.tree.now.tree) c.args.id) _ c.requires.near.y
 
-pub boxes_of-returns-then-not-container-clause-value : goal.boxes_of-returns-then-not-container-clause-value
-boxes_of-returns-then-not-container-clause-value g t c =
+pub child_boxes-returns-then-not-container-clause-value : goal.child_boxes-returns-then-not-container-clause-value
+child_boxes-returns-then-not-container-clause-value g t c =
     leaf_told (bare c.args.tree.now.tree) c.args.id c.args.reps.now (frame_of c.args.frame.now) (c.args.x, c.args.y) c.args.told.now c.push.new.self c.node_at-node.result.now.name c.moved_by-rect.result
     (kind_is c.node_at-node.result.now.kind (sight_at (bare c.args.tree.now.tree) c.args.id).label.kind c.is_container-container.result c.node_at-node.ensures.kind c.is_container-container.ensures ∙ c.if-not-container.true) c.in_ok-push.ensures.ok c.node_at-node.ensures.name c.moved_by-rect.ensures
 
-pub boxes_of-returns-then-not-container-clause-near : goal.boxes_of-returns-then-not-container-clause-near
-boxes_of-returns-then-not-container-clause-near g t c =
+pub child_boxes-returns-then-not-container-clause-near : goal.child_boxes-returns-then-not-container-clause-near
+child_boxes-returns-then-not-container-clause-near g t c =
     near_told (level_at (bare c.args.tree.now.tree) c.args.id) c.args.x c.args.y (frame_of c.args.frame.now) c.args.told.now c.push.new.self c.node_at-node.result.now.name c.moved_by-rect.result c.in_ok-push.ensures.ok c.moved_by-rect.ensures c.requires.near
 
-pub boxes_of-boxes_below-requires : goal.boxes_of-boxes_below-requires
-boxes_of-boxes_below-requires g t c =
+pub child_boxes-boxes_below-requires : goal.child_boxes-boxes_below-requires
+child_boxes-boxes_below-requires g t c =
     let container : is_container (sight_at (bare c.args.tree.now.tree) c.args.id).label.kind ≡ true = kind_is c.node_at-node.result.now.kind (sight_at (bare c.args.tree.now.tree) c.args.id).label.kind c.is_container-container.result c.node_at-node.ensures.kind c.is_container-container.ensures ∙ c.if-not-container.false in
     let fits : Fits (sight_at (bare c.args.tree.now.tree) c.args.id) (frames_asked c.args.reps.now c.args.frame.now.inline c.args.frame.now.block) = c.requires.fits container in
     let level : 1 ≤ level_at (bare c.args.tree.now.tree) c.args.id = c.requires.level in
@@ -58,8 +59,8 @@ boxes_of-boxes_below-requires g t c =
     let small : 2 * size_at (bare c.args.tree.now.tree) c.args.id < 2 * size_at (bare c.args.tree.now.tree) c.args.id + 1 = omega arith in
     search rules
 
-pub boxes_of-returns-clause-near : goal.boxes_of-returns-clause-near
-boxes_of-returns-clause-near g t c =
+pub child_boxes-returns-clause-near : goal.child_boxes-returns-clause-near
+child_boxes-returns-clause-near g t c =
     ok_then c.boxes_below.result _ _
     (λ (more : AreNear c.push.new.self → AreNear c.boxes_below.new.told) (all : AreNear c.args.told.now).
     more (near_told (level_at (bare c.args.tree.now.tree) c.args.id) c.args.x c.args.y (frame_of c.args.frame.now) c.args.told.now c.push.new.self c.node_at-node.result.now.name c.moved_by-rect.result c.in_ok-push.ensures.ok c.moved_by-rect.ensures c.requires.near all))
@@ -94,6 +95,16 @@ boxes_below-seats_below-requires-clause-seat g t c = subst (λ (z : BareTrees). 
 pub boxes_below-seats_below-requires-clause-width : goal.boxes_below-seats_below-requires-clause-width
 boxes_below-seats_below-requires-clause-width g t c = given_some _ _ c.args.inline.now c.requires.fits.inline
 
+pub boxes_below-seats_below-requires-clause-tell : goal.boxes_below-seats_below-requires-clause-tell
+boxes_below-seats_below-requires-clause-tell g t c =
+    subst (λ (z : BareTrees). AreTelling z c.args.id (map frame_of c.as_slice-listed.result.now)) (sym c.in_ok-frames.ensures.walked.walk.bare_same)
+    (subst (AreTelling (bare c.args.tree.now.tree) c.args.id) (frames_told (bare c.args.tree.now.tree) c.args.id c.args.reps.now c.args.inline.now c.args.block.now c.in_ok-frames.frames c.in_ok-frames.ensures.value ∙ ap (map frame_of) (sym c.as_slice-listed.ensures))
+    (tell_seen (bare c.args.tree.now.tree) c.args.id c.args.reps.now c.args.inline.now c.args.block.now (c.frames_tell_subgrids.ensures c.args.reps.now c.args.inline.now c.args.block.now c.requires.fits)))
+
+pub boxes_below-seats_below-requires-clause-counted : goal.boxes_below-seats_below-requires-clause-counted
+boxes_below-seats_below-requires-clause-counted g t c =
+    frames_counted (bare c.args.tree.now.tree) c.args.id c.in_ok-frames.frames c.as_slice-listed.result.now c.in_ok-frames.ensures.children c.as_slice-listed.ensures ∙ ap (λ (z : BareTrees). length (kids_at z c.args.id)) (sym c.in_ok-frames.ensures.walked.walk.bare_same)
+
 pub boxes_below-returns-in_err-seats-clause-part : goal.boxes_below-returns-in_err-seats-clause-part
 boxes_below-returns-in_err-seats-clause-part g t c = on_err _ _ (part_laid c.args.id (frames_asked c.args.reps.now c.args.inline.now c.args.block.now) _ _ (laid_first c.args.id (frames_asked c.args.reps.now c.args.inline.now c.args.block.now) _ _ c.in_ok-frames.ensures.walked))
 
@@ -113,6 +124,7 @@ boxes_below-loop-index-init g t c =
         counted = frames_counted (bare c.args.tree.now.tree) c.args.id c.in_ok-frames.frames c.as_slice-listed.result.now c.in_ok-frames.ensures.children c.as_slice-listed.ensures;
         stand = stand_seen (bare c.args.tree.now.tree) c.args.id (level_at (bare c.args.tree.now.tree) c.args.id) c.args.reps.now c.args.inline.now c.args.block.now (c.frames_stand_near.ensures (level_at (bare c.args.tree.now.tree) c.args.id) c.args.reps.now c.args.inline.now c.args.block.now (c.root.ensures.tree.level c.args.id) c.requires.columns c.requires.rows);
         fit = fit_seen (bare c.args.tree.now.tree) c.args.id c.args.reps.now c.args.inline.now c.args.block.now (c.frames_fit_below.ensures c.args.reps.now c.args.inline.now c.args.block.now c.requires.fits);
+        tell = tell_seen (bare c.args.tree.now.tree) c.args.id c.args.reps.now c.args.inline.now c.args.block.now (c.frames_tell_subgrids.ensures c.args.reps.now c.args.inline.now c.args.block.now c.requires.fits);
         seated = subst (λ (z : BareTrees). AreSeats z c.args.id c.in_ok-seats.seats) c.in_ok-frames.ensures.walked.walk.bare_same c.in_ok-seats.ensures.seats;
         pairs = subst (λ (z : BareTrees). HasPairs z c.args.id (frames_asked c.args.reps.now c.args.inline.now c.args.block.now) c.in_ok-seats.seats) c.in_ok-frames.ensures.walked.walk.bare_same (c.in_ok-seats.ensures.pairs (frames_asked c.args.reps.now c.args.inline.now c.args.block.now) refl refl);
         some = c.requires.level;
@@ -135,15 +147,11 @@ pub boxes_below-child_of_frame-child-requires-clause-children : goal.boxes_below
 boxes_below-child_of_frame-child-requires-clause-children g t c =
     ap (map (λ (f : NodeFrame). f.child)) c.as_slice-listed.ensures ∙ c.in_ok-frames.ensures.children ∙ ap (λ (z : BareTrees). children_at z c.args.id) (sym c.loop-index.invariant.same)
 
-pub boxes_below-is_lower-lower-requires : goal.boxes_below-is_lower-lower-requires
-boxes_below-is_lower-lower-requires g t c = c.child_of_frame-child.ensures.live
-
-pub boxes_below-boxes_of-requires : goal.boxes_below-boxes_of-requires
-boxes_below-boxes_of-requires g t c =
+pub boxes_below-child_boxes-requires : goal.boxes_below-child_boxes-requires
+boxes_below-child_boxes-requires g t c =
     let turn : IsTurn (bare c.loop-index.tree.tree) c.args.id (frames_asked c.args.reps.now c.args.inline.now c.args.block.now) c.args.x c.args.y c.loop-index.index c.child_of_frame-child.result c.pairs_for.result.now c.above_for.result.now c.area_for.result c.index-listed-index.result = turn_here (bare c.loop-index.tree.tree) c.args.id c.args.reps.now c.args.inline.now c.args.block.now c.as_slice-listed.result.now c.in_ok-seats.seats c.args.x c.args.y
     (subst (λ (z : BareTrees). IsBelow z c.args.id (frames_asked c.args.reps.now c.args.inline.now c.args.block.now) c.as_slice-listed.result.now c.in_ok-seats.seats c.args.x c.args.y) (sym c.loop-index.invariant.same) c.loop-index.invariant.below) c.loop-index.index c.child_of_frame-child.result c.child_of_frame-child.ensures
-    (omega (arith, c.loop-index-test.true)) c.is_lower-lower.result c.is_lower-lower.ensures c.pairs_for.result.now c.pairs_for.ensures c.above_for.result.now c.above_for.ensures c.area_for.result c.area_for.ensures
-    c.index-listed-index.result c.index-listed-index.is in
+    (omega (arith, c.loop-index-test.true)) c.index-listed-index.result c.index-listed-index.is c.is_lower-lower.result c.is_lower-lower.ensures c.pairs_for.result.now c.pairs_for.ensures c.above_for.result.now c.above_for.ensures c.area_for.result c.area_for.ensures in
     let live : IsLive (bare c.loop-index.tree.tree) c.child_of_frame-child.result = turn.next.live in
     let right : IsRight c.loop-index.tree.tree = c.loop-index.invariant.right in
     let readable : AreReadable (bare c.loop-index.tree.tree) = subst AreReadable (sym c.loop-index.invariant.same) c.requires.readable in
@@ -156,43 +164,40 @@ boxes_below-boxes_of-requires g t c =
     let small : 2 * size_at (bare c.loop-index.tree.tree) c.child_of_frame-child.result + 1 < 2 * size_at (bare c.args.tree.now.tree) c.args.id = omega (arith, turn.next.smaller, ap (λ (z : BareTrees). size_at z c.args.id) c.loop-index.invariant.same) in
     search rules
 
-pub boxes_below-returns-in_err-boxes_of-clause-part : goal.boxes_below-returns-in_err-boxes_of-clause-part
-boxes_below-returns-in_err-boxes_of-clause-part g t c =
+pub boxes_below-returns-in_err-child_boxes-clause-part : goal.boxes_below-returns-in_err-child_boxes-clause-part
+boxes_below-returns-in_err-child_boxes-clause-part g t c =
     let turn : IsTurn (bare c.loop-index.tree.tree) c.args.id (frames_asked c.args.reps.now c.args.inline.now c.args.block.now) c.args.x c.args.y c.loop-index.index c.child_of_frame-child.result c.pairs_for.result.now c.above_for.result.now c.area_for.result c.index-listed-index.result = turn_here (bare c.loop-index.tree.tree) c.args.id c.args.reps.now c.args.inline.now c.args.block.now c.as_slice-listed.result.now c.in_ok-seats.seats c.args.x c.args.y
     (subst (λ (z : BareTrees). IsBelow z c.args.id (frames_asked c.args.reps.now c.args.inline.now c.args.block.now) c.as_slice-listed.result.now c.in_ok-seats.seats c.args.x c.args.y) (sym c.loop-index.invariant.same) c.loop-index.invariant.below) c.loop-index.index c.child_of_frame-child.result c.child_of_frame-child.ensures
-    (omega (arith, c.loop-index-test.true)) c.is_lower-lower.result c.is_lower-lower.ensures c.pairs_for.result.now c.pairs_for.ensures c.above_for.result.now c.above_for.ensures c.area_for.result c.area_for.ensures
-    c.index-listed-index.result c.index-listed-index.is in
-    on_err _ _ (part_next (bare c.args.tree.now.tree) (bare c.loop-index.tree.tree) c.loop-index.invariant.same c.args.id (frames_asked c.args.reps.now c.args.inline.now c.args.block.now) c.args.x c.args.y c.loop-index.index c.child_of_frame-child.result c.pairs_for.result.now c.above_for.result.now c.area_for.result c.index-listed-index.result turn (state c.args.tree.now c.args.tally.now c.args.passes.now (g.R.Ruler.log c.args.ruler.now)) (state c.loop-index.tree c.loop-index.tally c.loop-index.passes (g.R.Ruler.log c.loop-index.ruler)) (state c.boxes_of.new.tree c.boxes_of.new.tally c.boxes_of.new.passes (g.R.Ruler.log c.boxes_of.new.ruler)) refl c.loop-index.invariant.laid c.in_err-boxes_of.ensures.part)
+    (omega (arith, c.loop-index-test.true)) c.index-listed-index.result c.index-listed-index.is c.is_lower-lower.result c.is_lower-lower.ensures c.pairs_for.result.now c.pairs_for.ensures c.above_for.result.now c.above_for.ensures c.area_for.result c.area_for.ensures in
+    on_err _ _ (part_next (bare c.args.tree.now.tree) (bare c.loop-index.tree.tree) c.loop-index.invariant.same c.args.id (frames_asked c.args.reps.now c.args.inline.now c.args.block.now) c.args.x c.args.y c.loop-index.index c.child_of_frame-child.result c.pairs_for.result.now c.above_for.result.now c.area_for.result c.index-listed-index.result turn (state c.args.tree.now c.args.tally.now c.args.passes.now (g.R.Ruler.log c.args.ruler.now)) (state c.loop-index.tree c.loop-index.tally c.loop-index.passes (g.R.Ruler.log c.loop-index.ruler)) (state c.child_boxes.new.tree c.child_boxes.new.tally c.child_boxes.new.passes (g.R.Ruler.log c.child_boxes.new.ruler)) refl c.loop-index.invariant.laid c.in_err-child_boxes.ensures.part)
 
-pub boxes_below-returns-in_err-boxes_of-clause-quiet : goal.boxes_below-returns-in_err-boxes_of-clause-quiet
-boxes_below-returns-in_err-boxes_of-clause-quiet g t c =
+pub boxes_below-returns-in_err-child_boxes-clause-quiet : goal.boxes_below-returns-in_err-child_boxes-clause-quiet
+boxes_below-returns-in_err-child_boxes-clause-quiet g t c =
     let turn : IsTurn (bare c.loop-index.tree.tree) c.args.id (frames_asked c.args.reps.now c.args.inline.now c.args.block.now) c.args.x c.args.y c.loop-index.index c.child_of_frame-child.result c.pairs_for.result.now c.above_for.result.now c.area_for.result c.index-listed-index.result = turn_here (bare c.loop-index.tree.tree) c.args.id c.args.reps.now c.args.inline.now c.args.block.now c.as_slice-listed.result.now c.in_ok-seats.seats c.args.x c.args.y
     (subst (λ (z : BareTrees). IsBelow z c.args.id (frames_asked c.args.reps.now c.args.inline.now c.args.block.now) c.as_slice-listed.result.now c.in_ok-seats.seats c.args.x c.args.y) (sym c.loop-index.invariant.same) c.loop-index.invariant.below) c.loop-index.index c.child_of_frame-child.result c.child_of_frame-child.ensures
-    (omega (arith, c.loop-index-test.true)) c.is_lower-lower.result c.is_lower-lower.ensures c.pairs_for.result.now c.pairs_for.ensures c.above_for.result.now c.above_for.ensures c.area_for.result c.area_for.ensures
-    c.index-listed-index.result c.index-listed-index.is in
-    quiet_next (bare c.args.tree.now.tree) (bare c.loop-index.tree.tree) c.loop-index.invariant.same c.args.id (frames_asked c.args.reps.now c.args.inline.now c.args.block.now) c.args.x c.args.y c.loop-index.index c.child_of_frame-child.result c.pairs_for.result.now c.above_for.result.now c.area_for.result c.index-listed-index.result turn (state c.args.tree.now c.args.tally.now c.args.passes.now (g.R.Ruler.log c.args.ruler.now)) (state c.loop-index.tree c.loop-index.tally c.loop-index.passes (g.R.Ruler.log c.loop-index.ruler)) (state c.boxes_of.new.tree c.boxes_of.new.tally c.boxes_of.new.passes (g.R.Ruler.log c.boxes_of.new.ruler)) c.loop-index.invariant.quiet c.boxes_of.ensures.quiet
+    (omega (arith, c.loop-index-test.true)) c.index-listed-index.result c.index-listed-index.is c.is_lower-lower.result c.is_lower-lower.ensures c.pairs_for.result.now c.pairs_for.ensures c.above_for.result.now c.above_for.ensures c.area_for.result c.area_for.ensures in
+    quiet_next (bare c.args.tree.now.tree) (bare c.loop-index.tree.tree) c.loop-index.invariant.same c.args.id (frames_asked c.args.reps.now c.args.inline.now c.args.block.now) c.args.x c.args.y c.loop-index.index c.child_of_frame-child.result c.pairs_for.result.now c.above_for.result.now c.area_for.result c.index-listed-index.result turn (state c.args.tree.now c.args.tally.now c.args.passes.now (g.R.Ruler.log c.args.ruler.now)) (state c.loop-index.tree c.loop-index.tally c.loop-index.passes (g.R.Ruler.log c.loop-index.ruler)) (state c.child_boxes.new.tree c.child_boxes.new.tally c.child_boxes.new.passes (g.R.Ruler.log c.child_boxes.new.ruler)) c.loop-index.invariant.quiet c.child_boxes.ensures.quiet
 
 pub boxes_below-loop-index-preserved : goal.boxes_below-loop-index-preserved
 boxes_below-loop-index-preserved g t c =
     let turn : IsTurn (bare c.loop-index.tree.tree) c.args.id (frames_asked c.args.reps.now c.args.inline.now c.args.block.now) c.args.x c.args.y c.loop-index.index c.child_of_frame-child.result c.pairs_for.result.now c.above_for.result.now c.area_for.result c.index-listed-index.result = turn_here (bare c.loop-index.tree.tree) c.args.id c.args.reps.now c.args.inline.now c.args.block.now c.as_slice-listed.result.now c.in_ok-seats.seats c.args.x c.args.y
     (subst (λ (z : BareTrees). IsBelow z c.args.id (frames_asked c.args.reps.now c.args.inline.now c.args.block.now) c.as_slice-listed.result.now c.in_ok-seats.seats c.args.x c.args.y) (sym c.loop-index.invariant.same) c.loop-index.invariant.below) c.loop-index.index c.child_of_frame-child.result c.child_of_frame-child.ensures
-    (omega (arith, c.loop-index-test.true)) c.is_lower-lower.result c.is_lower-lower.ensures c.pairs_for.result.now c.pairs_for.ensures c.above_for.result.now c.above_for.ensures c.area_for.result c.area_for.ensures
-    c.index-listed-index.result c.index-listed-index.is in
+    (omega (arith, c.loop-index-test.true)) c.index-listed-index.result c.index-listed-index.is c.is_lower-lower.result c.is_lower-lower.ensures c.pairs_for.result.now c.pairs_for.ensures c.above_for.result.now c.above_for.ensures c.area_for.result c.area_for.ensures in
     record {
-      right = c.boxes_of.ensures.right;
-      same = child_same (bare c.loop-index.tree.tree) c.child_of_frame-child.result _ _ _ c.in_ok-boxes_of.ensures.laid ∙ c.loop-index.invariant.same;
-      laid = laid_next (bare c.args.tree.now.tree) (bare c.loop-index.tree.tree) c.loop-index.invariant.same c.args.id (frames_asked c.args.reps.now c.args.inline.now c.args.block.now) c.args.x c.args.y c.loop-index.index c.child_of_frame-child.result c.pairs_for.result.now c.above_for.result.now c.area_for.result c.index-listed-index.result turn (state c.args.tree.now c.args.tally.now c.args.passes.now (g.R.Ruler.log c.args.ruler.now)) (state c.loop-index.tree c.loop-index.tally c.loop-index.passes (g.R.Ruler.log c.loop-index.ruler)) (state c.boxes_of.new.tree c.boxes_of.new.tally c.boxes_of.new.passes (g.R.Ruler.log c.boxes_of.new.ruler)) refl c.loop-index.invariant.laid c.in_ok-boxes_of.ensures.laid;
-      value = value_next (bare c.args.tree.now.tree) (bare c.loop-index.tree.tree) c.loop-index.invariant.same c.args.id (frames_asked c.args.reps.now c.args.inline.now c.args.block.now) c.args.x c.args.y c.loop-index.index c.child_of_frame-child.result c.pairs_for.result.now c.above_for.result.now c.area_for.result c.index-listed-index.result turn c.loop-index.told c.boxes_of.new.told _ c.in_ok-boxes_of.ensures.value c.loop-index.invariant.value;
+      right = c.child_boxes.ensures.right;
+      same = child_same (bare c.loop-index.tree.tree) c.child_of_frame-child.result _ _ _ c.in_ok-child_boxes.ensures.laid ∙ c.loop-index.invariant.same;
+      laid = laid_next (bare c.args.tree.now.tree) (bare c.loop-index.tree.tree) c.loop-index.invariant.same c.args.id (frames_asked c.args.reps.now c.args.inline.now c.args.block.now) c.args.x c.args.y c.loop-index.index c.child_of_frame-child.result c.pairs_for.result.now c.above_for.result.now c.area_for.result c.index-listed-index.result turn (state c.args.tree.now c.args.tally.now c.args.passes.now (g.R.Ruler.log c.args.ruler.now)) (state c.loop-index.tree c.loop-index.tally c.loop-index.passes (g.R.Ruler.log c.loop-index.ruler)) (state c.child_boxes.new.tree c.child_boxes.new.tally c.child_boxes.new.passes (g.R.Ruler.log c.child_boxes.new.ruler)) refl c.loop-index.invariant.laid c.in_ok-child_boxes.ensures.laid;
+      value = value_next (bare c.args.tree.now.tree) (bare c.loop-index.tree.tree) c.loop-index.invariant.same c.args.id (frames_asked c.args.reps.now c.args.inline.now c.args.block.now) c.args.x c.args.y c.loop-index.index c.child_of_frame-child.result c.pairs_for.result.now c.above_for.result.now c.area_for.result c.index-listed-index.result turn c.loop-index.told c.child_boxes.new.told _ c.in_ok-child_boxes.ensures.value c.loop-index.invariant.value;
       below = c.loop-index.invariant.below;
-      own = own_next (bare c.args.tree.now.tree) c.differ.ensures c.args.id c.args.reps.now c.args.inline.now c.args.block.now c.args.x c.args.y c.loop-index.index c.child_of_frame-child.result c.pairs_for.result.now c.above_for.result.now c.area_for.result c.index-listed-index.result (subst (λ (z : BareTrees). IsTurn z c.args.id (frames_asked c.args.reps.now c.args.inline.now c.args.block.now) c.args.x c.args.y c.loop-index.index c.child_of_frame-child.result c.pairs_for.result.now c.above_for.result.now c.area_for.result c.index-listed-index.result) c.loop-index.invariant.same turn) (state c.loop-index.tree c.loop-index.tally c.loop-index.passes (g.R.Ruler.log c.loop-index.ruler)) (state c.boxes_of.new.tree c.boxes_of.new.tally c.boxes_of.new.passes (g.R.Ruler.log c.boxes_of.new.ruler)) (outside_same (bare c.args.tree.now.tree) c.child_of_frame-child.result (frames_asked c.pairs_for.result.now c.index-listed-index.result.inline c.index-listed-index.result.block) (state c.loop-index.tree c.loop-index.tally c.loop-index.passes (g.R.Ruler.log c.loop-index.ruler)) (state c.boxes_of.new.tree c.boxes_of.new.tally c.boxes_of.new.passes (g.R.Ruler.log c.boxes_of.new.ruler)) c.loop-index.invariant.same (subst (λ (z : BareTrees). IsChildLaid z c.child_of_frame-child.result (frames_asked c.pairs_for.result.now c.index-listed-index.result.inline c.index-listed-index.result.block) (state c.loop-index.tree c.loop-index.tally c.loop-index.passes (g.R.Ruler.log c.loop-index.ruler)) (state c.boxes_of.new.tree c.boxes_of.new.tally c.boxes_of.new.passes (g.R.Ruler.log c.boxes_of.new.ruler))) c.loop-index.invariant.same c.in_ok-boxes_of.ensures.laid)) (frames_asked c.args.reps.now c.args.inline.now c.args.block.now) c.loop-index.invariant.own;
-      done = done_next (bare c.args.tree.now.tree) c.differ.ensures c.args.id c.args.reps.now c.args.inline.now c.args.block.now c.args.x c.args.y c.loop-index.index c.child_of_frame-child.result c.pairs_for.result.now c.above_for.result.now c.area_for.result c.index-listed-index.result (subst (λ (z : BareTrees). IsTurn z c.args.id (frames_asked c.args.reps.now c.args.inline.now c.args.block.now) c.args.x c.args.y c.loop-index.index c.child_of_frame-child.result c.pairs_for.result.now c.above_for.result.now c.area_for.result c.index-listed-index.result) c.loop-index.invariant.same turn) (state c.loop-index.tree c.loop-index.tally c.loop-index.passes (g.R.Ruler.log c.loop-index.ruler)) (state c.boxes_of.new.tree c.boxes_of.new.tally c.boxes_of.new.passes (g.R.Ruler.log c.boxes_of.new.ruler)) (outside_same (bare c.args.tree.now.tree) c.child_of_frame-child.result (frames_asked c.pairs_for.result.now c.index-listed-index.result.inline c.index-listed-index.result.block) (state c.loop-index.tree c.loop-index.tally c.loop-index.passes (g.R.Ruler.log c.loop-index.ruler)) (state c.boxes_of.new.tree c.boxes_of.new.tally c.boxes_of.new.passes (g.R.Ruler.log c.boxes_of.new.ruler)) c.loop-index.invariant.same (subst (λ (z : BareTrees). IsChildLaid z c.child_of_frame-child.result (frames_asked c.pairs_for.result.now c.index-listed-index.result.inline c.index-listed-index.result.block) (state c.loop-index.tree c.loop-index.tally c.loop-index.passes (g.R.Ruler.log c.loop-index.ruler)) (state c.boxes_of.new.tree c.boxes_of.new.tally c.boxes_of.new.passes (g.R.Ruler.log c.boxes_of.new.ruler))) c.loop-index.invariant.same c.in_ok-boxes_of.ensures.laid)) c.loop-index.invariant.done
-          (subst (λ (z : BareTrees). is_container (sight_at z c.child_of_frame-child.result).label.kind ≡ true → AreKeptBelow z c.child_of_frame-child.result (frames_asked c.pairs_for.result.now c.index-listed-index.result.inline c.index-listed-index.result.block) (state c.boxes_of.new.tree c.boxes_of.new.tally c.boxes_of.new.passes (g.R.Ruler.log c.boxes_of.new.ruler))) c.loop-index.invariant.same c.in_ok-boxes_of.ensures.paths);
-      leaves = own_measured (bare c.args.tree.now.tree) c.differ.ensures c.args.id c.args.reps.now c.args.inline.now c.args.block.now c.args.x c.args.y c.loop-index.index c.child_of_frame-child.result c.pairs_for.result.now c.above_for.result.now c.area_for.result c.index-listed-index.result (subst (λ (z : BareTrees). IsTurn z c.args.id (frames_asked c.args.reps.now c.args.inline.now c.args.block.now) c.args.x c.args.y c.loop-index.index c.child_of_frame-child.result c.pairs_for.result.now c.above_for.result.now c.area_for.result c.index-listed-index.result) c.loop-index.invariant.same turn) (state c.args.tree.now c.args.tally.now c.args.passes.now (g.R.Ruler.log c.args.ruler.now)) (state c.loop-index.tree c.loop-index.tally c.loop-index.passes (g.R.Ruler.log c.loop-index.ruler)) (state c.boxes_of.new.tree c.boxes_of.new.tally c.boxes_of.new.passes (g.R.Ruler.log c.boxes_of.new.ruler)) (outside_same (bare c.args.tree.now.tree) c.child_of_frame-child.result (frames_asked c.pairs_for.result.now c.index-listed-index.result.inline c.index-listed-index.result.block) (state c.loop-index.tree c.loop-index.tally c.loop-index.passes (g.R.Ruler.log c.loop-index.ruler)) (state c.boxes_of.new.tree c.boxes_of.new.tally c.boxes_of.new.passes (g.R.Ruler.log c.boxes_of.new.ruler)) c.loop-index.invariant.same (subst (λ (z : BareTrees). IsChildLaid z c.child_of_frame-child.result (frames_asked c.pairs_for.result.now c.index-listed-index.result.inline c.index-listed-index.result.block) (state c.loop-index.tree c.loop-index.tally c.loop-index.passes (g.R.Ruler.log c.loop-index.ruler)) (state c.boxes_of.new.tree c.boxes_of.new.tally c.boxes_of.new.passes (g.R.Ruler.log c.boxes_of.new.ruler))) c.loop-index.invariant.same c.in_ok-boxes_of.ensures.laid)) (untold (bare c.args.tree.now.tree) c.child_of_frame-child.result (frames_asked c.pairs_for.result.now c.index-listed-index.result.inline c.index-listed-index.result.block) (state c.loop-index.tree c.loop-index.tally c.loop-index.passes (g.R.Ruler.log c.loop-index.ruler)) (state c.boxes_of.new.tree c.boxes_of.new.tally c.boxes_of.new.passes (g.R.Ruler.log c.boxes_of.new.ruler)) (subst (λ (z : BareTrees). IsChildLaid z c.child_of_frame-child.result (frames_asked c.pairs_for.result.now c.index-listed-index.result.inline c.index-listed-index.result.block) (state c.loop-index.tree c.loop-index.tally c.loop-index.passes (g.R.Ruler.log c.loop-index.ruler)) (state c.boxes_of.new.tree c.boxes_of.new.tally c.boxes_of.new.passes (g.R.Ruler.log c.boxes_of.new.ruler))) c.loop-index.invariant.same c.in_ok-boxes_of.ensures.laid)) c.loop-index.invariant.leaves;
-      measured = measured_next (bare c.args.tree.now.tree) c.differ.ensures c.args.id c.args.reps.now c.args.inline.now c.args.block.now c.args.x c.args.y c.loop-index.index c.child_of_frame-child.result c.pairs_for.result.now c.above_for.result.now c.area_for.result c.index-listed-index.result (subst (λ (z : BareTrees). IsTurn z c.args.id (frames_asked c.args.reps.now c.args.inline.now c.args.block.now) c.args.x c.args.y c.loop-index.index c.child_of_frame-child.result c.pairs_for.result.now c.above_for.result.now c.area_for.result c.index-listed-index.result) c.loop-index.invariant.same turn) (state c.args.tree.now c.args.tally.now c.args.passes.now (g.R.Ruler.log c.args.ruler.now)) (state c.loop-index.tree c.loop-index.tally c.loop-index.passes (g.R.Ruler.log c.loop-index.ruler)) (state c.boxes_of.new.tree c.boxes_of.new.tally c.boxes_of.new.passes (g.R.Ruler.log c.boxes_of.new.ruler)) (outside_same (bare c.args.tree.now.tree) c.child_of_frame-child.result (frames_asked c.pairs_for.result.now c.index-listed-index.result.inline c.index-listed-index.result.block) (state c.loop-index.tree c.loop-index.tally c.loop-index.passes (g.R.Ruler.log c.loop-index.ruler)) (state c.boxes_of.new.tree c.boxes_of.new.tally c.boxes_of.new.passes (g.R.Ruler.log c.boxes_of.new.ruler)) c.loop-index.invariant.same (subst (λ (z : BareTrees). IsChildLaid z c.child_of_frame-child.result (frames_asked c.pairs_for.result.now c.index-listed-index.result.inline c.index-listed-index.result.block) (state c.loop-index.tree c.loop-index.tally c.loop-index.passes (g.R.Ruler.log c.loop-index.ruler)) (state c.boxes_of.new.tree c.boxes_of.new.tally c.boxes_of.new.passes (g.R.Ruler.log c.boxes_of.new.ruler))) c.loop-index.invariant.same c.in_ok-boxes_of.ensures.laid)) c.loop-index.invariant.measured c.loop-index.invariant.absent
-          (subst (λ (z : BareTrees). is_container (sight_at z c.child_of_frame-child.result).label.kind ≡ true → MeasuresBelow z c.child_of_frame-child.result (frames_asked c.pairs_for.result.now c.index-listed-index.result.inline c.index-listed-index.result.block) (state c.loop-index.tree c.loop-index.tally c.loop-index.passes (g.R.Ruler.log c.loop-index.ruler)) (state c.boxes_of.new.tree c.boxes_of.new.tally c.boxes_of.new.passes (g.R.Ruler.log c.boxes_of.new.ruler))) c.loop-index.invariant.same c.in_ok-boxes_of.ensures.leaves);
-      absent = absent_next (bare c.args.tree.now.tree) c.differ.ensures c.args.id c.args.reps.now c.args.inline.now c.args.block.now c.args.x c.args.y c.loop-index.index c.child_of_frame-child.result c.pairs_for.result.now c.above_for.result.now c.area_for.result c.index-listed-index.result (subst (λ (z : BareTrees). IsTurn z c.args.id (frames_asked c.args.reps.now c.args.inline.now c.args.block.now) c.args.x c.args.y c.loop-index.index c.child_of_frame-child.result c.pairs_for.result.now c.above_for.result.now c.area_for.result c.index-listed-index.result) c.loop-index.invariant.same turn) (state c.args.tree.now c.args.tally.now c.args.passes.now (g.R.Ruler.log c.args.ruler.now)) (state c.loop-index.tree c.loop-index.tally c.loop-index.passes (g.R.Ruler.log c.loop-index.ruler)) (state c.boxes_of.new.tree c.boxes_of.new.tally c.boxes_of.new.passes (g.R.Ruler.log c.boxes_of.new.ruler)) (outside_same (bare c.args.tree.now.tree) c.child_of_frame-child.result (frames_asked c.pairs_for.result.now c.index-listed-index.result.inline c.index-listed-index.result.block) (state c.loop-index.tree c.loop-index.tally c.loop-index.passes (g.R.Ruler.log c.loop-index.ruler)) (state c.boxes_of.new.tree c.boxes_of.new.tally c.boxes_of.new.passes (g.R.Ruler.log c.boxes_of.new.ruler)) c.loop-index.invariant.same (subst (λ (z : BareTrees). IsChildLaid z c.child_of_frame-child.result (frames_asked c.pairs_for.result.now c.index-listed-index.result.inline c.index-listed-index.result.block) (state c.loop-index.tree c.loop-index.tally c.loop-index.passes (g.R.Ruler.log c.loop-index.ruler)) (state c.boxes_of.new.tree c.boxes_of.new.tally c.boxes_of.new.passes (g.R.Ruler.log c.boxes_of.new.ruler))) c.loop-index.invariant.same c.in_ok-boxes_of.ensures.laid)) c.loop-index.invariant.absent;
-      near = λ h. c.in_ok-boxes_of.ensures.near (c.loop-index.invariant.near h);
-      quiet = quiet_next (bare c.args.tree.now.tree) (bare c.loop-index.tree.tree) c.loop-index.invariant.same c.args.id (frames_asked c.args.reps.now c.args.inline.now c.args.block.now) c.args.x c.args.y c.loop-index.index c.child_of_frame-child.result c.pairs_for.result.now c.above_for.result.now c.area_for.result c.index-listed-index.result turn (state c.args.tree.now c.args.tally.now c.args.passes.now (g.R.Ruler.log c.args.ruler.now)) (state c.loop-index.tree c.loop-index.tally c.loop-index.passes (g.R.Ruler.log c.loop-index.ruler)) (state c.boxes_of.new.tree c.boxes_of.new.tally c.boxes_of.new.passes (g.R.Ruler.log c.boxes_of.new.ruler)) c.loop-index.invariant.quiet c.boxes_of.ensures.quiet;
+      own = own_next (bare c.args.tree.now.tree) c.differ.ensures c.args.id c.args.reps.now c.args.inline.now c.args.block.now c.args.x c.args.y c.loop-index.index c.child_of_frame-child.result c.pairs_for.result.now c.above_for.result.now c.area_for.result c.index-listed-index.result (subst (λ (z : BareTrees). IsTurn z c.args.id (frames_asked c.args.reps.now c.args.inline.now c.args.block.now) c.args.x c.args.y c.loop-index.index c.child_of_frame-child.result c.pairs_for.result.now c.above_for.result.now c.area_for.result c.index-listed-index.result) c.loop-index.invariant.same turn) (state c.loop-index.tree c.loop-index.tally c.loop-index.passes (g.R.Ruler.log c.loop-index.ruler)) (state c.child_boxes.new.tree c.child_boxes.new.tally c.child_boxes.new.passes (g.R.Ruler.log c.child_boxes.new.ruler)) (outside_same (bare c.args.tree.now.tree) c.child_of_frame-child.result (frames_asked c.pairs_for.result.now c.index-listed-index.result.inline c.index-listed-index.result.block) (state c.loop-index.tree c.loop-index.tally c.loop-index.passes (g.R.Ruler.log c.loop-index.ruler)) (state c.child_boxes.new.tree c.child_boxes.new.tally c.child_boxes.new.passes (g.R.Ruler.log c.child_boxes.new.ruler)) c.loop-index.invariant.same (subst (λ (z : BareTrees). IsChildLaid z c.child_of_frame-child.result (frames_asked c.pairs_for.result.now c.index-listed-index.result.inline c.index-listed-index.result.block) (state c.loop-index.tree c.loop-index.tally c.loop-index.passes (g.R.Ruler.log c.loop-index.ruler)) (state c.child_boxes.new.tree c.child_boxes.new.tally c.child_boxes.new.passes (g.R.Ruler.log c.child_boxes.new.ruler))) c.loop-index.invariant.same c.in_ok-child_boxes.ensures.laid)) (frames_asked c.args.reps.now c.args.inline.now c.args.block.now) c.loop-index.invariant.own;
+      done = done_next (bare c.args.tree.now.tree) c.differ.ensures c.args.id c.args.reps.now c.args.inline.now c.args.block.now c.args.x c.args.y c.loop-index.index c.child_of_frame-child.result c.pairs_for.result.now c.above_for.result.now c.area_for.result c.index-listed-index.result (subst (λ (z : BareTrees). IsTurn z c.args.id (frames_asked c.args.reps.now c.args.inline.now c.args.block.now) c.args.x c.args.y c.loop-index.index c.child_of_frame-child.result c.pairs_for.result.now c.above_for.result.now c.area_for.result c.index-listed-index.result) c.loop-index.invariant.same turn) (state c.loop-index.tree c.loop-index.tally c.loop-index.passes (g.R.Ruler.log c.loop-index.ruler)) (state c.child_boxes.new.tree c.child_boxes.new.tally c.child_boxes.new.passes (g.R.Ruler.log c.child_boxes.new.ruler)) (outside_same (bare c.args.tree.now.tree) c.child_of_frame-child.result (frames_asked c.pairs_for.result.now c.index-listed-index.result.inline c.index-listed-index.result.block) (state c.loop-index.tree c.loop-index.tally c.loop-index.passes (g.R.Ruler.log c.loop-index.ruler)) (state c.child_boxes.new.tree c.child_boxes.new.tally c.child_boxes.new.passes (g.R.Ruler.log c.child_boxes.new.ruler)) c.loop-index.invariant.same (subst (λ (z : BareTrees). IsChildLaid z c.child_of_frame-child.result (frames_asked c.pairs_for.result.now c.index-listed-index.result.inline c.index-listed-index.result.block) (state c.loop-index.tree c.loop-index.tally c.loop-index.passes (g.R.Ruler.log c.loop-index.ruler)) (state c.child_boxes.new.tree c.child_boxes.new.tally c.child_boxes.new.passes (g.R.Ruler.log c.child_boxes.new.ruler))) c.loop-index.invariant.same c.in_ok-child_boxes.ensures.laid)) c.loop-index.invariant.done
+          (subst (λ (z : BareTrees). is_container (sight_at z c.child_of_frame-child.result).label.kind ≡ true → AreKeptBelow z c.child_of_frame-child.result (frames_asked c.pairs_for.result.now c.index-listed-index.result.inline c.index-listed-index.result.block) (state c.child_boxes.new.tree c.child_boxes.new.tally c.child_boxes.new.passes (g.R.Ruler.log c.child_boxes.new.ruler))) c.loop-index.invariant.same c.in_ok-child_boxes.ensures.paths);
+      leaves = own_measured (bare c.args.tree.now.tree) c.differ.ensures c.args.id c.args.reps.now c.args.inline.now c.args.block.now c.args.x c.args.y c.loop-index.index c.child_of_frame-child.result c.pairs_for.result.now c.above_for.result.now c.area_for.result c.index-listed-index.result (subst (λ (z : BareTrees). IsTurn z c.args.id (frames_asked c.args.reps.now c.args.inline.now c.args.block.now) c.args.x c.args.y c.loop-index.index c.child_of_frame-child.result c.pairs_for.result.now c.above_for.result.now c.area_for.result c.index-listed-index.result) c.loop-index.invariant.same turn) (state c.args.tree.now c.args.tally.now c.args.passes.now (g.R.Ruler.log c.args.ruler.now)) (state c.loop-index.tree c.loop-index.tally c.loop-index.passes (g.R.Ruler.log c.loop-index.ruler)) (state c.child_boxes.new.tree c.child_boxes.new.tally c.child_boxes.new.passes (g.R.Ruler.log c.child_boxes.new.ruler)) (outside_same (bare c.args.tree.now.tree) c.child_of_frame-child.result (frames_asked c.pairs_for.result.now c.index-listed-index.result.inline c.index-listed-index.result.block) (state c.loop-index.tree c.loop-index.tally c.loop-index.passes (g.R.Ruler.log c.loop-index.ruler)) (state c.child_boxes.new.tree c.child_boxes.new.tally c.child_boxes.new.passes (g.R.Ruler.log c.child_boxes.new.ruler)) c.loop-index.invariant.same (subst (λ (z : BareTrees). IsChildLaid z c.child_of_frame-child.result (frames_asked c.pairs_for.result.now c.index-listed-index.result.inline c.index-listed-index.result.block) (state c.loop-index.tree c.loop-index.tally c.loop-index.passes (g.R.Ruler.log c.loop-index.ruler)) (state c.child_boxes.new.tree c.child_boxes.new.tally c.child_boxes.new.passes (g.R.Ruler.log c.child_boxes.new.ruler))) c.loop-index.invariant.same c.in_ok-child_boxes.ensures.laid)) (untold (bare c.args.tree.now.tree) c.child_of_frame-child.result (frames_asked c.pairs_for.result.now c.index-listed-index.result.inline c.index-listed-index.result.block) (state c.loop-index.tree c.loop-index.tally c.loop-index.passes (g.R.Ruler.log c.loop-index.ruler)) (state c.child_boxes.new.tree c.child_boxes.new.tally c.child_boxes.new.passes (g.R.Ruler.log c.child_boxes.new.ruler)) (subst (λ (z : BareTrees). IsChildLaid z c.child_of_frame-child.result (frames_asked c.pairs_for.result.now c.index-listed-index.result.inline c.index-listed-index.result.block) (state c.loop-index.tree c.loop-index.tally c.loop-index.passes (g.R.Ruler.log c.loop-index.ruler)) (state c.child_boxes.new.tree c.child_boxes.new.tally c.child_boxes.new.passes (g.R.Ruler.log c.child_boxes.new.ruler))) c.loop-index.invariant.same c.in_ok-child_boxes.ensures.laid)) c.loop-index.invariant.leaves;
+      measured = measured_next (bare c.args.tree.now.tree) c.differ.ensures c.args.id c.args.reps.now c.args.inline.now c.args.block.now c.args.x c.args.y c.loop-index.index c.child_of_frame-child.result c.pairs_for.result.now c.above_for.result.now c.area_for.result c.index-listed-index.result (subst (λ (z : BareTrees). IsTurn z c.args.id (frames_asked c.args.reps.now c.args.inline.now c.args.block.now) c.args.x c.args.y c.loop-index.index c.child_of_frame-child.result c.pairs_for.result.now c.above_for.result.now c.area_for.result c.index-listed-index.result) c.loop-index.invariant.same turn) (state c.args.tree.now c.args.tally.now c.args.passes.now (g.R.Ruler.log c.args.ruler.now)) (state c.loop-index.tree c.loop-index.tally c.loop-index.passes (g.R.Ruler.log c.loop-index.ruler)) (state c.child_boxes.new.tree c.child_boxes.new.tally c.child_boxes.new.passes (g.R.Ruler.log c.child_boxes.new.ruler)) (outside_same (bare c.args.tree.now.tree) c.child_of_frame-child.result (frames_asked c.pairs_for.result.now c.index-listed-index.result.inline c.index-listed-index.result.block) (state c.loop-index.tree c.loop-index.tally c.loop-index.passes (g.R.Ruler.log c.loop-index.ruler)) (state c.child_boxes.new.tree c.child_boxes.new.tally c.child_boxes.new.passes (g.R.Ruler.log c.child_boxes.new.ruler)) c.loop-index.invariant.same (subst (λ (z : BareTrees). IsChildLaid z c.child_of_frame-child.result (frames_asked c.pairs_for.result.now c.index-listed-index.result.inline c.index-listed-index.result.block) (state c.loop-index.tree c.loop-index.tally c.loop-index.passes (g.R.Ruler.log c.loop-index.ruler)) (state c.child_boxes.new.tree c.child_boxes.new.tally c.child_boxes.new.passes (g.R.Ruler.log c.child_boxes.new.ruler))) c.loop-index.invariant.same c.in_ok-child_boxes.ensures.laid)) c.loop-index.invariant.measured c.loop-index.invariant.absent
+          (subst (λ (z : BareTrees). is_container (sight_at z c.child_of_frame-child.result).label.kind ≡ true → MeasuresBelow z c.child_of_frame-child.result (frames_asked c.pairs_for.result.now c.index-listed-index.result.inline c.index-listed-index.result.block) (state c.loop-index.tree c.loop-index.tally c.loop-index.passes (g.R.Ruler.log c.loop-index.ruler)) (state c.child_boxes.new.tree c.child_boxes.new.tally c.child_boxes.new.passes (g.R.Ruler.log c.child_boxes.new.ruler))) c.loop-index.invariant.same c.in_ok-child_boxes.ensures.leaves);
+      absent = absent_next (bare c.args.tree.now.tree) c.differ.ensures c.args.id c.args.reps.now c.args.inline.now c.args.block.now c.args.x c.args.y c.loop-index.index c.child_of_frame-child.result c.pairs_for.result.now c.above_for.result.now c.area_for.result c.index-listed-index.result (subst (λ (z : BareTrees). IsTurn z c.args.id (frames_asked c.args.reps.now c.args.inline.now c.args.block.now) c.args.x c.args.y c.loop-index.index c.child_of_frame-child.result c.pairs_for.result.now c.above_for.result.now c.area_for.result c.index-listed-index.result) c.loop-index.invariant.same turn) (state c.args.tree.now c.args.tally.now c.args.passes.now (g.R.Ruler.log c.args.ruler.now)) (state c.loop-index.tree c.loop-index.tally c.loop-index.passes (g.R.Ruler.log c.loop-index.ruler)) (state c.child_boxes.new.tree c.child_boxes.new.tally c.child_boxes.new.passes (g.R.Ruler.log c.child_boxes.new.ruler)) (outside_same (bare c.args.tree.now.tree) c.child_of_frame-child.result (frames_asked c.pairs_for.result.now c.index-listed-index.result.inline c.index-listed-index.result.block) (state c.loop-index.tree c.loop-index.tally c.loop-index.passes (g.R.Ruler.log c.loop-index.ruler)) (state c.child_boxes.new.tree c.child_boxes.new.tally c.child_boxes.new.passes (g.R.Ruler.log c.child_boxes.new.ruler)) c.loop-index.invariant.same (subst (λ (z : BareTrees). IsChildLaid z c.child_of_frame-child.result (frames_asked c.pairs_for.result.now c.index-listed-index.result.inline c.index-listed-index.result.block) (state c.loop-index.tree c.loop-index.tally c.loop-index.passes (g.R.Ruler.log c.loop-index.ruler)) (state c.child_boxes.new.tree c.child_boxes.new.tally c.child_boxes.new.passes (g.R.Ruler.log c.child_boxes.new.ruler))) c.loop-index.invariant.same c.in_ok-child_boxes.ensures.laid)) c.loop-index.invariant.absent;
+      near = λ h. c.in_ok-child_boxes.ensures.near (c.loop-index.invariant.near h);
+      quiet = quiet_next (bare c.args.tree.now.tree) (bare c.loop-index.tree.tree) c.loop-index.invariant.same c.args.id (frames_asked c.args.reps.now c.args.inline.now c.args.block.now) c.args.x c.args.y c.loop-index.index c.child_of_frame-child.result c.pairs_for.result.now c.above_for.result.now c.area_for.result c.index-listed-index.result turn (state c.args.tree.now c.args.tally.now c.args.passes.now (g.R.Ruler.log c.args.ruler.now)) (state c.loop-index.tree c.loop-index.tally c.loop-index.passes (g.R.Ruler.log c.loop-index.ruler)) (state c.child_boxes.new.tree c.child_boxes.new.tally c.child_boxes.new.passes (g.R.Ruler.log c.child_boxes.new.ruler)) c.loop-index.invariant.quiet c.child_boxes.ensures.quiet;
     }
 
 pub boxes_below-returns-clause-value : goal.boxes_below-returns-clause-value
@@ -217,21 +222,21 @@ boxes_below-returns-clause-paths g t c =
     all_done (bare c.args.tree.now.tree) c.args.id (frames_asked c.args.reps.now c.args.inline.now c.args.block.now) (state c.loop-index.tree c.loop-index.tally c.loop-index.passes (g.R.Ruler.log c.loop-index.ruler)) c.loop-index.invariant.own
     (λ k e r child passed. c.loop-index.invariant.done k e r (omega (arith, number_there (bare c.args.tree.now.tree) c.args.id e k c.root.ensures.tree child, c.loop-index.invariant.below.counted, c.loop-index-test.false)) child passed)
 
-pub boxes_of-returns-then-not-container-clause-paths : goal.boxes_of-returns-then-not-container-clause-paths
-boxes_of-returns-then-not-container-clause-paths g t c =
+pub child_boxes-returns-then-not-container-clause-paths : goal.child_boxes-returns-then-not-container-clause-paths
+child_boxes-returns-then-not-container-clause-paths g t c =
     λ container. absurd (false≢true (sym (kind_is c.node_at-node.result.now.kind (sight_at (bare c.args.tree.now.tree) c.args.id).label.kind c.is_container-container.result c.node_at-node.ensures.kind c.is_container-container.ensures ∙ c.if-not-container.true) ∙ container))
 
-pub boxes_of-returns-clause-paths : goal.boxes_of-returns-clause-paths
-boxes_of-returns-clause-paths g t c = ok_then c.boxes_below.result _ _ (λ kept container. kept) c.boxes_below.ensures.paths
+pub child_boxes-returns-clause-paths : goal.child_boxes-returns-clause-paths
+child_boxes-returns-clause-paths g t c = ok_then c.boxes_below.result _ _ (λ kept container. kept) c.boxes_below.ensures.paths
 
 pub boxes_below-returns-clause-leaves : goal.boxes_below-returns-clause-leaves
 boxes_below-returns-clause-leaves g t c =
     all_measured (bare c.args.tree.now.tree) c.args.id (frames_asked c.args.reps.now c.args.inline.now c.args.block.now) (state c.args.tree.now c.args.tally.now c.args.passes.now (g.R.Ruler.log c.args.ruler.now)) (state c.loop-index.tree c.loop-index.tally c.loop-index.passes (g.R.Ruler.log c.loop-index.ruler)) c.loop-index.invariant.leaves
     (λ k e r child passed. c.loop-index.invariant.measured k e r (omega (arith, number_there (bare c.args.tree.now.tree) c.args.id e k c.root.ensures.tree child, c.loop-index.invariant.below.counted, c.loop-index-test.false)) child passed)
 
-pub boxes_of-returns-then-not-container-clause-leaves : goal.boxes_of-returns-then-not-container-clause-leaves
-boxes_of-returns-then-not-container-clause-leaves g t c =
+pub child_boxes-returns-then-not-container-clause-leaves : goal.child_boxes-returns-then-not-container-clause-leaves
+child_boxes-returns-then-not-container-clause-leaves g t c =
     λ container. absurd (false≢true (sym (kind_is c.node_at-node.result.now.kind (sight_at (bare c.args.tree.now.tree) c.args.id).label.kind c.is_container-container.result c.node_at-node.ensures.kind c.is_container-container.ensures ∙ c.if-not-container.true) ∙ container))
 
-pub boxes_of-returns-clause-leaves : goal.boxes_of-returns-clause-leaves
-boxes_of-returns-clause-leaves g t c = ok_then c.boxes_below.result _ _ (λ kept container. kept) c.boxes_below.ensures.leaves
+pub child_boxes-returns-clause-leaves : goal.child_boxes-returns-clause-leaves
+child_boxes-returns-clause-leaves g t c = ok_then c.boxes_below.result _ _ (λ kept container. kept) c.boxes_below.ensures.leaves

@@ -15,8 +15,8 @@ use Rattle.box_layout.proofs.KeptPaths.{AreDone}
 use Rattle.box_layout.proofs.LeafSteps.{AreAbsentFrom, AreMeasuredTo}
 use Rattle.box_layout.proofs.walk.+boxes.Given as goal
 
-abbrev pub decreases-boxes_of : goal.decreases-boxes_of
-decreases-boxes_of g l = 2 * size_at (bare l.tree.now.tree) l.id + 1
+abbrev pub decreases-child_boxes : goal.decreases-child_boxes
+decreases-child_boxes g l = 2 * size_at (bare l.tree.now.tree) l.id + 1
 
 abbrev pub decreases-boxes_below : goal.decreases-boxes_below
 decreases-boxes_below g l = 2 * size_at (bare l.tree.now.tree) l.id
