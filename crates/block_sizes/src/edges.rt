@@ -141,7 +141,7 @@ fn moved_tracks(
     ensures counted { IfOk result (λ edges. length edges ≡ length rules.now) }
     ensures range { IfOk result (AreBetween first_place last_place) }
 {
-    let mut edges = Sequence::new(alloc);
+    let mut edges = Sequence::from_vec(Vec::with_capacity(alloc, rules.len())?);
     let mut number = 0;
     let mut place = Wide::of(0);
     for (at, rule) in rules.iter().enumerate() {

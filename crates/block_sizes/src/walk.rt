@@ -36,6 +36,7 @@ use crate::flexes::row_lines;
 use crate::queries::{block_query, kept_block, kept_rows};
 use crate::wide::{
     append, child_in, columns_of, lent_rows, row_item, rows_total, shares, sizes_at, wide_child,
+    with_room,
 };
 use inline_sizes::{Member, flex_at, grid_at};
 use layout_cache::{Given, Query};
@@ -300,9 +301,10 @@ fn ask_children<R: Ruler, L: Ledger>(
     ensures stopped { OnErr result ((q : Query) → LeadsDown (bare tree.old.tree) id reps.now width.now q → Stopped id q (state tree.old tally.old passes.old (R.log ruler.old)) (state tree.new tally.new passes.new (R.log ruler.new))) }
 {
     root(tree);
-    let mut children = Sequence::new(alloc);
-    let mut items = Sequence::new(alloc);
-    for index in 0..parts.base.placed.areas.len() {
+    let count = parts.base.placed.areas.len();
+    let mut children = with_room(alloc, count)?;
+    let mut items = with_room(alloc, count)?;
+    for index in 0..count {
         let entry = child_in(tree, id, reps, width, parts, index);
         let sizes = sizes_at(parts, index);
         let child = ask_child(

@@ -53,7 +53,7 @@ pub(crate) fn row_levels(above: &Above) -> &[Level]
 fn column_spans(alloc: Global, areas: &[(NodeId, Area)]) -> Result<Vec<Span>, NoMemory>
     ensures { IfOk result (λ spans. spans.items ≡ map (λ (e : NodeId × Area). e.1.columns) areas.now) }
 {
-    let mut spans = Vec::new(alloc);
+    let mut spans = Vec::with_capacity(alloc, areas.len())?;
     for (_, area) in areas {
         spans.push(area.columns)?;
     }
@@ -64,11 +64,18 @@ fn column_spans(alloc: Global, areas: &[(NodeId, Area)]) -> Result<Vec<Span>, No
 fn row_spans(alloc: Global, areas: &[(NodeId, Area)]) -> Result<Vec<Span>, NoMemory>
     ensures { IfOk result (λ spans. spans.items ≡ map (λ (e : NodeId × Area). e.1.rows) areas.now) }
 {
-    let mut spans = Vec::new(alloc);
+    let mut spans = Vec::with_capacity(alloc, areas.len())?;
     for (_, area) in areas {
         spans.push(area.rows)?;
     }
     Ok(spans)
+}
+
+/// No items, with room for this many.
+pub(crate) fn with_room<T>(alloc: Global, count: usize) -> Result<Sequence<T>, NoMemory>
+    ensures { IfOk result (λ items. items ≡ []) }
+{
+    Ok(Sequence::from_vec(Vec::with_capacity(alloc, count)?))
 }
 
 /// Items put after others.

@@ -170,9 +170,21 @@ ask_children-loop-index-init g t c =
       right = c.requires.right;
       same = refl;
       walked = λ q leads. walked_none c.args.id q (state c.args.tree.now c.args.tally.now c.args.passes.now (g.R.Ruler.log c.args.ruler.now)) c.requires.right;
-      children = ap (λ (l : List WideChild). l ++ map child_of (wides_seen (bare c.args.tree.now.tree) c.args.id c.args.reps.now c.args.width.now)) c.new-children.ensures;
-      items = ap (λ (l : List Item). l ++ items_from (bare c.args.tree.now.tree) c.args.id c.args.reps.now c.args.width.now (wides_seen (bare c.args.tree.now.tree) c.args.id c.args.reps.now c.args.width.now)) c.new-items.ensures;
+      children = ap (λ (l : List WideChild). l ++ map child_of (wides_seen (bare c.args.tree.now.tree) c.args.id c.args.reps.now c.args.width.now)) c.in_ok-children.ensures;
+      items = ap (λ (l : List Item). l ++ items_from (bare c.args.tree.now.tree) c.args.id c.args.reps.now c.args.width.now (wides_seen (bare c.args.tree.now.tree) c.args.id c.args.reps.now c.args.width.now)) c.in_ok-items.ensures;
     }
+
+pub ask_children-returns-in_err-children-clause-stopped : goal.ask_children-returns-in_err-children-clause-stopped
+ask_children-returns-in_err-children-clause-stopped g t c =
+    let all : (q : Query) → LeadsDown (bare c.args.tree.now.tree) c.args.id c.args.reps.now c.args.width.now q → Stopped c.args.id q (state c.args.tree.now c.args.tally.now c.args.passes.now (g.R.Ruler.log c.args.ruler.now)) (state c.args.tree.now c.args.tally.now c.args.passes.now (g.R.Ruler.log c.args.ruler.now)) =
+    λ q leads. stopped c.args.id q 0 _ _ (walked_none c.args.id q (state c.args.tree.now c.args.tally.now c.args.passes.now (g.R.Ruler.log c.args.ruler.now)) c.requires.right) in
+    on_err _ _ all
+
+pub ask_children-returns-in_err-items-clause-stopped : goal.ask_children-returns-in_err-items-clause-stopped
+ask_children-returns-in_err-items-clause-stopped g t c =
+    let all : (q : Query) → LeadsDown (bare c.args.tree.now.tree) c.args.id c.args.reps.now c.args.width.now q → Stopped c.args.id q (state c.args.tree.now c.args.tally.now c.args.passes.now (g.R.Ruler.log c.args.ruler.now)) (state c.args.tree.now c.args.tally.now c.args.passes.now (g.R.Ruler.log c.args.ruler.now)) =
+    λ q leads. stopped c.args.id q 0 _ _ (walked_none c.args.id q (state c.args.tree.now c.args.tally.now c.args.passes.now (g.R.Ruler.log c.args.ruler.now)) c.requires.right) in
+    on_err _ _ all
 
 pub ask_children-child_in-entry-requires : goal.ask_children-child_in-entry-requires
 ask_children-child_in-entry-requires g t c =
@@ -227,7 +239,7 @@ ask_children-loop-index-preserved g t c =
 
 pub ask_children-returns-clause-value : goal.ask_children-returns-clause-value
 ask_children-returns-clause-value g t c =
-    let few : length (wides_seen (bare c.args.tree.now.tree) c.args.id c.args.reps.now c.args.width.now) ≤ c.loop-index.index = omega (arith, entries_least (bare c.args.tree.now.tree) c.args.id c.args.reps.now c.args.width.now c.args.parts.now c.requires.grid, c.len-index-end.ensures) in
+    let few : length (wides_seen (bare c.args.tree.now.tree) c.args.id c.args.reps.now c.args.width.now) ≤ c.loop-index.index = omega (arith, entries_least (bare c.args.tree.now.tree) c.args.id c.args.reps.now c.args.width.now c.args.parts.now c.requires.grid, c.len-count.ensures) in
     record {
       children = all_there (map child_of) (wides_seen (bare c.args.tree.now.tree) c.args.id c.args.reps.now c.args.width.now) c.loop-index.index c.loop-index.children (map child_of (wides_seen (bare c.args.tree.now.tree) c.args.id c.args.reps.now c.args.width.now)) refl few c.loop-index.invariant.children;
       items = all_there (items_from (bare c.args.tree.now.tree) c.args.id c.args.reps.now c.args.width.now) (wides_seen (bare c.args.tree.now.tree) c.args.id c.args.reps.now c.args.width.now) c.loop-index.index c.loop-index.items (items_from (bare c.args.tree.now.tree) c.args.id c.args.reps.now c.args.width.now (wides_seen (bare c.args.tree.now.tree) c.args.id c.args.reps.now c.args.width.now)) refl few c.loop-index.invariant.items;
