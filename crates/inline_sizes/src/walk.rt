@@ -168,6 +168,9 @@ fn ask_sizes<R: Ruler, L: Ledger>(
     let id = entry.child;
     if has_subgrid(node_at(tree, id)) {
         let reps = base.pairs.as_slice();
+        if let Some(sizes) = kept_sizes(tree, id, reps) {
+            return Ok(sizes);
+        }
         return inline_at(
             alloc,
             tree,

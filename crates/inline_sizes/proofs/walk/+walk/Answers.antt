@@ -26,7 +26,7 @@ use Rattle.tree_rules.specs.declared.query.Given.TheVariants as given
 use Rattle.tree_rules.specs.declared.query.Given.{Given}
 use Rattle.tree_rules.specs.declared.query.Query.{Query}
 use Rattle.inline_sizes.proofs.Anew.{flex_answer, flex_quiet, grid_answer, grid_quiet, lent_answer}
-use Rattle.inline_sizes.proofs.Asked.{chain_in_flex, entry_here, fits_no_chain, lent_fit, levels_above, on_ok, rows_fits, shared_asked, shared_chain, shared_fits, sizes_are, sizes_fit, walked_stopped}
+use Rattle.inline_sizes.proofs.Asked.{chain_in_flex, entry_here, fits_no_chain, lent_fit, levels_above, on_ok, pairs_all, rows_fits, shared_asked, shared_chain, shared_fits, sizes_answered, sizes_are, sizes_fit, walked_stopped}
 use Rattle.inline_sizes.proofs.FlexWalks.{flex_uses_next, members_all, members_first, members_next}
 use Rattle.inline_sizes.proofs.Grids.{all_there, below_then, entries_few, grid_made, inlines_then, items_then, leads_on, stops_then}
 use Rattle.inline_sizes.specs.Flexes.{AreMembers, IsChild, member_of, members_from}
@@ -143,6 +143,16 @@ ask_sizes-inline_at-requires g t c =
     let seat : IsSeat (sight_at (bare c.args.tree.now.tree) c.args.entry.child) c.as_slice-reps.result.now c.args.base.now.above c.args.entry.area = subst (λ (r : List Pair). IsSeat (sight_at (bare c.args.tree.now.tree) c.args.entry.child) r c.args.base.now.above c.args.entry.area) (sym c.as_slice-reps.ensures) (c.requires.entry.seat some) in
     let small : 8 * size_at (bare c.args.tree.now.tree) c.args.entry.child + 4 < 8 * size_at (bare c.args.tree.now.tree) c.args.entry.child + 5 = omega arith in
     search rules
+
+pub ask_sizes-returns-in-Some-clause-sizes : goal.ask_sizes-returns-in-Some-clause-sizes
+ask_sizes-returns-in-Some-clause-sizes g t c =
+    let some : has_chain (sight_at (bare c.args.tree.now.tree) c.args.entry.child).chain ≡ true =
+    c.requires.entry.chain ∙ (λ i. has_kind (sym c.node_at.ensures.kind i) (sym c.node_at.ensures.grid i)) ∙ sym c.has_subgrid.ensures ∙ c.if-has_subgrid.true in
+    sizes_answered (bare c.args.tree.now.tree) c.args.id c.args.base.now c.args.entry c.requires.entry c.requires.own c.as_slice-reps.result.now _ (pairs_all (bare c.args.tree.now.tree) c.args.id c.args.base.now c.args.entry c.requires.entry some ∙ sym c.as_slice-reps.ensures) c.in-Some.ensures.value
+
+pub ask_sizes-returns-in-Some-clause-walked : goal.ask_sizes-returns-in-Some-clause-walked
+ask_sizes-returns-in-Some-clause-walked g t c =
+    found_walked c.args.entry.child _ (state c.args.tree.now c.args.tally.now c.args.passes.now (g.R.Ruler.log c.args.ruler.now)) c.requires.right
 
 pub columns_anew-grid_at-requires : goal.columns_anew-grid_at-requires
 columns_anew-grid_at-requires g t c =
