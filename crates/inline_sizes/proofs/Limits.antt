@@ -1,9 +1,11 @@
 -- Numbers within limits.
-use Rattle.std.proofs.Common.{arith, ◌≡◌, ℤ, pos, ◌+ℤ◌, ◌-ℤ◌, ◌≤ℤ◌, Option, Some, None}
-use Rattle.std.specs.Prelude.{IfSome}
+use Rattle.std.proofs.Common.{arith, sym, ap, ◌≡◌, ◌∙◌, ℤ, pos, ◌+ℤ◌, ◌-ℤ◌, ◌≤ℤ◌, Option, Some, None, false, ◌||◌, true≢false}
+use Rattle.std.specs.Prelude.{IfSome, is_some, unwrap_or}
 use Rattle.std.specs.Int.{int_max, int_min}
 use Rattle.std.proofs.lemmas.Int.{ints, int_max_is, int_min_is}
 use Rattle.lunit.specs.Units.{IsUnits, bottom, top, clamp}
+use Rattle.part_rules.specs.Lists.{at_most}
+use Rattle.tree_rules.specs.NodeSizes.{Bounds, fitted}
 use Rattle.inline_sizes.specs.Bounded.{IsBorderSize, IsBound}
 use Rattle.inline_sizes.specs.Sums.{IsPair, IsSum}
 
@@ -53,6 +55,18 @@ max_sum a b h k = (omega (arith, ints, h.0, h.1, k.0, k.1, int_max_is a b), omeg
 
 pub first_least : (a b : ℤ) → a ≤ℤ int_max a b
 first_least a b = omega (arith, ints, int_max_is a b)
+
+max_over : (inner x : ℤ) → pos 0 ≤ℤ inner → int_max inner x ≡ int_max inner (int_max (pos 0) x)
+max_over inner x h = omega (arith, ints, h, int_max_is inner x, int_max_is (pos 0) x, int_max_is inner (int_max (pos 0) x))
+
+free_by : (inner : ℤ) (least most : Option ℤ) (x : ℤ) → pos 0 ≤ℤ inner → (is_some least || is_some most) ≡ false → int_max inner x ≡ int_max inner (int_max (unwrap_or least (pos 0)) (at_most most x))
+free_by inner None None x h free = max_over inner x h
+free_by inner None (Some most) x h free = absurd (true≢false free)
+free_by inner (Some least) most x h free = absurd (true≢false free)
+
+-- a size without a minimum and a maximum is at least borders and paddings, and these are at least 0
+pub free_fitted : (b : Bounds) (x : ℤ) → pos 0 ≤ℤ b.inner → (is_some b.least || is_some b.most) ≡ false → int_max b.inner x ≡ fitted b x
+free_fitted b x h free = free_by b.inner b.least b.most x h free
 
 pub both_sum : (a b : ℤ) → IsUnits a → IsUnits b → IsSum (a +ℤ b)
 both_sum a b h k = (omega (arith, ints, h.0, h.1, k.0, k.1), omega (arith, ints, h.0, h.1, k.0, k.1))

@@ -1,6 +1,6 @@
 //! The declared sizes of a node along one axis (CSS Sizing 3, sections 3 and 5).
 
-ghost use Rattle.std.specs.Prelude.{◌≡◌, ◌-ℤ◌, ◌≤ℤ◌, pos, option_map, unwrap_or, IfSome};
+ghost use Rattle.std.specs.Prelude.{◌≡◌, ◌||◌, ◌-ℤ◌, ◌≤ℤ◌, pos, is_some, option_map, unwrap_or, IfSome};
 ghost use Rattle.std.specs.Int.{int_max};
 ghost use Rattle.lunit.specs.Units.{IsUnits};
 ghost use Rattle.part_rules.specs.Lists.{at_most};
@@ -210,6 +210,14 @@ impl Bounds {
         content(self.inner, self.most)
     }
 
+    /// Whether there is a minimum or a maximum.
+    fn is_limited(&self) -> bool
+        ensures { result ≡ (is_some self.now.least || is_some self.now.most) }
+    {
+        self.least.is_some() || self.most.is_some()
+    }
+
+    #[tactic(auto, using(crate::proofs::Limits::free_fitted))]
     /// A border-box size limited by the maximum, then by the minimum, and by borders and paddings (CSS Sizing 3, section 5.2).
     pub fn fitted(&self, size: Wide) -> Wide
         requires { IsSum size }
@@ -218,6 +226,9 @@ impl Bounds {
         ensures least { self.now.inner ≤ℤ result }
         ensures length { IsUnits self.now.inner }
     {
-        at_least(self.inner, limited(self.least(), self.most(), size))
+        if self.is_limited() {
+            return at_least(self.inner, limited(self.least(), self.most(), size));
+        }
+        at_least(self.inner, size)
     }
 }

@@ -10,6 +10,7 @@ ghost use Rattle.placing.specs.Nodes.{bare, kid_at, sight_at, IsLive};
 ghost use Rattle.placing.specs.Ranges.{AreReadable};
 ghost use Rattle.placing.specs.Seats.{IsSeat};
 ghost use Rattle.placing.specs.Walks.{kept_with, state, Stopped, Walked, WalkedBelow};
+ghost use Rattle.placing.specs.declared.contexts.Above.TheVariants as over;
 ghost use Rattle.placing.specs.declared.node.Answer.TheVariants as answer;
 ghost use Rattle.tree_rules.specs.AskedQueries.{inline_query};
 ghost use Rattle.tree_rules.specs.KeptAnswers.{IsAbsent};
@@ -143,6 +144,41 @@ fn ask_shared<R: Ruler, L: Ledger>(
 }
 
 #[cycle(walk)]
+/// The two inline sizes of a node that sees no counts above it. What it hands down is large, and is made here alone: it would be
+/// cleared for each child of a grid.
+fn ask_alone<R: Ruler, L: Ledger>(
+    alloc: Global,
+    tree: &mut Arena<Node>,
+    id: NodeId,
+    area: Area,
+    ruler: &mut R,
+    tally: &mut Tally,
+    passes: &mut Steps<L>,
+) -> Result<(Lu, Lu), NoMemory>
+    requires live { IsLive (bare tree.old.tree) id }
+    requires right { IsRight tree.old.tree }
+    requires readable { AreReadable (bare tree.old.tree) }
+    requires fits { Fits (sight_at (bare tree.old.tree) id) (inline_query false []) }
+    requires seat { IsSeat (sight_at (bare tree.old.tree) id) [] over.Nothing area }
+    ensures value { IfOk result (λ sizes. inline_sizes sizes ≡ answer_of (sight_at (bare tree.old.tree) id) (inline_query false [])) }
+    ensures right { IsRight tree.new.tree }
+    ensures walked { OnOk result (Walked id (inline_query false []) (state tree.old tally.old passes.old (R.log ruler.old)) (state tree.new tally.new passes.new (R.log ruler.new))) }
+    ensures stopped { OnErr result (Stopped id (inline_query false []) (state tree.old tally.old passes.old (R.log ruler.old)) (state tree.new tally.new passes.new (R.log ruler.new))) }
+{
+    inline_at(
+        alloc,
+        tree,
+        id,
+        &[],
+        &Above::Nothing,
+        area,
+        ruler,
+        tally,
+        passes,
+    )
+}
+
+#[cycle(walk)]
 /// The two inline sizes of a child that sizes its own columns or has none.
 fn ask_sizes<R: Ruler, L: Ledger>(
     alloc: Global,
@@ -183,17 +219,7 @@ fn ask_sizes<R: Ruler, L: Ledger>(
             passes,
         );
     }
-    inline_at(
-        alloc,
-        tree,
-        id,
-        &[],
-        &Above::Nothing,
-        entry.area,
-        ruler,
-        tally,
-        passes,
-    )
+    ask_alone(alloc, tree, id, entry.area, ruler, tally, passes)
 }
 
 #[cycle(walk)]

@@ -77,7 +77,7 @@ ask_children-ask_child-requires g t c =
     let lines : HasLines (context_at (sight_at (bare c.loop-index.tree.tree) c.args.id) c.args.base.now.pairs) = subst (λ (z : BareTrees). HasLines (context_at (sight_at z c.args.id) c.args.base.now.pairs)) back (c.items_lie_in_their_tracks.ensures.lines c.args.base.now.pairs) in
     let entry : IsEntry (bare c.loop-index.tree.tree) c.args.id c.args.base.now c.entry-entry.result =
     entry_here (bare c.loop-index.tree.tree) c.args.id c.args.base.now c.entry-entry.result tree grid laid c.entry-entry.ensures.live c.entry-entry.ensures.child c.entry-entry.ensures.inside c.entry-entry.ensures.seat c.entry-entry.ensures.alone lines in
-    let small : 8 * size_at (bare c.loop-index.tree.tree) c.entry-entry.result.child + 6 < 8 * size_at (bare c.args.tree.now.tree) c.args.id = omega (arith, entry.smaller, ap (λ (z : BareTrees). size_at z c.args.id) c.loop-index.invariant.same) in
+    let small : 8 * size_at (bare c.loop-index.tree.tree) c.entry-entry.result.child + 7 < 8 * size_at (bare c.args.tree.now.tree) c.args.id = omega (arith, entry.smaller, ap (λ (z : BareTrees). size_at z c.args.id) c.loop-index.invariant.same) in
     search rules
 
 pub ask_children-returns-in_err-sizes-clause-stopped : goal.ask_children-returns-in_err-sizes-clause-stopped
@@ -141,7 +141,7 @@ ask_sizes-inline_at-requires g t c =
     let live : IsLive (bare c.args.tree.now.tree) c.args.entry.child = c.requires.entry.live in
     let fits : Fits (sight_at (bare c.args.tree.now.tree) c.args.entry.child) (inline_query false c.as_slice-reps.result.now) = subst (λ (r : List Pair). Fits (sight_at (bare c.args.tree.now.tree) c.args.entry.child) (inline_query false r)) (sym c.as_slice-reps.ensures) (rows_fits b c.args.id c.args.base.now c.args.entry c.requires.entry c.requires.own some) in
     let seat : IsSeat (sight_at (bare c.args.tree.now.tree) c.args.entry.child) c.as_slice-reps.result.now c.args.base.now.above c.args.entry.area = subst (λ (r : List Pair). IsSeat (sight_at (bare c.args.tree.now.tree) c.args.entry.child) r c.args.base.now.above c.args.entry.area) (sym c.as_slice-reps.ensures) (c.requires.entry.seat some) in
-    let small : 8 * size_at (bare c.args.tree.now.tree) c.args.entry.child + 4 < 8 * size_at (bare c.args.tree.now.tree) c.args.entry.child + 5 = omega arith in
+    let small : 8 * size_at (bare c.args.tree.now.tree) c.args.entry.child + 4 < 8 * size_at (bare c.args.tree.now.tree) c.args.entry.child + 6 = omega arith in
     search rules
 
 pub ask_sizes-returns-in-Some-clause-sizes : goal.ask_sizes-returns-in-Some-clause-sizes

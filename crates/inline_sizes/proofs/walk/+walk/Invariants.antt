@@ -16,11 +16,14 @@ use Rattle.inline_sizes.proofs.walk.+walk.Given as goal
 abbrev pub decreases-ask_shared : goal.decreases-ask_shared
 decreases-ask_shared g l = 8 * size_at (bare l.tree.now.tree) l.entry.child + 5
 
+abbrev pub decreases-ask_alone : goal.decreases-ask_alone
+decreases-ask_alone g l = 8 * size_at (bare l.tree.now.tree) l.id + 5
+
 abbrev pub decreases-ask_sizes : goal.decreases-ask_sizes
-decreases-ask_sizes g l = 8 * size_at (bare l.tree.now.tree) l.entry.child + 5
+decreases-ask_sizes g l = 8 * size_at (bare l.tree.now.tree) l.entry.child + 6
 
 abbrev pub decreases-ask_child : goal.decreases-ask_child
-decreases-ask_child g l = 8 * size_at (bare l.tree.now.tree) l.entry.child + 6
+decreases-ask_child g l = 8 * size_at (bare l.tree.now.tree) l.entry.child + 7
 
 abbrev pub decreases-ask_children : goal.decreases-ask_children
 decreases-ask_children g l = 8 * size_at (bare l.tree.now.tree) l.id
