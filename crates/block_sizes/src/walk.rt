@@ -540,7 +540,7 @@ fn grid_anew<R: Ruler, L: Ledger>(
     )?;
     let size = rows_total(alloc, tree, id, reps, width, &wide, passes)?;
     let held = SharedWide::new(alloc, wide)?;
-    put(tree, id, query, Answer::Laid(size, held), tally);
+    put(tree, id, query, Answer::Laid(size, held), tally)?;
     Ok(size)
 }
 
@@ -573,7 +573,7 @@ fn column_anew<R: Ruler, L: Ledger>(
     let width = size_of(&query.inline);
     let parts = column_at(alloc, tree, id, width, ruler, tally, passes)?;
     let size = column_size(alloc, tree, id, width, &parts)?;
-    put(tree, id, query, Answer::Block(size), tally);
+    put(tree, id, query, Answer::Block(size), tally)?;
     Ok(size)
 }
 
@@ -606,7 +606,7 @@ fn row_anew<R: Ruler, L: Ledger>(
     let width = size_of(&query.inline);
     let parts = row_at(alloc, tree, id, width, ruler, tally, passes)?;
     let size = row_size(alloc, tree, id, width, &parts)?;
-    put(tree, id, query, Answer::Block(size), tally);
+    put(tree, id, query, Answer::Block(size), tally)?;
     Ok(size)
 }
 
@@ -723,7 +723,7 @@ pub(crate) fn rows_anew<R: Ruler, L: Ledger>(
     )?;
     let items = lent_rows(alloc, tree, id, reps, width, &wide)?;
     let lent = Sequence::from_slice(alloc, items.as_slice())?;
-    put(tree, id, query, Answer::Lent(items), tally);
+    put(tree, id, query, Answer::Lent(items), tally)?;
     Ok(lent)
 }
 

@@ -145,6 +145,6 @@ pub(crate) fn flex_frames_anew<R: Ruler, L: Ledger>(
     let frames = flex_found(alloc, tree, id, &query, ruler, tally, passes)?;
     let shared = SharedFrames::new(alloc, frames)?;
     let told = shared.again()?;
-    put(tree, id, query, Answer::Frames(shared), tally);
+    put(tree, id, query, Answer::Frames(shared), tally)?;
     Ok(told)
 }

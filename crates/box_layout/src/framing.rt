@@ -84,7 +84,7 @@ fn grid_frames_anew<R: Ruler, L: Ledger>(
     let frames = grid_frames(alloc, tree, id, reps, width, held, &rows)?;
     let shared = SharedFrames::new(alloc, frames)?;
     let told = shared.again()?;
-    put(tree, id, query, Answer::Frames(shared), tally);
+    put(tree, id, query, Answer::Frames(shared), tally)?;
     Ok(told)
 }
 

@@ -418,7 +418,7 @@ fn grid_anew<R: Ruler, L: Ledger>(
         passes,
     )?;
     let (low, high) = grid_inline(alloc, tree, id, &parts, passes)?;
-    put(tree, id, query, Answer::Sizes(low, high), tally);
+    put(tree, id, query, Answer::Sizes(low, high), tally)?;
     Ok((low, high))
 }
 
@@ -448,7 +448,7 @@ fn flex_anew<R: Ruler, L: Ledger>(
 {
     let parts = flex_at(alloc, tree, id, ruler, tally, passes)?;
     let (low, high) = flex_inline(alloc, tree, id, &parts)?;
-    put(tree, id, query, Answer::Sizes(low, high), tally);
+    put(tree, id, query, Answer::Sizes(low, high), tally)?;
     Ok((low, high))
 }
 
@@ -566,7 +566,7 @@ pub(crate) fn columns_anew<R: Ruler, L: Ledger>(
     )?;
     let items = grid_lends(alloc, &parts)?;
     let lent = Sequence::from_slice(alloc, items.as_slice())?;
-    put(tree, id, query, Answer::Lent(items), tally);
+    put(tree, id, query, Answer::Lent(items), tally)?;
     Ok(lent)
 }
 

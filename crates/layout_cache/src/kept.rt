@@ -1,4 +1,4 @@
-ghost use Rattle.std.specs.Prelude.{◌≡◌, ◌++◌, ◌∷◌, [], ◌↔◌, None, IfOk, is_none, IsTrue};
+ghost use Rattle.std.specs.Prelude.{◌≡◌, ◌≤◌, ◌<◌, ◌⊎◌, ◌++◌, ◌∷◌, [], ◌↔◌, None, IfOk, OnOk, OnErr, is_none, IsTrue, length};
 ghost use Rattle.std.specs.Option.{option_copied};
 ghost use Rattle.tree_rules.specs.KeptAnswers.{IsAbsent, last_of, most_kept};
 ghost use Rattle.layout_cache.specs.Kept.{answer_to};
@@ -13,30 +13,34 @@ use tree_rules::{Ask, Given, Query};
 /// How many answers a node keeps at most.
 const MOST: usize = 16;
 
-/// The answers that a node keeps, each with its question: at most sixteen, the newest last.
+/// How many answers there is room for at first: most nodes never keep more.
+const FEW: usize = 4;
+
+/// The answers that a node keeps, each with its question: at most sixteen, the newest last. There is room for four at first, and
+/// for sixteen from the fifth on.
 #[derive(Drop)]
 pub struct Kept<A> {
     ring: HeapCircularBuffer<(Query, A)>,
 }
 
 impl<A> Model for Kept<A> {
-    ghost use Rattle.std.specs.Prelude.{◌≡◌, ◌≤◌, List, length};
+    ghost use Rattle.std.specs.Prelude.{◌≡◌, ◌≤◌, ◌⊎◌, List, length};
     ghost use Rattle.tree_rules.specs.declared.query.Query.{Query};
 
     ghost Value = { List (Query × A) };
 
     ghost view = { λ a. a.ring.items };
 
-    ghost invariant = { λ a. (a.ring.capacity ≡ 16) × (length a.ring.items ≤ 16) };
+    ghost invariant = { λ a. ((a.ring.capacity ≡ 4) ⊎ (a.ring.capacity ≡ 16)) × (length a.ring.items ≤ a.ring.capacity) };
 }
 
 impl<A: Drop> Kept<A> {
-    /// An empty list, with room for all sixteen pairs; `NoMemory` where memory is wanting.
+    /// An empty list, with room for four pairs; `NoMemory` where memory is wanting.
     pub fn new(alloc: Global) -> Result<Kept<A>, NoMemory>
         ensures { IfOk result (λ kept. kept ≡ []) }
     {
         Ok(Kept {
-            ring: HeapCircularBuffer::with_capacity(alloc, MOST)?,
+            ring: HeapCircularBuffer::with_capacity(alloc, FEW)?,
         })
     }
 
@@ -72,12 +76,16 @@ impl<A: Drop> Kept<A> {
         None
     }
 
-    /// Keeps an answer to a question that has none, and lets the oldest of sixteen go.
-    pub fn put(&mut self, query: Query, answer: A)
+    /// Keeps an answer to a question that has none, and lets the oldest of sixteen go. `NoMemory` where memory is wanting for more
+    /// than four, and nothing is kept then.
+    pub fn put(&mut self, query: Query, answer: A) -> Result<(), NoMemory>
         requires { IsAbsent query self.old }
-        ensures { self.new ≡ last_of 16 (self.old ++ (query, answer) ∷ []) }
+        ensures ok { OnOk result (self.new ≡ last_of 16 (self.old ++ (query, answer) ∷ [])) }
+        ensures err { OnErr result (self.new ≡ self.old) }
     {
+        make_room(&mut self.ring)?;
         let _ = self.ring.push_back((query, answer));
+        Ok(())
     }
 
     /// Lets all answers go. The room stays.
@@ -86,4 +94,19 @@ impl<A: Drop> Kept<A> {
     {
         self.ring.clear();
     }
+}
+
+/// Makes the room for sixteen pairs where that for four is full.
+fn make_room<A: Drop>(ring: &mut HeapCircularBuffer<(Query, A)>) -> Result<(), NoMemory>
+    requires sizes { (ring.old.capacity ≡ 4) ⊎ (ring.old.capacity ≡ 16) }
+    requires within { length ring.old.items ≤ ring.old.capacity }
+    ensures items { ring.new.items ≡ ring.old.items }
+    ensures sizes { (ring.new.capacity ≡ 4) ⊎ (ring.new.capacity ≡ 16) }
+    ensures within { length ring.new.items ≤ ring.new.capacity }
+    ensures room { OnOk result (ring.new.capacity ≡ 16 ⊎ length ring.new.items < ring.new.capacity) }
+{
+    if ring.len() == FEW && ring.capacity() == FEW {
+        ring.resize(MOST)?;
+    }
+    Ok(())
 }

@@ -1,5 +1,5 @@
 -- A leaf that measures and keeps its answer.
-use Rattle.std.proofs.Common.{◌≡◌, ℕ, ℤ, List, [], ◌∷◌, Option, Some, None, length, refl, sym, ap, ◌∙◌, arith, subst, inr}
+use Rattle.std.proofs.Common.{◌≡◌, ℕ, ℤ, List, [], ◌∷◌, Option, Some, None, length, refl, sym, ap, ◌∙◌, arith, append-nil, subst, inr}
 use Rattle.std.specs.Prelude.{OnErr, Result, Ok, Err}
 use Rattle.node_arena.specs.declared.number.NodeId.{NodeId}
 use Rattle.node_arena.specs.Plain.{Nodes}
@@ -96,6 +96,15 @@ leaf_stopped arena x y a b n q events right absent is c passes =
       within = λ m out. refl;
       cut = inr (record { node = n; query = q; left = c.left; begun = c.whole ∙ is; asked = itself n q; absent = absent });
     }
+
+-- all of its events were measured, and yet no answer is kept
+pub counts_all : (x y : Tally) (a b : Option (List Event)) (events : List Event) → Counts x y a b events → CountsSome x y a b events
+counts_all x y a b events c = record { done = events; left = []; whole = append-nil events; counts = c }
+
+pub leaf_unkept : (old new : Nodes Node) (x y : Tally) (a b : Option (List Event)) (n : NodeId) (q : Query) (events : List Event) → new ≡ old → IsRight old.tree → IsAbsent q (kept_at old.tree n) → events ≡ events_at (bare old.tree) n q → Counts x y a b events →
+    (passes : ℕ) → Stopped n q (state old x passes a) (state new y passes b)
+leaf_unkept old new x y a b n q events e right absent is c passes =
+    subst (λ (z : Nodes Node). Stopped n q (state old x passes a) (state z y passes b)) (sym e) (leaf_stopped old x y a b n q events right absent is (counts_all x y a b events c) passes)
 
 -- ---- what a leaf is asked
 module _ (s : Seen) (content : Content) (name : List ℕ) (q : Query) (leaf : kind.Leaf content ≡ s.label.kind) where

@@ -7,6 +7,7 @@ use Rattle.layout_cache.specs.Kept.{answer_to}
 use Rattle.layout_cache.proofs.Sames.{query_is}
 use Rattle.node_arena.specs.declared.number.NodeId.{NodeId}
 use Rattle.node_arena.specs.Numbers.{EachNode, IsNumbered, replaced, same, value_at}
+use Rattle.node_arena.specs.Plain.{Nodes, with_value}
 use Rattle.node_arena.proofs.Same.{not_same, same_is, same_not, same_refl}
 use Rattle.node_arena.proofs.Standing.{some_is}
 use Rattle.outside.specs.Faults.{one_more}
@@ -78,6 +79,21 @@ bare_each : (whole t : NodeTrees) (n : NodeId) (v w : Node) → Some v ≡ value
 unfolding bare
 bare_each whole leafless n v w e l h = refl
 bare_each whole (tree x below after) n v w e l h = λ i. tree (x.0, bare_swapped whole n x.0 v w x.1 e l h.0 i) (bare_each whole below n v w e l h.1.0 i) (bare_each whole after n v w e l h.1.1 i)
+
+-- ---- a value that is its own again
+same_swapped : (whole : NodeTrees) (n k : NodeId) (v x : Node) → Some v ≡ value_at whole n → value_at whole k ≡ Some x → swapped n v k x ≡ x
+same_swapped whole n k v x e h = at (cases_Bool (same k n))
+  where
+    at : (same k n ≡ true) ⊎ (same k n ≡ false) → swapped n v k x ≡ x
+    at (inl s) = ap (λ c. cond c v x) s ∙ some_is v x (e ∙ ap (value_at whole) (sym (same_is k n s)) ∙ h)
+    at (inr s) = ap (λ c. cond c v x) s
+
+same_each : (whole t : NodeTrees) (n : NodeId) (v : Node) → Some v ≡ value_at whole n → EachNode (λ x. value_at whole x.0 ≡ Some x.1) t → replaced n v t ≡ t
+same_each whole leafless n v e h = refl
+same_each whole (tree x below after) n v e h = λ i. tree (x.0, same_swapped whole n x.0 v x.1 e h.0 i) (same_each whole below n v e h.1.0 i) (same_each whole after n v e h.1.1 i)
+
+pub same_again : (arena : Nodes Node) (n : NodeId) (v : Node) → Some v ≡ value_at arena.tree n → IsNumbered arena.tree → with_value n v arena ≡ arena
+same_again arena n v e u = ap (λ t. record arena { tree = t }) (same_each arena.tree arena.tree n v e u.each)
 
 -- ---- an answer kept
 module _ (t : NodeTrees) (n : NodeId) (v : Node) (q : Query) (a : Answer) (u : IsNumbered t) (e : Some v ≡ value_at t n) where

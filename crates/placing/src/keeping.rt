@@ -64,18 +64,27 @@ pub fn find_by<'a>(
     node_at(tree, id).kept.find_by(ask, reps, inline, block)
 }
 
-/// Keeps an answer in a node, and nothing else.
-fn keep(tree: &mut Arena<Node>, id: NodeId, query: Query, answer: Answer)
+/// Keeps an answer in a node, and nothing else; `NoMemory` where memory is wanting, and nothing has changed then.
+fn keep(tree: &mut Arena<Node>, id: NodeId, query: Query, answer: Answer) -> Result<(), NoMemory>
     requires live { IsLive (bare tree.old.tree) id }
     requires absent { IsAbsent query (kept_at tree.old.tree id) }
-    ensures { Keeps tree.old tree.new id query answer }
+    ensures ok { OnOk result (Keeps tree.old tree.new id query answer) }
+    ensures err { OnErr result (tree.new ≡ tree.old) }
 {
     let node = tree.get_mut(id).unwrap();
-    node.kept.put(query, answer);
+    node.kept.put(query, answer)?;
+    Ok(())
 }
 
-/// Keeps the answer of a container to a question of which it keeps none; the oldest of sixteen goes.
-pub fn put(tree: &mut Arena<Node>, id: NodeId, query: Query, answer: Answer, tally: &mut Tally)
+/// Keeps the answer of a container to a question of which it keeps none; the oldest of sixteen goes. `NoMemory` where memory is
+/// wanting, and nothing has changed then.
+pub fn put(
+    tree: &mut Arena<Node>,
+    id: NodeId,
+    query: Query,
+    answer: Answer,
+    tally: &mut Tally,
+) -> Result<(), NoMemory>
     requires live { IsLive (bare tree.old.tree) id }
     requires right { IsRight tree.old.tree }
     requires absent { IsAbsent query (kept_at tree.old.tree id) }
@@ -85,11 +94,14 @@ pub fn put(tree: &mut Arena<Node>, id: NodeId, query: Query, answer: Answer, tal
     requires quiet { events_at (bare tree.old.tree) id query ≡ [] }
     ensures right { IsRight tree.new.tree }
     ensures same { bare tree.new.tree ≡ bare tree.old.tree }
-    ensures own { kept_at tree.new.tree id ≡ kept_with (kept_at tree.old.tree id) ((query, answer) ∷ []) }
-    ensures joins { (old : State) (more passes : ℕ) (log : Option (List Event)) → more ≤ 4 → WalkedBelow id query more old (state tree.old tally.old passes log) → Walked id query old (state tree.new tally.new passes log) }
+    ensures own { OnOk result (kept_at tree.new.tree id ≡ kept_with (kept_at tree.old.tree id) ((query, answer) ∷ [])) }
+    ensures joins { OnOk result ((old : State) (more passes : ℕ) (log : Option (List Event)) → more ≤ 4 → WalkedBelow id query more old (state tree.old tally.old passes log) → Walked id query old (state tree.new tally.new passes log)) }
+    ensures err { OnErr result ((tree.new ≡ tree.old) × (tally.new ≡ tally.old)) }
+    ensures stopped { OnErr result ((old : State) (more passes : ℕ) (log : Option (List Event)) → WalkedBelow id query more old (state tree.old tally.old passes log) → Stopped id query old (state tree.new tally.new passes log)) }
 {
+    keep(tree, id, query, answer)?;
     tally.count_added();
-    keep(tree, id, query, answer);
+    Ok(())
 }
 
 /// Asks for both widths of a leaf.
@@ -140,7 +152,7 @@ fn size_of(given: &Given) -> Lu
 }
 
 /// The answer of a leaf to the question for its two inline sizes, of which it keeps none: the ruler is asked for both, and the
-/// answer is kept. `NoMemory` is that of the ruler, and nothing is kept then.
+/// answer is kept. `NoMemory` is that of the ruler, or memory is wanting to keep the answer; nothing is kept then.
 pub fn leaf_sizes<R: Ruler>(
     tree: &mut Arena<Node>,
     id: NodeId,
@@ -166,13 +178,14 @@ pub fn leaf_sizes<R: Ruler>(
         return Err(NoMemory);
     };
     let (low, high) = measure_widths(&leaf.name, content, ruler, tally)?;
+    keep(tree, id, query, Answer::Sizes(low, high))?;
     tally.count_added();
-    keep(tree, id, query, Answer::Sizes(low, high));
     Ok((low, high))
 }
 
 /// The answer of a leaf to the question for its block size, of which it keeps none: the ruler is asked for the height at the
-/// width that the question gives, and the answer is kept. `NoMemory` is that of the ruler, and nothing is kept then.
+/// width that the question gives, and the answer is kept. `NoMemory` is that of the ruler, or memory is wanting to keep the
+/// answer; nothing is kept then.
 pub fn leaf_height<R: Ruler>(
     tree: &mut Arena<Node>,
     id: NodeId,
@@ -198,7 +211,7 @@ pub fn leaf_height<R: Ruler>(
         return Err(NoMemory);
     };
     let height = measure_height(&leaf.name, content, size_of(&query.inline), ruler, tally)?;
+    keep(tree, id, query, Answer::Block(height))?;
     tally.count_added();
-    keep(tree, id, query, Answer::Block(height));
     Ok(height)
 }

@@ -15,11 +15,12 @@ fn question(alloc: Global, width: i64, counts: &[(u32, u32)]) -> Result<Query, F
 }
 
 /// Keeps an answer to a question that has none.
-fn keep(kept: &mut Kept<i64>, query: Query, answer: i64) {
+fn keep(kept: &mut Kept<i64>, query: Query, answer: i64) -> Result<(), Fail> {
     let absent = kept.find(&query).is_none();
     if absent {
-        kept.put(query, answer);
+        kept.put(query, answer)?;
     }
+    Ok(())
 }
 
 /// The kept answer to a question.
@@ -45,13 +46,34 @@ fn seventeen_answers_push_the_oldest_out(rt: HostRuntime) -> Result<(), Fail> {
     ];
     let mut kept = Kept::new(rt.alloc())?;
     for width in 0..17 {
-        keep(&mut kept, question(rt.alloc(), width, &[(2, 1)])?, width);
+        keep(&mut kept, question(rt.alloc(), width, &[(2, 1)])?, width)?;
     }
     for (width, counts, due) in ANSWERS {
         assert_eq!(rt; answer(&kept, rt.alloc(), *width, counts)?, *due);
     }
     kept.clear();
     assert_eq!(rt; answer(&kept, rt.alloc(), 16, &[(2, 1)])?, None);
+    Ok(())
+}
+
+#[test]
+fn the_last_sixteen_are_kept(rt: HostRuntime) -> Result<(), Fail> {
+    // how many answers are put, and the first of them that is kept
+    static PUT: &[(i64, i64)] = &[(4, 0), (5, 0), (6, 0), (16, 0), (17, 1), (20, 4)];
+    let mut again = Kept::new(rt.alloc())?;
+    for (count, first) in PUT {
+        let mut kept = Kept::new(rt.alloc())?;
+        again.clear();
+        for width in 0..*count {
+            keep(&mut kept, question(rt.alloc(), width, &[])?, width)?;
+            keep(&mut again, question(rt.alloc(), width, &[])?, width)?;
+        }
+        for width in 0..*count {
+            let due = if width < *first { None } else { Some(width) };
+            assert_eq!(rt; answer(&kept, rt.alloc(), width, &[])?, due);
+            assert_eq!(rt; answer(&again, rt.alloc(), width, &[])?, due);
+        }
+    }
     Ok(())
 }
 

@@ -369,7 +369,10 @@ pub grid_anew-returns-in_err-size-clause-stopped : goal.grid_anew-returns-in_err
 grid_anew-returns-in_err-size-clause-stopped g t c = on_err _ _ (stopped c.args.id c.args.query 2 _ _ (ticked c.args.id c.args.query 1 1 _ _ c.rows_total.new.passes c.rows_total.ensures.ticks (c.in_ok-wide.ensures.below c.args.query (sym c.as_slice-reps.ensures) refl (ap (λ (q : Query). needs_inline q.ask) c.requires.query))))
 
 pub grid_anew-returns-clause-walked : goal.grid_anew-returns-clause-walked
-grid_anew-returns-clause-walked g t c = c.put.ensures.joins _ 2 _ _ (omega arith) (ticked c.args.id c.args.query 1 1 _ _ c.rows_total.new.passes c.rows_total.ensures.ticks (c.in_ok-wide.ensures.below c.args.query (sym c.as_slice-reps.ensures) refl (ap (λ (q : Query). needs_inline q.ask) c.requires.query)))
+grid_anew-returns-clause-walked g t c = c.in_ok-put.ensures.joins _ 2 _ _ (omega arith) (ticked c.args.id c.args.query 1 1 _ _ c.rows_total.new.passes c.rows_total.ensures.ticks (c.in_ok-wide.ensures.below c.args.query (sym c.as_slice-reps.ensures) refl (ap (λ (q : Query). needs_inline q.ask) c.requires.query)))
+
+pub grid_anew-returns-in_err-put-clause-stopped : goal.grid_anew-returns-in_err-put-clause-stopped
+grid_anew-returns-in_err-put-clause-stopped g t c = on_err _ _ (c.in_err-put.ensures.stopped _ 2 _ _ (ticked c.args.id c.args.query 1 1 _ _ c.rows_total.new.passes c.rows_total.ensures.ticks (c.in_ok-wide.ensures.below c.args.query (sym c.as_slice-reps.ensures) refl (ap (λ (q : Query). needs_inline q.ask) c.requires.query))))
 
 pub grid_anew-returns-in_err-held-clause-stopped : goal.grid_anew-returns-in_err-held-clause-stopped
 grid_anew-returns-in_err-held-clause-stopped g t c = on_err _ _ (stopped c.args.id c.args.query 2 _ _ (ticked c.args.id c.args.query 1 1 _ _ c.rows_total.new.passes c.rows_total.ensures.ticks (c.in_ok-wide.ensures.below c.args.query (sym c.as_slice-reps.ensures) refl (ap (λ (q : Query). needs_inline q.ask) c.requires.query))))
@@ -381,7 +384,7 @@ grid_anew-put-requires-clause-children g t c =
     subst (λ (z : BareTrees). HoldsWide (sight_at z c.args.id) (children_at z c.args.id) c.args.query.reps c.args.query.inline c.in_ok-held.held) (sym (c.in_ok-wide.ensures.below c.args.query (sym c.as_slice-reps.ensures) refl (ap (λ (q : Query). needs_inline q.ask) c.requires.query)).walk.bare_same) (wide_held (bare c.args.tree.now.tree) c.args.id c.args.query.reps c.args.query.inline c.in_ok-held.held held)
 
 pub grid_anew-returns-clause-own : goal.grid_anew-returns-clause-own
-grid_anew-returns-clause-own g t c = (answer.Laid c.in_ok-size.size c.in_ok-held.held, (refl, c.put.ensures.own ∙ ap (λ l. kept_with l ((c.args.query, answer.Laid c.in_ok-size.size c.in_ok-held.held) ∷ [])) (c.in_ok-wide.ensures.below c.args.query (sym c.as_slice-reps.ensures) refl (ap (λ (q : Query). needs_inline q.ask) c.requires.query)).own))
+grid_anew-returns-clause-own g t c = (answer.Laid c.in_ok-size.size c.in_ok-held.held, (refl, c.in_ok-put.ensures.own ∙ ap (λ l. kept_with l ((c.args.query, answer.Laid c.in_ok-size.size c.in_ok-held.held) ∷ [])) (c.in_ok-wide.ensures.below c.args.query (sym c.as_slice-reps.ensures) refl (ap (λ (q : Query). needs_inline q.ask) c.requires.query)).own))
 
 pub block_anew-returns-then-is_leaf-clause-own : goal.block_anew-returns-then-is_leaf-clause-own
 block_anew-returns-then-is_leaf-clause-own g t c = grows_by_block c.leaf_height.result (kept_at c.args.tree.now.tree c.args.id) (kept_at c.leaf_height.new.tree.tree c.args.id) c.args.query c.leaf_height.ensures.own
@@ -449,11 +452,14 @@ pub rows_anew-returns-in_err-lent-clause-stopped : goal.rows_anew-returns-in_err
 rows_anew-returns-in_err-lent-clause-stopped g t c = on_err _ _ (stopped c.args.id c.args.query 1 _ _ (c.in_ok-wide.ensures.below c.args.query (sym c.as_slice-reps.ensures) refl (ap (λ (q : Query). needs_inline q.ask) c.requires.query)))
 
 pub rows_anew-returns-clause-walked : goal.rows_anew-returns-clause-walked
-rows_anew-returns-clause-walked g t c = c.put.ensures.joins _ 1 _ _ (omega arith) (c.in_ok-wide.ensures.below c.args.query (sym c.as_slice-reps.ensures) refl (ap (λ (q : Query). needs_inline q.ask) c.requires.query))
+rows_anew-returns-clause-walked g t c = c.in_ok-put.ensures.joins _ 1 _ _ (omega arith) (c.in_ok-wide.ensures.below c.args.query (sym c.as_slice-reps.ensures) refl (ap (λ (q : Query). needs_inline q.ask) c.requires.query))
+
+pub rows_anew-returns-in_err-put-clause-stopped : goal.rows_anew-returns-in_err-put-clause-stopped
+rows_anew-returns-in_err-put-clause-stopped g t c = on_err _ _ (c.in_err-put.ensures.stopped _ 1 _ _ (c.in_ok-wide.ensures.below c.args.query (sym c.as_slice-reps.ensures) refl (ap (λ (q : Query). needs_inline q.ask) c.requires.query)))
 
 pub rows_anew-returns-clause-own : goal.rows_anew-returns-clause-own
 rows_anew-returns-clause-own g t c =
-    c.put.ensures.own ∙ (λ i. kept_with ((c.in_ok-wide.ensures.below c.args.query (sym c.as_slice-reps.ensures) refl (ap (λ (q : Query). needs_inline q.ask) c.requires.query)).own i) ((c.args.query, answer.Lent (sym (c.in_ok-lent.ensures ∙ c.as_slice.ensures) i)) ∷ []))
+    c.in_ok-put.ensures.own ∙ (λ i. kept_with ((c.in_ok-wide.ensures.below c.args.query (sym c.as_slice-reps.ensures) refl (ap (λ (q : Query). needs_inline q.ask) c.requires.query)).own i) ((c.args.query, answer.Lent (sym (c.in_ok-lent.ensures ∙ c.as_slice.ensures) i)) ∷ []))
 
 pub row_anew-row_size-requires-clause-live : goal.row_anew-row_size-requires-clause-live
 row_anew-row_size-requires-clause-live g t c = subst (λ (z : BareTrees). IsLive z c.args.id) (sym (c.in_ok-parts.ensures.below c.args.query (sym c.size_of-width.ensures) (ap (λ (q : Query). needs_inline q.ask) c.requires.query)).walk.bare_same) c.requires.live
@@ -494,10 +500,13 @@ pub row_anew-returns-in_err-size-clause-stopped : goal.row_anew-returns-in_err-s
 row_anew-returns-in_err-size-clause-stopped g t c = on_err _ _ (stopped c.args.id c.args.query 1 _ _ (c.in_ok-parts.ensures.below c.args.query (sym c.size_of-width.ensures) (ap (λ (q : Query). needs_inline q.ask) c.requires.query)))
 
 pub row_anew-returns-clause-walked : goal.row_anew-returns-clause-walked
-row_anew-returns-clause-walked g t c = c.put.ensures.joins _ 1 _ _ (omega arith) (c.in_ok-parts.ensures.below c.args.query (sym c.size_of-width.ensures) (ap (λ (q : Query). needs_inline q.ask) c.requires.query))
+row_anew-returns-clause-walked g t c = c.in_ok-put.ensures.joins _ 1 _ _ (omega arith) (c.in_ok-parts.ensures.below c.args.query (sym c.size_of-width.ensures) (ap (λ (q : Query). needs_inline q.ask) c.requires.query))
+
+pub row_anew-returns-in_err-put-clause-stopped : goal.row_anew-returns-in_err-put-clause-stopped
+row_anew-returns-in_err-put-clause-stopped g t c = on_err _ _ (c.in_err-put.ensures.stopped _ 1 _ _ (c.in_ok-parts.ensures.below c.args.query (sym c.size_of-width.ensures) (ap (λ (q : Query). needs_inline q.ask) c.requires.query)))
 
 pub row_anew-returns-clause-own : goal.row_anew-returns-clause-own
-row_anew-returns-clause-own g t c = c.put.ensures.own ∙ ap (λ l. kept_with l ((c.args.query, answer.Block c.in_ok-size.size) ∷ [])) (c.in_ok-parts.ensures.below c.args.query (sym c.size_of-width.ensures) (ap (λ (q : Query). needs_inline q.ask) c.requires.query)).own
+row_anew-returns-clause-own g t c = c.in_ok-put.ensures.own ∙ ap (λ l. kept_with l ((c.args.query, answer.Block c.in_ok-size.size) ∷ [])) (c.in_ok-parts.ensures.below c.args.query (sym c.size_of-width.ensures) (ap (λ (q : Query). needs_inline q.ask) c.requires.query)).own
 
 pub column_anew-column_size-requires-clause-live : goal.column_anew-column_size-requires-clause-live
 column_anew-column_size-requires-clause-live g t c = subst (λ (z : BareTrees). IsLive z c.args.id) (sym (c.in_ok-parts.ensures.below c.args.query (sym c.size_of-width.ensures) (ap (λ (q : Query). needs_inline q.ask) c.requires.query)).walk.bare_same) c.requires.live
@@ -538,10 +547,13 @@ pub column_anew-returns-in_err-size-clause-stopped : goal.column_anew-returns-in
 column_anew-returns-in_err-size-clause-stopped g t c = on_err _ _ (stopped c.args.id c.args.query 0 _ _ (c.in_ok-parts.ensures.below c.args.query (sym c.size_of-width.ensures) (ap (λ (q : Query). needs_inline q.ask) c.requires.query)))
 
 pub column_anew-returns-clause-walked : goal.column_anew-returns-clause-walked
-column_anew-returns-clause-walked g t c = c.put.ensures.joins _ 0 _ _ (omega arith) (c.in_ok-parts.ensures.below c.args.query (sym c.size_of-width.ensures) (ap (λ (q : Query). needs_inline q.ask) c.requires.query))
+column_anew-returns-clause-walked g t c = c.in_ok-put.ensures.joins _ 0 _ _ (omega arith) (c.in_ok-parts.ensures.below c.args.query (sym c.size_of-width.ensures) (ap (λ (q : Query). needs_inline q.ask) c.requires.query))
+
+pub column_anew-returns-in_err-put-clause-stopped : goal.column_anew-returns-in_err-put-clause-stopped
+column_anew-returns-in_err-put-clause-stopped g t c = on_err _ _ (c.in_err-put.ensures.stopped _ 0 _ _ (c.in_ok-parts.ensures.below c.args.query (sym c.size_of-width.ensures) (ap (λ (q : Query). needs_inline q.ask) c.requires.query)))
 
 pub column_anew-returns-clause-own : goal.column_anew-returns-clause-own
-column_anew-returns-clause-own g t c = c.put.ensures.own ∙ ap (λ l. kept_with l ((c.args.query, answer.Block c.in_ok-size.size) ∷ [])) (c.in_ok-parts.ensures.below c.args.query (sym c.size_of-width.ensures) (ap (λ (q : Query). needs_inline q.ask) c.requires.query)).own
+column_anew-returns-clause-own g t c = c.in_ok-put.ensures.own ∙ ap (λ l. kept_with l ((c.args.query, answer.Block c.in_ok-size.size) ∷ [])) (c.in_ok-parts.ensures.below c.args.query (sym c.size_of-width.ensures) (ap (λ (q : Query). needs_inline q.ask) c.requires.query)).own
 
 pub row_at-items_in_row-requires-clause-live : goal.row_at-items_in_row-requires-clause-live
 row_at-items_in_row-requires-clause-live g t c = subst (λ (z : BareTrees). IsLive z c.args.id) (sym (c.in_ok-parts.ensures.below (inline_query false [])).walk.bare_same) c.requires.live

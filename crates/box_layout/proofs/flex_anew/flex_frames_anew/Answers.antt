@@ -43,10 +43,13 @@ pub returns-clause-children : goal.returns-clause-children
 returns-clause-children g c = ap (map (λ (f : NodeFrame). f.child)) (c.in_ok-told.ensures ∙ c.in_ok-shared.ensures) ∙ c.in_ok-frames.ensures.children
 
 pub returns-clause-walked : goal.returns-clause-walked
-returns-clause-walked g c = c.put.ensures.joins _ 1 _ _ (omega arith) c.in_ok-frames.ensures.below
+returns-clause-walked g c = c.in_ok-put.ensures.joins _ 1 _ _ (omega arith) c.in_ok-frames.ensures.below
+
+pub returns-in_err-put-clause-stopped : goal.returns-in_err-put-clause-stopped
+returns-in_err-put-clause-stopped g c = on_err _ _ (c.in_err-put.ensures.stopped _ 1 _ _ c.in_ok-frames.ensures.below)
 
 pub returns-clause-own : goal.returns-clause-own
-returns-clause-own g c = c.put.ensures.own ∙ (λ i. kept_with (c.in_ok-frames.ensures.below.own i) ((c.args.query, answer.Frames (sym c.in_ok-told.ensures i)) ∷ []))
+returns-clause-own g c = c.in_ok-put.ensures.own ∙ (λ i. kept_with (c.in_ok-frames.ensures.below.own i) ((c.args.query, answer.Frames (sym c.in_ok-told.ensures i)) ∷ []))
 
 pub returns-in_err-shared-clause-stopped : goal.returns-in_err-shared-clause-stopped
 returns-in_err-shared-clause-stopped g c = on_err _ _ (stopped c.args.id c.args.query 1 _ _ c.in_ok-frames.ensures.below)

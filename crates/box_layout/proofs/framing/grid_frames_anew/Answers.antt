@@ -102,10 +102,13 @@ pub returns-clause-children : goal.returns-clause-children
 returns-clause-children g c = ap (map (λ (f : NodeFrame). f.child)) (c.in_ok-told.ensures ∙ c.in_ok-shared.ensures) ∙ c.in_ok-frames.ensures.children ∙ ap (λ (z : BareTrees). children_at z c.args.id) (c.in_ok-wide.ensures.below c.args.query (sym c.as_slice-reps.ensures) refl (ap (λ (q : Query). needs_inline q.ask) c.requires.query)).walk.bare_same
 
 pub returns-clause-walked : goal.returns-clause-walked
-returns-clause-walked g c = c.put.ensures.joins _ 2 _ _ (omega arith) (ticked c.args.id c.args.query 1 1 _ _ c.rows_of.new.passes c.rows_of.ensures.ticks (c.in_ok-wide.ensures.below c.args.query (sym c.as_slice-reps.ensures) refl (ap (λ (q : Query). needs_inline q.ask) c.requires.query)))
+returns-clause-walked g c = c.in_ok-put.ensures.joins _ 2 _ _ (omega arith) (ticked c.args.id c.args.query 1 1 _ _ c.rows_of.new.passes c.rows_of.ensures.ticks (c.in_ok-wide.ensures.below c.args.query (sym c.as_slice-reps.ensures) refl (ap (λ (q : Query). needs_inline q.ask) c.requires.query)))
+
+pub returns-in_err-put-clause-stopped : goal.returns-in_err-put-clause-stopped
+returns-in_err-put-clause-stopped g c = on_err _ _ (c.in_err-put.ensures.stopped _ 2 _ _ (ticked c.args.id c.args.query 1 1 _ _ c.rows_of.new.passes c.rows_of.ensures.ticks (c.in_ok-wide.ensures.below c.args.query (sym c.as_slice-reps.ensures) refl (ap (λ (q : Query). needs_inline q.ask) c.requires.query))))
 
 pub returns-clause-own : goal.returns-clause-own
-returns-clause-own g c = c.put.ensures.own ∙ (λ i. kept_with ((c.in_ok-wide.ensures.below c.args.query (sym c.as_slice-reps.ensures) refl (ap (λ (q : Query). needs_inline q.ask) c.requires.query)).own i) ((c.args.query, answer.Frames (sym c.in_ok-told.ensures i)) ∷ []))
+returns-clause-own g c = c.in_ok-put.ensures.own ∙ (λ i. kept_with ((c.in_ok-wide.ensures.below c.args.query (sym c.as_slice-reps.ensures) refl (ap (λ (q : Query). needs_inline q.ask) c.requires.query)).own i) ((c.args.query, answer.Frames (sym c.in_ok-told.ensures i)) ∷ []))
 
 pub returns-in_err-wide-clause-stopped : goal.returns-in_err-wide-clause-stopped
 returns-in_err-wide-clause-stopped g c = on_err _ _ (c.in_err-wide.ensures.stopped c.args.query (sym c.as_slice-reps.ensures) refl (ap (λ (q : Query). needs_inline q.ask) c.requires.query))

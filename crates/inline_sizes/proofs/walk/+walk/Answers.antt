@@ -222,11 +222,14 @@ columns_anew-returns-clause-value g t c =
     (subst (λ (w : Given). IsGrid (bare c.args.tree.now.tree) c.args.id c.as_slice-reps.result.now w c.in_ok-parts.parts) (ap (λ (q : Query). q.inline) c.requires.query) c.in_ok-parts.ensures.value))) ∙ lent_answer (bare c.args.tree.now.tree) c.args.id c.args.query (c.subgrids_are_grids.ensures (lent_fit (sight_at (bare c.args.tree.now.tree) c.args.id) c.args.query (ap (λ (q : Query). q.ask) c.requires.query) c.requires.fits)) (ap (λ (q : Query). q.ask) c.requires.query)
 
 pub columns_anew-returns-clause-walked : goal.columns_anew-returns-clause-walked
-columns_anew-returns-clause-walked g t c = c.put.ensures.joins _ 0 _ _ (omega arith) (c.in_ok-parts.ensures.below c.args.query (sym c.as_slice-reps.ensures) refl)
+columns_anew-returns-clause-walked g t c = c.in_ok-put.ensures.joins _ 0 _ _ (omega arith) (c.in_ok-parts.ensures.below c.args.query (sym c.as_slice-reps.ensures) refl)
+
+pub columns_anew-returns-in_err-put-clause-stopped : goal.columns_anew-returns-in_err-put-clause-stopped
+columns_anew-returns-in_err-put-clause-stopped g t c = on_err _ _ (c.in_err-put.ensures.stopped _ 0 _ _ (c.in_ok-parts.ensures.below c.args.query (sym c.as_slice-reps.ensures) refl))
 
 pub columns_anew-returns-clause-own : goal.columns_anew-returns-clause-own
 columns_anew-returns-clause-own g t c =
-    c.put.ensures.own ∙ (λ i. kept_with ((c.in_ok-parts.ensures.below c.args.query (sym c.as_slice-reps.ensures) refl).own i) ((c.args.query, answer.Lent (sym (c.in_ok-lent.ensures ∙ c.as_slice.ensures) i)) ∷ []))
+    c.in_ok-put.ensures.own ∙ (λ i. kept_with ((c.in_ok-parts.ensures.below c.args.query (sym c.as_slice-reps.ensures) refl).own i) ((c.args.query, answer.Lent (sym (c.in_ok-lent.ensures ∙ c.as_slice.ensures) i)) ∷ []))
 
 pub flex_anew-flex_inline-requires-clause-live : goal.flex_anew-flex_inline-requires-clause-live
 flex_anew-flex_inline-requires-clause-live g t c = subst (λ (z : BareTrees). IsLive z c.args.id) (sym (c.in_ok-parts.ensures.below c.args.query).walk.bare_same) c.requires.live
@@ -253,10 +256,13 @@ flex_anew-returns-clause-value g t c =
     ∙ ap (λ (z : BareTrees). answer_of (sight_at z c.args.id) c.args.query) (c.in_ok-parts.ensures.below c.args.query).walk.bare_same
 
 pub flex_anew-returns-clause-walked : goal.flex_anew-returns-clause-walked
-flex_anew-returns-clause-walked g t c = c.put.ensures.joins _ 0 _ _ (omega arith) (c.in_ok-parts.ensures.below c.args.query)
+flex_anew-returns-clause-walked g t c = c.in_ok-put.ensures.joins _ 0 _ _ (omega arith) (c.in_ok-parts.ensures.below c.args.query)
+
+pub flex_anew-returns-in_err-put-clause-stopped : goal.flex_anew-returns-in_err-put-clause-stopped
+flex_anew-returns-in_err-put-clause-stopped g t c = on_err _ _ (c.in_err-put.ensures.stopped _ 0 _ _ (c.in_ok-parts.ensures.below c.args.query))
 
 pub flex_anew-returns-clause-own : goal.flex_anew-returns-clause-own
-flex_anew-returns-clause-own g t c = c.put.ensures.own ∙ ap (λ l. kept_with l ((c.args.query, answer.Sizes c.in_ok-low.low c.in_ok-low.high) ∷ [])) (c.in_ok-parts.ensures.below c.args.query).own
+flex_anew-returns-clause-own g t c = c.in_ok-put.ensures.own ∙ ap (λ l. kept_with l ((c.args.query, answer.Sizes c.in_ok-low.low c.in_ok-low.high) ∷ [])) (c.in_ok-parts.ensures.below c.args.query).own
 
 pub flex_at-returns-in_err-numbers-clause-stopped : goal.flex_at-returns-in_err-numbers-clause-stopped
 flex_at-returns-in_err-numbers-clause-stopped g t c =
@@ -379,10 +385,13 @@ grid_anew-returns-clause-value g t c =
     ∙ ap (λ (z : BareTrees). answer_of (sight_at z c.args.id) c.args.query) (c.in_ok-parts.ensures.below c.args.query (sym c.as_slice-reps.ensures) refl).walk.bare_same
 
 pub grid_anew-returns-clause-walked : goal.grid_anew-returns-clause-walked
-grid_anew-returns-clause-walked g t c = c.put.ensures.joins _ 2 _ _ (omega arith) (ticked c.args.id c.args.query 0 2 _ _ c.grid_inline.new.passes (omega (arith, c.in_ok-low.ensures.step)) (c.in_ok-parts.ensures.below c.args.query (sym c.as_slice-reps.ensures) refl))
+grid_anew-returns-clause-walked g t c = c.in_ok-put.ensures.joins _ 2 _ _ (omega arith) (ticked c.args.id c.args.query 0 2 _ _ c.grid_inline.new.passes (omega (arith, c.in_ok-low.ensures.step)) (c.in_ok-parts.ensures.below c.args.query (sym c.as_slice-reps.ensures) refl))
+
+pub grid_anew-returns-in_err-put-clause-stopped : goal.grid_anew-returns-in_err-put-clause-stopped
+grid_anew-returns-in_err-put-clause-stopped g t c = on_err _ _ (c.in_err-put.ensures.stopped _ 2 _ _ (ticked c.args.id c.args.query 0 2 _ _ c.grid_inline.new.passes (omega (arith, c.in_ok-low.ensures.step)) (c.in_ok-parts.ensures.below c.args.query (sym c.as_slice-reps.ensures) refl)))
 
 pub grid_anew-returns-clause-own : goal.grid_anew-returns-clause-own
-grid_anew-returns-clause-own g t c = c.put.ensures.own ∙ ap (λ l. kept_with l ((c.args.query, answer.Sizes c.in_ok-low.low c.in_ok-low.high) ∷ [])) (c.in_ok-parts.ensures.below c.args.query (sym c.as_slice-reps.ensures) refl).own
+grid_anew-returns-clause-own g t c = c.in_ok-put.ensures.own ∙ ap (λ l. kept_with l ((c.args.query, answer.Sizes c.in_ok-low.low c.in_ok-low.high) ∷ [])) (c.in_ok-parts.ensures.below c.args.query (sym c.as_slice-reps.ensures) refl).own
 
 pub grid_at-returns-in_err-base-clause-stopped : goal.grid_at-returns-in_err-base-clause-stopped
 grid_at-returns-in_err-base-clause-stopped g t c =
