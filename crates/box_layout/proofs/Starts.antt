@@ -1,11 +1,13 @@
 -- Where children start over tracks that lie within range.
-use Rattle.std.proofs.Common.{arith, ◌≡◌, ℕ, zero, suc, ◌+◌, ◌-◌, ◌^◌, ℤ, pos, ◌-ℤ◌, ◌≤ℤ◌, List, [], ◌∷◌, drop, take}
+use Rattle.std.proofs.Common.{arith, ap, ◌≡◌, ◌∙◌, Bool, true, false, if◌then◌else◌, ℕ, zero, suc, ◌+◌, ◌-◌, ◌^◌, ℤ, pos, ◌-ℤ◌, ◌≤ℤ◌, List, [], ◌∷◌, drop, take}
 use Rattle.std.proofs.lemmas.Int.{ints}
 use Rattle.lunit.specs.declared.geometry.Span.{Span}
 use Rattle.part_rules.specs.Lists.{above_zero}
-use Rattle.part_rules.specs.Views.{first_start, tracks_over}
+use Rattle.part_rules.specs.Views.{area_size, first_start, tracks_over}
+use Rattle.style_types.specs.Styles.{StyleMap}
 use Rattle.placing.specs.Spread.{AreBetween, AreSpread}
-use Rattle.box_layout.specs.GridFrames.{IsOver}
+use Rattle.box_layout.specs.GridFrames.{IsOver, place_over}
+use Rattle.box_layout.specs.Places.{place_in_area}
 use Rattle.box_layout.specs.Ranges.{IsNearTo, IsPlace, IsWithin}
 
 between_drop : (low high : ℤ) (n : ℕ) (edges : List (ℤ × ℤ)) → AreBetween low high edges → AreBetween low high (drop n edges)
@@ -37,3 +39,13 @@ pub place_near : (edges : List (ℤ × ℤ)) (span : Span) (start z : ℤ) → I
 place_near edges span start z o e n =
     let w : IsWithin (2 ^ 59) (first_start (tracks_over edges span)) = start_within (2 ^ 59) edges span o.spread in
     (omega (arith, ints, e, w.0, w.1, n.low), omega (arith, ints, e, w.0, w.1, n.high))
+
+-- a child that shares the tracks does not stand by the size of its area
+pub place_over_shared : (axis : ℕ) (shares : Bool) (container style : StyleMap) (edges : List (ℤ × ℤ)) (span : Span) (box start room : ℤ) (tracks : List (ℤ × ℤ))
+    → tracks ≡ tracks_over edges span → start ≡ first_start tracks → room ≡ (if shares then pos 0 else area_size tracks)
+    → place_in_area axis shares container style start room box ≡ place_over axis shares container style edges span box
+place_over_shared axis true container style edges span box start room tracks t s r =
+    ap (λ z. place_in_area axis true container style z (pos 0) box) (s ∙ ap first_start t)
+place_over_shared axis false container style edges span box start room tracks t s r =
+    ap (λ z. place_in_area axis false container style z room box) (s ∙ ap first_start t)
+    ∙ ap (λ z. place_in_area axis false container style (first_start (tracks_over edges span)) z box) (r ∙ ap area_size t)

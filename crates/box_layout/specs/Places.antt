@@ -32,3 +32,7 @@ box_in_rows shares container style size content =
 -- the frame of a child with these places and sizes in the content box of a parent of this style
 abbrev pub frame_in : StyleMap → Extent → Extent → Frame
 frame_in parent i b = (framed_at (styled parent) (styled parent) i b (down_of (pos 0) [] (λ height. []))).frame
+
+-- the frame of a child with these places and sizes in a content box that starts here in the border box of its parent
+abbrev pub frame_from : ℤ × ℤ → Extent → Extent → Frame
+frame_from origin i b = record { rect = record { x = origin.0 +ℤ i.at; y = origin.1 +ℤ b.at; width = i.size; height = b.size }; inline = i.given; block = b.given }

@@ -8,7 +8,7 @@ ghost use Rattle.tree_rules.specs.Frames.{moved_by};
 ghost use Rattle.tree_rules.specs.Labels.{grid_of};
 ghost use Rattle.tree_rules.specs.NodeSizes.{inner_start};
 ghost use Rattle.inline_sizes.specs.Styled.{grid_at};
-ghost use Rattle.box_layout.specs.Places.{frame_in};
+ghost use Rattle.box_layout.specs.Places.{frame_from, frame_in};
 ghost use Rattle.box_layout.specs.Ranges.{IsEdges, IsPlace, IsWithin};
 
 use inline_sizes::inner_start;
@@ -44,6 +44,49 @@ fn edges_before<const AXIS: u8>(parent: &Style) -> Lu
     inner_start::<AXIS>(parent)
 }
 
+/// Where the content box of a parent starts in its border box, in the two axes, inline axis first.
+pub(crate) fn origin_of(parent: &Style) -> (Lu, Lu)
+    requires { IsGridStyle (grid_of parent.now) }
+    ensures x { result.0 ≡ inner_start (grid_at 0 parent.now) }
+    ensures y { result.1 ≡ inner_start (grid_at 1 parent.now) }
+    ensures x_range { IsEdges result.0 }
+    ensures y_range { IsEdges result.1 }
+{
+    (edges_before::<0>(parent), edges_before::<1>(parent))
+}
+
+/// The frame of a child that stands at these places in a content box that starts here in the border box of its parent: `frame_in`
+/// says more.
+pub(crate) fn frame_from(
+    origin: (Lu, Lu),
+    child: NodeId,
+    place: (Wide, Wide),
+    size: (Lu, Lu),
+    inline: Given,
+    block: Given,
+) -> Frame
+    requires before { IsEdges origin.0 }
+    requires above { IsEdges origin.1 }
+    requires columns { IsPlace place.0 }
+    requires rows { IsPlace place.1 }
+    ensures child { result.child ≡ child }
+    ensures value { frame_of result ≡ frame_from origin (record { at = place.0; size = size.0; given = inline }) (record { at = place.1; size = size.1; given = block }) }
+    ensures x { (by : ℕ) → IsWithin by place.0 → IsWithin (by + 2 ^ 28) result.rect.x }
+    ensures y { (by : ℕ) → IsWithin by place.1 → IsWithin (by + 2 ^ 28) result.rect.y }
+{
+    Frame {
+        child,
+        rect: Rect {
+            x: offset::<INLINE>(origin.0, place.0),
+            y: offset::<BLOCK>(origin.1, place.1),
+            width: along::<INLINE>(size.0),
+            height: along::<BLOCK>(size.1),
+        },
+        inline,
+        block,
+    }
+}
+
 /// The frame of a child that stands at these places in the content box of its parent, with a border box of these sizes, inline axis
 /// first, and is given this in the two axes. Its rectangle is told from the border box of the parent (CSS Grid 2, section 6).
 pub fn frame_in(
@@ -62,17 +105,7 @@ pub fn frame_in(
     ensures x { (by : ℕ) → IsWithin by place.0 → IsWithin (by + 2 ^ 28) result.rect.x }
     ensures y { (by : ℕ) → IsWithin by place.1 → IsWithin (by + 2 ^ 28) result.rect.y }
 {
-    Frame {
-        child,
-        rect: Rect {
-            x: offset::<INLINE>(edges_before::<0>(parent), place.0),
-            y: offset::<BLOCK>(edges_before::<1>(parent), place.1),
-            width: along::<INLINE>(size.0),
-            height: along::<BLOCK>(size.1),
-        },
-        inline,
-        block,
-    }
+    frame_from(origin_of(parent), child, place, size, inline, block)
 }
 
 /// A rectangle in the border box of a parent, which stands at this position, as one in the viewport.

@@ -33,7 +33,7 @@ use std::alloc::Global;
 use std::sync::ledger::Ledger;
 
 /// Whether a node is a grid.
-fn is_grid(kind: &NodeKind) -> bool
+pub(crate) fn is_grid(kind: &NodeKind) -> bool
     ensures { result ≡ is_grid_kind kind.now }
 {
     match kind {

@@ -10,6 +10,7 @@ ghost use Rattle.placing.specs.declared.node.Frame.{Frame as NodeFrame};
 ghost use Rattle.tree_rules.specs.Orders.{in_document_order};
 ghost use Rattle.tree_rules.specs.Chains.{is_subgrid};
 ghost use Rattle.tree_rules.specs.Frames.{Framed, grid_child};
+ghost use Rattle.tree_rules.specs.NodeSizes.{inner_start};
 ghost use Rattle.tree_rules.specs.declared.kind.NodeKind.TheVariants as kind;
 ghost use Rattle.inline_sizes.specs.Grids.{IsEntry, has_subgrid_kind};
 ghost use Rattle.inline_sizes.specs.GridsSeen.{grid_seen};
@@ -17,18 +18,18 @@ ghost use Rattle.block_sizes.specs.Spans.{LiesIn};
 ghost use Rattle.block_sizes.specs.Wides.{IsWide, columns_seen, wides_seen};
 ghost use Rattle.box_layout.specs.GridFrames.{AreFramesAt, AreIndices, AreTracks, IsFrameOf, no_frame};
 
-use crate::grids::{OverTracks, frame_over};
+use crate::frames::origin_of;
+use crate::framing::is_grid;
+use crate::grids::{OverTracks, frame_over_from};
 use crate::turns::turns;
 use block_sizes::from_first;
 use inline_sizes::items_lie_in_their_tracks;
 use layout_cache::Given;
-use lunit::{NoMemory, Sequence};
+use lunit::{Lu, NoMemory, Sequence};
 use node_arena::{Arena, NodeId};
 use part_rules::View;
 use placing::style::is_subgrid;
-use placing::{
-    ChildArea, Frame, GridWide, Node, WideChild, count, entry, has_subgrid, node_at, root,
-};
+use placing::{ChildArea, Frame, GridWide, Node, WideChild, count, entry, node_at, root};
 use std::alloc::Global;
 
 /// Whether a child of a grid is a subgrid in the columns, and in the rows.
@@ -38,7 +39,7 @@ fn shares(tree: &Arena<Node>, id: NodeId) -> (bool, bool)
     ensures rows { result.1 ≡ (has_subgrid_kind (sight_at (bare tree.now.tree) id).label && is_subgrid (sight_at (bare tree.now.tree) id).label.grid.rows.template) }
 {
     let node = node_at(tree, id);
-    let lower = has_subgrid(node);
+    let lower = is_grid(&node.kind);
     let in_columns = lower && is_subgrid::<0>(&node.style);
     let in_rows = lower && is_subgrid::<1>(&node.style);
     (in_columns, in_rows)
@@ -78,7 +79,8 @@ fn wide_child_at(wide: &GridWide, index: usize) -> &WideChild
     &children[index]
 }
 
-/// The frame of the child of a grid whose area is told at an index, in these rows. `NoMemory` where memory is wanting.
+/// The frame of the child of a grid whose area is told at an index, in these rows, where the content box of the grid starts here in
+/// its border box. `NoMemory` where memory is wanting.
 fn framed_child(
     alloc: Global,
     tree: &Arena<Node>,
@@ -87,6 +89,7 @@ fn framed_child(
     width: &Given,
     wide: &GridWide,
     rows: &View<1>,
+    origin: (Lu, Lu),
     index: usize,
 ) -> Result<Frame, NoMemory>
     requires live { IsLive (bare tree.now.tree) id }
@@ -96,6 +99,8 @@ fn framed_child(
     requires columns { AreTracks wide.now.parts.base.placed.columns wide.now.columns.edges }
     requires rows { AreTracks wide.now.parts.base.placed.rows rows.now.edges }
     requires gap { pos 0 ≤ℤ rows.now.gap }
+    requires x { origin.0 ≡ inner_start (sight_at (bare tree.now.tree) id).label.grid.columns }
+    requires y { origin.1 ≡ inner_start (sight_at (bare tree.now.tree) id).label.grid.rows }
     requires index { index < length wide.now.parts.base.placed.areas }
     ensures { IfOk result (IsFrameOf (bare tree.now.tree) id (get_or (map (grid_child (grid_seen (bare tree.now.tree) id reps.now width.now) (columns_seen (bare tree.now.tree) id reps.now width.now) rows.now) (wides_seen (bare tree.now.tree) id reps.now width.now)) index no_frame)) }
 {
@@ -117,7 +122,7 @@ fn framed_child(
         inline: &child.inline,
         content: child.block,
     };
-    frame_over(alloc, &container.style, &wide.columns, rows, &over)
+    frame_over_from(alloc, &container.style, origin, &wide.columns, rows, &over)
 }
 
 /// The frames of the children of a grid, in these rows, at these places among the areas.
@@ -141,9 +146,10 @@ fn framed_children(
     requires places { AreIndices (length wide.now.parts.base.placed.areas) places.now }
     ensures { IfOk result (AreFramesAt (bare tree.now.tree) id (map (grid_child (grid_seen (bare tree.now.tree) id reps.now width.now) (columns_seen (bare tree.now.tree) id reps.now width.now) rows.now) (wides_seen (bare tree.now.tree) id reps.now width.now)) places.now) }
 {
+    let origin = origin_of(&node_at(tree, id).style);
     let mut frames = Sequence::from_vec(Vec::with_capacity(alloc, places.len())?);
     for place in places {
-        let frame = framed_child(alloc, tree, id, reps, width, wide, rows, place.0)?;
+        let frame = framed_child(alloc, tree, id, reps, width, wide, rows, origin, place.0)?;
         frames.push(frame)?;
     }
     Ok(frames)

@@ -1,18 +1,20 @@
 //! The frames of the children of a grid whose tracks lie where they lie (CSS Grid 2, sections 6, 9 and 11).
 
-ghost use Rattle.std.specs.Prelude.{◌≡◌, ◌≤ℤ◌, ◌+◌, ◌^◌, ℕ, length, pos, IfOk};
+ghost use Rattle.std.specs.Prelude.{◌≡◌, ◌≤ℤ◌, ◌+◌, ◌^◌, if◌then◌else◌, ℕ, length, pos, IfOk};
 ghost use Rattle.lunit.specs.Units.{IsUnits};
-ghost use Rattle.part_rules.specs.Views.{first_start};
+ghost use Rattle.part_rules.specs.Views.{area_size, first_start};
 ghost use Rattle.placing.specs.Kept.{frame_of};
 ghost use Rattle.placing.specs.Ranges.{IsGridStyle};
 ghost use Rattle.tree_rules.specs.Labels.{grid_of};
+ghost use Rattle.tree_rules.specs.NodeSizes.{inner_start};
 ghost use Rattle.tree_rules.specs.Queries.{IsGivenFor};
 ghost use Rattle.placing.specs.Spread.{AreSpread, IsSpread};
 ghost use Rattle.box_layout.specs.GridFrames.{IsOver, block_over, frame_over, place_over};
 ghost use Rattle.box_layout.specs.Ranges.{IsPlace, IsWithin};
+ghost use Rattle.inline_sizes.specs.Styled.{grid_at};
 ghost use Rattle.inline_sizes.specs.Sums.{IsTotal};
 
-use crate::frames::frame_in;
+use crate::frames::{frame_from, origin_of};
 use crate::items::place_in_area;
 use block_sizes::child_block;
 use inline_sizes::{area_size, tracks_over};
@@ -57,6 +59,16 @@ fn start_of(tracks: &[(i64, i64)]) -> Wide
     }
 }
 
+/// The size of an area over some tracks, which is not read where a child `shares` them: 0 there.
+fn room_over(shares: bool, tracks: &[(i64, i64)]) -> Lu
+    ensures { result ≡ (if shares then pos 0 else area_size tracks.now) }
+{
+    if shares {
+        return Lu::default();
+    }
+    area_size(tracks)
+}
+
 /// Where the border box of a child of this size starts over these tracks of its parent, counted from the first one.
 fn place_over<const AXIS: u8>(
     shares: bool,
@@ -73,7 +85,8 @@ fn place_over<const AXIS: u8>(
 {
     let tracks = tracks_over(edges, span);
     let start = start_of(tracks);
-    place_in_area::<AXIS>(shares, container, style, start, area_size(tracks), size)
+    let room = room_over(shares, tracks);
+    place_in_area::<AXIS>(shares, container, style, start, room, size)
 }
 
 /// The block size of the border box of a child over these rows of its parent, and what it is given there. `NoMemory` where memory is
@@ -102,11 +115,12 @@ fn block_over(
     )
 }
 
-/// The frame of a child of a grid over its columns and rows, from the border box of the grid (CSS Grid 2, sections 6, 9 and 11).
-/// `NoMemory` where memory is wanting.
-pub fn frame_over(
+/// The frame of a child of a grid over its columns and rows, where the content box of the grid starts here in its border box:
+/// `frame_over` says more.
+pub(crate) fn frame_over_from(
     alloc: Global,
     container: &Style,
+    origin: (Lu, Lu),
     columns: &View<0>,
     rows: &View<1>,
     child: &OverTracks<'_>,
@@ -116,6 +130,8 @@ pub fn frame_over(
     requires columns { IsOver columns.now.edges child.now.columns }
     requires rows { IsOver rows.now.edges child.now.rows }
     requires gap { pos 0 ≤ℤ rows.now.gap }
+    requires x { origin.0 ≡ inner_start (grid_at 0 container.now) }
+    requires y { origin.1 ≡ inner_start (grid_at 1 container.now) }
     ensures child { IfOk result (λ frame. frame.child ≡ child.now.child) }
     ensures value { IfOk result (λ frame. frame_of frame ≡ frame_over container.now child.now.style.now child.now.shares.0 child.now.shares.1 columns.now child.now.columns rows.now child.now.rows child.now.width child.now.inline.now child.now.content) }
 {
@@ -134,12 +150,32 @@ pub fn frame_over(
     let edges = rows.edges.as_slice();
     let y = place_over::<1>(in_rows, container, style, edges, child.rows, size);
     let inline = child.inline.copy(alloc)?;
-    Ok(frame_in(
-        container,
+    Ok(frame_from(
+        origin,
         child.child,
         (x, y),
         (child.width, size),
         inline,
         given,
     ))
+}
+
+/// The frame of a child of a grid over its columns and rows, from the border box of the grid (CSS Grid 2, sections 6, 9 and 11).
+/// `NoMemory` where memory is wanting.
+pub fn frame_over(
+    alloc: Global,
+    container: &Style,
+    columns: &View<0>,
+    rows: &View<1>,
+    child: &OverTracks<'_>,
+) -> Result<Frame, NoMemory>
+    requires container { IsGridStyle (grid_of container.now) }
+    requires style { IsGridStyle (grid_of child.now.style.now) }
+    requires columns { IsOver columns.now.edges child.now.columns }
+    requires rows { IsOver rows.now.edges child.now.rows }
+    requires gap { pos 0 ≤ℤ rows.now.gap }
+    ensures child { IfOk result (λ frame. frame.child ≡ child.now.child) }
+    ensures value { IfOk result (λ frame. frame_of frame ≡ frame_over container.now child.now.style.now child.now.shares.0 child.now.shares.1 columns.now child.now.columns rows.now child.now.rows child.now.width child.now.inline.now child.now.content) }
+{
+    frame_over_from(alloc, container, origin_of(container), columns, rows, child)
 }

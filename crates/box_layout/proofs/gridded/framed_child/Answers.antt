@@ -1,12 +1,20 @@
-use Rattle.std.proofs.Common.{◌+◌, drop}
+use Rattle.std.proofs.Common.{◌+◌, ◌∙◌, ap, drop, sym}
 use Rattle.placing.specs.Areas.{entries_at}
 use Rattle.placing.specs.Nodes.{bare}
+use Rattle.tree_rules.specs.Labels.{GridStyle}
+use Rattle.tree_rules.specs.NodeSizes.{inner_start}
 use Rattle.box_layout.proofs.ChildFrames.{framed_here}
 use Rattle.box_layout.proofs.gridded.framed_child.Goals as goal
+
+pub frame_over_from-requires-clause-x : goal.frame_over_from-requires-clause-x
+frame_over_from-requires-clause-x c = c.requires.x ∙ ap (λ (g : GridStyle). inner_start g.columns) (sym c.node_at-container.ensures.grid)
+
+pub frame_over_from-requires-clause-y : goal.frame_over_from-requires-clause-y
+frame_over_from-requires-clause-y c = c.requires.y ∙ ap (λ (g : GridStyle). inner_start g.rows) (sym c.node_at-container.ensures.grid)
 
 pub returns : goal.returns
 returns c =
     framed_here (bare c.args.tree.now.tree) c.args.id c.args.reps.now c.args.width.now c.args.wide.now c.requires.wide c.args.index c.child_over-entry.result (drop (c.args.index + 1) (entries_at (bare c.args.tree.now.tree) c.args.id c.args.wide.now.parts.base.placed)) c.child_over-entry.ensures.next
     c.args.rows.now c.node_at-container.result.now.style c.node_at-node.result.now.style c.shares-shared.result.0 c.shares-shared.result.1 c.wide_child_at-child.result.now c.from_first-columns.result c.from_first-across.result c.child_over-entry.ensures.entry
     c.node_at-container.ensures.grid c.node_at-container.ensures.content c.node_at-node.ensures.grid c.node_at-node.ensures.content c.shares-shared.ensures.columns c.shares-shared.ensures.rows c.wide_child_at-child.ensures c.from_first-columns.ensures.value c.from_first-across.ensures.value
-    c.frame_over.result c.frame_over.ensures.child c.frame_over.ensures.value
+    c.frame_over_from.result c.frame_over_from.ensures.child c.frame_over_from.ensures.value
