@@ -27,7 +27,7 @@ use part_rules::View;
 use placing::style::own;
 use std::alloc::Global;
 use style_types::{Align, Style};
-use tree_rules::Given;
+use tree_rules::{Given, SharedTracks};
 
 /// The number of a line.
 fn line_number(line: i32) -> Wide
@@ -103,7 +103,8 @@ pub fn given_view<const AXIS: u8>(
     ensures spread { (by : ℕ) → IsUnits outer.now.gap → AreSpread by outer.now.edges → IfOk result (IsSpread (by + 2 ^ 33)) }
 {
     let View { edges, gap } = view_in::<AXIS>(alloc, outer, span, style)?;
-    Ok(Given::Tracks(edges, gap))
+    let tracks = SharedTracks::new(alloc, edges)?;
+    Ok(Given::Tracks(tracks, gap))
 }
 
 /// The inline size of a child that is no subgrid in the columns, in an area of this width, as a border-box size: its declared

@@ -5,7 +5,7 @@ use crate::pages::{laid_out, node_named, page_of};
 use Floors::{Content, Known};
 use Told::{Columns, Height, Rows, Widths};
 use Wide::{Nothing, Tracks, Width};
-use layout_cache::{Ask, Given, Query};
+use layout_cache::{Ask, Given, Query, SharedTracks};
 use lunit::{Floor, Item, Lu, NoMemory, Sequence, Span, Steps};
 use outside::{Tally, WordRuler};
 use page_tree::Page;
@@ -88,6 +88,7 @@ fn given(alloc: Global, wide: &Wide) -> Result<Given, NoMemory> {
         Width(size) => Ok(Given::Size(Lu::of(*size))),
         Tracks(edges, gap) => {
             let edges = Sequence::from_slice(alloc, edges)?;
+            let edges = SharedTracks::new(alloc, edges)?;
             Ok(Given::Tracks(edges, Lu::of(*gap)))
         }
     }

@@ -7,7 +7,7 @@ ghost use Rattle.session_tests.specs.Ready.{IsReady};
 
 use Inline::{Halves, Width};
 use doc_text::{Edit, Named, read_doc};
-use layout_cache::{Ask, Given, Query};
+use layout_cache::{Ask, Given, Query, SharedTracks};
 use lunit::{Lu, Name, NoMemory, Sequence, Steps};
 use outside::{Tally, WordRuler};
 use page_tree::Page;
@@ -130,6 +130,7 @@ fn given(alloc: Global, inline: &Inline) -> Result<Given, NoMemory> {
         Width(width) => Ok(Given::Size(px(*width))),
         Halves => {
             let edges = Sequence::from_slice(alloc, &[(0, 3200), (3200, 6400)])?;
+            let edges = SharedTracks::new(alloc, edges)?;
             Ok(Given::Tracks(edges, px(0)))
         }
     }

@@ -7,6 +7,7 @@
 mod kind;
 mod laws;
 mod query;
+mod shared_tracks;
 
 pub use kind::NodeKind;
 pub use laws::{
@@ -14,3 +15,4 @@ pub use laws::{
     right_answers_stay_right, stable_sorts_are_the_order,
 };
 pub use query::{Ask, Given, Query};
+pub use shared_tracks::SharedTracks;

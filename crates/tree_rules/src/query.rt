@@ -1,3 +1,4 @@
+use crate::SharedTracks;
 use lunit::{Copied, Lu, NoMemory, Sequence};
 use std::alloc::Global;
 
@@ -25,7 +26,7 @@ pub enum Given {
     Size(Lu),
     /// For a subgrid the tracks that it spans: the start and the end of each, in units of 1/64 px from the start of its
     /// content box, and the gutter (CSS Grid 2, section 9).
-    Tracks(Sequence<(i64, i64)>, Lu),
+    Tracks(SharedTracks, Lu),
 }
 
 /// A question about one node.
@@ -47,10 +48,10 @@ impl Copied for Given {
         match self {
             Given::None => Ok(Given::None),
             Given::Size(size) => Ok(Given::Size(*size)),
-            Given::Tracks(edges, gap) => Ok(Given::Tracks(
-                Sequence::from_slice(alloc, edges.as_slice())?,
-                *gap,
-            )),
+            Given::Tracks(edges, gap) => {
+                let edges = edges.again()?;
+                Ok(Given::Tracks(edges, *gap))
+            }
         }
     }
 }

@@ -1,11 +1,12 @@
 use lunit::{Copied, Lu, Sequence};
 use part_rules::Content;
 use std::test::Fail;
-use tree_rules::{Ask, Given, NodeKind, Query};
+use tree_rules::{Ask, Given, NodeKind, Query, SharedTracks};
 
 #[test]
 fn a_copy_of_a_question_has_its_tracks_and_counts(rt: HostRuntime) -> Result<(), Fail> {
     let edges = Sequence::from_slice(rt.alloc(), &[(0, 640), (704, 1280)])?;
+    let edges = SharedTracks::new(rt.alloc(), edges)?;
     let query = Query {
         ask: Ask::Frames,
         reps: Sequence::from_slice(rt.alloc(), &[(3, 1), (1, 2)])?,
