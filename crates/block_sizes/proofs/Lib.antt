@@ -15,6 +15,7 @@ pub mod RowAxes
 mod Same
 mod Seams
 pub mod Seen
+mod SeenAlike
 pub mod Settled
 mod SharedTracks
 mod Widths

@@ -4,5 +4,6 @@ pub mod Flexes
 pub mod Keeping
 pub mod Moving
 pub mod Settling
+pub mod Sharing
 pub mod Spans
 pub mod Wides

@@ -1,7 +1,7 @@
 //! The children of a grid once its tracks along an axis lie where they lie: their border boxes along the axis, and what each is given there (CSS
 //! Grid 2, 6.2 and section 9).
 
-ghost use Rattle.std.specs.Prelude.{◌≡◌, ◌+◌, ◌^◌, ◌-ℤ◌, ◌≤ℤ◌, ℕ, false, length, pos, true, IfOk};
+ghost use Rattle.std.specs.Prelude.{◌≡◌, ◌+◌, ◌^◌, ◌-ℤ◌, ◌≤ℤ◌, ℕ, false, length, pos, true, IfOk, OnOk};
 ghost use Rattle.lunit.specs.Units.{IsUnits};
 ghost use Rattle.part_rules.specs.Lists.{above_zero};
 ghost use Rattle.part_rules.specs.Views.{first_start};
@@ -15,9 +15,11 @@ ghost use Rattle.tree_rules.specs.NodeSizes.{inner};
 ghost use Rattle.tree_rules.specs.Queries.{IsGivenFor};
 ghost use Rattle.inline_sizes.specs.Styled.{grid_at, styled};
 ghost use Rattle.block_sizes.specs.Children.{block_of_child, inline_of_child, own_block, own_inline};
+ghost use Rattle.block_sizes.specs.Sharing.{IsLastIn};
 ghost use Rattle.block_sizes.specs.Spans.{LiesIn};
 ghost use Rattle.placing.specs.Spread.{AreSpread, IsSpread};
 
+use crate::last_tracks::{LastTracks, given_after};
 use inline_sizes::{
     area_size, block_used, bounds_of, content_of_box, inline_used, inner, is_stretched, margins,
     self_align, subgrid_box, tracks_over, view_in,
@@ -172,7 +174,8 @@ pub fn child_inline(
 /// The block size of a child of a grid as a border-box size, and what it is given: over these tracks of its parent's rows, counted
 /// from the first one, where its parent aligns its items so. `shares` says whether it is a subgrid in the rows: then it has the
 /// area less its margins and is given the rows as it sees them; else it is given the size of its content box (CSS Grid 2, 6.2 and
-/// section 9). `content` is the block size of its content, which is read where it is no subgrid.
+/// section 9). `content` is the block size of its content, which is read where it is no subgrid. `last` is what the last child that
+/// is a subgrid in the rows was given, which this one shares where it is the same.
 ///
 /// `NoMemory` where memory is wanting.
 pub fn child_block(
@@ -183,6 +186,7 @@ pub fn child_block(
     style: &Style,
     shares: bool,
     content: Lu,
+    last: &mut Option<LastTracks>,
 ) -> Result<(Lu, Given), NoMemory>
     requires style { IsGridStyle (grid_of style.now) }
     requires start { pos 0 ≤ℤ span.start }
@@ -190,13 +194,15 @@ pub fn child_block(
     requires end { span.end ≤ℤ pos (length rows.now.edges) }
     requires near { AreNear rows.now.edges }
     requires gap { pos 0 ≤ℤ rows.now.gap }
+    requires last { IsLastIn rows.now last.old }
     ensures value { IfOk result (λ block. block ≡ block_of_child items rows.now span (styled style.now) shares content) }
     ensures fits { IfOk result (λ block. IsGivenFor true shares (above_zero (span.end -ℤ span.start)) block.1) }
     ensures spread { (by : ℕ) → IsUnits rows.now.gap → AreSpread by rows.now.edges → IfOk result (λ block. IsSpread (by + 2 ^ 33) block.1) }
+    ensures last { OnOk result (IsLastIn rows.now last.new) }
 {
     let room = area_size(tracks_over(rows.edges.as_slice(), span));
     if shares {
-        let given = given_view::<1>(alloc, rows, span, style)?;
+        let given = given_after::<1>(alloc, rows, span, style, last)?;
         return Ok((subgrid_box::<1>(style, room), given));
     }
     let size = own_block(items, style, room, content);

@@ -1,7 +1,7 @@
 //! The frames of the children of a grid, once its columns lie where they lie and each child is as wide as it is there (CSS Grid 2,
 //! sections 6 and 11).
 
-ghost use Rattle.std.specs.Prelude.{◌≡◌, ◌+◌, ◌&&◌, ◌<◌, ◌≤ℤ◌, ◌∷◌, drop, get_or, length, map, pos, IfOk};
+ghost use Rattle.std.specs.Prelude.{◌≡◌, ◌+◌, ◌&&◌, ◌<◌, ◌≤ℤ◌, ◌∷◌, drop, get_or, length, map, pos, IfOk, OnOk};
 ghost use Rattle.placing.specs.Areas.{entries_at, entry_by};
 ghost use Rattle.placing.specs.Nodes.{bare, children_at, sight_at, IsLive};
 ghost use Rattle.placing.specs.Kept.{frame_of};
@@ -14,6 +14,7 @@ ghost use Rattle.tree_rules.specs.NodeSizes.{inner_start};
 ghost use Rattle.tree_rules.specs.declared.kind.NodeKind.TheVariants as kind;
 ghost use Rattle.inline_sizes.specs.Grids.{IsEntry, has_subgrid_kind};
 ghost use Rattle.inline_sizes.specs.GridsSeen.{grid_seen};
+ghost use Rattle.block_sizes.specs.Sharing.{IsLastIn};
 ghost use Rattle.block_sizes.specs.Spans.{LiesIn};
 ghost use Rattle.block_sizes.specs.Wides.{IsWide, columns_seen, wides_seen};
 ghost use Rattle.box_layout.specs.GridFrames.{AreFramesAt, AreIndices, AreTracks, IsFrameOf, no_frame};
@@ -22,7 +23,7 @@ use crate::frames::origin_of;
 use crate::framing::is_grid;
 use crate::grids::{OverTracks, frame_over_from};
 use crate::turns::turns;
-use block_sizes::from_first;
+use block_sizes::{LastTracks, from_first};
 use inline_sizes::items_lie_in_their_tracks;
 use layout_cache::Given;
 use lunit::{Lu, NoMemory, Sequence};
@@ -91,6 +92,7 @@ fn framed_child(
     rows: &View<1>,
     origin: (Lu, Lu),
     index: usize,
+    last: &mut Option<LastTracks>,
 ) -> Result<Frame, NoMemory>
     requires live { IsLive (bare tree.now.tree) id }
     requires readable { AreReadable (bare tree.now.tree) }
@@ -102,7 +104,9 @@ fn framed_child(
     requires x { origin.0 ≡ inner_start (sight_at (bare tree.now.tree) id).label.grid.columns }
     requires y { origin.1 ≡ inner_start (sight_at (bare tree.now.tree) id).label.grid.rows }
     requires index { index < length wide.now.parts.base.placed.areas }
-    ensures { IfOk result (IsFrameOf (bare tree.now.tree) id (get_or (map (grid_child (grid_seen (bare tree.now.tree) id reps.now width.now) (columns_seen (bare tree.now.tree) id reps.now width.now) rows.now) (wides_seen (bare tree.now.tree) id reps.now width.now)) index no_frame)) }
+    requires last { IsLastIn rows.now last.old }
+    ensures frame { IfOk result (IsFrameOf (bare tree.now.tree) id (get_or (map (grid_child (grid_seen (bare tree.now.tree) id reps.now width.now) (columns_seen (bare tree.now.tree) id reps.now width.now) rows.now) (wides_seen (bare tree.now.tree) id reps.now width.now)) index no_frame)) }
+    ensures last { OnOk result (IsLastIn rows.now last.new) }
 {
     let entry = child_over(tree, id, reps, width, wide, index);
     let placed = &wide.parts.base.placed;
@@ -122,7 +126,15 @@ fn framed_child(
         inline: &child.inline,
         content: child.block,
     };
-    frame_over_from(alloc, &container.style, origin, &wide.columns, rows, &over)
+    frame_over_from(
+        alloc,
+        &container.style,
+        origin,
+        &wide.columns,
+        rows,
+        &over,
+        last,
+    )
 }
 
 /// The frames of the children of a grid, in these rows, at these places among the areas.
@@ -148,8 +160,11 @@ fn framed_children(
 {
     let origin = origin_of(&node_at(tree, id).style);
     let mut frames = Sequence::from_vec(Vec::with_capacity(alloc, places.len())?);
+    let mut last = None;
     for place in places {
-        let frame = framed_child(alloc, tree, id, reps, width, wide, rows, origin, place.0)?;
+        let frame = framed_child(
+            alloc, tree, id, reps, width, wide, rows, origin, place.0, &mut last,
+        )?;
         frames.push(frame)?;
     }
     Ok(frames)

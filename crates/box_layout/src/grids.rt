@@ -1,6 +1,6 @@
 //! The frames of the children of a grid whose tracks lie where they lie (CSS Grid 2, sections 6, 9 and 11).
 
-ghost use Rattle.std.specs.Prelude.{◌≡◌, ◌≤ℤ◌, ◌+◌, ◌^◌, if◌then◌else◌, ℕ, length, pos, IfOk};
+ghost use Rattle.std.specs.Prelude.{◌≡◌, ◌≤ℤ◌, ◌+◌, ◌^◌, if◌then◌else◌, ℕ, length, pos, IfOk, OnOk};
 ghost use Rattle.lunit.specs.Units.{IsUnits};
 ghost use Rattle.part_rules.specs.Views.{area_size, first_start};
 ghost use Rattle.placing.specs.Kept.{frame_of};
@@ -13,10 +13,11 @@ ghost use Rattle.box_layout.specs.GridFrames.{IsOver, block_over, frame_over, pl
 ghost use Rattle.box_layout.specs.Ranges.{IsPlace, IsWithin};
 ghost use Rattle.inline_sizes.specs.Styled.{grid_at};
 ghost use Rattle.inline_sizes.specs.Sums.{IsTotal};
+ghost use Rattle.block_sizes.specs.Sharing.{IsLastIn};
 
 use crate::frames::{frame_from, origin_of};
 use crate::items::place_in_area;
-use block_sizes::child_block;
+use block_sizes::{LastTracks, child_block};
 use inline_sizes::{area_size, tracks_over};
 use lunit::{Copied, Lu, NoMemory, Span, Wide};
 use node_arena::NodeId;
@@ -89,18 +90,21 @@ fn place_over<const AXIS: u8>(
     place_in_area::<AXIS>(shares, container, style, start, room, size)
 }
 
-/// The block size of the border box of a child over these rows of its parent, and what it is given there. `NoMemory` where memory is
-/// wanting.
+/// The block size of the border box of a child over these rows of its parent, and what it is given there, shared with the last child that
+/// was given tracks where it is the same. `NoMemory` where memory is wanting.
 fn block_over(
     alloc: Global,
     container: &Style,
     rows: &View<1>,
     child: &OverTracks<'_>,
+    last: &mut Option<LastTracks>,
 ) -> Result<(Lu, Given), NoMemory>
     requires style { IsGridStyle (grid_of child.now.style.now) }
     requires over { IsOver rows.now.edges child.now.rows }
     requires gap { pos 0 ≤ℤ rows.now.gap }
+    requires last { IsLastIn rows.now last.old }
     ensures value { IfOk result (λ block. block ≡ block_over child.now.shares.1 container.now child.now.style.now rows.now child.now.rows child.now.content) }
+    ensures last { OnOk result (IsLastIn rows.now last.new) }
 {
     let align = items::<1>(container);
     let (_, shares) = child.shares;
@@ -112,11 +116,13 @@ fn block_over(
         child.style,
         shares,
         child.content,
+        last,
     )
 }
 
 /// The frame of a child of a grid over its columns and rows, where the content box of the grid starts here in its border box:
-/// `frame_over` says more.
+/// `frame_over` says more. `last` is what the last child that is a subgrid in these rows was given, which this one shares where it is
+/// the same.
 pub(crate) fn frame_over_from(
     alloc: Global,
     container: &Style,
@@ -124,6 +130,7 @@ pub(crate) fn frame_over_from(
     columns: &View<0>,
     rows: &View<1>,
     child: &OverTracks<'_>,
+    last: &mut Option<LastTracks>,
 ) -> Result<Frame, NoMemory>
     requires container { IsGridStyle (grid_of container.now) }
     requires style { IsGridStyle (grid_of child.now.style.now) }
@@ -132,10 +139,12 @@ pub(crate) fn frame_over_from(
     requires gap { pos 0 ≤ℤ rows.now.gap }
     requires x { origin.0 ≡ inner_start (grid_at 0 container.now) }
     requires y { origin.1 ≡ inner_start (grid_at 1 container.now) }
+    requires last { IsLastIn rows.now last.old }
     ensures child { IfOk result (λ frame. frame.child ≡ child.now.child) }
     ensures value { IfOk result (λ frame. frame_of frame ≡ frame_over container.now child.now.style.now child.now.shares.0 child.now.shares.1 columns.now child.now.columns rows.now child.now.rows child.now.width child.now.inline.now child.now.content) }
+    ensures last { OnOk result (IsLastIn rows.now last.new) }
 {
-    let (size, given) = block_over(alloc, container, rows, child)?;
+    let (size, given) = block_over(alloc, container, rows, child, last)?;
     let (in_columns, in_rows) = child.shares;
     let style = child.style;
     let edges = columns.edges.as_slice();
@@ -177,5 +186,7 @@ pub fn frame_over(
     ensures child { IfOk result (λ frame. frame.child ≡ child.now.child) }
     ensures value { IfOk result (λ frame. frame_of frame ≡ frame_over container.now child.now.style.now child.now.shares.0 child.now.shares.1 columns.now child.now.columns rows.now child.now.rows child.now.width child.now.inline.now child.now.content) }
 {
-    frame_over_from(alloc, container, origin_of(container), columns, rows, child)
+    let origin = origin_of(container);
+    let mut last = None;
+    frame_over_from(alloc, container, origin, columns, rows, child, &mut last)
 }
