@@ -11,6 +11,7 @@ pub mod Mains
 mod Open
 mod Outers
 mod OwnColumns
+mod PlainChildren
 pub mod RowAxes
 mod Same
 mod Seams

@@ -21,8 +21,8 @@ ghost use Rattle.placing.specs.Spread.{AreSpread, IsSpread};
 
 use crate::last_tracks::{LastTracks, given_after};
 use inline_sizes::{
-    area_size, block_used, bounds_of, content_of_box, inline_used, inner, is_stretched, margins,
-    self_align, subgrid_box, tracks_over, view_in,
+    area_size, block_used, bounds_of, content_of_box, inline_used, inner, is_plain, is_stretched,
+    margins, plain_block, plain_inline, self_align, stretches, subgrid_box, tracks_over, view_in,
 };
 use lunit::{Lu, NoMemory, Span, Wide};
 use part_rules::View;
@@ -137,6 +137,40 @@ pub fn own_block(items: Align, style: &Style, room: Lu, content: Lu) -> Lu
     block_used(&bounds, stretched, margins::<1>(style), room, content)
 }
 
+#[tactic(auto, using(crate::proofs::PlainChildren::inline_pair))]
+/// The inline size of a child that is no subgrid in the columns as `own_inline` tells it, with what the child is given there, in few
+/// steps for a plain one.
+fn sized_inline(items: Align, style: &Style, room: Lu, sizes: (Lu, Lu)) -> (Lu, Given)
+    requires { IsGridStyle (grid_of style.now) }
+    ensures value { result ≡ (own_inline items (styled style.now) room sizes, given_box (grid_of style.now).columns (own_inline items (styled style.now) room sizes)) }
+    ensures fits { IsGivenFor true false 0 result.1 }
+{
+    if is_plain::<0>(style) {
+        let align = self_align(own::<0>(style), items);
+        let size = plain_inline(stretches(&align.mode), room, sizes);
+        return (size, Given::Size(size));
+    }
+    let size = own_inline(items, style, room, sizes);
+    (size, given_box::<0>(style, size))
+}
+
+#[tactic(auto, using(crate::proofs::PlainChildren::block_pair))]
+/// The block size of a child that is no subgrid in the rows as `own_block` tells it, with what the child is given there, in few
+/// steps for a plain one.
+fn sized_block(items: Align, style: &Style, room: Lu, content: Lu) -> (Lu, Given)
+    requires { IsGridStyle (grid_of style.now) }
+    ensures value { result ≡ (own_block items (styled style.now) room content, given_box (grid_of style.now).rows (own_block items (styled style.now) room content)) }
+    ensures fits { IsGivenFor true false 0 result.1 }
+{
+    if is_plain::<1>(style) {
+        let align = self_align(own::<1>(style), items);
+        let size = plain_block(stretches(&align.mode), room, content);
+        return (size, Given::Size(size));
+    }
+    let size = own_block(items, style, room, content);
+    (size, given_box::<1>(style, size))
+}
+
 /// The inline size of a child of a grid as a border-box size, and what it is given: over these tracks of its parent's columns,
 /// counted from the first one, where its parent aligns its items so. `shares` says whether it is a subgrid in the columns: then
 /// it has the area less its margins and is given the columns as it sees them; else it is given the size of its content box
@@ -167,8 +201,7 @@ pub fn child_inline(
         let given = given_view::<0>(alloc, columns, span, style)?;
         return Ok((subgrid_box::<0>(style, room), given));
     }
-    let size = own_inline(items, style, room, sizes);
-    Ok((size, given_box::<0>(style, size)))
+    Ok(sized_inline(items, style, room, sizes))
 }
 
 /// The block size of a child of a grid as a border-box size, and what it is given: over these tracks of its parent's rows, counted
@@ -205,6 +238,5 @@ pub fn child_block(
         let given = given_after::<1>(alloc, rows, span, style, last)?;
         return Ok((subgrid_box::<1>(style, room), given));
     }
-    let size = own_block(items, style, room, content);
-    Ok((size, given_box::<1>(style, size)))
+    Ok(sized_block(items, style, room, content))
 }

@@ -16,3 +16,4 @@ pub mod Limits
 pub mod Nested
 pub mod Offsets
 pub mod Held
+pub mod Plains

@@ -4,6 +4,7 @@ pub mod Flexes
 pub mod Grids
 pub mod GridsSeen
 pub mod Lifted
+pub mod Plains
 pub mod Styled
 pub mod Sums
 pub mod TrackAxes

@@ -1,18 +1,20 @@
 //! The sizes of a node by its style, and the node as an item of a grid (CSS Grid 2, 12.5).
 
-ghost use Rattle.std.specs.Prelude.{◌≡◌, ◌&&◌, ◌+ℤ◌, ◌≤ℤ◌, is_some, pos};
+ghost use Rattle.std.specs.Prelude.{◌≡◌, ◌&&◌, ◌+ℤ◌, ◌≤ℤ◌, [], is_some, pos};
 ghost use Rattle.placing.specs.Ranges.{IsGridAxis};
 ghost use Rattle.tree_rules.specs.Distribution.{subgrid_box};
 ghost use Rattle.tree_rules.specs.Labels.{content_of};
 ghost use Rattle.tree_rules.specs.LentItems.{child_item, extra_margins};
 ghost use Rattle.tree_rules.specs.NodeSizes.{bounds_of, inner, is_auto, is_stretched, item_of, margins};
 ghost use Rattle.inline_sizes.specs.Lifted.{IsLifted};
+ghost use Rattle.inline_sizes.specs.Plains.{IsPlain};
 ghost use Rattle.inline_sizes.specs.Styled.{content_at, grid_at};
 ghost use Rattle.inline_sizes.specs.Sums.{IsSum};
 
 use crate::bounds::Bounds;
 use crate::contributions::{contribution, floor_of};
 use crate::levels::{extra_margins, lifted};
+use crate::plain::{is_plain, plain_item};
 use crate::sides::{inner, margins};
 use crate::used::{is_auto, stretches};
 use lunit::{Item, Lu, Span, Wide};
@@ -85,6 +87,15 @@ fn all_margins<const AXIS: u8>(levels: &[Level], style: &Style, span: Span) -> W
     margins::<AXIS>(style).wide() + extra_margins(levels, span)
 }
 
+#[tactic(auto, using(crate::proofs::Plains::plain_child))]
+/// A plain child of a grid that sizes the tracks itself as an item of it.
+fn plain_child<const AXIS: u8>(style: &Style, span: Span, content: (Lu, Lu)) -> Item
+    requires { IsPlain (grid_at AXIS style.now) (content_at AXIS style.now) }
+    ensures { result ≡ child_item [] (content_of style.now).border_box (content_of style.now).scrolls (grid_at AXIS style.now) (content_at AXIS style.now) span content }
+{
+    plain_item(scrolls(style), span, content)
+}
+
 /// A child of a grid with these levels as an item of the grid that sizes the tracks (CSS Grid 2, 12.5 and section 9), by its span
 /// in its parent's lines and its two content sizes.
 pub fn child_item<const AXIS: u8>(
@@ -97,6 +108,9 @@ pub fn child_item<const AXIS: u8>(
     requires lifted { IsLifted levels.now span }
     ensures { result ≡ child_item levels.now (content_of style.now).border_box (content_of style.now).scrolls (grid_at AXIS style.now) (content_at AXIS style.now) span content }
 {
+    if levels.is_empty() && is_plain::<AXIS>(style) {
+        return plain_child::<AXIS>(style, span, content);
+    }
     let margins = all_margins::<AXIS>(levels, style, span);
     item_of::<AXIS>(style, lifted(levels, span), margins, content)
 }
