@@ -30,3 +30,4 @@ pub mod Known
 pub mod Lonely
 pub mod Unchanged
 pub mod Ungrown
+pub mod Highest

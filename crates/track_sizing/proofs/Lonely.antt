@@ -32,7 +32,7 @@ filled_found base space w =
     go true = refl
     go false = refl
 
-one_found : (base space : ℤ) (o : Option ℕ) → lone_fraction base o space ≡ fraction_of space (left_flexible 1 space (record { base = base; factor = o } ∷ []))
+pub one_found : (base space : ℤ) (o : Option ℕ) → lone_fraction base o space ≡ fraction_of space (left_flexible 1 space (record { base = base; factor = o } ∷ []))
 unfolding left_flexible
 one_found base space None = refl
 one_found base space (Some w) = filled_found base space w

@@ -32,6 +32,16 @@ greatest_over start (f ∷ rest) = greater f (greatest_over start rest)
 abbrev pub item_fractions : ℤ → List Track → List Item → List Fraction
 item_fractions gap ts items = map (item_fraction gap ts) (filter (crosses_flexible ts) items)
 
+-- the greatest max-content contribution of some items, and of one more
+abbrev pub highest : ℤ → List Item → ℤ
+highest one [] = one
+highest one (i ∷ rest) = highest (int_max one i.high) rest
+
+-- the greatest fraction of items over one track
+abbrev pub greatest_alone : FrRow → List Item → Fraction
+greatest_alone r [] = no_fraction
+greatest_alone r (i ∷ rest) = lone_fraction r.base r.factor (highest i.high rest)
+
 -- those of the flexible tracks
 abbrev pub track_fractions : List Track → List Fraction
 track_fractions ts = map base_fraction (filter flexible ts)

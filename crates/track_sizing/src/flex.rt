@@ -8,7 +8,7 @@ ghost use Rattle.part_rules.specs.Lists.{at_least, at_most, sum_of, zipped};
 ghost use Rattle.part_rules.specs.Fractions.{expanded, found, fraction_of, left_flexible, no_fraction};
 ghost use Rattle.part_rules.specs.Tracks.{all_gutters, base_fraction, crosses_flexible, definite_fraction, flexed, flexible, fr_row, fraction_for, greater, item_fraction, with_base};
 ghost use Rattle.track_sizing.specs.Fits.{IsKnownSpace};
-ghost use Rattle.track_sizing.specs.Flex.{IsBounded, filled_fraction, greatest_over, item_fractions, lone_fraction, other_total, space_again, track_fractions};
+ghost use Rattle.track_sizing.specs.Flex.{IsBounded, filled_fraction, greatest_alone, greatest_over, highest, item_fractions, lone_fraction, other_total, space_again, track_fractions};
 ghost use Rattle.track_sizing.specs.Here.{IsSum};
 ghost use Rattle.track_sizing.specs.Placed.{AreIn, AreSet, IsIn};
 
@@ -18,7 +18,7 @@ use crate::factors::factor_of;
 use crate::group::is_max_content;
 use crate::item::{inner_gutters, some_flexible, span_length};
 use crate::kinds::flexible;
-use crate::numbers::{length, shared};
+use crate::numbers::{length, longer, shared};
 use crate::rest::{all_gutters, free_of};
 use crate::row::Row;
 use fr_tracks::{expand, find_fr_without_gutters};
@@ -203,7 +203,31 @@ fn item_fraction(gap: Lu, first: Wide, rows: &[Row], all: &[FrRow], item: &Item)
     fraction_in(mine, item.high.wide() - inner_gutters(gap, item))
 }
 
-#[tactic(auto, using(crate::proofs::Best::best))]
+#[tactic(auto, using(crate::proofs::Highest::highest_of))]
+/// The greatest max-content contribution of some items, and of one more.
+fn highest(one: Lu, items: &[Item]) -> Lu
+    ensures { result ≡ highest one items.now }
+{
+    let mut best = one;
+    for item in items {
+        best = longer(best, item.high);
+    }
+    best
+}
+
+/// The greatest fraction of the items over one track: that of the greatest max-content contribution.
+fn greatest_over_one(row: &FrRow, items: &[Item]) -> Fraction
+    ensures value { result ≡ greatest_alone row.now items.now }
+    ensures space { pos 0 ≤ℤ result.space }
+    ensures weight { 0 < result.weight }
+{
+    match items.split_first() {
+        Some((item, others)) => lone_fraction(row, highest(item.high, others).wide()),
+        None => no_fraction(),
+    }
+}
+
+#[tactic(auto, using(crate::proofs::Best::best, crate::proofs::Highest::alone_greatest))]
 /// The greatest fraction of the items that cross a flexible track.
 fn greatest_of_items(gap: Lu, first: Wide, rows: &[Row], all: &[FrRow], items: &[Item]) -> Fraction
     requires few { length rows.now < 2 ^ 32 }
@@ -216,6 +240,9 @@ fn greatest_of_items(gap: Lu, first: Wide, rows: &[Row], all: &[FrRow], items: &
     ensures space { pos 0 ≤ℤ result.space }
     ensures weight { 0 < result.weight }
 {
+    if all.len() == 1 {
+        return greatest_over_one(&all[0], items);
+    }
     let mut best = no_fraction();
     for back in 0..items.len() {
         let item = &items[items.len() - 1 - back];
