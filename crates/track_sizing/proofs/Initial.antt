@@ -1,13 +1,21 @@
 -- Tracks before they are sized.
-use Rattle.std.proofs.Common.{arith, ap, subst, ◌≡◌, ◌∙◌, sym, refl, ℕ, ◌+◌, ◌<◌, ◌≤◌, ℤ, pos, ◌+ℤ◌, List, [], ◌∷◌, ◌++◌, drop, length, get_or, append_assoc}
+use Rattle.std.proofs.Common.{arith, ap, subst, ◌≡◌, ◌∙◌, sym, refl, ℕ, ◌+◌, ◌<◌, ◌≤◌, ℤ, pos, ◌+ℤ◌, Bool, true, if◌then◌else◌, List, [], ◌∷◌, ◌++◌, drop, length, get_or, append_assoc}
 use Rattle.std.proofs.Math.ListN.{drop_of_length-le}
 use Rattle.std.proofs.lemmas.Int.{ints}
 use Rattle.std.proofs.lemmas.List.{append-nil}
 use Rattle.part_rules.specs.declared.track.Rule.{Rule}
 use Rattle.part_rules.specs.Tracks.{Track, counted_rule, initial, initialised}
-use Rattle.track_sizing.specs.Fits.{HaveFixed, IsFixed}
+use Rattle.track_sizing.specs.Fits.{HaveFixed, IsFixed, collapsed_rule}
 use Rattle.track_sizing.specs.Placed.{AreSet}
 use Rattle.track_sizing.proofs.Sums.{drop_item}
+
+pub collapsed_fixed : (r : Rule) → r ≡ collapsed_rule → IsFixed r
+collapsed_fixed r e = subst IsFixed (sym e) (omega (arith, ints))
+
+pub collapsed_counted : (r c : Rule) → c ≡ collapsed_rule → r.collapsed ≡ true → c ≡ counted_rule r
+collapsed_counted r c e t = e ∙ sym (ap (λ (b : Bool). if b then collapsed_rule else r) t)
+
+pub ruleset counting = (collapsed_fixed, collapsed_counted)
 
 pub record AreStarted (first : ℤ) (rules : List Rule) (i : ℕ) (at : ℤ) (rows : List Track) : Type 0 where
   pub same : rows ++ initialised at (drop i rules) ≡ initialised first rules

@@ -1,6 +1,8 @@
 -- What tracks are sized for.
-use Rattle.std.specs.Prelude.{ℕ, ◌^◌, ℤ, pos, ◌-ℤ◌, ◌≤ℤ◌, List, [], ◌∷◌}
+use Rattle.std.specs.Prelude.{ℕ, ◌^◌, ℤ, pos, ◌-ℤ◌, ◌≤ℤ◌, List, [], ◌∷◌, true}
 use Rattle.part_rules.specs.declared.track.Rule.{Rule}
+use Rattle.part_rules.specs.declared.track.Least.TheVariants as least
+use Rattle.part_rules.specs.declared.track.Most.TheVariants as most
 use Rattle.part_rules.specs.Tracks.{fixed_least}
 use Rattle.track_sizing.specs.Rows.{IsLimit}
 use Rattle.lunit.specs.Units.{IsUnits}
@@ -21,6 +23,10 @@ IsFixed r = IsLimit (fixed_least r.least)
 abbrev pub HaveFixed : List Rule → Type 0
 HaveFixed [] = Unit {0}
 HaveFixed (r ∷ rest) = IsFixed r × HaveFixed rest
+
+-- how a collapsed track is sized
+abbrev pub collapsed_rule : Rule
+collapsed_rule = record { least = least.Fixed (pos 0); most = most.Fixed (pos 0); collapsed = true }
 
 -- the coordinate of a first track
 abbrev pub IsStart : ℤ → Type 0

@@ -2,7 +2,7 @@
 
 ghost use Rattle.std.specs.Prelude.{◌≡◌, ◌<◌, ◌+◌, ◌^◌, ◌≤ℤ◌, IfOk, OnOk, length, map, pos};
 ghost use Rattle.part_rules.specs.Tracks.{Track, counted_rule, initialised, track_sizes};
-ghost use Rattle.track_sizing.specs.Fits.{HaveFixed, IsFixed, IsKnownSpace, IsStart};
+ghost use Rattle.track_sizing.specs.Fits.{HaveFixed, IsFixed, IsKnownSpace, IsStart, collapsed_rule};
 ghost use Rattle.track_sizing.specs.Placed.{AreIn, AreSet};
 ghost use Rattle.track_sizing.specs.Whole.{rest_given, sizes_from};
 
@@ -16,21 +16,26 @@ use std::alloc::Global;
 use std::sync::ledger::Ledger;
 
 #[tactic(auto, unfolding(lunit::specs::Units::clamp))]
-/// How a track is sized: a collapsed one as one of the fixed size 0 (CSS Grid 2, 7.2.3.2).
-fn counted_rule(rule: &Rule) -> Rule
-    requires { IsFixed rule.now }
-    ensures value { result ≡ counted_rule rule.now }
-    ensures fixed { IsFixed result }
+/// How a collapsed track is sized: as one of the fixed size 0 (CSS Grid 2, 7.2.3.2).
+fn collapsed_rule() -> Rule
+    ensures { result ≡ collapsed_rule }
 {
-    if rule.collapsed {
-        Rule {
-            least: Least::Fixed(Lu::of(0)),
-            most: Most::Fixed(Lu::of(0)),
-            collapsed: true,
-        }
-    } else {
-        *rule
+    Rule {
+        least: Least::Fixed(Lu::of(0)),
+        most: Most::Fixed(Lu::of(0)),
+        collapsed: true,
     }
+}
+
+#[tactic(auto, using(crate::proofs::Initial::counting))]
+/// How a track is sized, given how a collapsed one is.
+fn counted_rule<'a>(rule: &'a Rule, collapsed: &'a Rule) -> &'a Rule
+    requires fixed { IsFixed rule.now }
+    requires collapsed { collapsed.now ≡ collapsed_rule }
+    ensures value { result.now ≡ counted_rule rule.now }
+    ensures fixed { IsFixed result.now }
+{
+    if rule.collapsed { collapsed } else { rule }
 }
 
 #[tactic(auto, using(crate::proofs::Initial::started))]
@@ -42,9 +47,10 @@ fn initialise(alloc: Global, first: Wide, rules: &[Rule]) -> Result<Vec<Row>, No
     ensures { IfOk result (λ rows. rows.items ≡ initialised first rules.now) }
 {
     let mut rows = Vec::with_capacity(alloc, rules.len())?;
+    let collapsed = collapsed_rule();
     let mut at = first;
     for rule in rules {
-        rows.push(Row::initial(at, &counted_rule(rule)))?;
+        rows.push(Row::initial(at, counted_rule(rule, &collapsed)))?;
         at = at + Wide::of(1);
     }
     Ok(rows)
