@@ -1,6 +1,6 @@
 -- What an item makes of the track that it spans alone, by that track alone.
 use Rattle.std.proofs.Common.{arith, ap, subst, ◌≡◌, ◌∙◌, sym, refl, ℕ, ◌<◌, ℤ, pos, ◌+ℤ◌, ◌-ℤ◌, ◌*ℤ◌, Bool, true, false, not, ◌&&◌, ◌||◌, List, [], ◌∷◌, map, take, length, get_or, Option, Some, None, if◌then◌else◌}
-use Rattle.std.specs.Int.{int_max}
+use Rattle.std.specs.Int.{int_max, int_min}
 use Rattle.std.specs.List.{list_any}
 use Rattle.std.specs.Option.{option_map}
 use Rattle.std.specs.Ordering.{int_eq}
@@ -16,7 +16,7 @@ use Rattle.part_rules.specs.declared.track.Space.{Space}
 use Rattle.part_rules.specs.Lists.{at_most, sum_of_known}
 use Rattle.part_rules.specs.Tracks.{Track, auto_asks, capped_most, content_based, crosses_flexible, fixed_most, fixed_sum, inner_gutters, is_auto_least, is_content_based, is_definite, minimum, minimum_by, span_length, spanned}
 use Rattle.track_sizing.specs.declared.alone.Single.{Single}
-use Rattle.track_sizing.specs.Alone.{base_alone, base_more, content_end, limit_ask, single_alone, single_asks, single_content, single_least, single_more}
+use Rattle.track_sizing.specs.Alone.{base_alone, base_more, limit_ask, single_alone, single_asks, single_content, single_least, single_more}
 use Rattle.track_sizing.specs.Placed.{AreSet}
 use Rattle.track_sizing.proofs.Order.{is_it, that_number}
 use Rattle.track_sizing.proofs.Singles.{spanned_at}
@@ -87,9 +87,15 @@ unfolding clamp
 ended_by None size margins u = refl
 ended_by (Some x) size margins u = omega (arith, ints, clamps, u.0, u.1)
 
-pub content_ended : (m : Most) (size margins units none least now : ℤ) (end : Option ℤ) → units ≡ size → IsUnits units → none ≡ pos 0 → end ≡ content_end m margins → least ≡ at_most end size → now ≡ int_max none least → now ≡ single_content m size margins
-content_ended m size margins units none least now end e u z d l v =
-    v ∙ ap (λ (x : ℤ). int_max x least) z ∙ ap (int_max (pos 0)) (l ∙ ap (λ (x : Option ℤ). at_most x size) d) ∙ ended_by (fixed_most m) size margins (subst IsUnits e u)
+pub content_some : (m : Most) (x size margins units none ended least now : ℤ) → fixed_most m ≡ Some x → units ≡ size → IsUnits units → none ≡ pos 0 → ended ≡ clamp (x -ℤ margins) → least ≡ int_min ended size → now ≡ int_max none least → now ≡ single_content m size margins
+content_some m x size margins units none ended least now f e u z d l v =
+    v ∙ ap (λ (y : ℤ). int_max y least) z ∙ ap (int_max (pos 0)) (l ∙ ap (λ (y : ℤ). int_min y size) d) ∙ ended_by (Some x) size margins (subst IsUnits e u)
+    ∙ ap (λ (o : Option ℤ). int_max (pos 0) (at_most (option_map (λ y. y -ℤ margins) o) size)) (sym f)
+
+pub content_none : (m : Most) (size margins none now : ℤ) → fixed_most m ≡ None → none ≡ pos 0 → now ≡ int_max none size → now ≡ single_content m size margins
+content_none m size margins none now f z v = v ∙ ap (λ (y : ℤ). int_max y size) z ∙ ap (λ (o : Option ℤ). int_max (pos 0) (at_most (option_map (λ y. y -ℤ margins) o) size)) (sym f)
+
+pub ruleset content_by = (content_some, content_none)
 
 pub alone_is : {axis : ℕ} (space : Space axis) (gap first : ℤ) (ts : List Track) (i : Item) (at : ℕ) (t : Track) (s : Single) → AreSet first ts → i.span.start ≡ first +ℤ pos at → int_eq i.span.end (i.span.start +ℤ pos 1) ≡ true → at < length ts → t ≡ get_or ts at t
     → single_alone (is_definite space) i t s ≡ single_more space gap ts i t s
@@ -98,4 +104,4 @@ alone_is space gap first ts i at t s set d one l e =
     let own : spanned i ts ≡ t ∷ [] = spanned_at i first ts at 1 set d last ∙ ap (take 1) (drop_item ts at t l e) in
     let tracks : span_length i ≡ pos 1 = omega (arith, ints, last) in
     let lone : IsAlone ts i t = record { own = own; one = tracks } in
-    ap (λ (z : ℤ). record { some = true; base = z; most = int_max (limit_ask t.rule.most i) s.most }) (base_is space gap ts i t s.base t.rule.least lone refl)
+    ap (λ (z : ℤ). record { some = 1; base = z; most = int_max (limit_ask t.rule.most i) s.most }) (base_is space gap ts i t s.base t.rule.least lone refl)

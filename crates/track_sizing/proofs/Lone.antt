@@ -1,5 +1,5 @@
 -- What the items that span a track alone make of it, one item after another.
-use Rattle.std.proofs.Common.{arith, ap, ◌≡◌, ◌∙◌, sym, refl, ℕ, zero, suc, ◌+◌, ◌<◌, ◌≤◌, ℤ, pos, ◌+ℤ◌, ◌<ℤ◌, Bool, true, false, not, ◌&&◌, List, [], ◌∷◌, map, drop, set, length, get_or, cond, Option, if◌then◌else◌}
+use Rattle.std.proofs.Common.{arith, ap, ◌≡◌, ◌∙◌, sym, refl, ℕ, zero, suc, ◌+◌, ◌<◌, ◌≤◌, ℤ, pos, ◌+ℤ◌, ◌<ℤ◌, Bool, true, false, not, ◌&&◌, ◌==◌, List, [], ◌∷◌, map, drop, set, length, get_or, cond, Option, if◌then◌else◌}
 use Rattle.std.specs.Int.{int_max}
 use Rattle.std.specs.Ordering.{int_eq}
 use Rattle.std.proofs.lemmas.Int.{ints, clamps}
@@ -121,9 +121,9 @@ pub ruleset list_laws = (none_counted, one_counted, all_counted)
 
 -- ---- a track with all its items
 
-abbrev has_some : List Item → Bool
-has_some [] = false
-has_some (i ∷ rest) = true
+abbrev has_some : List Item → ℕ
+has_some [] = 0
+has_some (i ∷ rest) = 1
 
 abbrev made : {axis : ℕ} → Space axis → ℤ → List Track → Track → List Item → Single
 made space gap ts t mine = record { some = has_some mine; base = base_for space gap ts mine t.rule.least t.base; most = greatest_with (pos 0) (map (limit_ask t.rule.most) mine) }
@@ -142,10 +142,10 @@ base_one space gap ts i mine least.Auto base = refl
 
 made_one : {axis : ℕ} (space : Space axis) (gap : ℤ) (ts : List Track) (t : Track) (i : Item) (mine : List Item) → single_more space gap ts i t (made space gap ts t mine) ≡ made space gap ts t (i ∷ mine)
 made_one space gap ts t i mine =
-    ap (λ (z : ℤ). record { some = true; base = z; most = int_max (limit_ask t.rule.most i) (greatest_with (pos 0) (map (limit_ask t.rule.most) mine)) }) (base_one space gap ts i mine t.rule.least t.base)
+    ap (λ (z : ℤ). record { some = 1; base = z; most = int_max (limit_ask t.rule.most i) (greatest_with (pos 0) (map (limit_ask t.rule.most) mine)) }) (base_one space gap ts i mine t.rule.least t.base)
 
 single_is : {axis : ℕ} (space : Space axis) (gap : ℤ) (ts : List Track) (items : List Item) (t : Track) → flexible t ≡ false → single_of space gap ts items t ≡ made space gap ts t (alone items t)
-single_is space gap ts [] t f = ap (λ (z : ℤ). record { some = false; base = z; most = pos 0 }) (base_none space gap ts t.rule.least t.base)
+single_is space gap ts [] t f = ap (λ (z : ℤ). record { some = 0; base = z; most = pos 0 }) (base_none space gap ts t.rule.least t.base)
 single_is space gap ts (i ∷ rest) t f =
     ap (λ (b : Bool). if is_alone i t && not b then single_more space gap ts i t (single_of space gap ts rest t) else single_of space gap ts rest t) f
     ∙ go (is_alone i t) (single_is space gap ts rest t f)
@@ -165,7 +165,7 @@ base_least space gap ts mine least.MinContent base = greatest_own base (map low 
 base_least space gap ts mine least.MaxContent base = greatest_own base (map high mine)
 base_least space gap ts mine least.Auto base = greatest_own base (map (auto_asks space gap ts) mine)
 
-limit_is : (mine : List Item) (m : Most) (limit : Option ℤ) → (if has_some mine then limit_most m (greatest_with (pos 0) (map (limit_ask m) mine)) limit else limit) ≡ limit_for mine m limit
+limit_is : (mine : List Item) (m : Most) (limit : Option ℤ) → (if has_some mine == 1 then limit_most m (greatest_with (pos 0) (map (limit_ask m) mine)) limit else limit) ≡ limit_for mine m limit
 limit_is [] m limit = refl
 limit_is (i ∷ rest) most.MinContent limit = refl
 limit_is (i ∷ rest) most.Auto limit = refl

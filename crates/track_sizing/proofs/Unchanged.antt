@@ -20,11 +20,11 @@ use Rattle.track_sizing.specs.Calm.{AreCalm, AreQuietItems, IsCalm, IsQuiet, IsS
 use Rattle.track_sizing.specs.Groups.{affecting, base_steps_of, passed}
 use Rattle.track_sizing.specs.Here.{HaveLengths, IsIdle}
 use Rattle.track_sizing.specs.Kinds.{affected_of}
-use Rattle.track_sizing.specs.Placed.{AreReady, AreSet, base_step_of, limit_step_in}
+use Rattle.track_sizing.specs.Placed.{AreIn, AreReady, AreSet, IsIn, base_step_of, limit_step_in}
 use Rattle.track_sizing.specs.Reached.{AllStay}
 use Rattle.track_sizing.specs.Spans.{is_wide}
 use Rattle.track_sizing.proofs.Groups.{ready_of}
-use Rattle.track_sizing.proofs.Order.{that_number}
+use Rattle.track_sizing.proofs.Order.{is_not, that_number}
 use Rattle.track_sizing.proofs.Passed.{group_passed, no_mark}
 use Rattle.track_sizing.proofs.Staying.{raised_stay, row_stays}
 use Rattle.track_sizing.proofs.Still.{base_still, limit_still}
@@ -63,23 +63,40 @@ calm_all ts i so h = let none : drop i ts ≡ [] = drop_of_length-le ts h in so.
 
 pub ruleset rows_calm = (calm_start, calm_more, calm_all)
 
--- Where those from this place on are quiet, all are.
-pub record IsQuietTo (gap : ℤ) (items : List Item) (k : ℕ) : Type 0 where
-  pub whole : AreQuietItems gap (drop k items) → AreQuietItems gap items
+-- ---- items
 
-pub quiet_start : (gap : ℤ) (items : List Item) → IsQuietTo gap items 0
-quiet_start gap items = record { whole = λ h. h }
+pub single_quiet : (gap : ℤ) (i : Item) (b : Bool) → b ≡ int_eq i.span.end (i.span.start +ℤ pos 1) → b ≡ true → IsQuiet gap i
+single_quiet gap i b e d =
+    let last : i.span.end ≡ i.span.start +ℤ pos 1 = that_number i.span.end (i.span.start +ℤ pos 1) (sym e ∙ d) in
+    λ h. absurd (omega (arith, ints, last, h))
 
-pub quiet_more : (gap : ℤ) (items : List Item) (k : ℕ) (i : Item) → IsQuietTo gap items k → k < length items → i ≡ get_or items k i → IsQuiet gap i → IsQuietTo gap items (k + 1)
-quiet_more gap items k i so h e s = record { whole = λ rest. so.whole (subst (AreQuietItems gap) (sym (drop_item items k i h e)) (s, rest)) }
+pub idle_quiet : (gap : ℤ) (i : Item) → IsIdle gap i → IsQuiet gap i
+idle_quiet gap i h = λ w. h
 
-pub quiet_all : (gap : ℤ) (items : List Item) (k : ℕ) → IsQuietTo gap items k → length items ≤ k → AreQuietItems gap items
-quiet_all gap items k so h = let none : drop k items ≡ [] = drop_of_length-le items h in so.whole (subst (AreQuietItems gap) (sym none) tt)
+-- Those from this place on are quiet where it is said so.
+pub record IsQuietFrom (gap : ℤ) (items : List Item) (at : ℕ) (quiet : Bool) : Type 0 where
+  pub so : quiet ≡ true → AreQuietItems gap (drop at items)
 
-pub ruleset items_quiet = (quiet_start, quiet_more, quiet_all)
+pub quiet_none : (gap : ℤ) (items : List Item) (at : ℕ) (quiet : Bool) → length items ≤ at → IsQuietFrom gap items at quiet
+quiet_none gap items at quiet h = record { so = λ e. subst (AreQuietItems gap) (sym (drop_of_length-le items h)) tt }
 
-pub not_wide : (gap : ℤ) (i : Item) (b : Bool) → b ≡ is_wide i → b ≡ false → IsQuiet gap i
-not_wide gap i b e d = λ h. absurd (true≢false (sym h ∙ sym e ∙ d))
+both_true : (b c : Bool) → (b && c) ≡ true → (b ≡ true) × (c ≡ true)
+both_true true c e = (refl, e)
+both_true false c e = absurd (true≢false (sym e))
+
+pub quiet_more : (gap : ℤ) (items : List Item) (at next : ℕ) (i : Item) (quiet more now : Bool) → IsQuietFrom gap items at quiet → at ≡ next + 1 → next < length items → i ≡ get_or items next i → (more ≡ true → IsQuiet gap i) → now ≡ (more && quiet) → IsQuietFrom gap items next now
+quiet_more gap items at next i quiet more now h d l e q n =
+    record {
+      so = λ t. let parts = both_true more quiet (sym n ∙ t) in
+          subst (AreQuietItems gap) (sym (drop_item items next i l e)) (q parts.0, subst (λ (k : ℕ). AreQuietItems gap (drop k items)) d (h.so parts.1));
+    }
+
+pub quiet_all : (gap : ℤ) (items : List Item) (at : ℕ) (quiet : Bool) → IsQuietFrom gap items at quiet → at ≡ 0 → quiet ≡ true → AreQuietItems gap items
+quiet_all gap items at quiet h e t = subst (λ (k : ℕ). AreQuietItems gap (drop k items)) e (h.so t)
+
+pub ruleset item_quiet = (single_quiet, idle_quiet)
+
+pub ruleset items_quiet = (quiet_none, quiet_more, quiet_all)
 
 -- ---- lists of tracks
 

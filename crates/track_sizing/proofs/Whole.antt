@@ -1,11 +1,12 @@
 -- What stays set from one part to the next.
-use Rattle.std.proofs.Common.{arith, subst, ◌≡◌, refl, ℕ, ℤ, pos, ◌+ℤ◌, Bool, true, false, List, [], ◌∷◌, map, length, Option, Some, None, if◌then◌else◌, int_lt}
+use Rattle.std.proofs.Common.{arith, subst, ◌≡◌, refl, ℕ, ℤ, pos, ◌+ℤ◌, Bool, true, false, ◌&&◌, ◌||◌, ap, ◌∙◌, List, [], ◌∷◌, map, filter, cond, length, Option, Some, None, if◌then◌else◌, int_le, int_lt}
+use Rattle.std.specs.List.{list_any}
 use Rattle.lunit.specs.declared.item.Item.{Item}
 use Rattle.part_rules.specs.declared.track.Space.{Space}
 use Rattle.part_rules.specs.declared.track.Space.TheVariants.{Definite, MinContent, MaxContent}
 use Rattle.part_rules.specs.Lists.{zipped}
 use Rattle.part_rules.specs.Sharing.{shares}
-use Rattle.part_rules.specs.Tracks.{Track, alone, close_limit, fit_alone, fit_items, flexible, free_of, full, grow_base, grown, maximised, maximised_within, to_limit, total}
+use Rattle.part_rules.specs.Tracks.{Track, alone, close_limit, content_sized, crosses_flexible, fit_alone, fit_items, flexible, free_of, full, group_fitted, grow_base, grown, maximised, maximised_within, spanned, spans_fitted, to_limit, total}
 use Rattle.track_sizing.specs.Alone.{fit_or_pass}
 use Rattle.track_sizing.specs.Placed.{AreIn, AreSet, IsReady}
 use Rattle.track_sizing.proofs.Groups.{Keeps, set_map}
@@ -54,3 +55,35 @@ set_maximised MaxContent first most gap ts h = set_within first most gap ts h
 
 pub in_same : (first : ℤ) (n m : ℕ) (items : List Item) → n ≡ m → AreIn first n items → AreIn first m items
 in_same first n m items e h = subst (λ (k : ℕ). AreIn first k items) e h
+
+-- ---- items that cross a flexible track, by the tracks once they are fitted
+
+crosses_map : (f : Track → Track) (i : Item) (ts : List Track) → ((t : Track) → (f t).at ≡ t.at) → ((t : Track) → flexible (f t) ≡ flexible t) → crosses_flexible (map f ts) i ≡ crosses_flexible ts i
+crosses_map f i [] a x = refl
+crosses_map f i (t ∷ ts) a x =
+    ap (λ (z : ℤ). list_any flexible (cond (int_le i.span.start z && int_lt z i.span.end) (f t ∷ spanned i (map f ts)) (spanned i (map f ts)))) (a t) ∙ go (int_le i.span.start t.at && int_lt t.at i.span.end) (crosses_map f i ts a x)
+  where
+    go : (b : Bool) → list_any flexible (spanned i (map f ts)) ≡ list_any flexible (spanned i ts) → list_any flexible (cond b (f t ∷ spanned i (map f ts)) (spanned i (map f ts))) ≡ list_any flexible (cond b (t ∷ spanned i ts) (spanned i ts))
+    go true e = ap (λ (c : Bool). c || list_any flexible (spanned i (map f ts))) (x t) ∙ ap (λ (c : Bool). flexible t || c) e
+    go false e = e
+
+same_filter : (p q : Item → Bool) (items : List Item) → ((i : Item) → p i ≡ q i) → filter p items ≡ filter q items
+same_filter p q [] h = refl
+same_filter p q (i ∷ rest) h =
+    ap (λ (b : Bool). cond b (i ∷ filter p rest) (filter p rest)) (h i) ∙ ap (λ (xs : List Item). cond (q i) (i ∷ xs) xs) (same_filter p q rest h)
+
+fit_flexible : {axis : ℕ} (space : Space axis) (gap : ℤ) (mine : List Item) (ts : List Track) (b : Bool) (t : Track) → flexible (if b then t else fit_items space gap ts mine t) ≡ flexible t
+fit_flexible space gap mine ts true t = refl
+fit_flexible space gap mine ts false t = refl
+
+crosses_alone : {axis : ℕ} (space : Space axis) (gap : ℤ) (items : List Item) (ts : List Track) (i : Item) → crosses_flexible (fit_alone space gap items ts) i ≡ crosses_flexible ts i
+crosses_alone space gap items ts i = crosses_map (fit_or_pass space gap items ts) i ts (λ t. (fit_keeps_one space gap (alone items t) ts (flexible t) t).0) (λ t. fit_flexible space gap (alone items t) ts (flexible t) t)
+
+pub content_whole : {axis : ℕ} (space : Space axis) (gap : ℤ) (items : List Item) (ts fitted now : List Track) → fitted ≡ fit_alone space gap items ts
+    → now ≡ map close_limit (group_fitted space gap true (filter (crosses_flexible fitted) items) (spans_fitted space gap items (length fitted) 2 fitted)) → now ≡ content_sized space gap items ts
+content_whole space gap items ts fitted now f n =
+    n
+    ∙ ap (λ (xs : List Track). map close_limit (group_fitted space gap true (filter (crosses_flexible xs) items) (spans_fitted space gap items (length xs) 2 xs))) f
+    ∙ ap (λ (xs : List Item). map close_limit (group_fitted space gap true xs (spans_fitted space gap items (length (fit_alone space gap items ts)) 2 (fit_alone space gap items ts))))
+    (same_filter (crosses_flexible (fit_alone space gap items ts)) (crosses_flexible ts) items (crosses_alone space gap items ts))
+    ∙ ap (λ (n : ℕ). map close_limit (group_fitted space gap true (filter (crosses_flexible ts) items) (spans_fitted space gap items n 2 (fit_alone space gap items ts)))) (length_alone space gap items ts)

@@ -1,5 +1,5 @@
 -- Items that span one track.
-use Rattle.std.specs.Prelude.{ℕ, ℤ, pos, ◌+ℤ◌, ◌-ℤ◌, Bool, true, false, not, ◌&&◌, List, [], ◌∷◌, Option, Some, option_map, if◌then◌else◌}
+use Rattle.std.specs.Prelude.{ℕ, ℤ, pos, ◌+ℤ◌, ◌-ℤ◌, Bool, true, false, not, ◌&&◌, ◌==◌, List, [], ◌∷◌, Option, Some, option_map, if◌then◌else◌}
 use Rattle.std.specs.Int.{int_max, int_min}
 use Rattle.std.specs.Ordering.{int_eq}
 use Rattle.lunit.specs.Units.{clamp}
@@ -39,11 +39,11 @@ base_more space gap ts i least.Auto base = int_max (auto_asks space gap ts i) ba
 
 -- a track without an item
 abbrev pub single_none : Track → Single
-single_none t = record { some = false; base = t.base; most = pos 0 }
+single_none t = record { some = 0; base = t.base; most = pos 0 }
 
 -- a track with one item more
 abbrev pub single_more : {axis : ℕ} → Space axis → ℤ → List Track → Item → Track → Single → Single
-single_more space gap ts i t s = record { some = true; base = base_more space gap ts i t.rule.least s.base; most = int_max (limit_ask t.rule.most i) s.most }
+single_more space gap ts i t s = record { some = 1; base = base_more space gap ts i t.rule.least s.base; most = int_max (limit_ask t.rule.most i) s.most }
 
 -- the same where the item spans the track alone and it is not flexible
 abbrev pub single_by : {axis : ℕ} → Space axis → ℤ → List Track → Item → Track → Single → Single
@@ -64,7 +64,7 @@ limit_most other greatest limit = limit
 
 -- the growth limit by what the items make of a track
 abbrev pub limit_single : Track → Single → Option ℤ
-limit_single t s = if s.some then limit_most t.rule.most s.most t.limit else t.limit
+limit_single t s = if s.some == 1 then limit_most t.rule.most s.most t.limit else t.limit
 
 -- the track by what its items make of it
 abbrev pub fit_single : Track → Single → Track
@@ -78,10 +78,6 @@ fit_single t s =
 abbrev pub single_content : Most → ℤ → ℤ → ℤ
 single_content m size margins = int_max (pos 0) (at_most (option_map (λ x. x -ℤ margins) (fixed_most m)) size)
 
--- the most that it can be, limited to the range of lengths
-abbrev pub content_end : Most → ℤ → Option ℤ
-content_end m margins = option_map (λ x. clamp (x -ℤ margins)) (fixed_most m)
-
 -- the minimum contribution there
 abbrev pub single_least : Most → Floor → ℤ
 single_least m (Known x) = x
@@ -90,6 +86,11 @@ single_least m (Content size margins inner) = clamp (margins +ℤ int_max inner 
 -- what the item asks for there
 abbrev pub single_asks : Bool → Most → Item → ℤ
 single_asks definite m i = if definite then single_least m i.floor else int_max (single_least m i.floor) (at_most (capped_most m) i.low)
+
+-- the contribution that the min functions `min-content` and `max-content` ask for
+abbrev pub content_ask : Least → Item → ℤ
+content_ask least.MinContent = low
+content_ask other = high
 
 -- the base size
 abbrev pub base_alone : Bool → Least → Most → Item → ℤ → ℤ
@@ -100,4 +101,4 @@ base_alone definite least.Auto m i base = int_max (single_asks definite m i) bas
 
 -- the track
 abbrev pub single_alone : Bool → Item → Track → Single → Single
-single_alone definite i t s = record { some = true; base = base_alone definite t.rule.least t.rule.most i s.base; most = int_max (limit_ask t.rule.most i) s.most }
+single_alone definite i t s = record { some = 1; base = base_alone definite t.rule.least t.rule.most i s.base; most = int_max (limit_ask t.rule.most i) s.most }

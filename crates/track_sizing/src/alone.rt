@@ -1,17 +1,18 @@
 //! Items that span one track (CSS Grid 2, 12.5, step 2).
 
-ghost use Rattle.std.specs.Prelude.{◌≡◌, ◌<◌, ◌^◌, ◌+ℤ◌, IfOk, length, map, pos};
+ghost use Rattle.std.specs.Prelude.{◌≡◌, ◌<◌, ◌^◌, ◌+ℤ◌, IfOk, OnOk, length, map, pos, true};
 ghost use Rattle.std.specs.Ordering.{int_eq};
 ghost use Rattle.part_rules.specs.Lists.{zipped};
 ghost use Rattle.part_rules.specs.Tracks.{fit_alone};
-ghost use Rattle.track_sizing.specs.Alone.{base_alone, content_end, fit_single, limit_ask, limit_most, limit_single, single_alone, single_asks, single_by, single_content, single_least, single_none, single_of};
+ghost use Rattle.track_sizing.specs.Alone.{base_alone, content_ask, fit_single, limit_ask, limit_most, limit_single, single_alone, single_asks, single_by, single_content, single_least, single_none, single_of};
+ghost use Rattle.track_sizing.specs.Calm.{AreQuietItems, IsQuiet};
 ghost use Rattle.track_sizing.specs.Placed.{AreIn, AreSet, IsIn};
 
 use crate::distribute::place_of;
 use crate::group::is_definite;
-use crate::item::capped_most;
+use crate::item::{capped_most, is_idle};
 use crate::kinds::flexible;
-use crate::numbers::{at_most_limit, longer, shorter};
+use crate::numbers::{at_most_limit, both, difference, longer, shorter, sum};
 use crate::row::{Row, fixed_most};
 use lunit::{Floor, Item, Lu, NoMemory, Wide};
 use part_rules::{Least, Most, Rule, Space};
@@ -20,8 +21,8 @@ use std::alloc::Global;
 /// What the items that span a track alone make of it.
 #[derive(Clone, Copy)]
 struct Single {
-    /// Whether there is one.
-    some: bool,
+    /// 1 where there is one, else 0; a whole word, which is set at once.
+    some: u32,
     /// The base size.
     base: Lu,
     /// The greatest contribution by which the growth limit goes.
@@ -33,30 +34,23 @@ fn single_none(row: &Row) -> Single
     ensures { result ≡ single_none row.now }
 {
     Single {
-        some: false,
+        some: 0,
         base: row.base(),
         most: Lu::default(),
     }
 }
 
-/// The most that the automatic minimum can be in a track with a fixed max function.
-fn content_end(most: &Most, margins: Lu) -> Option<Lu>
-    ensures { result ≡ content_end most.now margins }
-{
-    match fixed_most(most) {
-        Some(fixed) => Some((fixed.wide() - margins.wide()).clamp()),
-        None => None,
-    }
-}
-
-#[tactic(auto, using(crate::proofs::Known::content_ended), unfolding(lunit::specs::Units::clamp))]
+#[tactic(auto, using(crate::proofs::Known::content_by), unfolding(lunit::specs::Units::clamp))]
 /// The automatic minimum of an item in a track with the min function `auto` that it spans alone: it is content-based there
 /// (CSS Grid 2, 6.6).
 fn single_content(most: &Most, size: Lu, margins: Lu) -> Lu
     ensures { result ≡ single_content most.now size margins }
 {
     let _units = size.units();
-    longer(Lu::of(0), at_most_limit(content_end(most, margins), size))
+    match fixed_most(most) {
+        Some(fixed) => longer(Lu::of(0), shorter(difference(fixed, margins), size)),
+        None => longer(Lu::of(0), size),
+    }
 }
 
 /// The minimum contribution of such an item (CSS Grid 2, 12.5).
@@ -71,7 +65,7 @@ fn single_least(most: &Most, item: &Item) -> Lu
             inner,
         } => {
             let content = single_content(most, size, margins);
-            (margins.wide() + longer(inner, content).wide()).clamp()
+            sum(margins, longer(inner, content))
         }
     }
 }
@@ -88,15 +82,24 @@ fn single_asks(definite: bool, most: &Most, item: &Item) -> Lu
     }
 }
 
+/// The contribution that the min functions `min-content` and `max-content` ask for.
+fn content_ask(least: &Least, item: &Item) -> Lu
+    ensures { result ≡ content_ask least.now item.now }
+{
+    match least {
+        Least::MinContent => item.low,
+        _ => item.high,
+    }
+}
+
 /// The base size by one item more.
 fn base_more(definite: bool, rule: &Rule, item: &Item, base: Lu) -> Lu
     ensures { result ≡ base_alone definite rule.now.least rule.now.most item.now base }
 {
     match &rule.least {
         Least::Fixed(_) => base,
-        Least::MinContent => longer(item.low, base),
-        Least::MaxContent => longer(item.high, base),
         Least::Auto => longer(single_asks(definite, &rule.most, item), base),
+        _ => longer(content_ask(&rule.least, item), base),
     }
 }
 
@@ -116,7 +119,7 @@ fn single_more(definite: bool, item: &Item, row: &Row, single: &Single) -> Singl
 {
     let rule = row.rule();
     Single {
-        some: true,
+        some: 1,
         base: base_more(definite, &rule, item, single.base),
         most: longer(limit_ask(&rule.most, item), single.most),
     }
@@ -129,8 +132,8 @@ fn is_single(item: &Item) -> bool
     i64::from(item.span.end) - 1 == i64::from(item.span.start)
 }
 
-#[tactic(auto, using(crate::proofs::Lone::item_laws))]
-/// Counts an item to the track that it spans alone, where that is not flexible.
+#[tactic(auto, using(crate::proofs::Lone::item_laws, crate::proofs::Unchanged::item_quiet))]
+/// Counts an item to the track that it spans alone, where that is not flexible. Answers whether it surely gives nothing to more.
 fn add_item<const AXIS: u8>(
     space: &Space<AXIS>,
     gap: Lu,
@@ -138,26 +141,29 @@ fn add_item<const AXIS: u8>(
     rows: &[Row],
     item: &Item,
     singles: &mut [Single],
-)
+) -> bool
     requires few { length rows.now < 2 ^ 32 }
     requires length { length singles.old ≡ length rows.now }
     requires set { AreSet first rows.now }
     requires item { IsIn first (length rows.now) item.now }
-    ensures { singles.new ≡ zipped (single_by space.now gap rows.now item.now) rows.now singles.old }
+    ensures singles { singles.new ≡ zipped (single_by space.now gap rows.now item.now) rows.now singles.old }
+    ensures quiet { result ≡ true → IsQuiet gap item.now }
 {
     if !is_single(item) {
-        return;
+        return is_idle(gap, item);
     }
     let place = place_of(first, item);
     let row = &rows[place];
     if flexible(row) {
-        return;
+        return true;
     }
     singles[place] = single_more(is_definite(space), item, row, &singles[place]);
+    true
 }
 
-#[tactic(auto, using(crate::proofs::Lone::list_laws))]
-/// Counts items to the tracks that they span alone, from the last to the first.
+#[tactic(auto, using(crate::proofs::Lone::list_laws, crate::proofs::Unchanged::items_quiet))]
+/// Counts items to the tracks that they span alone, from the last to the first. Answers whether they surely give nothing to more
+/// tracks.
 fn add_items<const AXIS: u8>(
     space: &Space<AXIS>,
     gap: Lu,
@@ -165,18 +171,22 @@ fn add_items<const AXIS: u8>(
     rows: &[Row],
     items: &[Item],
     singles: &mut [Single],
-)
+) -> bool
     requires few { length rows.now < 2 ^ 32 }
     requires length { length singles.old ≡ length rows.now }
     requires set { AreSet first rows.now }
     requires items { AreIn first (length rows.now) items.now }
     requires none { singles.old ≡ map single_none rows.now }
-    ensures { singles.new ≡ map (single_of space.now gap rows.now items.now) rows.now }
+    ensures singles { singles.new ≡ map (single_of space.now gap rows.now items.now) rows.now }
+    ensures quiet { result ≡ true → AreQuietItems gap items.now }
 {
+    let mut quiet = true;
     for back in 0..items.len() {
         let item = &items[items.len() - 1 - back];
-        add_item(space, gap, first, rows, item, singles);
+        let more = add_item(space, gap, first, rows, item, singles);
+        quiet = both(more, quiet);
     }
+    quiet
 }
 
 /// The tracks without items.
@@ -205,74 +215,56 @@ fn limit_most(most: &Most, greatest: Lu, limit: Option<Lu>) -> Option<Lu>
 fn limit_single(row: &Row, single: &Single) -> Option<Lu>
     ensures { result ≡ limit_single row.now single.now }
 {
-    if single.some {
+    if single.some == 1 {
         limit_most(&row.rule().most, single.most, row.limit())
     } else {
         row.limit()
     }
 }
 
-/// The track by the items that span it alone. A flexible track is left as it is.
-fn fit_single(row: &Row, single: &Single) -> Row
-    ensures { result ≡ fit_single row.now single.now }
+/// Fits the track to the items that span it alone. A flexible track is left as it is.
+fn fit_single(row: &mut Row, single: &Single)
+    ensures { row.new ≡ fit_single row.old single.now }
 {
     if flexible(row) {
-        return *row;
+        return;
     }
     let base = longer(row.base(), single.base);
     let limit = match limit_single(row, single) {
         Some(limit) => Some(longer(base, limit)),
         None => None,
     };
-    row.with_base(base).with_limit(limit)
+    row.fit(base, limit);
 }
 
 #[tactic(auto, using(crate::proofs::Loops::zipping))]
-/// The tracks by the items that span one alone.
+/// Fits the tracks to the items that span one alone.
 fn fit_each(rows: &mut [Row], singles: &[Single])
     requires { length singles.now ≡ length rows.old }
     ensures { rows.new ≡ zipped fit_single rows.old singles.now }
 {
     for (place, row) in rows.iter_mut().enumerate() {
-        *row = fit_single(row, &singles[place]);
+        fit_single(row, &singles[place]);
     }
 }
 
-/// What the items that span a track alone make of each track.
-fn singles_of<const AXIS: u8>(
-    alloc: Global,
-    space: &Space<AXIS>,
-    gap: Lu,
-    first: Wide,
-    items: &[Item],
-    rows: &[Row],
-) -> Result<Vec<Single>, NoMemory>
-    requires few { length rows.now < 2 ^ 32 }
-    requires set { AreSet first rows.now }
-    requires items { AreIn first (length rows.now) items.now }
-    ensures { IfOk result (λ singles. singles.items ≡ map (single_of space.now gap rows.now items.now) rows.now) }
-{
-    let mut singles = no_singles(alloc, rows)?;
-    add_items(space, gap, first, rows, items, &mut singles);
-    Ok(singles)
-}
-
-/// The tracks by the items that span one alone.
+/// Fits the tracks to the items that span one alone. Answers whether the items surely give nothing to more tracks.
 pub fn fit_alone<const AXIS: u8>(
     alloc: Global,
     space: &Space<AXIS>,
     gap: Lu,
     first: Wide,
     items: &[Item],
-    rows: &[Row],
-) -> Result<Vec<Row>, NoMemory>
-    requires few { length rows.now < 2 ^ 32 }
-    requires set { AreSet first rows.now }
-    requires items { AreIn first (length rows.now) items.now }
-    ensures { IfOk result (λ fitted. fitted.items ≡ fit_alone space.now gap items.now rows.now) }
+    rows: &mut [Row],
+) -> Result<bool, NoMemory>
+    requires few { length rows.old < 2 ^ 32 }
+    requires set { AreSet first rows.old }
+    requires items { AreIn first (length rows.old) items.now }
+    ensures rows { OnOk result (rows.new ≡ fit_alone space.now gap items.now rows.old) }
+    ensures quiet { IfOk result (λ quiet. quiet ≡ true → AreQuietItems gap items.now) }
 {
-    let singles = singles_of(alloc, space, gap, first, items, rows)?;
-    let mut fitted = Vec::from_slice(alloc, rows)?;
-    fit_each(&mut fitted, &singles);
-    Ok(fitted)
+    let mut singles = no_singles(alloc, rows)?;
+    let quiet = add_items(space, gap, first, rows, items, &mut singles);
+    fit_each(rows, &singles);
+    Ok(quiet)
 }

@@ -2,12 +2,13 @@
 
 ghost use Rattle.std.specs.Prelude.{◌≡◌, ◌<◌, ◌≤◌, ◌^◌, IfOk, OnOk, filter, length, map, pos, true};
 ghost use Rattle.part_rules.specs.Tracks.{close_limit, content_sized, crosses_flexible, group_fitted, of_span, some_fitted, spans_fitted};
+ghost use Rattle.track_sizing.specs.Calm.{AreQuietItems};
 ghost use Rattle.track_sizing.specs.Ordered.{AreFrom, AreOf, AreRising, IsRun};
 ghost use Rattle.track_sizing.specs.Placed.{AreIn, AreSet, IsIn};
 ghost use Rattle.track_sizing.specs.Spans.{is_of_span};
 
 use crate::alone::fit_alone;
-use crate::calm::{are_calm, are_quiet};
+use crate::calm::are_calm;
 use crate::distribute::place_of;
 use crate::group::{fit_group, pass_group};
 use crate::item::{some_flexible, span_length};
@@ -224,38 +225,38 @@ fn fit_crossing<const AXIS: u8>(
 }
 
 #[tactic(auto, using(crate::proofs::Unchanged::nothing_changed))]
-/// Groups of items of two tracks and more, and last the items that cross a flexible track, given the tracks as they were at first.
-/// Where such items ask for nothing and the tracks have growth limits, all stay as they are.
+/// Groups of items of two tracks and more, and last the items that cross a flexible track. Where such items ask for nothing and the
+/// tracks have growth limits, all stay as they are.
 fn size_groups<const AXIS: u8>(
     alloc: Global,
     space: &Space<AXIS>,
     gap: Lu,
     first: Wide,
     items: &[Item],
-    start: &[Row],
+    quiet: bool,
     rows: &mut [Row],
     takers: &mut [Share],
 ) -> Result<(), NoMemory>
     requires few { length rows.old < 2 ^ 32 }
     requires length { length takers.old ≡ length rows.old }
-    requires same { length start.now ≡ length rows.old }
-    requires start { AreSet first start.now }
     requires set { AreSet first rows.old }
     requires items { AreIn first (length rows.old) items.now }
-    ensures rows { OnOk result (rows.new ≡ map close_limit (group_fitted space.now gap true (filter (crosses_flexible start.now) items.now) (spans_fitted space.now gap items.now (length rows.old) 2 rows.old))) }
+    requires quiet { quiet ≡ true → AreQuietItems gap items.now }
+    ensures rows { OnOk result (rows.new ≡ map close_limit (group_fitted space.now gap true (filter (crosses_flexible rows.old) items.now) (spans_fitted space.now gap items.now (length rows.old) 2 rows.old))) }
     ensures set { OnOk result (AreSet first rows.new) }
 {
-    if are_calm(rows) && are_quiet(gap, items) {
+    if quiet && are_calm(rows) {
         return Ok(());
     }
+    let start = Vec::from_slice(alloc, rows)?;
     fit_spans(alloc, space, gap, first, items, rows, takers)?;
-    fit_crossing(alloc, space, gap, first, items, start, rows, takers)?;
+    fit_crossing(alloc, space, gap, first, items, &start, rows, takers)?;
     close_set_limits(first, rows);
     Ok(())
 }
 
-#[tactic(auto, using(crate::proofs::Whole::length_alone))]
-/// The tracks sized for the contributions of the items: items of one track, groups of items of more tracks, and last the items
+#[tactic(auto, using(crate::proofs::Whole::content_whole))]
+/// Sizes the tracks for the contributions of the items: items of one track, groups of items of more tracks, and last the items
 /// that cross a flexible track.
 pub fn size_content<const AXIS: u8>(
     alloc: Global,
@@ -263,18 +264,17 @@ pub fn size_content<const AXIS: u8>(
     gap: Lu,
     first: Wide,
     items: &[Item],
-    rows: &[Row],
+    rows: &mut [Row],
     takers: &mut [Share],
-) -> Result<Vec<Row>, NoMemory>
-    requires few { length rows.now < 2 ^ 32 }
-    requires length { length takers.old ≡ length rows.now }
-    requires set { AreSet first rows.now }
-    requires items { AreIn first (length rows.now) items.now }
-    ensures rows { IfOk result (λ sized. sized.items ≡ content_sized space.now gap items.now rows.now) }
-    ensures set { IfOk result (λ sized. AreSet first sized.items) }
-    ensures length { IfOk result (λ sized. length sized.items ≡ length rows.now) }
+) -> Result<(), NoMemory>
+    requires few { length rows.old < 2 ^ 32 }
+    requires length { length takers.old ≡ length rows.old }
+    requires set { AreSet first rows.old }
+    requires items { AreIn first (length rows.old) items.now }
+    ensures rows { OnOk result (rows.new ≡ content_sized space.now gap items.now rows.old) }
+    ensures set { OnOk result (AreSet first rows.new) }
 {
-    let mut sized = fit_alone(alloc, space, gap, first, items, rows)?;
-    size_groups(alloc, space, gap, first, items, rows, &mut sized, takers)?;
-    Ok(sized)
+    let quiet = fit_alone(alloc, space, gap, first, items, rows)?;
+    size_groups(alloc, space, gap, first, items, quiet, rows, takers)?;
+    Ok(())
 }

@@ -1,6 +1,6 @@
 //! Exact numbers of units.
 
-ghost use Rattle.std.specs.Prelude.{◌≡◌, ◌+ℤ◌, ◌≤ℤ◌, pos, true};
+ghost use Rattle.std.specs.Prelude.{◌≡◌, ◌+ℤ◌, ◌-ℤ◌, ◌≤ℤ◌, ◌&&◌, pos, true};
 ghost use Rattle.std.specs.Int.{int_max, int_min};
 ghost use Rattle.lunit.specs.Units.{IsUnits, clamp};
 ghost use Rattle.part_rules.specs.Lists.{at_most};
@@ -93,4 +93,27 @@ pub fn is_not_below(length: Lu) -> bool
     ensures { result ≡ true → pos 0 ≤ℤ length }
 {
     0 <= length.units()
+}
+
+#[tactic(auto, unfolding(lunit::specs::Units::clamp))]
+/// The sum of two lengths, limited to the range of lengths.
+pub fn sum(one: Lu, other: Lu) -> Lu
+    ensures { result ≡ clamp (one +ℤ other) }
+{
+    Lu::of(one.units() + other.units())
+}
+
+#[tactic(auto, unfolding(lunit::specs::Units::clamp))]
+/// A length less another, limited to the range of lengths.
+pub fn difference(one: Lu, other: Lu) -> Lu
+    ensures { result ≡ clamp (one -ℤ other) }
+{
+    Lu::of(one.units() - other.units())
+}
+
+/// Whether both are so.
+pub fn both(one: bool, other: bool) -> bool
+    ensures { result ≡ (one && other) }
+{
+    one && other
 }

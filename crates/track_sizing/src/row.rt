@@ -142,6 +142,16 @@ impl Row {
         self.incurred
     }
 
+    /// Gives the track another base size and growth limit, in place.
+    pub fn fit(&mut self, base: Lu, limit: Option<Lu>)
+        requires base { pos 0 ≤ℤ base }
+        requires limit { IsLimit limit }
+        ensures { self.new ≡ record self.old { base = base; limit = limit } }
+    {
+        self.base = base;
+        self.limit = limit;
+    }
+
     /// The track with another base size.
     pub fn with_base(&self, base: Lu) -> Row
         requires { pos 0 ≤ℤ base }

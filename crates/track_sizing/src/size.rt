@@ -105,25 +105,25 @@ fn give_rest<const AXIS: u8>(
     Ok(())
 }
 
-/// The sizes of tracks that are initialised.
+/// The sizes of tracks that are initialised, once they are sized.
 fn sizes_from<const AXIS: u8>(
     alloc: Global,
     fit: &Fit<AXIS>,
     first: Wide,
     items: &[Item],
-    rows: &[Row],
+    rows: &mut [Row],
 ) -> Result<Vec<Lu>, NoMemory>
-    requires few { length rows.now < 2 ^ 32 }
+    requires few { length rows.old < 2 ^ 32 }
     requires gap { pos 0 ≤ℤ fit.now.gap }
     requires space { IsKnownSpace fit.now.space }
-    requires set { AreSet first rows.now }
-    requires items { AreIn first (length rows.now) items.now }
-    ensures { IfOk result (λ sizes. sizes.items ≡ sizes_from fit.now items.now rows.now) }
+    requires set { AreSet first rows.old }
+    requires items { AreIn first (length rows.old) items.now }
+    ensures { IfOk result (λ sizes. sizes.items ≡ sizes_from fit.now items.now rows.old) }
 {
     let mut takers = takers_for(alloc, rows)?;
-    let mut sized = size_content(alloc, &fit.space, fit.gap, first, items, rows, &mut takers)?;
-    give_rest(alloc, fit, first, items, &mut sized, &mut takers)?;
-    base_sizes(alloc, &sized)
+    size_content(alloc, &fit.space, fit.gap, first, items, rows, &mut takers)?;
+    give_rest(alloc, fit, first, items, rows, &mut takers)?;
+    base_sizes(alloc, rows)
 }
 
 /// The sizes of the tracks of one axis, in their order (CSS Grid 2, 12.3). `first` is the coordinate of the first track. The
@@ -149,6 +149,6 @@ pub fn size_axis<const AXIS: u8, L: Ledger>(
 {
     passes.tick();
     let first = Wide::of(i128::from(first));
-    let rows = initialise(alloc, first, rules)?;
-    sizes_from(alloc, fit, first, items, &rows)
+    let mut rows = initialise(alloc, first, rules)?;
+    sizes_from(alloc, fit, first, items, &mut rows)
 }

@@ -11,8 +11,8 @@ use Rattle.track_sizing.proofs.size.size_axis.Goals as goal
 pub sizes_from-requires : goal.sizes_from-requires
 sizes_from-requires g c =
     let first : c.of-first.result ≡ c.args.first = omega (arith, ints) in
-    let rows : c.deref.result.now ≡ initialised c.of-first.result c.args.rules.now = c.deref.ensures.value ∙ c.in_ok-rows.ensures in
-    let same : length c.deref.result.now ≡ length c.args.rules.now = ap length rows ∙ length_started c.of-first.result c.args.rules.now in (
+    let rows : c.deref_mut.result.now ≡ initialised c.of-first.result c.args.rules.now = c.deref_mut.ensures.value ∙ c.in_ok-rows.ensures in
+    let same : length c.deref_mut.result.now ≡ length c.args.rules.now = ap length rows ∙ length_started c.of-first.result c.args.rules.now in (
       omega arith,
       (
         omega arith,
@@ -22,7 +22,7 @@ sizes_from-requires g c =
             c.requires.space,
             (
               subst (λ (ts : List Track). AreSet c.of-first.result ts) (sym rows) (set_started c.of-first.result c.args.rules.now),
-              subst (λ (z : ℤ). AreIn z (length c.deref.result.now) c.args.items.now) (sym first) (in_same c.args.first (length c.args.rules.now) (length c.deref.result.now) c.args.items.now (sym same) c.requires.items),
+              subst (λ (z : ℤ). AreIn z (length c.deref_mut.result.now) c.args.items.now) (sym first) (in_same c.args.first (length c.args.rules.now) (length c.deref_mut.result.now) c.args.items.now (sym same) c.requires.items),
             ),
           ),
         ),
@@ -33,5 +33,5 @@ pub returns-clause-sizes : goal.returns-clause-sizes
 returns-clause-sizes g c =
     let first : c.of-first.result ≡ c.args.first = omega (arith, ints) in
     subst (λ (xs : List ℤ). IfOk c.sizes_from.result (λ sizes. sizes.items ≡ xs))
-    (started_sizes c.args.rules.now c.args.first c.of-first.result c.args.items.now c.args.fit.now c.deref.result.now (c.deref.ensures.value ∙ c.in_ok-rows.ensures) first)
+    (started_sizes c.args.rules.now c.args.first c.of-first.result c.args.items.now c.args.fit.now c.deref_mut.result.now (c.deref_mut.ensures.value ∙ c.in_ok-rows.ensures) first)
     c.sizes_from.ensures
