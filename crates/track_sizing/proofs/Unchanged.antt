@@ -227,3 +227,19 @@ nothing_changed space gap first crossing items n ts s c q =
     let spanned : spans_fitted space gap items n 2 ts ≡ ts = spans_same space gap items n 2 ts (omega arith) (ready_of first ts s) c q in
     let crossed : ts ≡ group_fitted space gap true crossing ts = sym (same_each passed ts one_passed c) ∙ group_passed space gap crossing ts (map passed ts) refl (none_crossed ts c) in
     sym (ap (λ (xs : List Track). map close_limit (group_fitted space gap true crossing xs)) spanned ∙ ap (map close_limit) (sym crossed) ∙ same_each close_limit ts (λ t k. k.sure.closed) c)
+
+-- ---- one track
+
+one_only : (first : ℤ) (i : Item) → IsIn first 1 i → int_eq (span_length i) (pos 2) ≡ false
+one_only first i h = is_not (span_length i) (pos 2) (λ e. omega (arith, ints, e, h.start, h.some, h.end))
+
+none_wider : (first : ℤ) (ts : List Track) (items : List Item) → AreIn first 1 items → of_span ts items 2 ≡ []
+none_wider first ts [] h = refl
+none_wider first ts (i ∷ rest) h =
+    ap (λ (b : Bool). cond (b && not (crosses_flexible ts i)) (i ∷ of_span ts rest 2) (of_span ts rest 2)) (one_only first i h.0) ∙ none_wider first ts rest h.1
+
+pub few_spans : {axis : ℕ} (space : Space axis) (gap first : ℤ) (items : List Item) (ts : List Track) → AreIn first (length ts) items → length ts < 2 → ts ≡ spans_fitted space gap items (length ts) 2 ts
+unfolding spans_fitted
+few_spans space gap first items [] h l = refl
+few_spans space gap first items (t ∷ []) h l = sym (ap (λ (xs : List Item). some_fitted space gap xs (t ∷ [])) (none_wider first (t ∷ []) items h))
+few_spans space gap first items (t ∷ u ∷ rest) h l = absurd (omega arith)

@@ -155,8 +155,8 @@ fn spanning(tracks: u64, items: &[Item]) -> usize
     run_length(Wide::of(i128::from(tracks)), items)
 }
 
-#[tactic(auto, using(crate::proofs::Kept::one_turn, crate::proofs::Kept::no_turn))]
-/// The groups of items of two tracks, of three and so on that cross no flexible track.
+#[tactic(auto, using(crate::proofs::Kept::one_turn, crate::proofs::Kept::no_turn, crate::proofs::Unchanged::few_spans))]
+/// The groups of items of two tracks, of three and so on that cross no flexible track. Over one track there is none.
 fn fit_spans<const AXIS: u8>(
     alloc: Global,
     space: &Space<AXIS>,
@@ -173,6 +173,9 @@ fn fit_spans<const AXIS: u8>(
     ensures rows { OnOk result (rows.new ≡ spans_fitted space.now gap items.now (length rows.old) 2 rows.old) }
     ensures set { OnOk result (AreSet first rows.new) }
 {
+    if rows.len() < 2 {
+        return Ok(());
+    }
     let wide = wide_items(alloc, items)?;
     let sorted = by_tracks(alloc, &wide)?;
     let mut left: &[Item] = &sorted;
