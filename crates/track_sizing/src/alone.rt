@@ -161,6 +161,7 @@ fn add_item<const AXIS: u8>(
     true
 }
 
+#[inline(never)]
 #[tactic(auto, using(crate::proofs::Lone::list_laws, crate::proofs::Unchanged::items_quiet))]
 /// Counts items to the tracks that they span alone, from the last to the first. Answers whether they surely give nothing to more
 /// tracks.
