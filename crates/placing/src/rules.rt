@@ -276,7 +276,7 @@ fn rules_of(
     requires high { first ≤ℤ pos 536870912 }
     ensures { IfOk result (λ rules. rules ≡ rules_by base.now sizes.now autos.now first collapsed.now) }
 {
-    let mut rules = Vec::new(alloc);
+    let mut rules = Vec::with_capacity(alloc, collapsed.len())?;
     for at in 0..collapsed.len() {
         let rule = rule_after(base, sizes, autos, first, at, collapsed[at]);
         rules.extend_from_slice(&[rule])?;
