@@ -15,7 +15,7 @@ use Rattle.style_types.specs.declared.value.Size.{Size}
 use Rattle.style_types.specs.declared.value.Size.TheVariants as keyword
 use Rattle.tree_rules.specs.Labels.{ContentAxis, GridAxis}
 use Rattle.tree_rules.specs.LentItems.{child_item, extra_margins, lifted}
-use Rattle.tree_rules.specs.NodeSizes.{block_used, bounds_of, content_of_box, contribution, floor_of, inline_used, inner, is_auto, is_stretched, margin, margins, stretches}
+use Rattle.tree_rules.specs.NodeSizes.{block_used, bounds_of, content_of_box, contribution, fitted, floor_of, inline_used, inner, is_auto, is_stretched, margin, margins, stretches}
 use Rattle.inline_sizes.specs.Plains.{IsPlain, has_no_inner, has_no_margins, has_no_size, is_absent, is_no_margin, is_plain, is_zero, no_bounds, plain_item}
 
 -- ---- what the test says
@@ -119,8 +119,11 @@ unfolding clamp
 no_length = refl
 
 -- its minimum
-pub scroll_floor : (z : ℤ) → Known (pos 0) ≡ floor_of keyword.Auto true no_bounds (pos 0) z
+scroll_floor : (z : ℤ) → Known (pos 0) ≡ floor_of keyword.Auto true no_bounds (pos 0) z
 scroll_floor z = ap Known no_length
+
+pub scrolling_floor : (scrolls : Bool) (nothing z : ℤ) → scrolls ≡ true → nothing ≡ pos 0 → Known nothing ≡ floor_of keyword.Auto scrolls no_bounds (pos 0) z
+scrolling_floor scrolls nothing z h e = ap Known e ∙ scroll_floor z ∙ ap (λ (s : Bool). floor_of keyword.Auto s no_bounds (pos 0) z) (sym h)
 
 pub content_floor : (z : ℤ) → IsUnits z → Content z (pos 0) (pos 0) ≡ floor_of keyword.Auto false no_bounds (pos 0) z
 content_floor z h = λ i. Content (free_content z h i) (no_length i) (pos 0)
@@ -137,15 +140,14 @@ take_nothing z = omega (arith, ints)
 add_nothing : (z : ℤ) → (z +ℤ pos 0) ≡ z
 add_nothing z = omega (arith, ints)
 
-module _ (room : ℤ) (h : IsUnits room) where
-  filled : int_max (pos 0) room ≡ clamp (int_max (pos 0) (int_max (pos 0) (room -ℤ pos 0)))
-  filled = at_least_nothing room (room -ℤ pos 0) h (take_nothing room)
+pub fills_room : (room : ℤ) → IsUnits room → int_max (pos 0) room ≡ clamp (fitted no_bounds (room -ℤ pos 0))
+fills_room room h = at_least_nothing room (room -ℤ pos 0) h (take_nothing room)
 
-  pub fills_inline : (content : ℤ × ℤ) → int_max (pos 0) room ≡ inline_used no_bounds true (pos 0) room content
-  fills_inline content = filled
+pub stretched_inline : (stretched : Bool) (room size : ℤ) (content : ℤ × ℤ) → stretched ≡ true → size ≡ clamp (fitted no_bounds (room -ℤ pos 0)) → size ≡ inline_used no_bounds stretched (pos 0) room content
+stretched_inline stretched room size content h e = e ∙ ap (λ (s : Bool). inline_used no_bounds s (pos 0) room content) (sym h)
 
-  pub fills_block : (content : ℤ) → int_max (pos 0) room ≡ block_used no_bounds true (pos 0) room content
-  fills_block content = filled
+pub stretched_block : (stretched : Bool) (room size content : ℤ) → stretched ≡ true → size ≡ clamp (fitted no_bounds (room -ℤ pos 0)) → size ≡ block_used no_bounds stretched (pos 0) room content
+stretched_block stretched room size content h e = e ∙ ap (λ (s : Bool). block_used no_bounds s (pos 0) room content) (sym h)
 
 between : (low room high : ℤ) → IsUnits low → IsUnits room → IsUnits high → IsUnits (int_min (int_max low room) high)
 between low room high h k l = (

@@ -1,9 +1,10 @@
 //! Nodes without margins, borders, paddings and declared sizes along an axis: most are such, and their sizes are told in few steps.
 
-ghost use Rattle.std.specs.Prelude.{◌≡◌, ◌≤ℤ◌, ℤ, pos, true, false};
+ghost use Rattle.std.specs.Prelude.{◌≡◌, ◌-ℤ◌, ◌≤ℤ◌, pos, true, false};
 ghost use Rattle.std.specs.Int.{int_max, int_min};
+ghost use Rattle.lunit.specs.Units.{clamp};
 ghost use Rattle.style_types.specs.declared.value.Size.TheVariants as keyword;
-ghost use Rattle.tree_rules.specs.NodeSizes.{block_used, contribution, floor_of, inline_used};
+ghost use Rattle.tree_rules.specs.NodeSizes.{block_used, contribution, fitted, floor_of, inline_used};
 ghost use Rattle.inline_sizes.specs.Plains.{IsPlain, has_no_inner, has_no_margins, has_no_size, is_absent, is_no_margin, is_plain, is_zero, no_bounds, plain_item};
 ghost use Rattle.inline_sizes.specs.Styled.{content_at, grid_at};
 
@@ -69,13 +70,20 @@ fn has_no_margins<const AXIS: u8>(style: &Style) -> bool
 }
 
 #[inline(always)]
-#[tactic(auto, using(crate::proofs::Plains::plain_is))]
+/// Whether none of a node's marks along an axis says more than that it is plain.
+fn has_no_marks<const AXIS: u8>(style: &Style) -> bool
+    ensures { result ≡ is_plain (grid_at AXIS style.now) (content_at AXIS style.now) }
+{
+    has_no_size::<AXIS>(style) && has_no_inner::<AXIS>(style) && has_no_margins::<AXIS>(style)
+}
+
+#[inline(always)]
 /// Whether a node has neither margins, borders and paddings nor a declared size, minimum or maximum along an axis.
 pub fn is_plain<const AXIS: u8>(style: &Style) -> bool
     ensures value { result ≡ is_plain (grid_at AXIS style.now) (content_at AXIS style.now) }
     ensures plain { result ≡ true → IsPlain (grid_at AXIS style.now) (content_at AXIS style.now) }
 {
-    has_no_size::<AXIS>(style) && has_no_inner::<AXIS>(style) && has_no_margins::<AXIS>(style)
+    has_no_marks::<AXIS>(style)
 }
 
 /// The greater of two lengths.
@@ -101,7 +109,7 @@ fn some_length(length: Lu) -> Lu
     longer(Lu::default(), length)
 }
 
-#[tactic(auto, using(crate::proofs::Plains::scroll_floor, crate::proofs::Plains::content_floor))]
+#[tactic(auto, using(crate::proofs::Plains::content_floor))]
 /// The minimum contribution of such a node without a minimum, by its min-content size.
 fn plain_floor(scrolls: bool, content: Lu) -> Floor
     ensures { result ≡ floor_of keyword.Auto scrolls no_bounds (pos 0) content }
@@ -136,11 +144,10 @@ pub(crate) fn plain_item(scrolls: bool, span: Span, content: (Lu, Lu)) -> Item
     }
 }
 
-#[tactic(auto, using(crate::proofs::Plains::fills_inline, crate::proofs::Plains::fills_block))]
+#[tactic(auto, using(crate::proofs::Plains::fills_room))]
 /// The size of such a node that is stretched in a room of this size.
 fn filling(room: Lu) -> Lu
-    ensures inline { (content : ℤ × ℤ) → result ≡ inline_used no_bounds true (pos 0) room content }
-    ensures block { (content : ℤ) → result ≡ block_used no_bounds true (pos 0) room content }
+    ensures value { result ≡ clamp (fitted no_bounds (room -ℤ pos 0)) }
     ensures some { pos 0 ≤ℤ result }
 {
     some_length(room)
