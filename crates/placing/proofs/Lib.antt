@@ -21,6 +21,7 @@ pub mod Siblings
 pub mod Sights
 pub mod Spans
 mod Tracks
+pub mod Uncut
 pub mod Walks
 pub mod Whole
 mod Written

@@ -1,5 +1,5 @@
 -- Spans and areas of at least one track, and those within the lines of a context (CSS Grid 2, 8.5).
-use Rattle.std.specs.Prelude.{◌≤◌, ℤ, pos, ◌≤ℤ◌, ◌<ℤ◌, List, [], ◌∷◌}
+use Rattle.std.specs.Prelude.{◌≡◌, ◌≤◌, ℤ, pos, ◌≤ℤ◌, ◌<ℤ◌, List, [], ◌∷◌}
 use Rattle.lunit.specs.declared.geometry.Area.{Area}
 use Rattle.lunit.specs.declared.geometry.Span.{Span}
 use Rattle.lunit.specs.declared.geometry.Spot.{Spot}
@@ -47,3 +47,7 @@ AreFull (a ∷ rest) = IsFull a × AreFull rest
 -- an area cut to limits
 abbrev pub cut_to : Area → Area → Area
 cut_to limits a = record { columns = cut_span limits.columns.start limits.columns.end a.columns; rows = cut_span limits.rows.start limits.rows.end a.rows }
+
+-- an area that limits leave as it is
+pub record IsUncut (limits a : Area) : Type 0 where
+  pub same : a ≡ cut_to limits a

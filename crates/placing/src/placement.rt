@@ -12,7 +12,7 @@ ghost use Rattle.tree_rules.specs.Contexts.{area_of, cut_area, shape_of};
 ghost use Rattle.tree_rules.specs.Labels.{grid_of};
 ghost use Rattle.placing.specs.Areas.{IsPlaced, child_in, orders_at, placed_of, siblings_at};
 ghost use Rattle.placing.specs.Along.{span_along};
-ghost use Rattle.placing.specs.Insides.{AreFull, IsInside, IsWithin, cut_to};
+ghost use Rattle.placing.specs.Insides.{AreFull, IsInside, IsUncut, IsWithin, cut_to};
 ghost use Rattle.placing.specs.Nodes.{bare, children_at, kids_at, sight_at, IsLive};
 ghost use Rattle.placing.specs.Order.{are_ascending, numbers_in_order};
 ghost use Rattle.placing.specs.Ranges.{AreReadable};
@@ -146,12 +146,36 @@ fn limits(context: &Context) -> Area
     }
 }
 
+/// Whether a span has a track and lies within a limit.
+fn is_within(limit: Span, span: Span) -> bool
+    ensures { IsTrue result → IsWithin limit.start limit.end span }
+{
+    if span.start < limit.start {
+        return false;
+    }
+    if limit.end < span.end {
+        return false;
+    }
+    span.start < span.end
+}
+
+#[tactic(auto, using(crate::proofs::Uncut::uncut))]
+/// Whether limits leave an area as it is, as they do with most.
+fn is_uncut(limits: Area, area: Area) -> bool
+    ensures { IsTrue result → IsUncut limits area }
+{
+    is_within(limits.columns, area.columns) && is_within(limits.rows, area.rows)
+}
+
 /// An area cut to limits.
 fn cut_area(limits: Area, area: Area) -> Area
     requires columns { IsLimit limits.columns }
     requires rows { IsLimit limits.rows }
     ensures { result ≡ cut_to limits area }
 {
+    if is_uncut(limits, area) {
+        return area;
+    }
     Area {
         columns: cut_span(limits.columns, area.columns),
         rows: cut_span(limits.rows, area.rows),
