@@ -77,24 +77,34 @@ fn read(value: Option<&LineValue>) -> Told
     }
 }
 
-#[tactic(auto, using(crate::proofs::Open::open_laws))]
-/// The tracks that a child spans along an axis of which no line is told; `None` where one is told, or a name.
-fn open_span<const AXIS: u8>(
-    start: Option<&LineValue>,
-    end: Option<&LineValue>,
-    kind: &NodeKind,
-    style: &Style,
-) -> Option<u32>
-    requires { IsGridStyle (grid_of style.now) }
-    ensures { IfSome result (λ tracks. IsOpen (unwrap_or (option_copied start.entry) Auto) (unwrap_or (option_copied end.entry) Auto) (automatic_span (is_grid_kind kind.now) (grid_axis AXIS (grid_of style.now)).template) tracks) }
+/// What the line value of its start tells.
+fn told_at_start<const AXIS: u8>(style: &Style) -> Told
+    ensures { IsTold result (grid_axis AXIS (grid_of style.now)).start_line }
 {
-    match read(start) {
-        Told::Nothing => match read(end) {
+    read(start_line::<AXIS>(style))
+}
+
+/// What the line value of its end tells.
+fn told_at_end<const AXIS: u8>(style: &Style) -> Told
+    ensures { IsTold result (grid_axis AXIS (grid_of style.now)).end_line }
+{
+    read(end_line::<AXIS>(style))
+}
+
+#[tactic(auto, using(crate::proofs::Open::open_laws))]
+/// The tracks that a child spans along an axis of which no line is told; `None` where one is told, or a name. What its end tells
+/// is read where it counts alone.
+fn open_span<const AXIS: u8>(kind: &NodeKind, style: &Style) -> Option<u32>
+    requires { IsGridStyle (grid_of style.now) }
+    ensures { IfSome result (λ tracks. IsOpen (grid_axis AXIS (grid_of style.now)).start_line (grid_axis AXIS (grid_of style.now)).end_line (automatic_span (is_grid_kind kind.now) (grid_axis AXIS (grid_of style.now)).template) tracks) }
+{
+    match told_at_start::<AXIS>(style) {
+        Told::Nothing => match told_at_end::<AXIS>(style) {
             Told::Nothing => Some(automatic_span::<AXIS>(kind, style)),
             Told::Span(tracks) => Some(tracks),
             Told::Line => None,
         },
-        Told::Span(tracks) => match read(end) {
+        Told::Span(tracks) => match told_at_end::<AXIS>(style) {
             Told::Nothing => Some(tracks),
             Told::Span(_) => Some(tracks),
             Told::Line => None,
@@ -103,40 +113,26 @@ fn open_span<const AXIS: u8>(
     }
 }
 
-/// Where a child is to stand along an axis, by these line values and the lines of the table.
-fn spot_by_lines<const AXIS: u8>(
-    table: &LineTable,
-    start: Option<&LineValue>,
-    end: Option<&LineValue>,
-    kind: &NodeKind,
-    style: &Style,
-) -> Spot
-    requires grid { IsGridStyle (grid_of style.now) }
-    requires start { unwrap_or (option_copied start) Auto ≡ (grid_axis AXIS (grid_of style.now)).start_line }
-    requires end { unwrap_or (option_copied end) Auto ≡ (grid_axis AXIS (grid_of style.now)).end_line }
+/// Where a child is to stand along an axis, by its line values and the lines of the table.
+fn spot_by_lines<const AXIS: u8>(table: &LineTable, kind: &NodeKind, style: &Style) -> Spot
+    requires { IsGridStyle (grid_of style.now) }
     ensures { result ≡ spot_along AXIS table.now (is_grid_kind kind.now) (grid_of style.now) }
 {
+    let start = start_line::<AXIS>(style);
+    let end = end_line::<AXIS>(style);
     let span = automatic_span::<AXIS>(kind, style);
     let auto = LineValue::Auto;
     table.resolve(start.unwrap_or(&auto), end.unwrap_or(&auto), span)
 }
 
-/// Where a child is to stand along an axis, by these line values.
-fn spot_by<const AXIS: u8>(
-    table: &LineTable,
-    start: Option<&LineValue>,
-    end: Option<&LineValue>,
-    kind: &NodeKind,
-    style: &Style,
-) -> Spot
-    requires grid { IsGridStyle (grid_of style.now) }
-    requires start { unwrap_or (option_copied start) Auto ≡ (grid_axis AXIS (grid_of style.now)).start_line }
-    requires end { unwrap_or (option_copied end) Auto ≡ (grid_axis AXIS (grid_of style.now)).end_line }
+/// Where a child is to stand along an axis, by its line values.
+fn spot_by<const AXIS: u8>(table: &LineTable, kind: &NodeKind, style: &Style) -> Spot
+    requires { IsGridStyle (grid_of style.now) }
     ensures { result ≡ spot_along AXIS table.now (is_grid_kind kind.now) (grid_of style.now) }
 {
-    match open_span::<AXIS>(start, end, kind, style) {
+    match open_span::<AXIS>(kind, style) {
         Some(tracks) => table.free_place(tracks),
-        None => spot_by_lines::<AXIS>(table, start, end, kind, style),
+        None => spot_by_lines::<AXIS>(table, kind, style),
     }
 }
 
@@ -147,9 +143,7 @@ fn spot<const AXIS: u8>(table: &LineTable, kind: &NodeKind, style: &Style) -> Sp
     ensures value { result ≡ spot_along AXIS table.now (is_grid_kind kind.now) (grid_of style.now) }
     ensures filled { IsLimitOf table.now → IsFilled result }
 {
-    let start = start_line::<AXIS>(style);
-    let end = end_line::<AXIS>(style);
-    spot_by::<AXIS>(table, start, end, kind, style)
+    spot_by::<AXIS>(table, kind, style)
 }
 
 #[tactic(auto, using(crate::proofs::Siblings::wish_is))]
