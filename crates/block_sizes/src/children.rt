@@ -10,10 +10,11 @@ ghost use Rattle.subgrid_view.specs.Ranges.{AreNear};
 ghost use Rattle.tree_rules.specs.Distribution.{given_view, view_in};
 ghost use Rattle.tree_rules.specs.Frames.{given_box};
 ghost use Rattle.tree_rules.specs.GridSizes.{from_first};
-ghost use Rattle.tree_rules.specs.Labels.{grid_of};
-ghost use Rattle.tree_rules.specs.NodeSizes.{inner};
+ghost use Rattle.tree_rules.specs.Labels.{content_of, grid_of};
+ghost use Rattle.tree_rules.specs.NodeSizes.{inner, self_align, stretches};
 ghost use Rattle.tree_rules.specs.Queries.{IsGivenFor};
-ghost use Rattle.inline_sizes.specs.Styled.{grid_at, styled};
+ghost use Rattle.inline_sizes.specs.Styled.{content_at, grid_at, styled};
+ghost use Rattle.inline_sizes.specs.Plains.{IsPlain};
 ghost use Rattle.block_sizes.specs.Children.{block_of_child, inline_of_child, own_block, own_inline};
 ghost use Rattle.block_sizes.specs.Sharing.{IsLastIn};
 ghost use Rattle.block_sizes.specs.Spans.{LiesIn};
@@ -137,7 +138,42 @@ pub fn own_block(items: Align, style: &Style, room: Lu, content: Lu) -> Lu
     block_used(&bounds, stretched, margins::<1>(style), room, content)
 }
 
-#[tactic(auto, using(crate::proofs::PlainChildren::inline_pair))]
+/// Whether a child is stretched along an axis where its own size and margins let it be.
+fn fills<const AXIS: u8>(items: Align, style: &Style) -> bool
+    ensures { result ≡ stretches (self_align (content_at AXIS style.now).own items).mode }
+{
+    let align = self_align(own::<AXIS>(style), items);
+    stretches(&align.mode)
+}
+
+/// The inline size of a plain child that is no subgrid in the columns, as `own_inline` tells it.
+fn plain_own_inline(items: Align, style: &Style, room: Lu, sizes: (Lu, Lu)) -> Lu
+    requires { IsPlain (grid_of style.now).columns (content_of style.now).inline }
+    ensures value { result ≡ own_inline items (styled style.now) room sizes }
+    ensures some { pos 0 ≤ℤ result }
+{
+    plain_inline(fills::<0>(items, style), room, sizes)
+}
+
+/// The block size of a plain child that is no subgrid in the rows, as `own_block` tells it.
+fn plain_own_block(items: Align, style: &Style, room: Lu, content: Lu) -> Lu
+    requires { IsPlain (grid_of style.now).rows (content_of style.now).block }
+    ensures value { result ≡ own_block items (styled style.now) room content }
+    ensures some { pos 0 ≤ℤ result }
+{
+    plain_block(fills::<1>(items, style), room, content)
+}
+
+/// What a plain child is given that has a border box of this size along an axis: this size.
+fn plain_given<const AXIS: u8>(style: &Style, size: Lu) -> Given
+    requires plain { IsPlain (grid_at AXIS style.now) (content_at AXIS style.now) }
+    requires some { pos 0 ≤ℤ size }
+    ensures value { result ≡ given_box (grid_at AXIS style.now) size }
+    ensures fits { IsGivenFor true false 0 result }
+{
+    Given::Size(size)
+}
+
 /// The inline size of a child that is no subgrid in the columns as `own_inline` tells it, with what the child is given there, in few
 /// steps for a plain one.
 fn sized_inline(items: Align, style: &Style, room: Lu, sizes: (Lu, Lu)) -> (Lu, Given)
@@ -146,15 +182,13 @@ fn sized_inline(items: Align, style: &Style, room: Lu, sizes: (Lu, Lu)) -> (Lu, 
     ensures fits { IsGivenFor true false 0 result.1 }
 {
     if is_plain::<0>(style) {
-        let align = self_align(own::<0>(style), items);
-        let size = plain_inline(stretches(&align.mode), room, sizes);
-        return (size, Given::Size(size));
+        let size = plain_own_inline(items, style, room, sizes);
+        return (size, plain_given::<0>(style, size));
     }
     let size = own_inline(items, style, room, sizes);
     (size, given_box::<0>(style, size))
 }
 
-#[tactic(auto, using(crate::proofs::PlainChildren::block_pair))]
 /// The block size of a child that is no subgrid in the rows as `own_block` tells it, with what the child is given there, in few
 /// steps for a plain one.
 fn sized_block(items: Align, style: &Style, room: Lu, content: Lu) -> (Lu, Given)
@@ -163,9 +197,8 @@ fn sized_block(items: Align, style: &Style, room: Lu, content: Lu) -> (Lu, Given
     ensures fits { IsGivenFor true false 0 result.1 }
 {
     if is_plain::<1>(style) {
-        let align = self_align(own::<1>(style), items);
-        let size = plain_block(stretches(&align.mode), room, content);
-        return (size, Given::Size(size));
+        let size = plain_own_block(items, style, room, content);
+        return (size, plain_given::<1>(style, size));
     }
     let size = own_block(items, style, room, content);
     (size, given_box::<1>(style, size))
