@@ -4,7 +4,6 @@ use Rattle.std.proofs.lemmas.Int.{ints, clamps}
 use Rattle.std.proofs.Math.ListN.{drop_of_length-le}
 use Rattle.lunit.specs.Units.{IsUnits, clamp}
 use Rattle.part_rules.specs.Lists.{zipped}
-use Rattle.part_rules.specs.Sharing.{shares}
 use Rattle.part_rules.specs.Tracks.{Track, grow_base, grown}
 use Rattle.track_sizing.specs.declared.rooms.Rooms.{Rooms}
 use Rattle.track_sizing.specs.Here.{HaveUnits, room_of}

@@ -1,5 +1,5 @@
 -- Items that span one track.
-use Rattle.std.specs.Prelude.{ℕ, ℤ, pos, ◌+ℤ◌, ◌-ℤ◌, Bool, true, false, not, ◌&&◌, ◌==◌, List, [], ◌∷◌, Option, Some, option_map, if◌then◌else◌}
+use Rattle.std.specs.Prelude.{ℕ, ℤ, pos, ◌+ℤ◌, ◌-ℤ◌, Bool, not, ◌&&◌, ◌==◌, List, [], ◌∷◌, Option, Some, option_map, if◌then◌else◌}
 use Rattle.std.specs.Int.{int_max, int_min}
 use Rattle.std.specs.Ordering.{int_eq}
 use Rattle.lunit.specs.Units.{clamp}
