@@ -1,7 +1,7 @@
 -- The children of a container one after the other, on the way of the boxes.
-use Rattle.std.proofs.Common.{arith, ◌≡◌, ℕ, ◌+◌, ◌≤◌, ◌<◌, ◌∷◌, ◌++◌, [], List, Bool, true, false, if◌then◌else◌, length, map, drop, sym, ap, ◌∙◌, subst, ℤ, Some, inl, inr, OnOk, Ok, Err}
+use Rattle.std.proofs.Common.{arith, refl, ◌≡◌, ℕ, ◌+◌, ◌≤◌, ◌<◌, ◌∷◌, ◌++◌, [], List, Bool, true, false, if◌then◌else◌, length, map, drop, sym, ap, ◌∙◌, subst, ℤ, Some, inl, inr, OnOk, OnErr, Ok, Err}
 use Rattle.std.specs.Prelude.{Contains, Result, get_or}
-use Rattle.std.proofs.lemmas.List.{get_or-map, length-map}
+use Rattle.std.proofs.lemmas.List.{append_assoc, get_or_default, get_or-map, length-map}
 use Rattle.lunit.specs.declared.geometry.Area.{Area}
 use Rattle.lunit.specs.declared.geometry.Rect.{Rect}
 use Rattle.node_arena.specs.declared.number.NodeId.{NodeId}
@@ -28,8 +28,8 @@ use Rattle.tree_rules.specs.declared.query.Given.{Given}
 use Rattle.tree_rules.specs.declared.query.Given.TheVariants as given
 use Rattle.tree_rules.specs.declared.query.Query.{Query}
 use Rattle.box_layout.specs.Asking.{frames_asked}
-use Rattle.box_layout.specs.Beneath.{AreSeats, AreTelling, HasPairs, above_held, is_lower, pairs_held}
-use Rattle.box_layout.specs.BoxesSeen.{AreNear, IsNearAt, IsNearRect, boxes_with, frames_seen, pairs_seen, reach}
+use Rattle.box_layout.specs.Beneath.{AreSeats, AreTelling, HasPairs, IsSeatTo, above_held, above_to, is_lower, pairs_held, pairs_to}
+use Rattle.box_layout.specs.BoxesSeen.{AreNear, IsNearAt, IsNearRect, boxes_seen, boxes_with, frames_seen, pairs_seen, reach}
 use Rattle.box_layout.specs.KidBoxes.{boxes_from}
 use Rattle.box_layout.specs.Paths.{AreKeptBelow, IsChildLaid, IsChildPart, IsLaidOut, IsLaidPart, passes_at}
 use Rattle.box_layout.specs.Ranges.{IsWithin}
@@ -53,17 +53,40 @@ pub ok_then : {T E : Type 0} (r : Result T E) (P Q : Type 0) → (P → Q) → O
 ok_then (Ok x) P Q f h = f h
 ok_then (Err e) P Q f h = tt
 
+pub err_then : {T E : Type 0} (r : Result T E) (P Q : Type 0) → (P → Q) → OnErr r P → OnErr r Q
+err_then (Ok x) P Q f h = tt
+err_then (Err e) P Q f h = f h
+
 pub leaf_told : (b : BareTrees) (n : NodeId) (reps : List Pair) (f : Frame) (at : ℤ × ℤ) (old new : List Box) (name : List ℕ) (rect : Rect) → is_container (sight_at b n).label.kind ≡ false → new ≡ old ++ (name, rect) ∷ [] → name ≡ (sight_at b n).label.name → rect ≡ moved_by at f.rect
     → new ≡ old ++ boxes_with b n reps f at
 leaf_told b n reps f at old new name rect leaf grown named moved =
     let none = leaf_boxes b n (frames_asked reps f.inline f.block) ((moved_by at f.rect).x, (moved_by at f.rect).y) leaf in
     grown ∙ ap (λ l. old ++ l) (λ i. (named i, moved i) ∷ sym none i)
 
+pub below_told : (b : BareTrees) (n : NodeId) (reps pairs : List Pair) → reps ≡ pairs → (f : Frame) (at : ℤ × ℤ) (old mid new : List Box) (name : List ℕ) (rect : Rect) → mid ≡ old ++ (name, rect) ∷ [] → name ≡ (sight_at b n).label.name → rect ≡ moved_by at f.rect
+    → new ≡ mid ++ boxes_seen b n (frames_asked reps f.inline f.block) (rect.x, rect.y) → new ≡ old ++ boxes_with b n pairs f at
+below_told b n reps pairs same f at old mid new name rect put named moved grown =
+    grown
+    ∙ ap (λ l. l ++ boxes_seen b n (frames_asked reps f.inline f.block) (rect.x, rect.y)) put
+    ∙ append_assoc old ((name, rect) ∷ []) (boxes_seen b n (frames_asked reps f.inline f.block) (rect.x, rect.y))
+    ∙ ap (λ l. old ++ l) (λ i. (named i, moved i) ∷ boxes_seen b n (frames_asked (same i) f.inline f.block) ((moved i).x, (moved i).y))
+
 pub near_told : (level : ℕ) (x y : ℤ) (f : Frame) (old new : List Box) (name : List ℕ) (rect : Rect) → new ≡ old ++ (name, rect) ∷ [] → rect ≡ moved_by (x, y) f.rect → IsNearAt level x y f → AreNear old → AreNear new
 near_told level x y f old new name rect grown moved near all = near_push old new (name, rect) grown (subst IsNearRect (sym moved) (near_rect level x y f near)) all
 
 pub kind_is : (k l : NodeKind) (t : Bool) → k ≡ l → t ≡ is_container k → is_container l ≡ t
 kind_is k l t same told = ap is_container (sym same) ∙ sym told
+
+-- what the child of a frame sees, once it is found whether it is a subgrid
+module _ (seats : ChildSeats) (f : Frame) (lower : Bool) (is : lower ≡ is_lower f) (reps : List Pair) (same : reps ≡ (if lower then pairs_held seats.held else [])) where
+  pub to_pairs : reps ≡ pairs_to seats f
+  to_pairs = same ∙ ap (λ (t : Bool). if t then pairs_held seats.held else []) is
+
+  pub seat_to : (b : BareTrees) (c : NodeId) (i : ℕ) → IsSeatTo b c seats i f → (up : Above) → up ≡ (if lower then above_held seats.held above.Nothing else above.Nothing) → (area : Area) → (i < length seats.areas → (d : Area) → area ≡ get_or seats.areas i d)
+      → IsSeat (sight_at b c) reps up area
+  seat_to b c i seated up above_is area area_is =
+      subst (λ (r : List Pair). IsSeat (sight_at b c) r up area) (sym to_pairs)
+      (subst (λ (u : Above). IsSeat (sight_at b c) (pairs_to seats f) u area) (sym (above_is ∙ ap (λ (t : Bool). if t then above_held seats.held above.Nothing else above.Nothing) is)) (seated area area_is))
 
 -- ---- below a container
 
@@ -130,6 +153,13 @@ turn_here b n outer inline block listed seats x y below i c next within f at low
       pairs = pairs;
       passes = λ container. passed_there b n c reps outer inline block i (frame_of f) _ _ next.kids frame pairs container;
     }
+
+module _ (b : BareTrees) (n : NodeId) (outer : List Pair) (inline block : Given) (listed : List NodeFrame) (seats : ChildSeats) (x y : ℤ) (below : IsBelow b n (frames_asked outer inline block) listed seats x y) (i : ℕ) (c : NodeId) (next : IsNext b n i c) (within : i < length listed) (f : NodeFrame) (at : f ≡ get_or listed i f) where
+  pub turn_of : (other : Area) → IsTurn b n (frames_asked outer inline block) x y i c (pairs_to seats (frame_of f)) (above_to seats (frame_of f)) (get_or seats.areas i other) f
+  turn_of other = turn_here b n outer inline block listed seats x y below i c next within f at (is_lower (frame_of f)) refl (pairs_to seats (frame_of f)) refl (above_to seats (frame_of f)) refl (get_or seats.areas i other) (λ there d. get_or_default seats.areas i other d there)
+
+  pub seat_of : IsSeatTo b c seats i (frame_of f)
+  seat_of area area_is = (turn_here b n outer inline block listed seats x y below i c next within f at (is_lower (frame_of f)) refl (pairs_to seats (frame_of f)) refl (above_to seats (frame_of f)) refl area area_is).seat
 
 -- ---- after a child
 

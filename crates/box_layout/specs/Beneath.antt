@@ -1,5 +1,5 @@
 -- What the children of a node see of it, as the code holds it (CSS Grid 2, section 9).
-use Rattle.std.specs.Prelude.{◌≡◌, ℕ, ◌<◌, ◌&&◌, ◌||◌, Bool, true, false, List, [], ◌∷◌, length, drop, get_or, Option, None, Some}
+use Rattle.std.specs.Prelude.{◌≡◌, ℕ, ◌<◌, ◌&&◌, ◌||◌, Bool, true, false, if◌then◌else◌, List, [], ◌∷◌, length, drop, get_or, Option, None, Some}
 use Rattle.lunit.specs.declared.geometry.Area.{Area}
 use Rattle.node_arena.specs.declared.number.NodeId.{NodeId}
 use Rattle.node_arena.specs.Numbers.{child_at}
@@ -54,6 +54,18 @@ pairs_held (Some h) = (base_held h).pairs
 abbrev pub above_held : Option HeldBase → Above → Above
 above_held None other = other
 above_held (Some h) other = (base_held h).above
+
+-- what the child of a frame sees of the node: the counts of the repetitions, where it is a subgrid of it
+abbrev pub pairs_to : ChildSeats → Frame → List Pair
+pairs_to seats f = if is_lower f then pairs_held seats.held else []
+
+-- and its context
+abbrev pub above_to : ChildSeats → Frame → Above
+above_to seats f = if is_lower f then above_held seats.held above.Nothing else above.Nothing
+
+-- the seat of the child of this number and frame, in its area
+abbrev pub IsSeatTo : BareTrees → NodeId → ChildSeats → ℕ → Frame → Type 0
+IsSeatTo b c seats number f = (a : Area) → (number < length seats.areas → (d : Area) → a ≡ get_or seats.areas number d) → IsSeat (sight_at b c) (pairs_to seats f) (above_to seats f) a
 
 -- the area of the child of this number, where it is a subgrid of the node
 abbrev pub IsAreaOf : BareTrees → NodeId → Placed → ℕ → Area → Type 0

@@ -10,6 +10,7 @@ ghost use Rattle.box_layout.specs.LeafHeights.{AreMeasured};
 ghost use Rattle.box_layout.specs.Paths.{IsAllKept, IsAsked, IsCutShort, IsPathKept};
 
 use crate::root_frame::root_frame;
+use crate::told::Told;
 use crate::walk::boxes_of;
 use lunit::{Along, Area, Lu, Name, NoMemory, Rect, Sequence, Span, Steps};
 use node_arena::Arena;
@@ -23,16 +24,6 @@ const NO_AREA: Area = Area {
     columns: Span { start: 0, end: 0 },
     rows: Span { start: 0, end: 0 },
 };
-
-/// A list with room for the boxes of all nodes of a tree, so that it need not grow; where there is no such room it grows as they come.
-fn room_for(alloc: Global, tree: &Arena<Node>) -> Sequence<(Name, Rect)>
-    ensures { result ≡ [] }
-{
-    match Vec::with_capacity(alloc, tree.len()) {
-        Ok(room) => Sequence::from_vec(room),
-        Err(_) => Sequence::new(alloc),
-    }
-}
 
 /// The name and the border box of each node of a tree in a viewport of this width and height, in units of 1/64 px from the origin
 /// of the viewport, in document order (CSS Grid 2, section 6; CSS Flexbox 1, section 9; that the root is an item in the viewport is
@@ -67,7 +58,7 @@ pub fn walk_boxes<R: Ruler, L: Ledger>(
     let x = Along::of(0);
     let y = Along::of(0);
     let nothing = Above::Nothing;
-    let mut told = room_for(alloc, tree);
+    let mut told = Told::with_room(alloc, tree.len());
     boxes_of(
         alloc,
         tree,
@@ -84,5 +75,5 @@ pub fn walk_boxes<R: Ruler, L: Ledger>(
         tally,
         passes,
     )?;
-    Ok(told)
+    Ok(told.into_sequence())
 }

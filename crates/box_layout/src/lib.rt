@@ -26,6 +26,7 @@ mod root_frame;
 mod row_views;
 mod seats;
 mod sitting;
+mod told;
 mod turns;
 mod walk;
 

@@ -13,18 +13,20 @@ ghost use Rattle.placing.specs.declared.contexts.Above.TheVariants as seen;
 ghost use Rattle.placing.specs.declared.node.Frame.{Frame as NodeFrame};
 ghost use Rattle.tree_rules.specs.Queries.{is_container, Fits};
 ghost use Rattle.box_layout.specs.Asking.{frames_asked};
+ghost use Rattle.box_layout.specs.Beneath.{IsSeatTo, pairs_to};
 ghost use Rattle.box_layout.specs.BoxesSeen.{AreNear, IsNearAt, boxes_seen, boxes_with, reach};
 ghost use Rattle.box_layout.specs.LeafHeights.{MeasuresBelow};
 ghost use Rattle.box_layout.specs.Paths.{AreKeptBelow, IsChildLaid, IsChildPart, IsLaidOut, IsLaidPart};
 ghost use Rattle.box_layout.specs.Ranges.{IsWithin};
 ghost use Rattle.box_layout.specs.Stands.{IsGivenNear};
 
-use crate::child_seats::{above_for, area_for, is_lower, pairs_for, seats_below};
+use crate::child_seats::{ChildSeats, above_for, area_for, is_lower, pairs_for, seats_below};
 use crate::frames::moved_by;
 use crate::framing::frames_at;
 use crate::laws::{frames_fit_below, frames_stand_near, frames_tell_subgrids};
+use crate::told::{Told, tell};
 use layout_cache::Given;
-use lunit::{Along, Area, BLOCK, INLINE, Name, NoMemory, Rect, Sequence, Steps};
+use lunit::{Along, Area, BLOCK, INLINE, Name, NoMemory, Rect, Steps};
 use node_arena::{Arena, NodeId};
 use outside::{Ruler, Tally};
 use placing::{Above, Frame, Node, NodeKind, node_at, root};
@@ -60,20 +62,20 @@ fn differ(tree: &Arena<Node>) -> NodeId
 }
 
 #[cycle(boxes)]
-/// The box of a child, and the boxes below it, are put after others, as `boxes_of` says. It is called in one place, so that it is put in
-/// line there: a leaf costs no call.
+/// The box of the child of an index that has this frame, and the boxes below it, are put after others, as `boxes_of` says. Where it stands
+/// below a grid that it is a subgrid of is looked at where it is a container alone. It is called in one place, so that it is put in line
+/// there: a leaf costs no call.
 fn child_boxes<R: Ruler, L: Ledger>(
     alloc: Global,
     tree: &mut Arena<Node>,
     id: NodeId,
-    reps: &[(u32, u32)],
-    above: &Above,
+    seats: &ChildSeats,
+    index: usize,
     nothing: &Above,
-    area: Area,
     frame: &Frame,
     x: Along<INLINE>,
     y: Along<BLOCK>,
-    told: &mut Sequence<(Name, Rect)>,
+    told: &mut Told<(Name, Rect)>,
     ruler: &mut R,
     tally: &mut Tally,
     passes: &mut Steps<L>,
@@ -81,40 +83,40 @@ fn child_boxes<R: Ruler, L: Ledger>(
     requires live { IsLive (bare tree.old.tree) id }
     requires right { IsRight tree.old.tree }
     requires readable { AreReadable (bare tree.old.tree) }
-    requires reps { length reps.now ≡ length (sight_at (bare tree.old.tree) id).chain }
-    requires seat { IsSeat (sight_at (bare tree.old.tree) id) reps.now above.now area }
+    requires reps { length (pairs_to seats.now (frame_of frame.now)) ≡ length (sight_at (bare tree.old.tree) id).chain }
+    requires seat { IsSeatTo (bare tree.old.tree) id seats.now index (frame_of frame.now) }
     requires nothing { nothing.now ≡ seen.Nothing }
-    requires fits { is_container (sight_at (bare tree.old.tree) id).label.kind ≡ true → Fits (sight_at (bare tree.old.tree) id) (frames_asked reps.now frame.now.inline frame.now.block) }
+    requires fits { is_container (sight_at (bare tree.old.tree) id).label.kind ≡ true → Fits (sight_at (bare tree.old.tree) id) (frames_asked (pairs_to seats.now (frame_of frame.now)) frame.now.inline frame.now.block) }
     requires level { 1 ≤ level_at (bare tree.old.tree) id }
     requires near { IsNearAt (level_at (bare tree.old.tree) id) x y (frame_of frame.now) }
-    ensures value { OnOk result (told.new ≡ told.old ++ boxes_with (bare tree.old.tree) id reps.now (frame_of frame.now) (x, y)) }
+    ensures value { OnOk result (told.new ≡ told.old ++ boxes_with (bare tree.old.tree) id (pairs_to seats.now (frame_of frame.now)) (frame_of frame.now) (x, y)) }
     ensures near { OnOk result (AreNear told.old → AreNear told.new) }
     ensures right { IsRight tree.new.tree }
-    ensures laid { OnOk result (IsChildLaid (bare tree.old.tree) id (frames_asked reps.now frame.now.inline frame.now.block) (state tree.old tally.old passes.old (R.log ruler.old)) (state tree.new tally.new passes.new (R.log ruler.new))) }
-    ensures part { OnErr result (IsChildPart (bare tree.old.tree) id (frames_asked reps.now frame.now.inline frame.now.block) (state tree.old tally.old passes.old (R.log ruler.old)) (state tree.new tally.new passes.new (R.log ruler.new))) }
-    ensures leaves { OnOk result (is_container (sight_at (bare tree.old.tree) id).label.kind ≡ true → MeasuresBelow (bare tree.old.tree) id (frames_asked reps.now frame.now.inline frame.now.block) (state tree.old tally.old passes.old (R.log ruler.old)) (state tree.new tally.new passes.new (R.log ruler.new))) }
-    ensures paths { OnOk result (is_container (sight_at (bare tree.old.tree) id).label.kind ≡ true → AreKeptBelow (bare tree.old.tree) id (frames_asked reps.now frame.now.inline frame.now.block) (state tree.new tally.new passes.new (R.log ruler.new))) }
-    ensures quiet { (is_container (sight_at (bare tree.old.tree) id).label.kind ≡ true → AreKeptBelow (bare tree.old.tree) id (frames_asked reps.now frame.now.inline frame.now.block) (state tree.old tally.old passes.old (R.log ruler.old))) → state tree.new tally.new passes.new (R.log ruler.new) ≡ state tree.old tally.old passes.old (R.log ruler.old) }
+    ensures laid { OnOk result (IsChildLaid (bare tree.old.tree) id (frames_asked (pairs_to seats.now (frame_of frame.now)) frame.now.inline frame.now.block) (state tree.old tally.old passes.old (R.log ruler.old)) (state tree.new tally.new passes.new (R.log ruler.new))) }
+    ensures part { OnErr result (IsChildPart (bare tree.old.tree) id (frames_asked (pairs_to seats.now (frame_of frame.now)) frame.now.inline frame.now.block) (state tree.old tally.old passes.old (R.log ruler.old)) (state tree.new tally.new passes.new (R.log ruler.new))) }
+    ensures leaves { OnOk result (is_container (sight_at (bare tree.old.tree) id).label.kind ≡ true → MeasuresBelow (bare tree.old.tree) id (frames_asked (pairs_to seats.now (frame_of frame.now)) frame.now.inline frame.now.block) (state tree.old tally.old passes.old (R.log ruler.old)) (state tree.new tally.new passes.new (R.log ruler.new))) }
+    ensures paths { OnOk result (is_container (sight_at (bare tree.old.tree) id).label.kind ≡ true → AreKeptBelow (bare tree.old.tree) id (frames_asked (pairs_to seats.now (frame_of frame.now)) frame.now.inline frame.now.block) (state tree.new tally.new passes.new (R.log ruler.new))) }
+    ensures quiet { (is_container (sight_at (bare tree.old.tree) id).label.kind ≡ true → AreKeptBelow (bare tree.old.tree) id (frames_asked (pairs_to seats.now (frame_of frame.now)) frame.now.inline frame.now.block) (state tree.old tally.old passes.old (R.log ruler.old))) → state tree.new tally.new passes.new (R.log ruler.new) ≡ state tree.old tally.old passes.old (R.log ruler.old) }
 {
     root(tree);
     let node = node_at(tree, id);
-    let name = node.name;
     let container = is_container(&node.kind);
     let rect = moved_by(x, y, &frame.rect);
     let x = rect.x;
     let y = rect.y;
-    told.push((name, rect))?;
+    tell(told, &node.name, rect)?;
     if !container {
         return Ok(());
     }
+    let lower = is_lower(frame);
     boxes_below(
         alloc,
         tree,
         id,
-        reps,
-        above,
+        pairs_for(seats, lower),
+        above_for(seats, nothing, lower),
         nothing,
-        area,
+        area_for(seats, index),
         &frame.inline,
         &frame.block,
         x,
@@ -141,7 +143,7 @@ fn boxes_below<R: Ruler, L: Ledger>(
     block: &Given,
     x: Along<INLINE>,
     y: Along<BLOCK>,
-    told: &mut Sequence<(Name, Rect)>,
+    told: &mut Told<(Name, Rect)>,
     ruler: &mut R,
     tally: &mut Tally,
     passes: &mut Steps<L>,
@@ -179,22 +181,8 @@ fn boxes_below<R: Ruler, L: Ledger>(
     for index in 0..listed.len() {
         let child = child_of_frame(tree, id, listed, index);
         let frame = &listed[index];
-        let lower = is_lower(frame);
         child_boxes(
-            alloc,
-            tree,
-            child,
-            pairs_for(&seats, lower),
-            above_for(&seats, nothing, lower),
-            nothing,
-            area_for(&seats, index),
-            frame,
-            x,
-            y,
-            told,
-            ruler,
-            tally,
-            passes,
+            alloc, tree, child, &seats, index, nothing, frame, x, y, told, ruler, tally, passes,
         )?;
     }
     Ok(())
@@ -213,7 +201,7 @@ pub(crate) fn boxes_of<R: Ruler, L: Ledger>(
     frame: &Frame,
     x: Along<INLINE>,
     y: Along<BLOCK>,
-    told: &mut Sequence<(Name, Rect)>,
+    told: &mut Told<(Name, Rect)>,
     ruler: &mut R,
     tally: &mut Tally,
     passes: &mut Steps<L>,
@@ -238,12 +226,11 @@ pub(crate) fn boxes_of<R: Ruler, L: Ledger>(
 {
     root(tree);
     let node = node_at(tree, id);
-    let name = node.name;
     let container = is_container(&node.kind);
     let rect = moved_by(x, y, &frame.rect);
     let x = rect.x;
     let y = rect.y;
-    told.push((name, rect))?;
+    tell(told, &node.name, rect)?;
     if !container {
         return Ok(());
     }

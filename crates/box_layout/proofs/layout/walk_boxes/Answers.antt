@@ -41,7 +41,8 @@ returns-in_err-boxes_of-clause-quiet g c =
 
 pub returns-clause-value : goal.returns-clause-value
 returns-clause-value g c =
-    value_all (bare c.args.tree.now.tree) (bare c.root_frame.new.tree.tree) c.root-id.result c.args.width c.args.height [] (frame_of c.in_ok-frame.frame) c.of-x.result c.of-y.result c.room_for-told.result c.boxes_of.new.told c.root_frame.ensures.bare c.root-id.ensures.root c.root-id.ensures.top refl c.of-x.ensures c.of-y.ensures c.room_for-told.ensures c.in_ok-frame.ensures.value c.in_ok-boxes_of.ensures.value
+    c.into_sequence.ensures
+    ∙ value_all (bare c.args.tree.now.tree) (bare c.root_frame.new.tree.tree) c.root-id.result c.args.width c.args.height [] (frame_of c.in_ok-frame.frame) c.of-x.result c.of-y.result c.with_room-told.result c.boxes_of.new.told c.root_frame.ensures.bare c.root-id.ensures.root c.root-id.ensures.top refl c.of-x.ensures c.of-y.ensures c.with_room-told.ensures c.in_ok-frame.ensures.value c.in_ok-boxes_of.ensures.value
 
 pub returns-clause-bare : goal.returns-clause-bare
 returns-clause-bare g c = child_same (bare c.root_frame.new.tree.tree) c.root-id.result (frames_asked [] c.in_ok-frame.frame.inline c.in_ok-frame.frame.block) (state c.root_frame.new.tree c.root_frame.new.tally c.root_frame.new.passes (g.R.Ruler.log c.root_frame.new.ruler)) (state c.boxes_of.new.tree c.boxes_of.new.tally c.boxes_of.new.passes (g.R.Ruler.log c.boxes_of.new.ruler)) c.in_ok-boxes_of.ensures.laid ∙ c.root_frame.ensures.bare

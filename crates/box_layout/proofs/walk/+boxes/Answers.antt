@@ -1,4 +1,5 @@
-use Rattle.std.proofs.Common.{rules, arith, refl, sym, ap, subst, ◌≡◌, ◌∙◌, ◌+◌, ◌*◌, ◌<◌, ◌≤◌, ◌++◌, true, length, map}
+use Rattle.std.proofs.Common.{rules, arith, refl, sym, ap, subst, ◌≡◌, ◌∙◌, ◌+◌, ◌*◌, ◌<◌, ◌≤◌, ◌++◌, List, true, length, map, inr}
+use Rattle.std.specs.Prelude.{get_or}
 use Rattle.std.proofs.lemmas.Bool.{false≢true}
 use Rattle.std.proofs.lemmas.List.{length-map}
 use Rattle.lunit.specs.declared.geometry.Rect.{Rect}
@@ -11,15 +12,16 @@ use Rattle.placing.specs.Walks.{state}
 use Rattle.placing.specs.declared.contexts.Above.TheVariants as above
 use Rattle.placing.specs.declared.node.Frame.{Frame as NodeFrame}
 use Rattle.placing.proofs.Leaves.{on_err}
+use Rattle.tree_rules.specs.Answers.{Pair}
 use Rattle.tree_rules.specs.Queries.{Fits, is_container}
 use Rattle.box_layout.specs.Asking.{frames_asked}
-use Rattle.box_layout.specs.Beneath.{AreSeats, AreTelling, HasPairs}
+use Rattle.box_layout.specs.Beneath.{AreSeats, AreTelling, HasPairs, IsSeatTo, above_to, pairs_to}
 use Rattle.box_layout.specs.BoxesSeen.{AreNear, IsNearAt, frames_seen, pairs_seen, reach}
 use Rattle.box_layout.specs.LeafHeights.{MeasuresBelow}
-use Rattle.box_layout.specs.Paths.{AreKeptBelow, IsChildLaid, its_own}
+use Rattle.box_layout.specs.Paths.{AreKeptBelow, IsChildLaid, IsChildPart, its_own}
 use Rattle.box_layout.specs.Ranges.{IsWithin}
 use Rattle.box_layout.specs.Stands.{IsGivenNear}
-use Rattle.box_layout.proofs.BelowSteps.{IsBelow, IsTurn, child_same, fit_seen, frames_counted, given_some, kind_is, laid_next, leaf_told, near_told, ok_then, part_next, quiet_next, turn_here, value_next}
+use Rattle.box_layout.proofs.BelowSteps.{IsBelow, IsTurn, below_told, child_same, err_then, fit_seen, frames_counted, given_some, kind_is, laid_next, leaf_told, near_told, ok_then, part_next, quiet_next, seat_of, seat_to, to_pairs, turn_of, value_next}
 use Rattle.box_layout.proofs.BoxSteps.{boxes_all, boxes_are, frames_told}
 use Rattle.box_layout.proofs.KeptPaths.{all_done, asked_kept, done_next, none_done, outside_same, own_next}
 use Rattle.box_layout.proofs.Lower.{tell_seen}
@@ -39,17 +41,18 @@ child_boxes-moved_by-rect-requires-clause-y g t c = long (level_at (bare c.args.
 
 pub child_boxes-returns-then-not-container-clause-value : goal.child_boxes-returns-then-not-container-clause-value
 child_boxes-returns-then-not-container-clause-value g t c =
-    leaf_told (bare c.args.tree.now.tree) c.args.id c.args.reps.now (frame_of c.args.frame.now) (c.args.x, c.args.y) c.args.told.now c.push.new.self c.node_at-node.result.now.name c.moved_by-rect.result
-    (kind_is c.node_at-node.result.now.kind (sight_at (bare c.args.tree.now.tree) c.args.id).label.kind c.is_container-container.result c.node_at-node.ensures.kind c.is_container-container.ensures ∙ c.if-not-container.true) c.in_ok-push.ensures.ok c.node_at-node.ensures.name c.moved_by-rect.ensures
+    leaf_told (bare c.args.tree.now.tree) c.args.id (pairs_to c.args.seats.now (frame_of c.args.frame.now)) (frame_of c.args.frame.now) (c.args.x, c.args.y) c.args.told.now c.tell.new.told c.node_at-node.result.now.name c.moved_by-rect.result
+    (kind_is c.node_at-node.result.now.kind (sight_at (bare c.args.tree.now.tree) c.args.id).label.kind c.is_container-container.result c.node_at-node.ensures.kind c.is_container-container.ensures ∙ c.if-not-container.true) c.in_ok-tell.ensures c.node_at-node.ensures.name c.moved_by-rect.ensures
 
 pub child_boxes-returns-then-not-container-clause-near : goal.child_boxes-returns-then-not-container-clause-near
 child_boxes-returns-then-not-container-clause-near g t c =
-    near_told (level_at (bare c.args.tree.now.tree) c.args.id) c.args.x c.args.y (frame_of c.args.frame.now) c.args.told.now c.push.new.self c.node_at-node.result.now.name c.moved_by-rect.result c.in_ok-push.ensures.ok c.moved_by-rect.ensures c.requires.near
+    near_told (level_at (bare c.args.tree.now.tree) c.args.id) c.args.x c.args.y (frame_of c.args.frame.now) c.args.told.now c.tell.new.told c.node_at-node.result.now.name c.moved_by-rect.result c.in_ok-tell.ensures c.moved_by-rect.ensures c.requires.near
 
 pub child_boxes-boxes_below-requires : goal.child_boxes-boxes_below-requires
 child_boxes-boxes_below-requires g t c =
     let container : is_container (sight_at (bare c.args.tree.now.tree) c.args.id).label.kind ≡ true = kind_is c.node_at-node.result.now.kind (sight_at (bare c.args.tree.now.tree) c.args.id).label.kind c.is_container-container.result c.node_at-node.ensures.kind c.is_container-container.ensures ∙ c.if-not-container.false in
-    let fits : Fits (sight_at (bare c.args.tree.now.tree) c.args.id) (frames_asked c.args.reps.now c.args.frame.now.inline c.args.frame.now.block) = c.requires.fits container in
+    let fits : Fits (sight_at (bare c.args.tree.now.tree) c.args.id) (frames_asked c.pairs_for.result.now c.args.frame.now.inline c.args.frame.now.block) = subst (λ (r : List Pair). Fits (sight_at (bare c.args.tree.now.tree) c.args.id) (frames_asked r c.args.frame.now.inline c.args.frame.now.block)) (sym (to_pairs c.args.seats.now (frame_of c.args.frame.now) c.is_lower-lower.result c.is_lower-lower.ensures c.pairs_for.result.now c.pairs_for.ensures)) (c.requires.fits container) in
+    let seat : IsSeat (sight_at (bare c.args.tree.now.tree) c.args.id) c.pairs_for.result.now c.above_for.result.now c.area_for.result = seat_to c.args.seats.now (frame_of c.args.frame.now) c.is_lower-lower.result c.is_lower-lower.ensures c.pairs_for.result.now c.pairs_for.ensures (bare c.args.tree.now.tree) c.args.id c.args.index c.requires.seat c.above_for.result.now c.above_for.ensures c.area_for.result c.area_for.ensures in
     let level : 1 ≤ level_at (bare c.args.tree.now.tree) c.args.id = c.requires.level in
     let columns : IsGivenNear (level_at (bare c.args.tree.now.tree) c.args.id) c.args.frame.now.inline = c.requires.near.inline in
     let rows : IsGivenNear (level_at (bare c.args.tree.now.tree) c.args.id) c.args.frame.now.block = c.requires.near.block in
@@ -62,9 +65,43 @@ child_boxes-boxes_below-requires g t c =
 pub child_boxes-returns-clause-near : goal.child_boxes-returns-clause-near
 child_boxes-returns-clause-near g t c =
     ok_then c.boxes_below.result _ _
-    (λ (more : AreNear c.push.new.self → AreNear c.boxes_below.new.told) (all : AreNear c.args.told.now).
-    more (near_told (level_at (bare c.args.tree.now.tree) c.args.id) c.args.x c.args.y (frame_of c.args.frame.now) c.args.told.now c.push.new.self c.node_at-node.result.now.name c.moved_by-rect.result c.in_ok-push.ensures.ok c.moved_by-rect.ensures c.requires.near all))
+    (λ (more : AreNear c.tell.new.told → AreNear c.boxes_below.new.told) (all : AreNear c.args.told.now).
+    more (near_told (level_at (bare c.args.tree.now.tree) c.args.id) c.args.x c.args.y (frame_of c.args.frame.now) c.args.told.now c.tell.new.told c.node_at-node.result.now.name c.moved_by-rect.result c.in_ok-tell.ensures c.moved_by-rect.ensures c.requires.near all))
     c.boxes_below.ensures.near
+
+pub child_boxes-returns-clause-value : goal.child_boxes-returns-clause-value
+child_boxes-returns-clause-value g t c =
+    ok_then c.boxes_below.result _ _
+    (below_told (bare c.args.tree.now.tree) c.args.id c.pairs_for.result.now (pairs_to c.args.seats.now (frame_of c.args.frame.now)) (to_pairs c.args.seats.now (frame_of c.args.frame.now) c.is_lower-lower.result c.is_lower-lower.ensures c.pairs_for.result.now c.pairs_for.ensures) (frame_of c.args.frame.now) (c.args.x, c.args.y) c.args.told.now c.tell.new.told c.boxes_below.new.told c.node_at-node.result.now.name c.moved_by-rect.result c.in_ok-tell.ensures c.node_at-node.ensures.name c.moved_by-rect.ensures)
+    c.boxes_below.ensures.value
+
+pub child_boxes-returns-clause-laid : goal.child_boxes-returns-clause-laid
+child_boxes-returns-clause-laid g t c =
+    ok_then c.boxes_below.result _ _
+    (λ laid. subst (λ (r : List Pair). IsChildLaid (bare c.args.tree.now.tree) c.args.id (frames_asked r c.args.frame.now.inline c.args.frame.now.block) (state c.args.tree.now c.args.tally.now c.args.passes.now (g.R.Ruler.log c.args.ruler.now)) (state c.boxes_below.new.tree c.boxes_below.new.tally c.boxes_below.new.passes (g.R.Ruler.log c.boxes_below.new.ruler))) (to_pairs c.args.seats.now (frame_of c.args.frame.now) c.is_lower-lower.result c.is_lower-lower.ensures c.pairs_for.result.now c.pairs_for.ensures) (inr ((kind_is c.node_at-node.result.now.kind (sight_at (bare c.args.tree.now.tree) c.args.id).label.kind c.is_container-container.result c.node_at-node.ensures.kind c.is_container-container.ensures ∙ c.if-not-container.false), laid)))
+    c.boxes_below.ensures.laid
+
+pub child_boxes-returns-clause-part : goal.child_boxes-returns-clause-part
+child_boxes-returns-clause-part g t c =
+    err_then c.boxes_below.result _ _
+    (λ laid. subst (λ (r : List Pair). IsChildPart (bare c.args.tree.now.tree) c.args.id (frames_asked r c.args.frame.now.inline c.args.frame.now.block) (state c.args.tree.now c.args.tally.now c.args.passes.now (g.R.Ruler.log c.args.ruler.now)) (state c.boxes_below.new.tree c.boxes_below.new.tally c.boxes_below.new.passes (g.R.Ruler.log c.boxes_below.new.ruler))) (to_pairs c.args.seats.now (frame_of c.args.frame.now) c.is_lower-lower.result c.is_lower-lower.ensures c.pairs_for.result.now c.pairs_for.ensures) (inr ((kind_is c.node_at-node.result.now.kind (sight_at (bare c.args.tree.now.tree) c.args.id).label.kind c.is_container-container.result c.node_at-node.ensures.kind c.is_container-container.ensures ∙ c.if-not-container.false), laid)))
+    c.boxes_below.ensures.part
+
+pub child_boxes-returns-clause-paths : goal.child_boxes-returns-clause-paths
+child_boxes-returns-clause-paths g t c =
+    ok_then c.boxes_below.result _ _
+    (λ kept container. subst (λ (r : List Pair). AreKeptBelow (bare c.args.tree.now.tree) c.args.id (frames_asked r c.args.frame.now.inline c.args.frame.now.block) (state c.boxes_below.new.tree c.boxes_below.new.tally c.boxes_below.new.passes (g.R.Ruler.log c.boxes_below.new.ruler))) (to_pairs c.args.seats.now (frame_of c.args.frame.now) c.is_lower-lower.result c.is_lower-lower.ensures c.pairs_for.result.now c.pairs_for.ensures) kept)
+    c.boxes_below.ensures.paths
+
+pub child_boxes-returns-clause-leaves : goal.child_boxes-returns-clause-leaves
+child_boxes-returns-clause-leaves g t c =
+    ok_then c.boxes_below.result _ _
+    (λ kept container. subst (λ (r : List Pair). MeasuresBelow (bare c.args.tree.now.tree) c.args.id (frames_asked r c.args.frame.now.inline c.args.frame.now.block) (state c.args.tree.now c.args.tally.now c.args.passes.now (g.R.Ruler.log c.args.ruler.now)) (state c.boxes_below.new.tree c.boxes_below.new.tally c.boxes_below.new.passes (g.R.Ruler.log c.boxes_below.new.ruler))) (to_pairs c.args.seats.now (frame_of c.args.frame.now) c.is_lower-lower.result c.is_lower-lower.ensures c.pairs_for.result.now c.pairs_for.ensures) kept)
+    c.boxes_below.ensures.leaves
+
+pub child_boxes-returns-clause-quiet : goal.child_boxes-returns-clause-quiet
+child_boxes-returns-clause-quiet g t c =
+    λ kept. c.boxes_below.ensures.quiet (subst (λ (r : List Pair). AreKeptBelow (bare c.args.tree.now.tree) c.args.id (frames_asked r c.args.frame.now.inline c.args.frame.now.block) (state c.args.tree.now c.args.tally.now c.args.passes.now (g.R.Ruler.log c.args.ruler.now))) (sym (to_pairs c.args.seats.now (frame_of c.args.frame.now) c.is_lower-lower.result c.is_lower-lower.ensures c.pairs_for.result.now c.pairs_for.ensures)) (kept (kind_is c.node_at-node.result.now.kind (sight_at (bare c.args.tree.now.tree) c.args.id).label.kind c.is_container-container.result c.node_at-node.ensures.kind c.is_container-container.ensures ∙ c.if-not-container.false)))
 
 -- ---- below a container
 
@@ -149,15 +186,17 @@ boxes_below-child_of_frame-child-requires-clause-children g t c =
 
 pub boxes_below-child_boxes-requires : goal.boxes_below-child_boxes-requires
 boxes_below-child_boxes-requires g t c =
-    let turn : IsTurn (bare c.loop-index.tree.tree) c.args.id (frames_asked c.args.reps.now c.args.inline.now c.args.block.now) c.args.x c.args.y c.loop-index.index c.child_of_frame-child.result c.pairs_for.result.now c.above_for.result.now c.area_for.result c.index-listed-index.result = turn_here (bare c.loop-index.tree.tree) c.args.id c.args.reps.now c.args.inline.now c.args.block.now c.as_slice-listed.result.now c.in_ok-seats.seats c.args.x c.args.y
+    let turn : IsTurn (bare c.loop-index.tree.tree) c.args.id (frames_asked c.args.reps.now c.args.inline.now c.args.block.now) c.args.x c.args.y c.loop-index.index c.child_of_frame-child.result (pairs_to c.in_ok-seats.seats (frame_of c.index-listed-index.result)) (above_to c.in_ok-seats.seats (frame_of c.index-listed-index.result)) (get_or c.in_ok-seats.seats.areas c.loop-index.index c.args.area) c.index-listed-index.result = turn_of (bare c.loop-index.tree.tree) c.args.id c.args.reps.now c.args.inline.now c.args.block.now c.as_slice-listed.result.now c.in_ok-seats.seats c.args.x c.args.y
     (subst (λ (z : BareTrees). IsBelow z c.args.id (frames_asked c.args.reps.now c.args.inline.now c.args.block.now) c.as_slice-listed.result.now c.in_ok-seats.seats c.args.x c.args.y) (sym c.loop-index.invariant.same) c.loop-index.invariant.below) c.loop-index.index c.child_of_frame-child.result c.child_of_frame-child.ensures
-    (omega (arith, c.loop-index-test.true)) c.index-listed-index.result c.index-listed-index.is c.is_lower-lower.result c.is_lower-lower.ensures c.pairs_for.result.now c.pairs_for.ensures c.above_for.result.now c.above_for.ensures c.area_for.result c.area_for.ensures in
+    (omega (arith, c.loop-index-test.true)) c.index-listed-index.result c.index-listed-index.is c.args.area in
     let live : IsLive (bare c.loop-index.tree.tree) c.child_of_frame-child.result = turn.next.live in
     let right : IsRight c.loop-index.tree.tree = c.loop-index.invariant.right in
     let readable : AreReadable (bare c.loop-index.tree.tree) = subst AreReadable (sym c.loop-index.invariant.same) c.requires.readable in
-    let reps : length c.pairs_for.result.now ≡ length (sight_at (bare c.loop-index.tree.tree) c.child_of_frame-child.result).chain = turn.counts in
-    let seat : IsSeat (sight_at (bare c.loop-index.tree.tree) c.child_of_frame-child.result) c.pairs_for.result.now c.above_for.result.now c.area_for.result = turn.seat in
-    let fits : is_container (sight_at (bare c.loop-index.tree.tree) c.child_of_frame-child.result).label.kind ≡ true → Fits (sight_at (bare c.loop-index.tree.tree) c.child_of_frame-child.result) (frames_asked c.pairs_for.result.now c.index-listed-index.result.inline c.index-listed-index.result.block) = turn.fits in
+    let reps : length (pairs_to c.in_ok-seats.seats (frame_of c.index-listed-index.result)) ≡ length (sight_at (bare c.loop-index.tree.tree) c.child_of_frame-child.result).chain = turn.counts in
+    let seat : IsSeatTo (bare c.loop-index.tree.tree) c.child_of_frame-child.result c.in_ok-seats.seats c.loop-index.index (frame_of c.index-listed-index.result) = seat_of (bare c.loop-index.tree.tree) c.args.id c.args.reps.now c.args.inline.now c.args.block.now c.as_slice-listed.result.now c.in_ok-seats.seats c.args.x c.args.y
+    (subst (λ (z : BareTrees). IsBelow z c.args.id (frames_asked c.args.reps.now c.args.inline.now c.args.block.now) c.as_slice-listed.result.now c.in_ok-seats.seats c.args.x c.args.y) (sym c.loop-index.invariant.same) c.loop-index.invariant.below) c.loop-index.index c.child_of_frame-child.result c.child_of_frame-child.ensures
+    (omega (arith, c.loop-index-test.true)) c.index-listed-index.result c.index-listed-index.is in
+    let fits : is_container (sight_at (bare c.loop-index.tree.tree) c.child_of_frame-child.result).label.kind ≡ true → Fits (sight_at (bare c.loop-index.tree.tree) c.child_of_frame-child.result) (frames_asked (pairs_to c.in_ok-seats.seats (frame_of c.index-listed-index.result)) c.index-listed-index.result.inline c.index-listed-index.result.block) = turn.fits in
     let level : 1 ≤ level_at (bare c.loop-index.tree.tree) c.child_of_frame-child.result = turn.level in
     let near : IsNearAt (level_at (bare c.loop-index.tree.tree) c.child_of_frame-child.result) c.args.x c.args.y (frame_of c.index-listed-index.result) = turn.near in
     let nothing : c.args.nothing.now ≡ above.Nothing = c.requires.nothing in
@@ -166,38 +205,38 @@ boxes_below-child_boxes-requires g t c =
 
 pub boxes_below-returns-in_err-child_boxes-clause-part : goal.boxes_below-returns-in_err-child_boxes-clause-part
 boxes_below-returns-in_err-child_boxes-clause-part g t c =
-    let turn : IsTurn (bare c.loop-index.tree.tree) c.args.id (frames_asked c.args.reps.now c.args.inline.now c.args.block.now) c.args.x c.args.y c.loop-index.index c.child_of_frame-child.result c.pairs_for.result.now c.above_for.result.now c.area_for.result c.index-listed-index.result = turn_here (bare c.loop-index.tree.tree) c.args.id c.args.reps.now c.args.inline.now c.args.block.now c.as_slice-listed.result.now c.in_ok-seats.seats c.args.x c.args.y
+    let turn : IsTurn (bare c.loop-index.tree.tree) c.args.id (frames_asked c.args.reps.now c.args.inline.now c.args.block.now) c.args.x c.args.y c.loop-index.index c.child_of_frame-child.result (pairs_to c.in_ok-seats.seats (frame_of c.index-listed-index.result)) (above_to c.in_ok-seats.seats (frame_of c.index-listed-index.result)) (get_or c.in_ok-seats.seats.areas c.loop-index.index c.args.area) c.index-listed-index.result = turn_of (bare c.loop-index.tree.tree) c.args.id c.args.reps.now c.args.inline.now c.args.block.now c.as_slice-listed.result.now c.in_ok-seats.seats c.args.x c.args.y
     (subst (λ (z : BareTrees). IsBelow z c.args.id (frames_asked c.args.reps.now c.args.inline.now c.args.block.now) c.as_slice-listed.result.now c.in_ok-seats.seats c.args.x c.args.y) (sym c.loop-index.invariant.same) c.loop-index.invariant.below) c.loop-index.index c.child_of_frame-child.result c.child_of_frame-child.ensures
-    (omega (arith, c.loop-index-test.true)) c.index-listed-index.result c.index-listed-index.is c.is_lower-lower.result c.is_lower-lower.ensures c.pairs_for.result.now c.pairs_for.ensures c.above_for.result.now c.above_for.ensures c.area_for.result c.area_for.ensures in
-    on_err _ _ (part_next (bare c.args.tree.now.tree) (bare c.loop-index.tree.tree) c.loop-index.invariant.same c.args.id (frames_asked c.args.reps.now c.args.inline.now c.args.block.now) c.args.x c.args.y c.loop-index.index c.child_of_frame-child.result c.pairs_for.result.now c.above_for.result.now c.area_for.result c.index-listed-index.result turn (state c.args.tree.now c.args.tally.now c.args.passes.now (g.R.Ruler.log c.args.ruler.now)) (state c.loop-index.tree c.loop-index.tally c.loop-index.passes (g.R.Ruler.log c.loop-index.ruler)) (state c.child_boxes.new.tree c.child_boxes.new.tally c.child_boxes.new.passes (g.R.Ruler.log c.child_boxes.new.ruler)) refl c.loop-index.invariant.laid c.in_err-child_boxes.ensures.part)
+    (omega (arith, c.loop-index-test.true)) c.index-listed-index.result c.index-listed-index.is c.args.area in
+    on_err _ _ (part_next (bare c.args.tree.now.tree) (bare c.loop-index.tree.tree) c.loop-index.invariant.same c.args.id (frames_asked c.args.reps.now c.args.inline.now c.args.block.now) c.args.x c.args.y c.loop-index.index c.child_of_frame-child.result (pairs_to c.in_ok-seats.seats (frame_of c.index-listed-index.result)) (above_to c.in_ok-seats.seats (frame_of c.index-listed-index.result)) (get_or c.in_ok-seats.seats.areas c.loop-index.index c.args.area) c.index-listed-index.result turn (state c.args.tree.now c.args.tally.now c.args.passes.now (g.R.Ruler.log c.args.ruler.now)) (state c.loop-index.tree c.loop-index.tally c.loop-index.passes (g.R.Ruler.log c.loop-index.ruler)) (state c.child_boxes.new.tree c.child_boxes.new.tally c.child_boxes.new.passes (g.R.Ruler.log c.child_boxes.new.ruler)) refl c.loop-index.invariant.laid c.in_err-child_boxes.ensures.part)
 
 pub boxes_below-returns-in_err-child_boxes-clause-quiet : goal.boxes_below-returns-in_err-child_boxes-clause-quiet
 boxes_below-returns-in_err-child_boxes-clause-quiet g t c =
-    let turn : IsTurn (bare c.loop-index.tree.tree) c.args.id (frames_asked c.args.reps.now c.args.inline.now c.args.block.now) c.args.x c.args.y c.loop-index.index c.child_of_frame-child.result c.pairs_for.result.now c.above_for.result.now c.area_for.result c.index-listed-index.result = turn_here (bare c.loop-index.tree.tree) c.args.id c.args.reps.now c.args.inline.now c.args.block.now c.as_slice-listed.result.now c.in_ok-seats.seats c.args.x c.args.y
+    let turn : IsTurn (bare c.loop-index.tree.tree) c.args.id (frames_asked c.args.reps.now c.args.inline.now c.args.block.now) c.args.x c.args.y c.loop-index.index c.child_of_frame-child.result (pairs_to c.in_ok-seats.seats (frame_of c.index-listed-index.result)) (above_to c.in_ok-seats.seats (frame_of c.index-listed-index.result)) (get_or c.in_ok-seats.seats.areas c.loop-index.index c.args.area) c.index-listed-index.result = turn_of (bare c.loop-index.tree.tree) c.args.id c.args.reps.now c.args.inline.now c.args.block.now c.as_slice-listed.result.now c.in_ok-seats.seats c.args.x c.args.y
     (subst (λ (z : BareTrees). IsBelow z c.args.id (frames_asked c.args.reps.now c.args.inline.now c.args.block.now) c.as_slice-listed.result.now c.in_ok-seats.seats c.args.x c.args.y) (sym c.loop-index.invariant.same) c.loop-index.invariant.below) c.loop-index.index c.child_of_frame-child.result c.child_of_frame-child.ensures
-    (omega (arith, c.loop-index-test.true)) c.index-listed-index.result c.index-listed-index.is c.is_lower-lower.result c.is_lower-lower.ensures c.pairs_for.result.now c.pairs_for.ensures c.above_for.result.now c.above_for.ensures c.area_for.result c.area_for.ensures in
-    quiet_next (bare c.args.tree.now.tree) (bare c.loop-index.tree.tree) c.loop-index.invariant.same c.args.id (frames_asked c.args.reps.now c.args.inline.now c.args.block.now) c.args.x c.args.y c.loop-index.index c.child_of_frame-child.result c.pairs_for.result.now c.above_for.result.now c.area_for.result c.index-listed-index.result turn (state c.args.tree.now c.args.tally.now c.args.passes.now (g.R.Ruler.log c.args.ruler.now)) (state c.loop-index.tree c.loop-index.tally c.loop-index.passes (g.R.Ruler.log c.loop-index.ruler)) (state c.child_boxes.new.tree c.child_boxes.new.tally c.child_boxes.new.passes (g.R.Ruler.log c.child_boxes.new.ruler)) c.loop-index.invariant.quiet c.child_boxes.ensures.quiet
+    (omega (arith, c.loop-index-test.true)) c.index-listed-index.result c.index-listed-index.is c.args.area in
+    quiet_next (bare c.args.tree.now.tree) (bare c.loop-index.tree.tree) c.loop-index.invariant.same c.args.id (frames_asked c.args.reps.now c.args.inline.now c.args.block.now) c.args.x c.args.y c.loop-index.index c.child_of_frame-child.result (pairs_to c.in_ok-seats.seats (frame_of c.index-listed-index.result)) (above_to c.in_ok-seats.seats (frame_of c.index-listed-index.result)) (get_or c.in_ok-seats.seats.areas c.loop-index.index c.args.area) c.index-listed-index.result turn (state c.args.tree.now c.args.tally.now c.args.passes.now (g.R.Ruler.log c.args.ruler.now)) (state c.loop-index.tree c.loop-index.tally c.loop-index.passes (g.R.Ruler.log c.loop-index.ruler)) (state c.child_boxes.new.tree c.child_boxes.new.tally c.child_boxes.new.passes (g.R.Ruler.log c.child_boxes.new.ruler)) c.loop-index.invariant.quiet c.child_boxes.ensures.quiet
 
 pub boxes_below-loop-index-preserved : goal.boxes_below-loop-index-preserved
 boxes_below-loop-index-preserved g t c =
-    let turn : IsTurn (bare c.loop-index.tree.tree) c.args.id (frames_asked c.args.reps.now c.args.inline.now c.args.block.now) c.args.x c.args.y c.loop-index.index c.child_of_frame-child.result c.pairs_for.result.now c.above_for.result.now c.area_for.result c.index-listed-index.result = turn_here (bare c.loop-index.tree.tree) c.args.id c.args.reps.now c.args.inline.now c.args.block.now c.as_slice-listed.result.now c.in_ok-seats.seats c.args.x c.args.y
+    let turn : IsTurn (bare c.loop-index.tree.tree) c.args.id (frames_asked c.args.reps.now c.args.inline.now c.args.block.now) c.args.x c.args.y c.loop-index.index c.child_of_frame-child.result (pairs_to c.in_ok-seats.seats (frame_of c.index-listed-index.result)) (above_to c.in_ok-seats.seats (frame_of c.index-listed-index.result)) (get_or c.in_ok-seats.seats.areas c.loop-index.index c.args.area) c.index-listed-index.result = turn_of (bare c.loop-index.tree.tree) c.args.id c.args.reps.now c.args.inline.now c.args.block.now c.as_slice-listed.result.now c.in_ok-seats.seats c.args.x c.args.y
     (subst (λ (z : BareTrees). IsBelow z c.args.id (frames_asked c.args.reps.now c.args.inline.now c.args.block.now) c.as_slice-listed.result.now c.in_ok-seats.seats c.args.x c.args.y) (sym c.loop-index.invariant.same) c.loop-index.invariant.below) c.loop-index.index c.child_of_frame-child.result c.child_of_frame-child.ensures
-    (omega (arith, c.loop-index-test.true)) c.index-listed-index.result c.index-listed-index.is c.is_lower-lower.result c.is_lower-lower.ensures c.pairs_for.result.now c.pairs_for.ensures c.above_for.result.now c.above_for.ensures c.area_for.result c.area_for.ensures in
+    (omega (arith, c.loop-index-test.true)) c.index-listed-index.result c.index-listed-index.is c.args.area in
     record {
       right = c.child_boxes.ensures.right;
       same = child_same (bare c.loop-index.tree.tree) c.child_of_frame-child.result _ _ _ c.in_ok-child_boxes.ensures.laid ∙ c.loop-index.invariant.same;
-      laid = laid_next (bare c.args.tree.now.tree) (bare c.loop-index.tree.tree) c.loop-index.invariant.same c.args.id (frames_asked c.args.reps.now c.args.inline.now c.args.block.now) c.args.x c.args.y c.loop-index.index c.child_of_frame-child.result c.pairs_for.result.now c.above_for.result.now c.area_for.result c.index-listed-index.result turn (state c.args.tree.now c.args.tally.now c.args.passes.now (g.R.Ruler.log c.args.ruler.now)) (state c.loop-index.tree c.loop-index.tally c.loop-index.passes (g.R.Ruler.log c.loop-index.ruler)) (state c.child_boxes.new.tree c.child_boxes.new.tally c.child_boxes.new.passes (g.R.Ruler.log c.child_boxes.new.ruler)) refl c.loop-index.invariant.laid c.in_ok-child_boxes.ensures.laid;
-      value = value_next (bare c.args.tree.now.tree) (bare c.loop-index.tree.tree) c.loop-index.invariant.same c.args.id (frames_asked c.args.reps.now c.args.inline.now c.args.block.now) c.args.x c.args.y c.loop-index.index c.child_of_frame-child.result c.pairs_for.result.now c.above_for.result.now c.area_for.result c.index-listed-index.result turn c.loop-index.told c.child_boxes.new.told _ c.in_ok-child_boxes.ensures.value c.loop-index.invariant.value;
+      laid = laid_next (bare c.args.tree.now.tree) (bare c.loop-index.tree.tree) c.loop-index.invariant.same c.args.id (frames_asked c.args.reps.now c.args.inline.now c.args.block.now) c.args.x c.args.y c.loop-index.index c.child_of_frame-child.result (pairs_to c.in_ok-seats.seats (frame_of c.index-listed-index.result)) (above_to c.in_ok-seats.seats (frame_of c.index-listed-index.result)) (get_or c.in_ok-seats.seats.areas c.loop-index.index c.args.area) c.index-listed-index.result turn (state c.args.tree.now c.args.tally.now c.args.passes.now (g.R.Ruler.log c.args.ruler.now)) (state c.loop-index.tree c.loop-index.tally c.loop-index.passes (g.R.Ruler.log c.loop-index.ruler)) (state c.child_boxes.new.tree c.child_boxes.new.tally c.child_boxes.new.passes (g.R.Ruler.log c.child_boxes.new.ruler)) refl c.loop-index.invariant.laid c.in_ok-child_boxes.ensures.laid;
+      value = value_next (bare c.args.tree.now.tree) (bare c.loop-index.tree.tree) c.loop-index.invariant.same c.args.id (frames_asked c.args.reps.now c.args.inline.now c.args.block.now) c.args.x c.args.y c.loop-index.index c.child_of_frame-child.result (pairs_to c.in_ok-seats.seats (frame_of c.index-listed-index.result)) (above_to c.in_ok-seats.seats (frame_of c.index-listed-index.result)) (get_or c.in_ok-seats.seats.areas c.loop-index.index c.args.area) c.index-listed-index.result turn c.loop-index.told c.child_boxes.new.told _ c.in_ok-child_boxes.ensures.value c.loop-index.invariant.value;
       below = c.loop-index.invariant.below;
-      own = own_next (bare c.args.tree.now.tree) c.differ.ensures c.args.id c.args.reps.now c.args.inline.now c.args.block.now c.args.x c.args.y c.loop-index.index c.child_of_frame-child.result c.pairs_for.result.now c.above_for.result.now c.area_for.result c.index-listed-index.result (subst (λ (z : BareTrees). IsTurn z c.args.id (frames_asked c.args.reps.now c.args.inline.now c.args.block.now) c.args.x c.args.y c.loop-index.index c.child_of_frame-child.result c.pairs_for.result.now c.above_for.result.now c.area_for.result c.index-listed-index.result) c.loop-index.invariant.same turn) (state c.loop-index.tree c.loop-index.tally c.loop-index.passes (g.R.Ruler.log c.loop-index.ruler)) (state c.child_boxes.new.tree c.child_boxes.new.tally c.child_boxes.new.passes (g.R.Ruler.log c.child_boxes.new.ruler)) (outside_same (bare c.args.tree.now.tree) c.child_of_frame-child.result (frames_asked c.pairs_for.result.now c.index-listed-index.result.inline c.index-listed-index.result.block) (state c.loop-index.tree c.loop-index.tally c.loop-index.passes (g.R.Ruler.log c.loop-index.ruler)) (state c.child_boxes.new.tree c.child_boxes.new.tally c.child_boxes.new.passes (g.R.Ruler.log c.child_boxes.new.ruler)) c.loop-index.invariant.same (subst (λ (z : BareTrees). IsChildLaid z c.child_of_frame-child.result (frames_asked c.pairs_for.result.now c.index-listed-index.result.inline c.index-listed-index.result.block) (state c.loop-index.tree c.loop-index.tally c.loop-index.passes (g.R.Ruler.log c.loop-index.ruler)) (state c.child_boxes.new.tree c.child_boxes.new.tally c.child_boxes.new.passes (g.R.Ruler.log c.child_boxes.new.ruler))) c.loop-index.invariant.same c.in_ok-child_boxes.ensures.laid)) (frames_asked c.args.reps.now c.args.inline.now c.args.block.now) c.loop-index.invariant.own;
-      done = done_next (bare c.args.tree.now.tree) c.differ.ensures c.args.id c.args.reps.now c.args.inline.now c.args.block.now c.args.x c.args.y c.loop-index.index c.child_of_frame-child.result c.pairs_for.result.now c.above_for.result.now c.area_for.result c.index-listed-index.result (subst (λ (z : BareTrees). IsTurn z c.args.id (frames_asked c.args.reps.now c.args.inline.now c.args.block.now) c.args.x c.args.y c.loop-index.index c.child_of_frame-child.result c.pairs_for.result.now c.above_for.result.now c.area_for.result c.index-listed-index.result) c.loop-index.invariant.same turn) (state c.loop-index.tree c.loop-index.tally c.loop-index.passes (g.R.Ruler.log c.loop-index.ruler)) (state c.child_boxes.new.tree c.child_boxes.new.tally c.child_boxes.new.passes (g.R.Ruler.log c.child_boxes.new.ruler)) (outside_same (bare c.args.tree.now.tree) c.child_of_frame-child.result (frames_asked c.pairs_for.result.now c.index-listed-index.result.inline c.index-listed-index.result.block) (state c.loop-index.tree c.loop-index.tally c.loop-index.passes (g.R.Ruler.log c.loop-index.ruler)) (state c.child_boxes.new.tree c.child_boxes.new.tally c.child_boxes.new.passes (g.R.Ruler.log c.child_boxes.new.ruler)) c.loop-index.invariant.same (subst (λ (z : BareTrees). IsChildLaid z c.child_of_frame-child.result (frames_asked c.pairs_for.result.now c.index-listed-index.result.inline c.index-listed-index.result.block) (state c.loop-index.tree c.loop-index.tally c.loop-index.passes (g.R.Ruler.log c.loop-index.ruler)) (state c.child_boxes.new.tree c.child_boxes.new.tally c.child_boxes.new.passes (g.R.Ruler.log c.child_boxes.new.ruler))) c.loop-index.invariant.same c.in_ok-child_boxes.ensures.laid)) c.loop-index.invariant.done
-          (subst (λ (z : BareTrees). is_container (sight_at z c.child_of_frame-child.result).label.kind ≡ true → AreKeptBelow z c.child_of_frame-child.result (frames_asked c.pairs_for.result.now c.index-listed-index.result.inline c.index-listed-index.result.block) (state c.child_boxes.new.tree c.child_boxes.new.tally c.child_boxes.new.passes (g.R.Ruler.log c.child_boxes.new.ruler))) c.loop-index.invariant.same c.in_ok-child_boxes.ensures.paths);
-      leaves = own_measured (bare c.args.tree.now.tree) c.differ.ensures c.args.id c.args.reps.now c.args.inline.now c.args.block.now c.args.x c.args.y c.loop-index.index c.child_of_frame-child.result c.pairs_for.result.now c.above_for.result.now c.area_for.result c.index-listed-index.result (subst (λ (z : BareTrees). IsTurn z c.args.id (frames_asked c.args.reps.now c.args.inline.now c.args.block.now) c.args.x c.args.y c.loop-index.index c.child_of_frame-child.result c.pairs_for.result.now c.above_for.result.now c.area_for.result c.index-listed-index.result) c.loop-index.invariant.same turn) (state c.args.tree.now c.args.tally.now c.args.passes.now (g.R.Ruler.log c.args.ruler.now)) (state c.loop-index.tree c.loop-index.tally c.loop-index.passes (g.R.Ruler.log c.loop-index.ruler)) (state c.child_boxes.new.tree c.child_boxes.new.tally c.child_boxes.new.passes (g.R.Ruler.log c.child_boxes.new.ruler)) (outside_same (bare c.args.tree.now.tree) c.child_of_frame-child.result (frames_asked c.pairs_for.result.now c.index-listed-index.result.inline c.index-listed-index.result.block) (state c.loop-index.tree c.loop-index.tally c.loop-index.passes (g.R.Ruler.log c.loop-index.ruler)) (state c.child_boxes.new.tree c.child_boxes.new.tally c.child_boxes.new.passes (g.R.Ruler.log c.child_boxes.new.ruler)) c.loop-index.invariant.same (subst (λ (z : BareTrees). IsChildLaid z c.child_of_frame-child.result (frames_asked c.pairs_for.result.now c.index-listed-index.result.inline c.index-listed-index.result.block) (state c.loop-index.tree c.loop-index.tally c.loop-index.passes (g.R.Ruler.log c.loop-index.ruler)) (state c.child_boxes.new.tree c.child_boxes.new.tally c.child_boxes.new.passes (g.R.Ruler.log c.child_boxes.new.ruler))) c.loop-index.invariant.same c.in_ok-child_boxes.ensures.laid)) (untold (bare c.args.tree.now.tree) c.child_of_frame-child.result (frames_asked c.pairs_for.result.now c.index-listed-index.result.inline c.index-listed-index.result.block) (state c.loop-index.tree c.loop-index.tally c.loop-index.passes (g.R.Ruler.log c.loop-index.ruler)) (state c.child_boxes.new.tree c.child_boxes.new.tally c.child_boxes.new.passes (g.R.Ruler.log c.child_boxes.new.ruler)) (subst (λ (z : BareTrees). IsChildLaid z c.child_of_frame-child.result (frames_asked c.pairs_for.result.now c.index-listed-index.result.inline c.index-listed-index.result.block) (state c.loop-index.tree c.loop-index.tally c.loop-index.passes (g.R.Ruler.log c.loop-index.ruler)) (state c.child_boxes.new.tree c.child_boxes.new.tally c.child_boxes.new.passes (g.R.Ruler.log c.child_boxes.new.ruler))) c.loop-index.invariant.same c.in_ok-child_boxes.ensures.laid)) c.loop-index.invariant.leaves;
-      measured = measured_next (bare c.args.tree.now.tree) c.differ.ensures c.args.id c.args.reps.now c.args.inline.now c.args.block.now c.args.x c.args.y c.loop-index.index c.child_of_frame-child.result c.pairs_for.result.now c.above_for.result.now c.area_for.result c.index-listed-index.result (subst (λ (z : BareTrees). IsTurn z c.args.id (frames_asked c.args.reps.now c.args.inline.now c.args.block.now) c.args.x c.args.y c.loop-index.index c.child_of_frame-child.result c.pairs_for.result.now c.above_for.result.now c.area_for.result c.index-listed-index.result) c.loop-index.invariant.same turn) (state c.args.tree.now c.args.tally.now c.args.passes.now (g.R.Ruler.log c.args.ruler.now)) (state c.loop-index.tree c.loop-index.tally c.loop-index.passes (g.R.Ruler.log c.loop-index.ruler)) (state c.child_boxes.new.tree c.child_boxes.new.tally c.child_boxes.new.passes (g.R.Ruler.log c.child_boxes.new.ruler)) (outside_same (bare c.args.tree.now.tree) c.child_of_frame-child.result (frames_asked c.pairs_for.result.now c.index-listed-index.result.inline c.index-listed-index.result.block) (state c.loop-index.tree c.loop-index.tally c.loop-index.passes (g.R.Ruler.log c.loop-index.ruler)) (state c.child_boxes.new.tree c.child_boxes.new.tally c.child_boxes.new.passes (g.R.Ruler.log c.child_boxes.new.ruler)) c.loop-index.invariant.same (subst (λ (z : BareTrees). IsChildLaid z c.child_of_frame-child.result (frames_asked c.pairs_for.result.now c.index-listed-index.result.inline c.index-listed-index.result.block) (state c.loop-index.tree c.loop-index.tally c.loop-index.passes (g.R.Ruler.log c.loop-index.ruler)) (state c.child_boxes.new.tree c.child_boxes.new.tally c.child_boxes.new.passes (g.R.Ruler.log c.child_boxes.new.ruler))) c.loop-index.invariant.same c.in_ok-child_boxes.ensures.laid)) c.loop-index.invariant.measured c.loop-index.invariant.absent
-          (subst (λ (z : BareTrees). is_container (sight_at z c.child_of_frame-child.result).label.kind ≡ true → MeasuresBelow z c.child_of_frame-child.result (frames_asked c.pairs_for.result.now c.index-listed-index.result.inline c.index-listed-index.result.block) (state c.loop-index.tree c.loop-index.tally c.loop-index.passes (g.R.Ruler.log c.loop-index.ruler)) (state c.child_boxes.new.tree c.child_boxes.new.tally c.child_boxes.new.passes (g.R.Ruler.log c.child_boxes.new.ruler))) c.loop-index.invariant.same c.in_ok-child_boxes.ensures.leaves);
-      absent = absent_next (bare c.args.tree.now.tree) c.differ.ensures c.args.id c.args.reps.now c.args.inline.now c.args.block.now c.args.x c.args.y c.loop-index.index c.child_of_frame-child.result c.pairs_for.result.now c.above_for.result.now c.area_for.result c.index-listed-index.result (subst (λ (z : BareTrees). IsTurn z c.args.id (frames_asked c.args.reps.now c.args.inline.now c.args.block.now) c.args.x c.args.y c.loop-index.index c.child_of_frame-child.result c.pairs_for.result.now c.above_for.result.now c.area_for.result c.index-listed-index.result) c.loop-index.invariant.same turn) (state c.args.tree.now c.args.tally.now c.args.passes.now (g.R.Ruler.log c.args.ruler.now)) (state c.loop-index.tree c.loop-index.tally c.loop-index.passes (g.R.Ruler.log c.loop-index.ruler)) (state c.child_boxes.new.tree c.child_boxes.new.tally c.child_boxes.new.passes (g.R.Ruler.log c.child_boxes.new.ruler)) (outside_same (bare c.args.tree.now.tree) c.child_of_frame-child.result (frames_asked c.pairs_for.result.now c.index-listed-index.result.inline c.index-listed-index.result.block) (state c.loop-index.tree c.loop-index.tally c.loop-index.passes (g.R.Ruler.log c.loop-index.ruler)) (state c.child_boxes.new.tree c.child_boxes.new.tally c.child_boxes.new.passes (g.R.Ruler.log c.child_boxes.new.ruler)) c.loop-index.invariant.same (subst (λ (z : BareTrees). IsChildLaid z c.child_of_frame-child.result (frames_asked c.pairs_for.result.now c.index-listed-index.result.inline c.index-listed-index.result.block) (state c.loop-index.tree c.loop-index.tally c.loop-index.passes (g.R.Ruler.log c.loop-index.ruler)) (state c.child_boxes.new.tree c.child_boxes.new.tally c.child_boxes.new.passes (g.R.Ruler.log c.child_boxes.new.ruler))) c.loop-index.invariant.same c.in_ok-child_boxes.ensures.laid)) c.loop-index.invariant.absent;
+      own = own_next (bare c.args.tree.now.tree) c.differ.ensures c.args.id c.args.reps.now c.args.inline.now c.args.block.now c.args.x c.args.y c.loop-index.index c.child_of_frame-child.result (pairs_to c.in_ok-seats.seats (frame_of c.index-listed-index.result)) (above_to c.in_ok-seats.seats (frame_of c.index-listed-index.result)) (get_or c.in_ok-seats.seats.areas c.loop-index.index c.args.area) c.index-listed-index.result (subst (λ (z : BareTrees). IsTurn z c.args.id (frames_asked c.args.reps.now c.args.inline.now c.args.block.now) c.args.x c.args.y c.loop-index.index c.child_of_frame-child.result (pairs_to c.in_ok-seats.seats (frame_of c.index-listed-index.result)) (above_to c.in_ok-seats.seats (frame_of c.index-listed-index.result)) (get_or c.in_ok-seats.seats.areas c.loop-index.index c.args.area) c.index-listed-index.result) c.loop-index.invariant.same turn) (state c.loop-index.tree c.loop-index.tally c.loop-index.passes (g.R.Ruler.log c.loop-index.ruler)) (state c.child_boxes.new.tree c.child_boxes.new.tally c.child_boxes.new.passes (g.R.Ruler.log c.child_boxes.new.ruler)) (outside_same (bare c.args.tree.now.tree) c.child_of_frame-child.result (frames_asked (pairs_to c.in_ok-seats.seats (frame_of c.index-listed-index.result)) c.index-listed-index.result.inline c.index-listed-index.result.block) (state c.loop-index.tree c.loop-index.tally c.loop-index.passes (g.R.Ruler.log c.loop-index.ruler)) (state c.child_boxes.new.tree c.child_boxes.new.tally c.child_boxes.new.passes (g.R.Ruler.log c.child_boxes.new.ruler)) c.loop-index.invariant.same (subst (λ (z : BareTrees). IsChildLaid z c.child_of_frame-child.result (frames_asked (pairs_to c.in_ok-seats.seats (frame_of c.index-listed-index.result)) c.index-listed-index.result.inline c.index-listed-index.result.block) (state c.loop-index.tree c.loop-index.tally c.loop-index.passes (g.R.Ruler.log c.loop-index.ruler)) (state c.child_boxes.new.tree c.child_boxes.new.tally c.child_boxes.new.passes (g.R.Ruler.log c.child_boxes.new.ruler))) c.loop-index.invariant.same c.in_ok-child_boxes.ensures.laid)) (frames_asked c.args.reps.now c.args.inline.now c.args.block.now) c.loop-index.invariant.own;
+      done = done_next (bare c.args.tree.now.tree) c.differ.ensures c.args.id c.args.reps.now c.args.inline.now c.args.block.now c.args.x c.args.y c.loop-index.index c.child_of_frame-child.result (pairs_to c.in_ok-seats.seats (frame_of c.index-listed-index.result)) (above_to c.in_ok-seats.seats (frame_of c.index-listed-index.result)) (get_or c.in_ok-seats.seats.areas c.loop-index.index c.args.area) c.index-listed-index.result (subst (λ (z : BareTrees). IsTurn z c.args.id (frames_asked c.args.reps.now c.args.inline.now c.args.block.now) c.args.x c.args.y c.loop-index.index c.child_of_frame-child.result (pairs_to c.in_ok-seats.seats (frame_of c.index-listed-index.result)) (above_to c.in_ok-seats.seats (frame_of c.index-listed-index.result)) (get_or c.in_ok-seats.seats.areas c.loop-index.index c.args.area) c.index-listed-index.result) c.loop-index.invariant.same turn) (state c.loop-index.tree c.loop-index.tally c.loop-index.passes (g.R.Ruler.log c.loop-index.ruler)) (state c.child_boxes.new.tree c.child_boxes.new.tally c.child_boxes.new.passes (g.R.Ruler.log c.child_boxes.new.ruler)) (outside_same (bare c.args.tree.now.tree) c.child_of_frame-child.result (frames_asked (pairs_to c.in_ok-seats.seats (frame_of c.index-listed-index.result)) c.index-listed-index.result.inline c.index-listed-index.result.block) (state c.loop-index.tree c.loop-index.tally c.loop-index.passes (g.R.Ruler.log c.loop-index.ruler)) (state c.child_boxes.new.tree c.child_boxes.new.tally c.child_boxes.new.passes (g.R.Ruler.log c.child_boxes.new.ruler)) c.loop-index.invariant.same (subst (λ (z : BareTrees). IsChildLaid z c.child_of_frame-child.result (frames_asked (pairs_to c.in_ok-seats.seats (frame_of c.index-listed-index.result)) c.index-listed-index.result.inline c.index-listed-index.result.block) (state c.loop-index.tree c.loop-index.tally c.loop-index.passes (g.R.Ruler.log c.loop-index.ruler)) (state c.child_boxes.new.tree c.child_boxes.new.tally c.child_boxes.new.passes (g.R.Ruler.log c.child_boxes.new.ruler))) c.loop-index.invariant.same c.in_ok-child_boxes.ensures.laid)) c.loop-index.invariant.done
+          (subst (λ (z : BareTrees). is_container (sight_at z c.child_of_frame-child.result).label.kind ≡ true → AreKeptBelow z c.child_of_frame-child.result (frames_asked (pairs_to c.in_ok-seats.seats (frame_of c.index-listed-index.result)) c.index-listed-index.result.inline c.index-listed-index.result.block) (state c.child_boxes.new.tree c.child_boxes.new.tally c.child_boxes.new.passes (g.R.Ruler.log c.child_boxes.new.ruler))) c.loop-index.invariant.same c.in_ok-child_boxes.ensures.paths);
+      leaves = own_measured (bare c.args.tree.now.tree) c.differ.ensures c.args.id c.args.reps.now c.args.inline.now c.args.block.now c.args.x c.args.y c.loop-index.index c.child_of_frame-child.result (pairs_to c.in_ok-seats.seats (frame_of c.index-listed-index.result)) (above_to c.in_ok-seats.seats (frame_of c.index-listed-index.result)) (get_or c.in_ok-seats.seats.areas c.loop-index.index c.args.area) c.index-listed-index.result (subst (λ (z : BareTrees). IsTurn z c.args.id (frames_asked c.args.reps.now c.args.inline.now c.args.block.now) c.args.x c.args.y c.loop-index.index c.child_of_frame-child.result (pairs_to c.in_ok-seats.seats (frame_of c.index-listed-index.result)) (above_to c.in_ok-seats.seats (frame_of c.index-listed-index.result)) (get_or c.in_ok-seats.seats.areas c.loop-index.index c.args.area) c.index-listed-index.result) c.loop-index.invariant.same turn) (state c.args.tree.now c.args.tally.now c.args.passes.now (g.R.Ruler.log c.args.ruler.now)) (state c.loop-index.tree c.loop-index.tally c.loop-index.passes (g.R.Ruler.log c.loop-index.ruler)) (state c.child_boxes.new.tree c.child_boxes.new.tally c.child_boxes.new.passes (g.R.Ruler.log c.child_boxes.new.ruler)) (outside_same (bare c.args.tree.now.tree) c.child_of_frame-child.result (frames_asked (pairs_to c.in_ok-seats.seats (frame_of c.index-listed-index.result)) c.index-listed-index.result.inline c.index-listed-index.result.block) (state c.loop-index.tree c.loop-index.tally c.loop-index.passes (g.R.Ruler.log c.loop-index.ruler)) (state c.child_boxes.new.tree c.child_boxes.new.tally c.child_boxes.new.passes (g.R.Ruler.log c.child_boxes.new.ruler)) c.loop-index.invariant.same (subst (λ (z : BareTrees). IsChildLaid z c.child_of_frame-child.result (frames_asked (pairs_to c.in_ok-seats.seats (frame_of c.index-listed-index.result)) c.index-listed-index.result.inline c.index-listed-index.result.block) (state c.loop-index.tree c.loop-index.tally c.loop-index.passes (g.R.Ruler.log c.loop-index.ruler)) (state c.child_boxes.new.tree c.child_boxes.new.tally c.child_boxes.new.passes (g.R.Ruler.log c.child_boxes.new.ruler))) c.loop-index.invariant.same c.in_ok-child_boxes.ensures.laid)) (untold (bare c.args.tree.now.tree) c.child_of_frame-child.result (frames_asked (pairs_to c.in_ok-seats.seats (frame_of c.index-listed-index.result)) c.index-listed-index.result.inline c.index-listed-index.result.block) (state c.loop-index.tree c.loop-index.tally c.loop-index.passes (g.R.Ruler.log c.loop-index.ruler)) (state c.child_boxes.new.tree c.child_boxes.new.tally c.child_boxes.new.passes (g.R.Ruler.log c.child_boxes.new.ruler)) (subst (λ (z : BareTrees). IsChildLaid z c.child_of_frame-child.result (frames_asked (pairs_to c.in_ok-seats.seats (frame_of c.index-listed-index.result)) c.index-listed-index.result.inline c.index-listed-index.result.block) (state c.loop-index.tree c.loop-index.tally c.loop-index.passes (g.R.Ruler.log c.loop-index.ruler)) (state c.child_boxes.new.tree c.child_boxes.new.tally c.child_boxes.new.passes (g.R.Ruler.log c.child_boxes.new.ruler))) c.loop-index.invariant.same c.in_ok-child_boxes.ensures.laid)) c.loop-index.invariant.leaves;
+      measured = measured_next (bare c.args.tree.now.tree) c.differ.ensures c.args.id c.args.reps.now c.args.inline.now c.args.block.now c.args.x c.args.y c.loop-index.index c.child_of_frame-child.result (pairs_to c.in_ok-seats.seats (frame_of c.index-listed-index.result)) (above_to c.in_ok-seats.seats (frame_of c.index-listed-index.result)) (get_or c.in_ok-seats.seats.areas c.loop-index.index c.args.area) c.index-listed-index.result (subst (λ (z : BareTrees). IsTurn z c.args.id (frames_asked c.args.reps.now c.args.inline.now c.args.block.now) c.args.x c.args.y c.loop-index.index c.child_of_frame-child.result (pairs_to c.in_ok-seats.seats (frame_of c.index-listed-index.result)) (above_to c.in_ok-seats.seats (frame_of c.index-listed-index.result)) (get_or c.in_ok-seats.seats.areas c.loop-index.index c.args.area) c.index-listed-index.result) c.loop-index.invariant.same turn) (state c.args.tree.now c.args.tally.now c.args.passes.now (g.R.Ruler.log c.args.ruler.now)) (state c.loop-index.tree c.loop-index.tally c.loop-index.passes (g.R.Ruler.log c.loop-index.ruler)) (state c.child_boxes.new.tree c.child_boxes.new.tally c.child_boxes.new.passes (g.R.Ruler.log c.child_boxes.new.ruler)) (outside_same (bare c.args.tree.now.tree) c.child_of_frame-child.result (frames_asked (pairs_to c.in_ok-seats.seats (frame_of c.index-listed-index.result)) c.index-listed-index.result.inline c.index-listed-index.result.block) (state c.loop-index.tree c.loop-index.tally c.loop-index.passes (g.R.Ruler.log c.loop-index.ruler)) (state c.child_boxes.new.tree c.child_boxes.new.tally c.child_boxes.new.passes (g.R.Ruler.log c.child_boxes.new.ruler)) c.loop-index.invariant.same (subst (λ (z : BareTrees). IsChildLaid z c.child_of_frame-child.result (frames_asked (pairs_to c.in_ok-seats.seats (frame_of c.index-listed-index.result)) c.index-listed-index.result.inline c.index-listed-index.result.block) (state c.loop-index.tree c.loop-index.tally c.loop-index.passes (g.R.Ruler.log c.loop-index.ruler)) (state c.child_boxes.new.tree c.child_boxes.new.tally c.child_boxes.new.passes (g.R.Ruler.log c.child_boxes.new.ruler))) c.loop-index.invariant.same c.in_ok-child_boxes.ensures.laid)) c.loop-index.invariant.measured c.loop-index.invariant.absent
+          (subst (λ (z : BareTrees). is_container (sight_at z c.child_of_frame-child.result).label.kind ≡ true → MeasuresBelow z c.child_of_frame-child.result (frames_asked (pairs_to c.in_ok-seats.seats (frame_of c.index-listed-index.result)) c.index-listed-index.result.inline c.index-listed-index.result.block) (state c.loop-index.tree c.loop-index.tally c.loop-index.passes (g.R.Ruler.log c.loop-index.ruler)) (state c.child_boxes.new.tree c.child_boxes.new.tally c.child_boxes.new.passes (g.R.Ruler.log c.child_boxes.new.ruler))) c.loop-index.invariant.same c.in_ok-child_boxes.ensures.leaves);
+      absent = absent_next (bare c.args.tree.now.tree) c.differ.ensures c.args.id c.args.reps.now c.args.inline.now c.args.block.now c.args.x c.args.y c.loop-index.index c.child_of_frame-child.result (pairs_to c.in_ok-seats.seats (frame_of c.index-listed-index.result)) (above_to c.in_ok-seats.seats (frame_of c.index-listed-index.result)) (get_or c.in_ok-seats.seats.areas c.loop-index.index c.args.area) c.index-listed-index.result (subst (λ (z : BareTrees). IsTurn z c.args.id (frames_asked c.args.reps.now c.args.inline.now c.args.block.now) c.args.x c.args.y c.loop-index.index c.child_of_frame-child.result (pairs_to c.in_ok-seats.seats (frame_of c.index-listed-index.result)) (above_to c.in_ok-seats.seats (frame_of c.index-listed-index.result)) (get_or c.in_ok-seats.seats.areas c.loop-index.index c.args.area) c.index-listed-index.result) c.loop-index.invariant.same turn) (state c.args.tree.now c.args.tally.now c.args.passes.now (g.R.Ruler.log c.args.ruler.now)) (state c.loop-index.tree c.loop-index.tally c.loop-index.passes (g.R.Ruler.log c.loop-index.ruler)) (state c.child_boxes.new.tree c.child_boxes.new.tally c.child_boxes.new.passes (g.R.Ruler.log c.child_boxes.new.ruler)) (outside_same (bare c.args.tree.now.tree) c.child_of_frame-child.result (frames_asked (pairs_to c.in_ok-seats.seats (frame_of c.index-listed-index.result)) c.index-listed-index.result.inline c.index-listed-index.result.block) (state c.loop-index.tree c.loop-index.tally c.loop-index.passes (g.R.Ruler.log c.loop-index.ruler)) (state c.child_boxes.new.tree c.child_boxes.new.tally c.child_boxes.new.passes (g.R.Ruler.log c.child_boxes.new.ruler)) c.loop-index.invariant.same (subst (λ (z : BareTrees). IsChildLaid z c.child_of_frame-child.result (frames_asked (pairs_to c.in_ok-seats.seats (frame_of c.index-listed-index.result)) c.index-listed-index.result.inline c.index-listed-index.result.block) (state c.loop-index.tree c.loop-index.tally c.loop-index.passes (g.R.Ruler.log c.loop-index.ruler)) (state c.child_boxes.new.tree c.child_boxes.new.tally c.child_boxes.new.passes (g.R.Ruler.log c.child_boxes.new.ruler))) c.loop-index.invariant.same c.in_ok-child_boxes.ensures.laid)) c.loop-index.invariant.absent;
       near = λ h. c.in_ok-child_boxes.ensures.near (c.loop-index.invariant.near h);
-      quiet = quiet_next (bare c.args.tree.now.tree) (bare c.loop-index.tree.tree) c.loop-index.invariant.same c.args.id (frames_asked c.args.reps.now c.args.inline.now c.args.block.now) c.args.x c.args.y c.loop-index.index c.child_of_frame-child.result c.pairs_for.result.now c.above_for.result.now c.area_for.result c.index-listed-index.result turn (state c.args.tree.now c.args.tally.now c.args.passes.now (g.R.Ruler.log c.args.ruler.now)) (state c.loop-index.tree c.loop-index.tally c.loop-index.passes (g.R.Ruler.log c.loop-index.ruler)) (state c.child_boxes.new.tree c.child_boxes.new.tally c.child_boxes.new.passes (g.R.Ruler.log c.child_boxes.new.ruler)) c.loop-index.invariant.quiet c.child_boxes.ensures.quiet;
+      quiet = quiet_next (bare c.args.tree.now.tree) (bare c.loop-index.tree.tree) c.loop-index.invariant.same c.args.id (frames_asked c.args.reps.now c.args.inline.now c.args.block.now) c.args.x c.args.y c.loop-index.index c.child_of_frame-child.result (pairs_to c.in_ok-seats.seats (frame_of c.index-listed-index.result)) (above_to c.in_ok-seats.seats (frame_of c.index-listed-index.result)) (get_or c.in_ok-seats.seats.areas c.loop-index.index c.args.area) c.index-listed-index.result turn (state c.args.tree.now c.args.tally.now c.args.passes.now (g.R.Ruler.log c.args.ruler.now)) (state c.loop-index.tree c.loop-index.tally c.loop-index.passes (g.R.Ruler.log c.loop-index.ruler)) (state c.child_boxes.new.tree c.child_boxes.new.tally c.child_boxes.new.passes (g.R.Ruler.log c.child_boxes.new.ruler)) c.loop-index.invariant.quiet c.child_boxes.ensures.quiet;
     }
 
 pub boxes_below-returns-clause-value : goal.boxes_below-returns-clause-value
@@ -226,9 +265,6 @@ pub child_boxes-returns-then-not-container-clause-paths : goal.child_boxes-retur
 child_boxes-returns-then-not-container-clause-paths g t c =
     λ container. absurd (false≢true (sym (kind_is c.node_at-node.result.now.kind (sight_at (bare c.args.tree.now.tree) c.args.id).label.kind c.is_container-container.result c.node_at-node.ensures.kind c.is_container-container.ensures ∙ c.if-not-container.true) ∙ container))
 
-pub child_boxes-returns-clause-paths : goal.child_boxes-returns-clause-paths
-child_boxes-returns-clause-paths g t c = ok_then c.boxes_below.result _ _ (λ kept container. kept) c.boxes_below.ensures.paths
-
 pub boxes_below-returns-clause-leaves : goal.boxes_below-returns-clause-leaves
 boxes_below-returns-clause-leaves g t c =
     all_measured (bare c.args.tree.now.tree) c.args.id (frames_asked c.args.reps.now c.args.inline.now c.args.block.now) (state c.args.tree.now c.args.tally.now c.args.passes.now (g.R.Ruler.log c.args.ruler.now)) (state c.loop-index.tree c.loop-index.tally c.loop-index.passes (g.R.Ruler.log c.loop-index.ruler)) c.loop-index.invariant.leaves
@@ -237,6 +273,3 @@ boxes_below-returns-clause-leaves g t c =
 pub child_boxes-returns-then-not-container-clause-leaves : goal.child_boxes-returns-then-not-container-clause-leaves
 child_boxes-returns-then-not-container-clause-leaves g t c =
     λ container. absurd (false≢true (sym (kind_is c.node_at-node.result.now.kind (sight_at (bare c.args.tree.now.tree) c.args.id).label.kind c.is_container-container.result c.node_at-node.ensures.kind c.is_container-container.ensures ∙ c.if-not-container.true) ∙ container))
-
-pub child_boxes-returns-clause-leaves : goal.child_boxes-returns-clause-leaves
-child_boxes-returns-clause-leaves g t c = ok_then c.boxes_below.result _ _ (λ kept container. kept) c.boxes_below.ensures.leaves

@@ -20,12 +20,12 @@ moved_by-rect-requires-clause-y g c = long (level_at (bare c.args.tree.now.tree)
 
 pub returns-then-not-container-clause-value : goal.returns-then-not-container-clause-value
 returns-then-not-container-clause-value g c =
-    leaf_told (bare c.args.tree.now.tree) c.args.id c.args.reps.now (frame_of c.args.frame.now) (c.args.x, c.args.y) c.args.told.now c.push.new.self c.node_at-node.result.now.name c.moved_by-rect.result
-    (kind_is c.node_at-node.result.now.kind (sight_at (bare c.args.tree.now.tree) c.args.id).label.kind c.is_container-container.result c.node_at-node.ensures.kind c.is_container-container.ensures ∙ c.if-not-container.true) c.in_ok-push.ensures.ok c.node_at-node.ensures.name c.moved_by-rect.ensures
+    leaf_told (bare c.args.tree.now.tree) c.args.id c.args.reps.now (frame_of c.args.frame.now) (c.args.x, c.args.y) c.args.told.now c.tell.new.told c.node_at-node.result.now.name c.moved_by-rect.result
+    (kind_is c.node_at-node.result.now.kind (sight_at (bare c.args.tree.now.tree) c.args.id).label.kind c.is_container-container.result c.node_at-node.ensures.kind c.is_container-container.ensures ∙ c.if-not-container.true) c.in_ok-tell.ensures c.node_at-node.ensures.name c.moved_by-rect.ensures
 
 pub returns-then-not-container-clause-near : goal.returns-then-not-container-clause-near
 returns-then-not-container-clause-near g c =
-    near_told (level_at (bare c.args.tree.now.tree) c.args.id) c.args.x c.args.y (frame_of c.args.frame.now) c.args.told.now c.push.new.self c.node_at-node.result.now.name c.moved_by-rect.result c.in_ok-push.ensures.ok c.moved_by-rect.ensures c.requires.near
+    near_told (level_at (bare c.args.tree.now.tree) c.args.id) c.args.x c.args.y (frame_of c.args.frame.now) c.args.told.now c.tell.new.told c.node_at-node.result.now.name c.moved_by-rect.result c.in_ok-tell.ensures c.moved_by-rect.ensures c.requires.near
 
 pub boxes_below-requires : goal.boxes_below-requires
 boxes_below-requires g c =
@@ -42,6 +42,6 @@ boxes_below-requires g c =
 pub returns-clause-near : goal.returns-clause-near
 returns-clause-near g c =
     ok_then c.boxes_below.result _ _
-    (λ (more : AreNear c.push.new.self → AreNear c.boxes_below.new.told) (all : AreNear c.args.told.now).
-    more (near_told (level_at (bare c.args.tree.now.tree) c.args.id) c.args.x c.args.y (frame_of c.args.frame.now) c.args.told.now c.push.new.self c.node_at-node.result.now.name c.moved_by-rect.result c.in_ok-push.ensures.ok c.moved_by-rect.ensures c.requires.near all))
+    (λ (more : AreNear c.tell.new.told → AreNear c.boxes_below.new.told) (all : AreNear c.args.told.now).
+    more (near_told (level_at (bare c.args.tree.now.tree) c.args.id) c.args.x c.args.y (frame_of c.args.frame.now) c.args.told.now c.tell.new.told c.node_at-node.result.now.name c.moved_by-rect.result c.in_ok-tell.ensures c.moved_by-rect.ensures c.requires.near all))
     c.boxes_below.ensures.near
