@@ -12,6 +12,7 @@ mod Open
 mod Outers
 mod OwnColumns
 mod PlainChildren
+mod PlainSubgrids
 pub mod RowAxes
 mod Same
 mod Seams

@@ -1,5 +1,5 @@
 -- Tracks that lie alike are seen alike.
-use Rattle.std.proofs.Common.{arith, ap, ◌≡◌, ◌∙◌, sym, ℕ, ℤ, pos, ◌+ℤ◌, ◌-ℤ◌, Bool, true, false, List, [], ◌∷◌, refl}
+use Rattle.std.proofs.Common.{arith, ap, ◌≡◌, ◌∙◌, ℕ, ℤ, pos, ◌+ℤ◌, ◌-ℤ◌, true, false, List, [], ◌∷◌, refl}
 use Rattle.std.specs.Prelude.{◌&&◌}
 use Rattle.std.specs.Int.{int_max}
 use Rattle.std.specs.Ordering.{int_eq}
@@ -9,7 +9,7 @@ use Rattle.std.proofs.lemmas.Int.{ints}
 use Rattle.lunit.specs.Units.{clamp}
 use Rattle.lunit.specs.declared.geometry.Span.{Span}
 use Rattle.part_rules.specs.declared.view.View.{View}
-use Rattle.part_rules.specs.Views.{all_tracks, content_size, end_in, first_start, half_after, half_before, last_end, later_tracks, seen, track_between, tracks_over}
+use Rattle.part_rules.specs.Views.{all_tracks, content_size, end_in, half_after, last_end, later_tracks, seen, track_between, tracks_over}
 use Rattle.tree_rules.specs.Queries.{same_items}
 use Rattle.block_sizes.specs.Sharing.{AreMadeIn, AreSeenAlike, AreTracksOf, IsSpanIn, is_moved, lie_alike, same_sides, view_made}
 use Rattle.block_sizes.specs.declared.last_tracks.LastTracks.{LastTracks}
@@ -89,6 +89,9 @@ pub seen_again : {axis : ℕ} (outer : View axis) (last : LastTracks) (p : ViewP
 seen_again outer last p tracks t h s a =
     let sides = sides_are last.parts p s in
     record { same = t ∙ h.tracks.same ∙ (λ i. seen (sides.0 i -ℤ outer.gap) (sides.1 i) (sides.2 i) (tracks_over outer.edges last.parts.span)) ∙ a.same (p.gap -ℤ outer.gap) p.before p.after }
+
+pub made_again : {axis : ℕ} (outer : View axis) (last : LastTracks) (p : ViewParts) → IsSpanIn outer.edges p.span → AreTracksOf outer p last.tracks → AreMadeIn outer (record last { parts = p })
+made_again outer last p s h = record { span = s; tracks = h }
 
 -- ---- what this one is given
 

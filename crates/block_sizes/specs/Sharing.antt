@@ -4,6 +4,8 @@ use Rattle.std.specs.Ordering.{int_eq}
 use Rattle.lunit.specs.declared.geometry.Span.{Span}
 use Rattle.part_rules.specs.declared.view.View.{View}
 use Rattle.part_rules.specs.Views.{first_start, seen, view_of}
+use Rattle.tree_rules.specs.Labels.{GridAxis}
+use Rattle.tree_rules.specs.NodeSizes.{inner, margins, outer_end, outer_start}
 use Rattle.tree_rules.specs.Queries.{same_items}
 use Rattle.block_sizes.specs.declared.last_tracks.LastTracks.{LastTracks}
 use Rattle.block_sizes.specs.declared.last_tracks.ViewParts.{ViewParts}
@@ -25,6 +27,13 @@ pub record IsSpanIn (edges : List (ℤ × ℤ)) (span : Span) : Type 0 where
   pub start : pos 0 ≤ℤ span.start
   pub order : span.start ≤ℤ span.end
   pub end : span.end ≤ℤ pos (length edges)
+
+-- There are neither margins nor borders and paddings.
+pub record HasNoSides (g : GridAxis) : Type 0 where
+  pub start : outer_start g ≡ pos 0
+  pub end : outer_end g ≡ pos 0
+  pub inner : inner g ≡ pos 0
+  pub margins : margins g ≡ pos 0
 
 -- the same gap and the same sums at the two sides
 abbrev pub same_sides : ViewParts → ViewParts → Bool

@@ -20,7 +20,7 @@ ghost use Rattle.block_sizes.specs.Sharing.{IsLastIn};
 ghost use Rattle.block_sizes.specs.Spans.{LiesIn};
 ghost use Rattle.placing.specs.Spread.{AreSpread, IsSpread};
 
-use crate::last_tracks::{LastTracks, given_after};
+use crate::last_tracks::{LastTracks, box_after};
 use inline_sizes::{
     area_size, block_used, bounds_of, content_of_box, inline_used, inner, is_plain, is_stretched,
     margins, plain_block, plain_inline, self_align, stretches, subgrid_box, tracks_over, view_in,
@@ -266,10 +266,9 @@ pub fn child_block(
     ensures spread { (by : ℕ) → IsUnits rows.now.gap → AreSpread by rows.now.edges → IfOk result (λ block. IsSpread (by + 2 ^ 33) block.1) }
     ensures last { OnOk result (IsLastIn rows.now last.new) }
 {
-    let room = area_size(tracks_over(rows.edges.as_slice(), span));
     if shares {
-        let given = given_after::<1>(alloc, rows, span, style, last)?;
-        return Ok((subgrid_box::<1>(style, room), given));
+        return box_after::<1>(alloc, rows, span, style, last);
     }
+    let room = area_size(tracks_over(rows.edges.as_slice(), span));
     Ok(sized_block(items, style, room, content))
 }

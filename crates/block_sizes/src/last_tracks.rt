@@ -4,16 +4,19 @@ ghost use Rattle.std.specs.Prelude.{◌≡◌, ◌+◌, ◌^◌, ◌-ℤ◌, ◌
 ghost use Rattle.std.specs.Ordering.{int_eq};
 ghost use Rattle.lunit.specs.Units.{IsUnits};
 ghost use Rattle.part_rules.specs.Lists.{above_zero};
-ghost use Rattle.part_rules.specs.Views.{first_start, tracks_over};
+ghost use Rattle.part_rules.specs.Views.{area_size, content_size, first_start, tracks_over};
 ghost use Rattle.placing.specs.Ranges.{IsGridAxis};
 ghost use Rattle.placing.specs.Spread.{AreSpread, IsSpread};
 ghost use Rattle.subgrid_view.specs.Ranges.{AreNear};
-ghost use Rattle.tree_rules.specs.Distribution.{given_view, view_in};
+ghost use Rattle.tree_rules.specs.Distribution.{given_view, subgrid_box, view_in};
+ghost use Rattle.tree_rules.specs.NodeSizes.{outer_end, outer_start};
 ghost use Rattle.tree_rules.specs.Queries.{IsGivenFor, same_items};
 ghost use Rattle.inline_sizes.specs.Styled.{grid_at};
-ghost use Rattle.block_sizes.specs.Sharing.{AreMadeIn, AreSeenAlike, AreTracksOf, IsLastIn, IsSpanIn, is_moved, lie_alike, same_sides, view_made};
+ghost use Rattle.block_sizes.specs.Sharing.{AreMadeIn, AreSeenAlike, AreTracksOf, HasNoSides, IsLastIn, IsSpanIn, is_moved, lie_alike, same_sides, view_made};
 
-use inline_sizes::{content_size, gap_by, outer_end, outer_start, tracks_over};
+use inline_sizes::{
+    area_size, content_size, gap_by, is_plain, outer_end, outer_start, subgrid_box, tracks_over,
+};
 use lunit::{Lu, NoMemory, Span, Wide};
 use part_rules::View;
 use placing::style::gap;
@@ -44,17 +47,23 @@ pub struct LastTracks {
     pub tracks: SharedTracks,
 }
 
-/// What the view is made of that a subgrid with this style has over a span, which is counted from the first track.
-fn parts_of<const AXIS: u8>(outer: &View<AXIS>, span: Span, style: &Style) -> ViewParts
-    requires axis { IsGridAxis (grid_at AXIS style.now) }
-    requires span { IsSpanIn outer.now.edges span }
+#[tactic(auto, using(crate::proofs::PlainSubgrids::view_is))]
+/// What the view is made of that a subgrid with this style has over a span, which is counted from the first track, where these are the
+/// size of its content box and the sums of margin, border and padding at its two sides.
+fn parts_with<const AXIS: u8>(
+    outer: &View<AXIS>,
+    span: Span,
+    style: &Style,
+    content: Lu,
+    before: Lu,
+    after: Lu,
+) -> ViewParts
+    requires content { content ≡ content_size (tracks_over outer.now.edges span) before after }
+    requires before { before ≡ outer_start (grid_at AXIS style.now) }
+    requires after { after ≡ outer_end (grid_at AXIS style.now) }
     ensures view { view_made outer.now result ≡ view_in outer.now span (grid_at AXIS style.now) }
     ensures span { result.span ≡ span }
 {
-    let before = outer_start::<AXIS>(style);
-    let after = outer_end::<AXIS>(style);
-    let tracks = tracks_over(outer.edges.as_slice(), span);
-    let content = content_size(tracks, before, after);
     let gap = gap_by(&Some(content), outer.gap, &gap::<AXIS>(style));
     ViewParts {
         span,
@@ -62,6 +71,59 @@ fn parts_of<const AXIS: u8>(outer: &View<AXIS>, span: Span, style: &Style) -> Vi
         before,
         after,
     }
+}
+
+#[tactic(auto, using(crate::proofs::PlainSubgrids::box_is, crate::proofs::PlainSubgrids::content_is))]
+/// The size of the border box of a subgrid without margins, borders and paddings over a span, and what its view is made of.
+fn plain_box<const AXIS: u8>(
+    outer: &View<AXIS>,
+    span: Span,
+    style: &Style,
+    room: Lu,
+) -> (Lu, ViewParts)
+    requires room { room ≡ area_size (tracks_over outer.now.edges span) }
+    requires some { pos 0 ≤ℤ room }
+    requires plain { HasNoSides (grid_at AXIS style.now) }
+    ensures size { result.0 ≡ subgrid_box (grid_at AXIS style.now) (area_size (tracks_over outer.now.edges span)) }
+    ensures view { view_made outer.now result.1 ≡ view_in outer.now span (grid_at AXIS style.now) }
+    ensures span { result.1.span ≡ span }
+{
+    let none = Lu::default();
+    (
+        room,
+        parts_with::<AXIS>(outer, span, style, room, none, none),
+    )
+}
+
+/// Whether a subgrid is plain: then it has neither margins nor borders and paddings.
+fn has_no_sides<const AXIS: u8>(style: &Style) -> bool
+    ensures { result ≡ true → HasNoSides (grid_at AXIS style.now) }
+{
+    is_plain::<AXIS>(style)
+}
+
+/// The size of the border box of a subgrid with this style over a span, which is counted from the first track, and what its view is made
+/// of. Most subgrids have no margins, borders and paddings: then both are told from the area alone.
+fn box_over<const AXIS: u8>(outer: &View<AXIS>, span: Span, style: &Style) -> (Lu, ViewParts)
+    requires axis { IsGridAxis (grid_at AXIS style.now) }
+    requires span { IsSpanIn outer.now.edges span }
+    ensures size { result.0 ≡ subgrid_box (grid_at AXIS style.now) (area_size (tracks_over outer.now.edges span)) }
+    ensures view { view_made outer.now result.1 ≡ view_in outer.now span (grid_at AXIS style.now) }
+    ensures span { result.1.span ≡ span }
+{
+    let tracks = tracks_over(outer.edges.as_slice(), span);
+    let room = area_size(tracks);
+    if has_no_sides::<AXIS>(style) {
+        return plain_box::<AXIS>(outer, span, style, room);
+    }
+    let before = outer_start::<AXIS>(style);
+    let after = outer_end::<AXIS>(style);
+    let content = content_size(tracks, before, after);
+    let size = subgrid_box::<AXIS>(style, room);
+    (
+        size,
+        parts_with::<AXIS>(outer, span, style, content, before, after),
+    )
 }
 
 /// How far it is from one edge to another.
@@ -146,15 +208,17 @@ fn same_sides(a: &ViewParts, b: &ViewParts) -> bool
     same_length(a.gap, b.gap) && same_sums(a, b)
 }
 
-/// These tracks once more, where those of the parts are the same. `NoMemory` where they are shared more often than can be counted.
+/// These tracks once more, where those of the parts are the same: then they are those of the parts from then on. `NoMemory` where they
+/// are shared more often than can be counted.
 fn again_for<const AXIS: u8>(
     outer: &View<AXIS>,
     parts: &ViewParts,
-    last: &LastTracks,
+    last: &mut LastTracks,
 ) -> Result<Option<SharedTracks>, NoMemory>
     requires span { IsSpanIn outer.now.edges parts.now.span }
-    requires last { AreMadeIn outer.now last.now }
-    ensures { IfOk result (λ found. IfSome found (AreTracksOf outer.now parts.now)) }
+    requires last { AreMadeIn outer.now last.old }
+    ensures value { IfOk result (λ found. IfSome found (AreTracksOf outer.now parts.now)) }
+    ensures last { AreMadeIn outer.now last.new }
 {
     if !same_sides(&last.parts, parts) {
         return Ok(None);
@@ -163,6 +227,7 @@ fn again_for<const AXIS: u8>(
         return Ok(None);
     }
     let tracks = last.tracks.again()?;
+    last.parts = *parts;
     Ok(Some(tracks))
 }
 
@@ -171,11 +236,12 @@ fn again_for<const AXIS: u8>(
 fn last_again<const AXIS: u8>(
     outer: &View<AXIS>,
     parts: &ViewParts,
-    last: &Option<LastTracks>,
+    last: &mut Option<LastTracks>,
 ) -> Result<Option<SharedTracks>, NoMemory>
     requires span { IsSpanIn outer.now.edges parts.now.span }
-    requires last { IsLastIn outer.now last.now }
-    ensures { IfOk result (λ found. IfSome found (AreTracksOf outer.now parts.now)) }
+    requires last { IsLastIn outer.now last.old }
+    ensures value { IfOk result (λ found. IfSome found (AreTracksOf outer.now parts.now)) }
+    ensures last { IsLastIn outer.now last.new }
 {
     match last {
         Some(last) => again_for::<AXIS>(outer, parts, last),
@@ -233,17 +299,18 @@ fn tracks_after<const AXIS: u8>(
 }
 
 #[tactic(auto, using(crate::proofs::Seen::view_counted, crate::proofs::Seen::view_gap, crate::proofs::Seen::view_spread))]
-/// What a subgrid is given that spans these tracks of its parent's view, as `given_view` tells it. Where it is the same that the last one
-/// was given, it is shared with it; what is given is the last from then on.
+/// The size of the border box of a subgrid that spans these tracks of its parent's view, counted from the first one: the area less its
+/// margins; and what it is given, as `given_view` tells it. Where this is the same that the last one was given, it is shared with it; what
+/// is given is the last from then on.
 ///
 /// `NoMemory` where memory is wanting.
-pub fn given_after<const AXIS: u8>(
+pub fn box_after<const AXIS: u8>(
     alloc: Global,
     outer: &View<AXIS>,
     span: Span,
     style: &Style,
     last: &mut Option<LastTracks>,
-) -> Result<Given, NoMemory>
+) -> Result<(Lu, Given), NoMemory>
     requires axis { IsGridAxis (grid_at AXIS style.now) }
     requires start { pos 0 ≤ℤ span.start }
     requires order { span.start ≤ℤ span.end }
@@ -251,12 +318,12 @@ pub fn given_after<const AXIS: u8>(
     requires near { AreNear outer.now.edges }
     requires gap { pos 0 ≤ℤ outer.now.gap }
     requires last { IsLastIn outer.now last.old }
-    ensures value { IfOk result (λ given. given ≡ given_view (view_in outer.now span (grid_at AXIS style.now))) }
-    ensures fits { IfOk result (IsGivenFor true true (above_zero (span.end -ℤ span.start))) }
-    ensures spread { (by : ℕ) → IsUnits outer.now.gap → AreSpread by outer.now.edges → IfOk result (IsSpread (by + 2 ^ 33)) }
+    ensures value { IfOk result (λ shared. shared ≡ (subgrid_box (grid_at AXIS style.now) (area_size (tracks_over outer.now.edges span)), given_view (view_in outer.now span (grid_at AXIS style.now)))) }
+    ensures fits { IfOk result (λ shared. IsGivenFor true true (above_zero (span.end -ℤ span.start)) shared.1) }
+    ensures spread { (by : ℕ) → IsUnits outer.now.gap → AreSpread by outer.now.edges → IfOk result (λ shared. IsSpread (by + 2 ^ 33) shared.1) }
     ensures last { OnOk result (IsLastIn outer.now last.new) }
 {
-    let parts = parts_of::<AXIS>(outer, span, style);
+    let (size, parts) = box_over::<AXIS>(outer, span, style);
     let tracks = tracks_after::<AXIS>(alloc, outer, &parts, last)?;
-    Ok(Given::Tracks(tracks, parts.gap))
+    Ok((size, Given::Tracks(tracks, parts.gap)))
 }

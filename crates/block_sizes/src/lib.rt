@@ -26,7 +26,7 @@ pub use edges::edges_in;
 pub use flex::{ColumnParts, RowParts};
 pub use flexes::{Lines, column_block, crosses_of, lines_by, row_block, row_lines};
 pub use held::wide_for;
-pub use last_tracks::{LastTracks, ViewParts, given_after};
+pub use last_tracks::{LastTracks, ViewParts, box_after};
 pub use laws::{children_of_grids_are_as_defined, lines_are_as_defined};
 pub use queries::{block_query, kept_wide};
 pub use views::{view_by, view_for};
