@@ -10,6 +10,7 @@ pub mod ChildFrames
 pub mod ColumnAlike
 pub mod Compared
 pub mod Everywhere
+mod Filled
 pub mod FlexAlike
 pub mod FlexAnswered
 pub mod FlexFits

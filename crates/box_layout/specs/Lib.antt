@@ -1,6 +1,7 @@
 pub mod Asking
 pub mod Beneath
 pub mod BothMargins
+pub mod Filling
 pub mod BoxesSeen
 pub mod FlexFrames
 pub mod GridFrames

@@ -1,6 +1,7 @@
 //! Where an item stands along an axis (CSS Box Alignment 3, section 6; CSS Grid 2, 11.2).
 
-ghost use Rattle.std.specs.Prelude.{◌≡◌, ◌≤◌, ◌^◌, ◌+ℤ◌, ◌-ℤ◌, unsigned_abs};
+ghost use Rattle.std.specs.Prelude.{◌≡◌, ◌≤◌, ◌^◌, ◌+ℤ◌, ◌-ℤ◌, ◌&&◌, pos, true, unsigned_abs};
+ghost use Rattle.std.specs.Ordering.{int_eq};
 ghost use Rattle.part_rules.specs.Alignment.{auto_taken, self_moved};
 ghost use Rattle.tree_rules.specs.Distribution.{aligned_at, is_safe, mode_of};
 ghost use Rattle.tree_rules.specs.Labels.{GridAxis};
@@ -9,6 +10,7 @@ ghost use Rattle.inline_sizes.specs.Styled.{grid_at};
 ghost use Rattle.inline_sizes.specs.Sums.{IsPair, IsTotal};
 ghost use Rattle.box_layout.specs.Ranges.{IsNearTo, IsRest, IsRoom};
 ghost use Rattle.box_layout.specs.BothMargins.{both_margins};
+ghost use Rattle.box_layout.specs.Filling.{IsAsLong, is_as_long};
 
 use box_align::{auto_margins, self_offset};
 use inline_sizes::{is_safe, mode_of};
@@ -53,6 +55,37 @@ pub fn is_auto_margin(length: &Option<Lu>) -> bool
         Some(_) => false,
         None => true,
     }
+}
+
+/// Whether two lengths are the same.
+fn same_length(a: Lu, b: Lu) -> bool
+    ensures { result ≡ int_eq a b }
+{
+    a.units() == b.units()
+}
+
+/// Whether a margin is 0 or `auto`.
+fn is_no_margin(length: &Option<Lu>) -> bool
+    ensures { result ≡ int_eq (margin length.now) (pos 0) }
+{
+    same_length(margin(length), Lu::default())
+}
+
+/// Whether each margin along an axis is 0 or `auto`.
+fn has_no_margins<const AXIS: u8>(style: &Style) -> bool
+    ensures { result ≡ (int_eq (margin (grid_at AXIS style.now).margin_start) (pos 0) && int_eq (margin (grid_at AXIS style.now).margin_end) (pos 0)) }
+{
+    is_no_margin(&margin_start::<AXIS>(style)) && is_no_margin(&margin_end::<AXIS>(style))
+}
+
+#[tactic(auto, using(crate::proofs::Filled::as_long))]
+/// Whether a border box of this size is as long as its area, and has no margins there: then it starts where the area starts, however it is
+/// aligned.
+pub fn fills<const AXIS: u8>(style: &Style, size: Lu, box_size: Lu) -> bool
+    ensures value { result ≡ is_as_long (grid_at AXIS style.now) size box_size }
+    ensures long { result ≡ true → IsAsLong (grid_at AXIS style.now) size box_size }
+{
+    same_length(box_size, size) && has_no_margins::<AXIS>(style)
 }
 
 #[tactic(auto, using(inline_sizes::proofs::Limits::both_pair))]

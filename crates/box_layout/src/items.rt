@@ -8,7 +8,7 @@ ghost use Rattle.inline_sizes.specs.Sums.{IsTotal};
 ghost use Rattle.box_layout.specs.Places.{box_in_rows, place_in_area, self_value};
 ghost use Rattle.box_layout.specs.Ranges.{IsNearTo};
 
-use crate::aligned::{aligned_at, margin};
+use crate::aligned::{aligned_at, fills, margin};
 use inline_sizes::{block_used, bounds_of, is_stretched, margins, self_align, subgrid_box};
 use lunit::{Lu, Wide};
 use placing::style::{items, margin_start, own};
@@ -21,6 +21,7 @@ fn self_value<const AXIS: u8>(container: &Style, style: &Style) -> Align
     self_align(own::<AXIS>(style), items::<AXIS>(container))
 }
 
+#[tactic(auto, using(crate::proofs::Filled::fills_place, crate::proofs::Filled::near_itself))]
 /// Where the border box of a child of this size starts along an axis, in an area of this start and size: a child that `shares` the
 /// tracks of its parent stands after its margin, another one where its `auto` margins and its self value place it (CSS Grid 2,
 /// section 9; CSS Box Alignment 3, section 6). It is exact, and at most 2^36 from the start of the area.
@@ -38,6 +39,8 @@ pub fn place_in_area<const AXIS: u8>(
 {
     if shares {
         start + margin(&margin_start::<AXIS>(style)).wide()
+    } else if fills::<AXIS>(style, size, box_size) {
+        start
     } else {
         let align = self_value::<AXIS>(container, style);
         aligned_at::<AXIS>(&align, style, start, size, box_size)
