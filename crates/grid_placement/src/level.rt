@@ -127,8 +127,14 @@ fn end_of(area: Area) -> Position
     }
 }
 
-/// The areas of items that fill bands of rows in the columns up to a line, as the grid sees them.
-fn fill(alloc: Global, items: &[Wish], column_flow: bool, last: i64) -> Result<Vec<Area>, NoMemory>
+#[inline(always)]
+/// The areas of items that fill bands of rows in the columns up to a line, as the grid sees them, in one of the flows.
+fn fill_along(
+    alloc: Global,
+    items: &[Wish],
+    column_flow: bool,
+    last: i64,
+) -> Result<Vec<Area>, NoMemory>
     requires count { length items.now ≤ 65536 }
     requires spans { IsTrue (are_placeable items.now) }
     ensures { IfOk result (λ areas. areas.items ≡ map (area_in_flow column_flow) (in_bands last (pos 0) (pos 0) (map (wish_in_flow column_flow) items.now))) }
@@ -141,6 +147,21 @@ fn fill(alloc: Global, items: &[Wish], column_flow: bool, last: i64) -> Result<V
         areas.push(area_in_flow(column_flow, area))?;
         end = end_of(area);
     }
+    Ok(areas)
+}
+
+/// The areas of items that fill bands of rows in the columns up to a line, as the grid sees them. Each flow has a loop of its own,
+/// which does not ask for the flow at each item.
+fn fill(alloc: Global, items: &[Wish], column_flow: bool, last: i64) -> Result<Vec<Area>, NoMemory>
+    requires count { length items.now ≤ 65536 }
+    requires spans { IsTrue (are_placeable items.now) }
+    ensures { IfOk result (λ areas. areas.items ≡ map (area_in_flow column_flow) (in_bands last (pos 0) (pos 0) (map (wish_in_flow column_flow) items.now))) }
+{
+    if column_flow {
+        let areas = fill_along(alloc, items, true, last)?;
+        return Ok(areas);
+    }
+    let areas = fill_along(alloc, items, false, last)?;
     Ok(areas)
 }
 

@@ -3,7 +3,7 @@ use Rattle.std.proofs.lemmas.Int.{ints}
 use Rattle.grid_placement.specs.declared.search.Position.{Position}
 use Rattle.grid_placement.proofs.Bands.{fills_more}
 use Rattle.grid_placement.proofs.Begun.{next_of}
-use Rattle.grid_placement.proofs.level.fill.Goals as goal
+use Rattle.grid_placement.proofs.level.fill_along.Goals as goal
 
 pub loop-item-preserved : goal.loop-item-preserved
 loop-item-preserved c =
