@@ -3,3 +3,4 @@ pub mod Sets
 pub mod Reaches
 pub mod Forgets
 pub mod Once
+pub mod Distinct

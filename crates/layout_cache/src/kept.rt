@@ -16,8 +16,8 @@ const MOST: usize = 16;
 /// How many answers there is room for at first: most nodes never keep more.
 const FEW: usize = 4;
 
-/// The answers that a node keeps, each with its question: at most sixteen, the newest last. There is room for four at first, and
-/// for sixteen from the fifth on.
+/// The answers that a node keeps, each with its question: at most sixteen, the newest last, and no question twice. There is
+/// room for four at first, and for sixteen from the fifth on.
 #[derive(Drop)]
 pub struct Kept<A> {
     ring: HeapCircularBuffer<(Query, A)>,
@@ -26,12 +26,13 @@ pub struct Kept<A> {
 impl<A> Model for Kept<A> {
     ghost use Rattle.std.specs.Prelude.{◌≡◌, ◌≤◌, ◌⊎◌, List, length};
     ghost use Rattle.tree_rules.specs.declared.query.Query.{Query};
+    ghost use Rattle.tree_rules.specs.KeptAnswers.{AreDistinct};
 
     ghost Value = { List (Query × A) };
 
     ghost view = { λ a. a.ring.items };
 
-    ghost invariant = { λ a. ((a.ring.capacity ≡ 4) ⊎ (a.ring.capacity ≡ 16)) × (length a.ring.items ≤ a.ring.capacity) };
+    ghost invariant = { λ a. ((a.ring.capacity ≡ 4) ⊎ (a.ring.capacity ≡ 16)) × (length a.ring.items ≤ a.ring.capacity) × AreDistinct a.ring.items };
 }
 
 impl<A: Drop> Kept<A> {
@@ -68,6 +69,23 @@ impl<A: Drop> Kept<A> {
         ensures value { option_copied result ≡ answer_to (record { ask = ask; reps = reps.now; inline = inline.now; block = block.now }) self.now }
         ensures absent { IsTrue (is_none result) ↔ IsAbsent (record { ask = ask; reps = reps.now; inline = inline.now; block = block.now }) self.now }
     {
+        match ask {
+            Ask::Frames => self.find_from_newest(ask, reps, inline, block),
+            _ => self.find_from_oldest(ask, reps, inline, block),
+        }
+    }
+
+    /// The same, looked for from the oldest pair on: a question about sizes comes before the frames.
+    fn find_from_oldest(
+        &self,
+        ask: Ask,
+        reps: &[(u32, u32)],
+        inline: &Given,
+        block: &Given,
+    ) -> Option<&A>
+        ensures value { option_copied result ≡ answer_to (record { ask = ask; reps = reps.now; inline = inline.now; block = block.now }) self.now }
+        ensures absent { IsTrue (is_none result) ↔ IsAbsent (record { ask = ask; reps = reps.now; inline = inline.now; block = block.now }) self.now }
+    {
         for (asked, answer) in self.ring.iter() {
             if same_query(asked, ask, reps, inline, block) {
                 return Some(answer);
@@ -76,6 +94,32 @@ impl<A: Drop> Kept<A> {
         None
     }
 
+    #[tactic(auto, using(crate::proofs::Distinct::newest_laws))]
+    /// The same, looked for from the newest pair back: the frames are mostly asked last. As no question stands twice, it is the same
+    /// answer.
+    fn find_from_newest(
+        &self,
+        ask: Ask,
+        reps: &[(u32, u32)],
+        inline: &Given,
+        block: &Given,
+    ) -> Option<&A>
+        ensures value { option_copied result ≡ answer_to (record { ask = ask; reps = reps.now; inline = inline.now; block = block.now }) self.now }
+        ensures absent { IsTrue (is_none result) ↔ IsAbsent (record { ask = ask; reps = reps.now; inline = inline.now; block = block.now }) self.now }
+    {
+        let mut left = self.ring.len();
+        while 0 < left {
+            left -= 1;
+            if let Some((asked, answer)) = self.ring.get(left) {
+                if same_query(asked, ask, reps, inline, block) {
+                    return Some(answer);
+                }
+            }
+        }
+        None
+    }
+
+    #[tactic(auto, using(crate::proofs::Distinct::put_laws))]
     /// Keeps an answer to a question that has none, and lets the oldest of sixteen go. `NoMemory` where memory is wanting for more
     /// than four, and nothing is kept then.
     pub fn put(&mut self, query: Query, answer: A) -> Result<(), NoMemory>

@@ -1,6 +1,6 @@
 use Rattle.std.proofs.Common.{◌≡◌}
 use Rattle.layout_cache.specs.Kept.{answer_to}
-use Rattle.layout_cache.proofs.kept.Kept.find_by.Given as goal
+use Rattle.layout_cache.proofs.kept.Kept.find_from_oldest.Given as goal
 
 abbrev pub invariant-loop-asked : goal.invariant-loop-asked
 invariant-loop-asked g l =

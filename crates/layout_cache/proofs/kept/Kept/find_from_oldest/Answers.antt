@@ -2,7 +2,7 @@ use Rattle.std.proofs.Common.{refl, sym, ap, ◌∙◌}
 use Rattle.std.proofs.lemmas.Bool.{false≢true}
 use Rattle.layout_cache.specs.Kept.{answer_to}
 use Rattle.layout_cache.proofs.Sames.{absent_from, found_there}
-use Rattle.layout_cache.proofs.kept.Kept.find_by.Goals as goal
+use Rattle.layout_cache.proofs.kept.Kept.find_from_oldest.Goals as goal
 
 pub returns-then-same_query-clause-absent : goal.returns-then-same_query-clause-absent
 returns-then-same_query-clause-absent g c =
