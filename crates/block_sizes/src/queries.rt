@@ -77,6 +77,7 @@ pub fn kept_wide<'a>(
     }
 }
 
+#[inline(always)]
 /// The items along the rows that a node keeps by these counts above it and what it is given in the inline axis; `None` exactly where
 /// it keeps none.
 pub(crate) fn kept_rows<'a>(

@@ -35,8 +35,8 @@ use crate::flex::{
 use crate::flexes::row_lines;
 use crate::queries::{block_query, kept_block, kept_rows};
 use crate::wide::{
-    append, child_in, columns_of, lent_rows, row_item, rows_total, shares, sizes_at, wide_child,
-    with_room,
+    append, child_in, columns_of, items_room, lent_rows, row_item, rows_total, shares, sizes_at,
+    wide_child, with_room,
 };
 use inline_sizes::{Member, flex_at, grid_at};
 use layout_cache::{Given, Query};
@@ -116,7 +116,7 @@ fn ask_lent<R: Ruler, L: Ledger>(
 {
     let reps = base.pairs.as_slice();
     if let Some(kept) = kept_rows(tree, entry.child, reps, width) {
-        return append(items, kept.as_slice());
+        return append(alloc, items, kept.as_slice());
     }
     let lent = lend_rows_at(
         alloc,
@@ -130,7 +130,7 @@ fn ask_lent<R: Ruler, L: Ledger>(
         tally,
         passes,
     )?;
-    append(items, lent.as_slice())?;
+    append(alloc, items, lent.as_slice())?;
     Ok(())
 }
 
@@ -303,7 +303,8 @@ fn ask_children<R: Ruler, L: Ledger>(
     root(tree);
     let count = parts.base.placed.areas.len();
     let mut children = with_room(alloc, count)?;
-    let mut items = with_room(alloc, count)?;
+    let room = items_room(tree, id, reps, width, parts);
+    let mut items = with_room(alloc, room)?;
     for index in 0..count {
         let entry = child_in(tree, id, reps, width, parts, index);
         let sizes = sizes_at(parts, index);

@@ -36,6 +36,7 @@ use placing::counts::own_pair;
 use placing::style::{is_subgrid, items};
 use placing::{Above, ChildArea, GridBase, GridParts, GridWide, Node, entry, node_at, root};
 use std::alloc::Global;
+use std::mem;
 use std::sync::ledger::Ledger;
 use track_sizing::Space;
 
@@ -79,12 +80,16 @@ pub(crate) fn with_room<T>(alloc: Global, count: usize) -> Result<Sequence<T>, N
 }
 
 /// Items put after others.
-pub(crate) fn append(items: &mut Sequence<Item>, more: &[Item]) -> Result<(), NoMemory>
+pub(crate) fn append(
+    alloc: Global,
+    items: &mut Sequence<Item>,
+    more: &[Item],
+) -> Result<(), NoMemory>
     ensures { OnOk result (items.new ≡ items.old ++ more.now) }
 {
-    for item in more {
-        items.push(*item)?;
-    }
+    let mut all = mem::replace(items, Sequence::new(alloc)).into_vec();
+    all.extend_from_slice(more)?;
+    *items = Sequence::from_vec(all);
     Ok(())
 }
 
@@ -117,6 +122,33 @@ pub(crate) fn child_in(
     root(tree);
     items_lie_in_their_tracks(tree, id);
     entry(tree, id, &parts.base.placed, index)
+}
+
+/// How many items along the rows to make room for at once: one for each child, or, where the first child is a subgrid in the rows,
+/// as many for each as that one spans rows, and eight at most. Any number is right here, since a longer list grows.
+pub(crate) fn items_room(
+    tree: &Arena<Node>,
+    id: NodeId,
+    reps: &[(u32, u32)],
+    width: &Given,
+    parts: &GridParts,
+) -> usize
+    requires live { IsLive (bare tree.now.tree) id }
+    requires readable { AreReadable (bare tree.now.tree) }
+    requires kind { (sight_at (bare tree.now.tree) id).label.kind ≡ kind.Grid }
+    requires grid { IsGrid (bare tree.now.tree) id reps.now width.now parts.now }
+{
+    let count = parts.base.placed.areas.len();
+    if count == 0 {
+        return 0;
+    }
+    let first = child_in(tree, id, reps, width, parts, 0);
+    if !shares::<1>(tree, first.child) {
+        return count;
+    }
+    let span = first.area.rows;
+    let rows = span.end.saturating_sub(span.start).max(1).min(8);
+    count.saturating_mul(rows as usize)
 }
 
 #[tactic(auto, using(crate::proofs::Widths::sizes_next))]
@@ -276,7 +308,7 @@ fn with_standing_item(
     if let Some(item) = empty_item(levels) {
         items.push(item)?;
     }
-    append(&mut items, others)?;
+    append(alloc, &mut items, others)?;
     Ok(items)
 }
 
