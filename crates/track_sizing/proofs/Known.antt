@@ -1,5 +1,5 @@
 -- What an item makes of the track that it spans alone, by that track alone.
-use Rattle.std.proofs.Common.{arith, ap, subst, ◌≡◌, ◌∙◌, sym, refl, ℕ, ◌<◌, ℤ, pos, ◌+ℤ◌, ◌-ℤ◌, ◌*ℤ◌, Bool, true, false, not, ◌&&◌, ◌||◌, List, [], ◌∷◌, map, take, length, get_or, Option, Some, None, if◌then◌else◌}
+use Rattle.std.proofs.Common.{arith, ap, subst, ◌≡◌, ◌∙◌, sym, refl, true≢false, ℕ, zero, suc, ◌<◌, ℤ, pos, ◌+ℤ◌, ◌-ℤ◌, ◌*ℤ◌, Bool, true, false, not, ◌&&◌, ◌||◌, List, [], ◌∷◌, map, take, length, get_or, Option, Some, None, if◌then◌else◌}
 use Rattle.std.specs.Int.{int_max, int_min}
 use Rattle.std.specs.List.{list_any}
 use Rattle.std.specs.Option.{option_map}
@@ -12,13 +12,15 @@ use Rattle.lunit.specs.declared.item.Floor.TheVariants.{Known, Content}
 use Rattle.part_rules.specs.declared.track.Least.{Least}
 use Rattle.part_rules.specs.declared.track.Least.TheVariants as least
 use Rattle.part_rules.specs.declared.track.Most.{Most}
+use Rattle.part_rules.specs.declared.track.Most.TheVariants as most
 use Rattle.part_rules.specs.declared.track.Space.{Space}
 use Rattle.part_rules.specs.Lists.{at_most, sum_of_known}
-use Rattle.part_rules.specs.Tracks.{Track, auto_asks, capped_most, content_based, crosses_flexible, fixed_most, fixed_sum, inner_gutters, is_auto_least, is_content_based, is_definite, minimum, minimum_by, span_length, spanned}
+use Rattle.part_rules.specs.Tracks.{Track, auto_asks, capped_most, content_based, crosses_flexible, fixed_most, fixed_sum, flexible, inner_gutters, is_auto_least, is_auto_most, is_content_based, is_flexible, is_definite, minimum, minimum_by, span_length, spanned}
 use Rattle.track_sizing.specs.declared.alone.Single.{Single}
-use Rattle.track_sizing.specs.Alone.{base_alone, base_more, limit_ask, single_alone, single_asks, single_content, single_least, single_more}
+use Rattle.track_sizing.specs.Alone.{base_alone, base_more, is_special, limit_ask, plain_asks, plain_least, single_alone, single_asks, single_content, single_least, single_more, single_plain}
 use Rattle.track_sizing.specs.Placed.{AreSet}
 use Rattle.track_sizing.proofs.Order.{is_it, that_number}
+use Rattle.track_sizing.proofs.Parted.{neither}
 use Rattle.track_sizing.proofs.Singles.{spanned_at}
 use Rattle.track_sizing.proofs.Sums.{drop_item}
 
@@ -105,3 +107,49 @@ alone_is space gap first ts i at t s set d one l e =
     let tracks : span_length i ≡ pos 1 = omega (arith, ints, last) in
     let lone : IsAlone ts i t = record { own = own; one = tracks } in
     ap (λ (z : ℤ). record { some = 1; base = z; most = int_max (limit_ask t.rule.most i) s.most }) (base_is space gap ts i t s.base t.rule.least lone refl)
+
+-- ---- a track with the functions `auto` alone
+
+pub none_special : (ts : List Track) (at : ℕ) (t : Track) → list_any is_special ts ≡ false → at < length ts → t ≡ get_or ts at t → is_special t ≡ false
+none_special [] at t n h e = absurd (omega arith)
+none_special (x ∷ xs) zero t n h e = ap is_special e ∙ (neither (is_special x) (list_any is_special xs) n).0
+none_special (x ∷ xs) (suc at) t n h e = none_special xs at t (neither (is_special x) (list_any is_special xs) n).1 (omega arith) e
+
+auto_least : (l : Least) → not (is_auto_least l) ≡ false → l ≡ least.Auto
+auto_least (least.Fixed x) e = absurd (true≢false e)
+auto_least least.MinContent e = absurd (true≢false e)
+auto_least least.MaxContent e = absurd (true≢false e)
+auto_least least.Auto e = refl
+
+auto_most : (m : Most) → not (is_auto_most m) ≡ false → m ≡ most.Auto
+auto_most (most.Fixed x) e = absurd (true≢false e)
+auto_most most.Auto e = refl
+auto_most most.MinContent e = absurd (true≢false e)
+auto_most most.MaxContent e = absurd (true≢false e)
+auto_most (most.Fit x) e = absurd (true≢false e)
+auto_most (most.Flex w) e = absurd (true≢false e)
+
+least_of : (t : Track) → is_special t ≡ false → t.rule.least ≡ least.Auto
+unfolding is_special
+least_of t e = auto_least t.rule.least (neither (not (is_auto_least t.rule.least)) (not (is_auto_most t.rule.most)) e).0
+
+most_of : (t : Track) → is_special t ≡ false → t.rule.most ≡ most.Auto
+unfolding is_special
+most_of t e = auto_most t.rule.most (neither (not (is_auto_least t.rule.least)) (not (is_auto_most t.rule.most)) e).1
+
+pub plain_rigid : (t : Track) → is_special t ≡ false → flexible t ≡ false
+plain_rigid t e = ap is_flexible (most_of t e)
+
+least_plain : (f : Floor) → plain_least f ≡ single_least most.Auto f
+least_plain (Known x) = refl
+least_plain (Content size margins inner) = refl
+
+asks_plain : (definite : Bool) (i : Item) → plain_asks definite i ≡ single_asks definite most.Auto i
+asks_plain true i = least_plain i.floor
+asks_plain false i = ap (λ (z : ℤ). int_max z i.low) (least_plain i.floor)
+
+pub plain_alone : (definite : Bool) (i : Item) (t : Track) (s : Single) → is_special t ≡ false → single_plain definite i s ≡ single_alone definite i t s
+plain_alone definite i t s e =
+    ap (λ (z : ℤ). record { some = 1; base = int_max z s.base; most = int_max i.high s.most }) (asks_plain definite i)
+    ∙ sym (ap (λ (l : Least). record { some = 1; base = base_alone definite l t.rule.most i s.base; most = int_max (limit_ask t.rule.most i) s.most }) (least_of t e)
+    ∙ ap (λ (m : Most). record { some = 1; base = base_alone definite least.Auto m i s.base; most = int_max (limit_ask m i) s.most }) (most_of t e))

@@ -1,5 +1,5 @@
 -- Items that span one track.
-use Rattle.std.specs.Prelude.{ℕ, ℤ, pos, ◌+ℤ◌, ◌-ℤ◌, Bool, not, ◌&&◌, ◌==◌, List, [], ◌∷◌, Option, Some, option_map, if◌then◌else◌}
+use Rattle.std.specs.Prelude.{ℕ, ℤ, pos, ◌+ℤ◌, ◌-ℤ◌, Bool, not, ◌&&◌, ◌||◌, ◌==◌, List, [], ◌∷◌, Option, Some, option_map, if◌then◌else◌}
 use Rattle.std.specs.Int.{int_max, int_min}
 use Rattle.std.specs.Ordering.{int_eq}
 use Rattle.lunit.specs.Units.{clamp}
@@ -12,7 +12,7 @@ use Rattle.part_rules.specs.declared.track.Most.{Most}
 use Rattle.part_rules.specs.declared.track.Most.TheVariants as most
 use Rattle.part_rules.specs.declared.track.Space.{Space}
 use Rattle.part_rules.specs.Lists.{at_most}
-use Rattle.part_rules.specs.Tracks.{Track, alone, auto_asks, capped_most, fit_items, fixed_most, flexible, high, low, raise_limit}
+use Rattle.part_rules.specs.Tracks.{Track, alone, auto_asks, capped_most, fit_items, fixed_most, flexible, high, is_auto_least, is_auto_most, low, raise_limit}
 use Rattle.track_sizing.specs.declared.alone.Single.{Single}
 
 -- an item that spans this track alone
@@ -102,3 +102,22 @@ base_alone definite least.Auto m i base = int_max (single_asks definite m i) bas
 -- the track
 abbrev pub single_alone : Bool → Item → Track → Single → Single
 single_alone definite i t s = record { some = 1; base = base_alone definite t.rule.least t.rule.most i s.base; most = int_max (limit_ask t.rule.most i) s.most }
+
+-- ---- the same where the min function and the max function are `auto`
+
+-- a track of which one is not
+unfoldable pub is_special : Track → Bool
+is_special t = not (is_auto_least t.rule.least) || not (is_auto_most t.rule.most)
+
+-- the minimum contribution
+abbrev pub plain_least : Floor → ℤ
+plain_least (Known x) = x
+plain_least (Content size margins inner) = clamp (margins +ℤ int_max inner (int_max (pos 0) size))
+
+-- what the item asks for
+abbrev pub plain_asks : Bool → Item → ℤ
+plain_asks definite i = if definite then plain_least i.floor else int_max (plain_least i.floor) i.low
+
+-- the track
+abbrev pub single_plain : Bool → Item → Single → Single
+single_plain definite i s = record { some = 1; base = int_max (plain_asks definite i) s.base; most = int_max i.high s.most }

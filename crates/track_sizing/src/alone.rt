@@ -1,18 +1,19 @@
 //! Items that span one track (CSS Grid 2, 12.5, step 2).
 
-ghost use Rattle.std.specs.Prelude.{◌≡◌, ◌<◌, ◌^◌, ◌+ℤ◌, IfOk, OnOk, length, map, pos, true};
+ghost use Rattle.std.specs.Prelude.{◌≡◌, ◌<◌, ◌^◌, ◌+ℤ◌, IfOk, OnOk, false, length, map, pos, true};
+ghost use Rattle.std.specs.List.{list_any};
 ghost use Rattle.std.specs.Ordering.{int_eq};
 ghost use Rattle.part_rules.specs.Lists.{zipped};
-ghost use Rattle.part_rules.specs.Tracks.{fit_alone};
-ghost use Rattle.track_sizing.specs.Alone.{base_alone, content_ask, fit_single, limit_ask, limit_most, limit_single, single_alone, single_asks, single_by, single_content, single_least, single_none, single_of};
+ghost use Rattle.part_rules.specs.Tracks.{fit_alone, is_auto_most, is_definite};
+ghost use Rattle.track_sizing.specs.Alone.{base_alone, content_ask, fit_single, is_special, limit_ask, limit_most, limit_single, plain_asks, plain_least, single_alone, single_asks, single_by, single_content, single_least, single_none, single_of, single_plain};
 ghost use Rattle.track_sizing.specs.Calm.{AreQuietItems, IsQuiet};
 ghost use Rattle.track_sizing.specs.Placed.{AreIn, AreSet, IsIn};
 
 use crate::distribute::place_of;
 use crate::group::is_definite;
 use crate::item::{capped_most, is_idle};
-use crate::kinds::flexible;
-use crate::numbers::{at_most_limit, both, difference, longer, shorter, sum};
+use crate::kinds::{flexible, is_auto_least};
+use crate::numbers::{at_least_nothing, at_most_limit, both, difference, longer, shorter, sum};
 use crate::row::{Row, fixed_most};
 use lunit::{Floor, Item, Lu, NoMemory, Wide};
 use part_rules::{Least, Most, Rule, Space};
@@ -190,6 +191,160 @@ fn add_items<const AXIS: u8>(
     quiet
 }
 
+/// Whether the max function is `auto`.
+fn is_auto_most(most: &Most) -> bool
+    ensures { result ≡ is_auto_most most.now }
+{
+    match most {
+        Most::Auto => true,
+        _ => false,
+    }
+}
+
+#[tactic(auto, unfolding(crate::specs::Alone::is_special))]
+/// Whether a track has another min or max function than `auto`.
+fn is_special(row: &Row) -> bool
+    ensures { result ≡ is_special row.now }
+{
+    let rule = row.rule();
+    !is_auto_least(&rule.least) || !is_auto_most(&rule.most)
+}
+
+/// Whether some track has.
+fn some_special(rows: &[Row]) -> bool
+    ensures { result ≡ list_any is_special rows.now }
+{
+    for row in rows {
+        if is_special(row) {
+            return true;
+        }
+    }
+    false
+}
+
+/// The minimum contribution of an item to a track that has no other function than `auto` and that it spans alone.
+fn plain_least(item: &Item) -> Lu
+    ensures { result ≡ plain_least item.now.floor }
+{
+    match item.floor {
+        Floor::Known(size) => size,
+        Floor::Content {
+            size,
+            margins,
+            inner,
+        } => sum(margins, longer(inner, at_least_nothing(size))),
+    }
+}
+
+/// What such an item asks for.
+fn plain_asks(definite: bool, item: &Item) -> Lu
+    ensures { result ≡ plain_asks definite item.now }
+{
+    let least = plain_least(item);
+    if definite {
+        least
+    } else {
+        longer(least, item.low)
+    }
+}
+
+/// What such a track is by one item more that spans it alone.
+fn single_plain(definite: bool, item: &Item, single: &Single) -> Single
+    ensures { result ≡ single_plain definite item.now single.now }
+{
+    Single {
+        some: 1,
+        base: longer(plain_asks(definite, item), single.base),
+        most: longer(item.high, single.most),
+    }
+}
+
+#[tactic(auto, using(crate::proofs::Lone::item_laws, crate::proofs::Unchanged::item_quiet))]
+/// Counts an item to the track that it spans alone, where no track has another function than `auto`. Answers whether it surely gives
+/// nothing to more.
+fn add_plain_item<const AXIS: u8>(
+    _space: &Space<AXIS>,
+    definite: bool,
+    gap: Lu,
+    first: Wide,
+    rows: &[Row],
+    item: &Item,
+    singles: &mut [Single],
+) -> bool
+    requires few { length rows.now < 2 ^ 32 }
+    requires length { length singles.old ≡ length rows.now }
+    requires set { AreSet first rows.now }
+    requires item { IsIn first (length rows.now) item.now }
+    requires plain { list_any is_special rows.now ≡ false }
+    requires definite { definite ≡ is_definite _space.now }
+    ensures singles { singles.new ≡ zipped (single_by _space.now gap rows.now item.now) rows.now singles.old }
+    ensures quiet { result ≡ true → IsQuiet gap item.now }
+{
+    if !is_single(item) {
+        return is_idle(gap, item);
+    }
+    let place = place_of(first, item);
+    let _row = &rows[place];
+    singles[place] = single_plain(definite, item, &singles[place]);
+    true
+}
+
+#[inline(never)]
+#[tactic(auto, using(crate::proofs::Lone::list_laws, crate::proofs::Unchanged::items_quiet))]
+/// Counts items so to the tracks that they span alone, from the last to the first. Answers whether they surely give nothing to more
+/// tracks.
+fn add_plain_items<const AXIS: u8>(
+    space: &Space<AXIS>,
+    definite: bool,
+    gap: Lu,
+    first: Wide,
+    rows: &[Row],
+    items: &[Item],
+    singles: &mut [Single],
+) -> bool
+    requires few { length rows.now < 2 ^ 32 }
+    requires length { length singles.old ≡ length rows.now }
+    requires set { AreSet first rows.now }
+    requires items { AreIn first (length rows.now) items.now }
+    requires plain { list_any is_special rows.now ≡ false }
+    requires definite { definite ≡ is_definite space.now }
+    requires none { singles.old ≡ map single_none rows.now }
+    ensures singles { singles.new ≡ map (single_of space.now gap rows.now items.now) rows.now }
+    ensures quiet { result ≡ true → AreQuietItems gap items.now }
+{
+    let mut quiet = true;
+    for back in 0..items.len() {
+        let item = &items[items.len() - 1 - back];
+        let more = add_plain_item(space, definite, gap, first, rows, item, singles);
+        quiet = both(more, quiet);
+    }
+    quiet
+}
+
+/// Counts items to the tracks that they span alone: with fewer steps for each where all tracks have the functions `auto`. Answers
+/// whether they surely give nothing to more tracks.
+fn count_items<const AXIS: u8>(
+    space: &Space<AXIS>,
+    gap: Lu,
+    first: Wide,
+    rows: &[Row],
+    items: &[Item],
+    singles: &mut [Single],
+) -> bool
+    requires few { length rows.now < 2 ^ 32 }
+    requires length { length singles.old ≡ length rows.now }
+    requires set { AreSet first rows.now }
+    requires items { AreIn first (length rows.now) items.now }
+    requires none { singles.old ≡ map single_none rows.now }
+    ensures singles { singles.new ≡ map (single_of space.now gap rows.now items.now) rows.now }
+    ensures quiet { result ≡ true → AreQuietItems gap items.now }
+{
+    if some_special(rows) {
+        return add_items(space, gap, first, rows, items, singles);
+    }
+    add_plain_items(space, is_definite(space), gap, first, rows, items, singles)
+}
+
 /// The tracks without items.
 fn no_singles(alloc: Global, rows: &[Row]) -> Result<Vec<Single>, NoMemory>
     ensures { IfOk result (λ singles. singles.items ≡ map single_none rows.now) }
@@ -265,7 +420,7 @@ pub fn fit_alone<const AXIS: u8>(
     ensures quiet { IfOk result (λ quiet. quiet ≡ true → AreQuietItems gap items.now) }
 {
     let mut singles = no_singles(alloc, rows)?;
-    let quiet = add_items(space, gap, first, rows, items, &mut singles);
+    let quiet = count_items(space, gap, first, rows, items, &mut singles);
     fit_each(rows, &singles);
     Ok(quiet)
 }

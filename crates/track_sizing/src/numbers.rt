@@ -111,6 +111,14 @@ pub fn difference(one: Lu, other: Lu) -> Lu
     Lu::of(one.units() - other.units())
 }
 
+#[tactic(auto, unfolding(lunit::specs::Units::clamp))]
+/// The length, but at least 0.
+pub fn at_least_nothing(length: Lu) -> Lu
+    ensures { result ≡ int_max (pos 0) length }
+{
+    longer(Lu::of(0), length)
+}
+
 /// Whether both are so.
 pub fn both(one: bool, other: bool) -> bool
     ensures { result ≡ (one && other) }
