@@ -1,5 +1,5 @@
 -- The size of a plain child of a grid along an axis, and what it is given there.
-use Rattle.std.proofs.Common.{ap, ◌≡◌, ◌∙◌, ℤ, pos, Bool, Some}
+use Rattle.std.proofs.Common.{ap, ◌≡◌, ◌∙◌, ℤ, pos, Bool}
 use Rattle.lunit.specs.Units.{IsUnits}
 use Rattle.style_types.specs.declared.value.Align.{Align}
 use Rattle.tree_rules.specs.declared.query.Given.TheVariants as given

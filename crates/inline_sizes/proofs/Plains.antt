@@ -1,15 +1,12 @@
 -- Nodes without margins, borders, paddings and declared sizes along an axis: their sizes and what they are as items.
-use Rattle.std.proofs.Common.{arith, rules, ap, sym, refl, ◌≡◌, ◌∙◌, ℤ, pos, ◌+ℤ◌, ◌-ℤ◌, ◌≤ℤ◌, Bool, true, false, ◌&&◌, List, [], Option, Some, None, int_le, true≢false, if◌then◌else◌}
+use Rattle.std.proofs.Common.{arith, rules, ap, sym, refl, ◌≡◌, ◌∙◌, ℤ, pos, ◌+ℤ◌, ◌-ℤ◌, ◌≤ℤ◌, Bool, true, false, ◌&&◌, [], Option, Some, None, int_le, true≢false}
 use Rattle.std.specs.Int.{int_max, int_min}
 use Rattle.std.proofs.Math.Bool.{and-true}
 use Rattle.std.proofs.lemmas.Bool.{and_parts}
 use Rattle.std.proofs.lemmas.Int.{ints, int_max_is, int_min_is}
 use Rattle.lunit.specs.Units.{IsUnits, bottom, top, clamp}
 use Rattle.lunit.specs.declared.geometry.Span.{Span}
-use Rattle.lunit.specs.declared.item.Floor.{Floor}
 use Rattle.lunit.specs.declared.item.Floor.TheVariants.{Known, Content}
-use Rattle.lunit.specs.declared.item.Item.{Item}
-use Rattle.part_rules.specs.declared.view.Level.{Level}
 use Rattle.style_types.specs.declared.value.Align.{Align}
 use Rattle.style_types.specs.declared.value.Size.{Size}
 use Rattle.style_types.specs.declared.value.Size.TheVariants as keyword
