@@ -125,7 +125,8 @@ pub(crate) fn child_in(
 }
 
 /// How many items along the rows to make room for at once: one for each child, or, where the first child is a subgrid in the rows,
-/// as many for each as that one spans rows, and eight at most. Any number is right here, since a longer list grows.
+/// one for each row that it spans and one that stands for itself, nine at most, for each. Any number is right here, since a longer
+/// list grows.
 pub(crate) fn items_room(
     tree: &Arena<Node>,
     id: NodeId,
@@ -147,8 +148,8 @@ pub(crate) fn items_room(
         return count;
     }
     let span = first.area.rows;
-    let rows = span.end.saturating_sub(span.start).max(1).min(8);
-    count.saturating_mul(rows as usize)
+    let lent = span.end.saturating_sub(span.start).saturating_add(1);
+    count.saturating_mul(lent.max(1).min(9) as usize)
 }
 
 #[tactic(auto, using(crate::proofs::Widths::sizes_next))]
