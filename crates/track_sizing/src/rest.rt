@@ -44,14 +44,6 @@ pub fn all_gutters(gap: Lu, rows: &[Row]) -> Wide
     gap.wide().times(open_tracks(rows).saturating_sub(1))
 }
 
-/// The base sizes and the gutters.
-pub fn total(gap: Lu, rows: &[Row]) -> Wide
-    requires { length rows.now < 2 ^ 32 }
-    ensures { result ≡ total gap rows.now }
-{
-    base_sum(rows) + all_gutters(gap, rows)
-}
-
 #[tactic(auto, unfolding(lunit::specs::Units::clamp))]
 /// What a space leaves.
 pub fn free_of(gap: Lu, space: Wide, rows: &[Row]) -> Lu

@@ -16,6 +16,7 @@ use std::marker::Model;
 /// A track while it is sized. No length in it is below 0.
 #[derive(Clone, Copy)]
 pub struct Row {
+    /// The coordinate of its first line, by which contracts tell which items span the track.
     at: i64,
     rule: Rule,
     base: Lu,
@@ -86,13 +87,6 @@ impl Row {
         }
     }
 
-    /// The coordinate of its first line.
-    pub fn at(&self) -> i64
-        ensures { result ≡ self.now.at }
-    {
-        self.at
-    }
-
     /// How the track is sized.
     pub fn rule(&self) -> Rule
         ensures { result ≡ self.now.rule }
@@ -158,14 +152,6 @@ impl Row {
         ensures { result ≡ record self.now { base = base } }
     {
         Row { base, ..*self }
-    }
-
-    /// The track with another growth limit.
-    pub fn with_limit(&self, limit: Option<Lu>) -> Row
-        requires { IsLimit limit }
-        ensures { result ≡ record self.now { limit = limit } }
-    {
-        Row { limit, ..*self }
     }
 
     /// The track, infinitely growable or not.
