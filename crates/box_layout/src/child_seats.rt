@@ -91,6 +91,7 @@ fn has_lower(frames: &[Frame]) -> bool
     false
 }
 
+#[inline(never)]
 /// Areas without the numbers of their children.
 fn all_areas(alloc: Global, placed: &[(NodeId, Area)]) -> Result<Sequence<Area>, NoMemory>
     ensures { IfOk result (λ areas. areas ≡ map (λ (e : NodeId × Area). e.1) placed.now) }
@@ -102,6 +103,7 @@ fn all_areas(alloc: Global, placed: &[(NodeId, Area)]) -> Result<Sequence<Area>,
     Ok(areas)
 }
 
+#[inline(never)]
 /// The area of each child of a grid, in document order.
 fn areas_by_number(
     alloc: Global,
@@ -144,6 +146,7 @@ fn base_of(held: &HeldBase) -> &GridBase
     }
 }
 
+#[inline(never)]
 #[tactic(auto, using(crate::proofs::Seating::bases))]
 /// A grid in its seat before its children are asked: as its answer for the block size holds it, or made anew. `NoMemory` where memory
 /// is wanting.

@@ -17,6 +17,7 @@ use node_arena::{Arena, NodeId};
 use placing::{Answer, Node, SharedFrames, find_by};
 use std::alloc::Global;
 
+#[inline(never)]
 /// The question for the frames of the children of a container that sees these counts above it and is given this along each axis.
 /// Counts and tracks are copied; where there are none it takes no memory.
 pub fn frames_query(

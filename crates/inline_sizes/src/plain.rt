@@ -52,6 +52,7 @@ fn has_no_size<const AXIS: u8>(style: &Style) -> bool
         && is_absent(&most::<AXIS>(style))
 }
 
+#[inline(always)]
 /// Whether there are neither borders nor paddings along the axis.
 fn has_no_inner<const AXIS: u8>(style: &Style) -> bool
     ensures { result ≡ has_no_inner (grid_at AXIS style.now) }
