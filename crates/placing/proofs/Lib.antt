@@ -5,6 +5,7 @@ pub mod Entries
 pub mod Filled
 pub mod Founds
 pub mod Full
+pub mod Glances
 pub mod KeptTrees
 pub mod Leaves
 pub mod Loans

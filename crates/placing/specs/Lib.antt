@@ -4,6 +4,7 @@ pub mod Axes
 pub mod Children
 pub mod Counted
 pub mod Covered
+pub mod Glances
 pub mod Insides
 pub mod Keeping
 pub mod Kept
@@ -25,6 +26,7 @@ pub use Rattle.node_arena.specs.Plain as ArenaNodes
 pub use Rattle.outside.specs.Logging as Logging
 pub use Rattle.outside.specs.Told as Told
 pub use Rattle.part_rules.specs.Repetition as TrackRepetition
+pub use Rattle.style_types.specs.Briefs as StyleBriefs
 pub use Rattle.style_types.specs.Styles as Styles
 pub use Rattle.style_types.specs.Table as StyleTable
 pub use Rattle.tree_rules.specs.AskedQueries as AskedQueries

@@ -13,10 +13,11 @@ ghost use Rattle.tree_rules.specs.Labels.{align_in, border_box_in, column_in, co
 ghost use Rattle.tree_rules.specs.Chains.{is_subgrid};
 ghost use Rattle.tree_rules.specs.Templates.{subgrid_sets};
 ghost use Rattle.placing.specs.Axes.{content_axis, grid_axis, listed};
+ghost use Rattle.placing.specs.Glances.{IsLineGlance};
 
 use lunit::{LineValue, Lu, NameSet};
 use style_types::{
-    Align, AlignMode, Areas, Prop, Scroll, Size, Style, Template, TrackFn, TrackList, Value,
+    Align, AlignMode, Areas, Glance, Prop, Scroll, Size, Style, Template, TrackFn, TrackList, Value,
 };
 
 // ---- values of properties
@@ -40,17 +41,6 @@ fn sets_of(style: &Style, p: Prop) -> &[NameSet]
     match style.get(p) {
         Some(Value::Template(Template::Subgrid(sets))) => sets.as_slice(),
         _ => &[],
-    }
-}
-
-/// Whether a property has the value `subgrid`.
-fn is_subgrid_of(style: &Style, p: Prop) -> bool
-    requires { template_in (initial p) ≡ template.Absent }
-    ensures { result ≡ is_subgrid (template_in (value_of style.now p)) }
-{
-    match style.get(p) {
-        Some(Value::Template(Template::Subgrid(_))) => true,
-        _ => false,
     }
 }
 
@@ -163,14 +153,15 @@ pub fn track_list<const AXIS: u8>(style: &Style) -> Option<&TrackList>
     }
 }
 
-/// Whether the template is `subgrid` (CSS Grid 2, section 9).
+#[tactic(auto, using(crate::proofs::Glances::glance_laws))]
+/// Whether the template is `subgrid` (CSS Grid 2, section 9). The template is not read.
 pub fn is_subgrid<const AXIS: u8>(style: &Style) -> bool
     ensures { result ≡ is_subgrid (grid_axis AXIS (grid_of style.now)).template }
 {
     if AXIS == 0 {
-        is_subgrid_of(style, Prop::GridTemplateColumns)
+        style.has_subgrid_columns()
     } else {
-        is_subgrid_of(style, Prop::GridTemplateRows)
+        style.has_subgrid_rows()
     }
 }
 
@@ -218,14 +209,39 @@ pub fn end_line<const AXIS: u8>(style: &Style) -> Option<&LineValue>
     }
 }
 
+#[tactic(auto, using(crate::proofs::Glances::glance_laws))]
+/// What the line value of its start as an item tells at a glance.
+pub fn start_glance<const AXIS: u8>(style: &Style) -> Glance
+    ensures { IsLineGlance result (grid_axis AXIS (grid_of style.now)).start_line }
+{
+    if AXIS == 0 {
+        style.column_start()
+    } else {
+        style.row_start()
+    }
+}
+
+#[tactic(auto, using(crate::proofs::Glances::glance_laws))]
+/// What the line value of its end as an item tells at a glance.
+pub fn end_glance<const AXIS: u8>(style: &Style) -> Glance
+    ensures { IsLineGlance result (grid_axis AXIS (grid_of style.now)).end_line }
+{
+    if AXIS == 0 {
+        style.column_end()
+    } else {
+        style.row_end()
+    }
+}
+
+#[tactic(auto, using(crate::proofs::Glances::glance_laws))]
 /// The gap between two tracks (CSS Box Alignment 3, section 8.1).
 pub fn gap<const AXIS: u8>(style: &Style) -> Size
     ensures { result ≡ (grid_axis AXIS (grid_of style.now)).gap }
 {
     if AXIS == 0 {
-        size_of(style, Prop::ColumnGap, Size::Normal)
+        style.column_gap()
     } else {
-        size_of(style, Prop::RowGap, Size::Normal)
+        style.row_gap()
     }
 }
 

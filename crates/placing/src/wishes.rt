@@ -20,13 +20,13 @@ ghost use Rattle.placing.specs.Wishes.{spot_along, wish_by, IsLimitOf, IsOpen, I
 use crate::contexts::Context;
 use crate::node::Node;
 use crate::sight::{child_among, node_at};
-use crate::style::{end_line, start_line, subgrid_sets};
+use crate::style::{end_glance, end_line, start_glance, start_line, subgrid_sets};
 use line_names::LineTable;
 use lunit::{LineValue, NoMemory, Spot};
 use node_arena::{Arena, NodeId};
 use part_rules::Wish;
 use std::alloc::Global;
-use style_types::Style;
+use style_types::{Glance, Style};
 use tree_rules::NodeKind;
 
 /// Whether it is a grid container.
@@ -77,18 +77,26 @@ fn read(value: Option<&LineValue>) -> Told
     }
 }
 
-/// What the line value of its start tells.
+/// What the line value of its start tells. It is read only where a glance at the style does not tell.
 fn told_at_start<const AXIS: u8>(style: &Style) -> Told
     ensures { IsTold result (grid_axis AXIS (grid_of style.now)).start_line }
 {
-    read(start_line::<AXIS>(style))
+    match start_glance::<AXIS>(style) {
+        Glance::Read => read(start_line::<AXIS>(style)),
+        Glance::Auto => Told::Nothing,
+        Glance::Span(tracks) => Told::Span(tracks as u32),
+    }
 }
 
-/// What the line value of its end tells.
+/// What the line value of its end tells. It is read only where a glance at the style does not tell.
 fn told_at_end<const AXIS: u8>(style: &Style) -> Told
     ensures { IsTold result (grid_axis AXIS (grid_of style.now)).end_line }
 {
-    read(end_line::<AXIS>(style))
+    match end_glance::<AXIS>(style) {
+        Glance::Read => read(end_line::<AXIS>(style)),
+        Glance::Auto => Told::Nothing,
+        Glance::Span(tracks) => Told::Span(tracks as u32),
+    }
 }
 
 #[tactic(auto, using(crate::proofs::Open::open_laws))]

@@ -5,3 +5,4 @@ pub mod Styles
 pub mod Table
 pub mod Units
 pub mod Computed
+pub mod Briefs

@@ -1,6 +1,7 @@
 //! Styles of nodes: the properties, their values and initial values, and the map of those that are set.
 #![tactic(auto)]
 
+mod brief;
 mod computed;
 mod declared;
 mod initial;
@@ -12,6 +13,7 @@ mod track;
 mod unit;
 mod value;
 
+pub use brief::Glance;
 pub use declared::{Declared, DeclaredValue};
 pub use initial::initial_of;
 pub use laws::{computed_values, px_alone_stay};

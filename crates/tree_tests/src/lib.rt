@@ -7,6 +7,8 @@ mod arenas;
 #[cfg(test)]
 mod caches;
 #[cfg(test)]
+mod glances;
+#[cfg(test)]
 mod leaves;
 #[cfg(test)]
 mod questions;
