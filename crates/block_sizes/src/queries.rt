@@ -11,7 +11,7 @@ ghost use Rattle.tree_rules.specs.AskedQueries.{block_query};
 ghost use Rattle.tree_rules.specs.KeptAnswers.{IsAbsent};
 ghost use Rattle.tree_rules.specs.Queries.{answer_of, block_size, lent_items};
 
-use layout_cache::{Ask, Given, Query};
+use layout_cache::{Ask, Counts, Given, Query};
 use lunit::{Copied, Item, Lu, NoMemory, Sequence};
 use node_arena::{Arena, NodeId};
 use placing::{Answer, Node, SharedWide, find_by};
@@ -29,7 +29,7 @@ pub fn block_query(
 {
     Ok(Query {
         ask: if shared { Ask::LendRows } else { Ask::Block },
-        reps: Sequence::from_slice(alloc, reps)?,
+        reps: Counts::from_slice(alloc, reps)?,
         inline: width.copy(alloc)?,
         block: Given::None,
     })

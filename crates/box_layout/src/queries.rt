@@ -11,8 +11,8 @@ ghost use Rattle.tree_rules.specs.KeptAnswers.{IsAbsent};
 ghost use Rattle.tree_rules.specs.Queries.{answer_of, child_frames};
 ghost use Rattle.box_layout.specs.Asking.{frames_asked};
 
-use layout_cache::{Ask, Given, Query};
-use lunit::{Copied, NoMemory, Sequence};
+use layout_cache::{Ask, Counts, Given, Query};
+use lunit::{Copied, NoMemory};
 use node_arena::{Arena, NodeId};
 use placing::{Answer, Node, SharedFrames, find_by};
 use std::alloc::Global;
@@ -30,7 +30,7 @@ pub fn frames_query(
 {
     Ok(Query {
         ask: Ask::Frames,
-        reps: Sequence::from_slice(alloc, reps)?,
+        reps: Counts::from_slice(alloc, reps)?,
         inline: inline.copy(alloc)?,
         block: block.copy(alloc)?,
     })

@@ -10,7 +10,7 @@ ghost use Rattle.tree_rules.specs.AskedQueries.{inline_query};
 ghost use Rattle.tree_rules.specs.KeptAnswers.{IsAbsent};
 ghost use Rattle.tree_rules.specs.Queries.{answer_of, inline_sizes, lent_items};
 
-use layout_cache::{Ask, Given, Query};
+use layout_cache::{Ask, Counts, Given, Query};
 use lunit::{Item, Lu, NoMemory, Sequence};
 use node_arena::{Arena, NodeId};
 use placing::{Answer, Node, find_by};
@@ -27,7 +27,7 @@ pub fn inline_query(alloc: Global, shared: bool, reps: &[(u32, u32)]) -> Result<
         } else {
             Ask::Inline
         },
-        reps: Sequence::from_slice(alloc, reps)?,
+        reps: Counts::from_slice(alloc, reps)?,
         inline: Given::None,
         block: Given::None,
     })

@@ -10,4 +10,4 @@ mod same;
 pub use kept::Kept;
 pub use linked::Linked;
 pub use reaching::{drop_reached, reach};
-pub use tree_rules::{Ask, Given, Query, SharedTracks};
+pub use tree_rules::{Ask, Counts, Given, Query, SharedTracks};

@@ -4,11 +4,13 @@
 //! Nothing is computed here. The crates above prove that their calls give what these definitions give.
 #![tactic(auto)]
 
+mod counts;
 mod kind;
 mod laws;
 mod query;
 mod shared_tracks;
 
+pub use counts::Counts;
 pub use kind::NodeKind;
 pub use laws::{
     boxes_are_of_all_nodes, chains_are_of_grid_values, equal_nodes_answer_equally,

@@ -1,5 +1,5 @@
-use crate::SharedTracks;
-use lunit::{Copied, Lu, NoMemory, Sequence};
+use crate::{Counts, SharedTracks};
+use lunit::{Copied, Lu, NoMemory};
 use std::alloc::Global;
 
 /// What is asked of a node.
@@ -36,7 +36,7 @@ pub struct Query {
     pub ask: Ask,
     /// The counts of automatic repetitions, columns first, of the grids whose lines and tracks the node can see, from
     /// the topmost of them to its parent. A node that is no subgrid sees none.
-    pub reps: Sequence<(u32, u32)>,
+    pub reps: Counts,
     /// What it is given in the inline axis: nothing for `Inline` and `LendColumns`.
     pub inline: Given,
     /// What it is given in the block axis: nothing but for `Frames`.
@@ -60,7 +60,7 @@ impl Copied for Query {
     fn copy(&self, alloc: Global) -> Result<Query, NoMemory> {
         Ok(Query {
             ask: self.ask,
-            reps: Sequence::from_slice(alloc, self.reps.as_slice())?,
+            reps: Counts::from_slice(alloc, self.reps.as_slice())?,
             inline: self.inline.copy(alloc)?,
             block: self.block.copy(alloc)?,
         })

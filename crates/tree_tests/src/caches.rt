@@ -1,5 +1,5 @@
-use layout_cache::{Ask, Given, Kept, Linked, Query, drop_reached, reach};
-use lunit::{Lu, Sequence};
+use layout_cache::{Ask, Counts, Given, Kept, Linked, Query, drop_reached, reach};
+use lunit::Lu;
 use node_arena::{Arena, ArenaError, NodeId};
 use std::alloc::Global;
 use std::test::Fail;
@@ -8,7 +8,7 @@ use std::test::Fail;
 fn question(alloc: Global, width: i64, counts: &[(u32, u32)]) -> Result<Query, Fail> {
     Ok(Query {
         ask: Ask::Block,
-        reps: Sequence::from_slice(alloc, counts)?,
+        reps: Counts::from_slice(alloc, counts)?,
         inline: Given::Size(Lu::of(width)),
         block: Given::None,
     })
@@ -59,7 +59,16 @@ fn seventeen_answers_push_the_oldest_out(rt: HostRuntime) -> Result<(), Fail> {
 #[test]
 fn the_last_sixteen_are_kept(rt: HostRuntime) -> Result<(), Fail> {
     // how many answers are put, and the first of them that is kept
-    static PUT: &[(i64, i64)] = &[(4, 0), (5, 0), (6, 0), (16, 0), (17, 1), (20, 4)];
+    static PUT: &[(i64, i64)] = &[
+        (2, 0),
+        (3, 0),
+        (4, 0),
+        (5, 0),
+        (9, 0),
+        (16, 0),
+        (17, 1),
+        (20, 4),
+    ];
     let mut again = Kept::new(rt.alloc())?;
     for (count, first) in PUT {
         let mut kept = Kept::new(rt.alloc())?;

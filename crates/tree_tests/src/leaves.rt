@@ -2,8 +2,8 @@ ghost use Rattle.std.specs.Prelude.{◌≡◌, [], IfOk, OnOk};
 ghost use Rattle.tree_rules.specs.declared.query.Given.TheVariants as given;
 ghost use Rattle.tree_tests.specs.LeafTrees.{IsLeafTree};
 
-use layout_cache::{Ask, Given, Kept, Query};
-use lunit::{Lu, Name, NoMemory, Sequence};
+use layout_cache::{Ask, Counts, Given, Kept, Query};
+use lunit::{Lu, Name, NoMemory};
 use node_arena::{Arena, NodeId};
 use outside::{Event, LogRuler, Tally, Width};
 use part_rules::Content;
@@ -35,7 +35,7 @@ fn question(alloc: Global, ask: Ask, inline: Given) -> Query
 {
     Query {
         ask,
-        reps: Sequence::new(alloc),
+        reps: Counts::new(alloc),
         inline,
         block: Given::None,
     }

@@ -1,7 +1,7 @@
 use lunit::{Copied, Lu, Sequence};
 use part_rules::Content;
 use std::test::Fail;
-use tree_rules::{Ask, Given, NodeKind, Query, SharedTracks};
+use tree_rules::{Ask, Counts, Given, NodeKind, Query, SharedTracks};
 
 #[test]
 fn a_copy_of_a_question_has_its_tracks_and_counts(rt: HostRuntime) -> Result<(), Fail> {
@@ -9,7 +9,7 @@ fn a_copy_of_a_question_has_its_tracks_and_counts(rt: HostRuntime) -> Result<(),
     let edges = SharedTracks::new(rt.alloc(), edges)?;
     let query = Query {
         ask: Ask::Frames,
-        reps: Sequence::from_slice(rt.alloc(), &[(3, 1), (1, 2)])?,
+        reps: Counts::from_slice(rt.alloc(), &[(3, 1), (1, 2), (4, 7)])?,
         inline: Given::Tracks(edges, Lu::of(64)),
         block: Given::Size(Lu::of(300)),
     };
