@@ -1,7 +1,7 @@
 -- Kept pairs of which no two have the same question.
-use Rattle.std.proofs.Common.{◌≡◌, ◌≢◌, ℕ, zero, suc, ◌-◌, ◌≤◌, ◌<◌, true, false, List, [], ◌∷◌, ◌++◌, Some, None, drop, length, slice_get, sym, ap, subst, ◌∙◌, cond, arith}
+use Rattle.std.proofs.Common.{◌≡◌, ◌≢◌, ℕ, zero, suc, ◌+◌, ◌-◌, ◌≤◌, ◌<◌, true, false, List, [], ◌∷◌, ◌++◌, Some, None, drop, length, slice_get, sym, ap, subst, ◌∙◌, ◌⊎◌, inl, inr, cond, arith}
 use Rattle.std.proofs.lemmas.Bool.{false_from_ne_true, false≢true}
-use Rattle.std.proofs.lemmas.List.{length-drop}
+use Rattle.std.proofs.lemmas.List.{length-append, length-drop}
 use Rattle.tree_rules.specs.declared.query.Query.{Query}
 use Rattle.tree_rules.specs.KeptAnswers.{AreDistinct, IsAbsent}
 use Rattle.layout_cache.specs.Kept.{answer_to}
@@ -29,6 +29,16 @@ module _ {A : Type 0} where
 
   pub few_last : (n : ℕ) (xs : List (Query × A)) → length (drop (length xs - n) xs) ≤ n
   few_last n xs = omega (arith, length-drop (length xs - n) xs)
+
+  -- what a ring keeps that has room for sixteen pairs or for one more
+  pub last_kept : (n : ℕ) (xs : List (Query × A)) (e : Query × A) → (n ≡ 16) ⊎ (length xs < n) → n ≤ 16 →
+      drop (length (xs ++ e ∷ []) - n) (xs ++ e ∷ []) ≡ drop (length (xs ++ e ∷ []) - 16) (xs ++ e ∷ [])
+  last_kept n xs e (inl full) most = ap (λ k. drop (length (xs ++ e ∷ []) - k) (xs ++ e ∷ [])) full
+  last_kept n xs e (inr less) most =
+      let one : length (xs ++ e ∷ []) ≡ length xs + 1 = length-append xs (e ∷ []) in
+      let none : length (xs ++ e ∷ []) - n ≡ 0 = omega (arith, one, less) in
+      let none_of : length (xs ++ e ∷ []) - 16 ≡ 0 = omega (arith, one, less, most) in
+      ap (λ k. drop k (xs ++ e ∷ [])) (none ∙ sym none_of)
 
   -- ---- any pair that has the question is the first
 

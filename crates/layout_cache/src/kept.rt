@@ -14,10 +14,10 @@ use tree_rules::{Ask, Given, Query};
 const MOST: usize = 16;
 
 /// How many answers there is room for at first: most nodes never keep more.
-const FEW: usize = 4;
+const FEW: usize = 2;
 
 /// The answers that a node keeps, each with its question: at most sixteen, the newest last, and no question twice. There is
-/// room for four at first, and for sixteen from the fifth on.
+/// room for two at first, and for twice as many wherever it is full, up to sixteen.
 #[derive(Drop)]
 pub struct Kept<A> {
     ring: HeapCircularBuffer<(Query, A)>,
@@ -32,11 +32,11 @@ impl<A> Model for Kept<A> {
 
     ghost view = { λ a. a.ring.items };
 
-    ghost invariant = { λ a. ((a.ring.capacity ≡ 4) ⊎ (a.ring.capacity ≡ 16)) × (length a.ring.items ≤ a.ring.capacity) × AreDistinct a.ring.items };
+    ghost invariant = { λ a. (1 ≤ a.ring.capacity) × (a.ring.capacity ≤ 16) × (length a.ring.items ≤ a.ring.capacity) × AreDistinct a.ring.items };
 }
 
 impl<A: Drop> Kept<A> {
-    /// An empty list, with room for four pairs; `NoMemory` where memory is wanting.
+    /// An empty list, with room for two pairs; `NoMemory` where memory is wanting.
     pub fn new(alloc: Global) -> Result<Kept<A>, NoMemory>
         ensures { IfOk result (λ kept. kept ≡ []) }
     {
@@ -121,7 +121,7 @@ impl<A: Drop> Kept<A> {
 
     #[tactic(auto, using(crate::proofs::Distinct::put_laws))]
     /// Keeps an answer to a question that has none, and lets the oldest of sixteen go. `NoMemory` where memory is wanting for more
-    /// than four, and nothing is kept then.
+    /// room, and nothing is kept then.
     pub fn put(&mut self, query: Query, answer: A) -> Result<(), NoMemory>
         requires { IsAbsent query self.old }
         ensures ok { OnOk result (self.new ≡ last_of 16 (self.old ++ (query, answer) ∷ [])) }
@@ -140,17 +140,30 @@ impl<A: Drop> Kept<A> {
     }
 }
 
-/// Makes the room for sixteen pairs where that for four is full.
+/// Makes twice the room where it is full, up to the room for sixteen pairs.
 fn make_room<A: Drop>(ring: &mut HeapCircularBuffer<(Query, A)>) -> Result<(), NoMemory>
-    requires sizes { (ring.old.capacity ≡ 4) ⊎ (ring.old.capacity ≡ 16) }
+    requires some { 1 ≤ ring.old.capacity }
+    requires most { ring.old.capacity ≤ 16 }
     requires within { length ring.old.items ≤ ring.old.capacity }
     ensures items { ring.new.items ≡ ring.old.items }
-    ensures sizes { (ring.new.capacity ≡ 4) ⊎ (ring.new.capacity ≡ 16) }
+    ensures some { 1 ≤ ring.new.capacity }
+    ensures most { ring.new.capacity ≤ 16 }
     ensures within { length ring.new.items ≤ ring.new.capacity }
     ensures room { OnOk result (ring.new.capacity ≡ 16 ⊎ length ring.new.items < ring.new.capacity) }
 {
-    if ring.len() == FEW && ring.capacity() == FEW {
-        ring.resize(MOST)?;
+    let room = ring.capacity();
+    if ring.len() == room && room < MOST {
+        ring.resize(twice(room))?;
     }
     Ok(())
+}
+
+/// Twice as much room, at most that for sixteen pairs.
+fn twice(room: usize) -> usize
+    requires some { 1 ≤ room }
+    requires less { room < 16 }
+    ensures more { room < result }
+    ensures most { result ≤ 16 }
+{
+    (room * 2).min(MOST)
 }

@@ -8,14 +8,14 @@ use Rattle.layout_cache.proofs.kept.Kept.find_from_newest.Goals as goal
 pub returns-then-same_query-clause-value : goal.returns-then-same_query-clause-value
 returns-then-same_query-clause-value g c =
     found_at (record { ask = c.args.ask; reps = c.args.reps.now; inline = c.args.inline.now; block = c.args.block.now }) c.args.self.now (c.loop-left.left - 1) c.in-Some.field-0.now
-    (subst AreDistinct c.self.view_is c.self.invariant.2) (c.in-Some.ensures ∙ ap (λ xs. slice_get xs (c.loop-left.left - 1)) c.self.view_is) (sym c.same_query.ensures ∙ c.if-same_query.true)
+    (subst AreDistinct c.self.view_is c.self.invariant.3) (c.in-Some.ensures ∙ ap (λ xs. slice_get xs (c.loop-left.left - 1)) c.self.view_is) (sym c.same_query.ensures ∙ c.if-same_query.true)
 
 pub returns-then-same_query-clause-absent : goal.returns-then-same_query-clause-absent
 returns-then-same_query-clause-absent g c = (
   λ e. absurd (false≢true e),
   λ h. absurd (not_absent (record { ask = c.args.ask; reps = c.args.reps.now; inline = c.args.inline.now; block = c.args.block.now }) c.args.self.now c.in-Some.field-0.now.1
       (found_at (record { ask = c.args.ask; reps = c.args.reps.now; inline = c.args.inline.now; block = c.args.block.now }) c.args.self.now (c.loop-left.left - 1) c.in-Some.field-0.now
-      (subst AreDistinct c.self.view_is c.self.invariant.2) (c.in-Some.ensures ∙ ap (λ xs. slice_get xs (c.loop-left.left - 1)) c.self.view_is) (sym c.same_query.ensures ∙ c.if-same_query.true)) h),
+      (subst AreDistinct c.self.view_is c.self.invariant.3) (c.in-Some.ensures ∙ ap (λ xs. slice_get xs (c.loop-left.left - 1)) c.self.view_is) (sym c.same_query.ensures ∙ c.if-same_query.true)) h),
 )
 
 pub loop-left-preserved-else-same_query : goal.loop-left-preserved-else-same_query
