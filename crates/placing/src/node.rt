@@ -12,12 +12,12 @@ pub struct Node {
     pub name: Name,
     /// A grid, a flex container, or a leaf with its content.
     pub kind: NodeKind,
-    /// The values as they are declared.
-    pub declared: Declared,
-    /// The computed values (CSS Values 4, section 6.1).
-    pub style: Style,
     /// The answers that it keeps.
     pub kept: Kept<Answer>,
+    /// The computed values (CSS Values 4, section 6.1).
+    pub style: Style,
+    /// The values as they are declared. They stand last, since no layout reads them.
+    pub declared: Declared,
 }
 
 /// A child as its parent lays it out.
