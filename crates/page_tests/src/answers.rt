@@ -5,7 +5,7 @@ use crate::pages::{laid_out, node_named, page_of};
 use Floors::{Content, Known};
 use Told::{Columns, Height, Rows, Widths};
 use Wide::{Nothing, Tracks, Width};
-use layout_cache::{Ask, Given, Query, SharedTracks};
+use layout_cache::{Ask, Counts, Given, Query, SharedTracks};
 use lunit::{Floor, Item, Lu, NoMemory, Sequence, Span, Steps};
 use outside::{Tally, WordRuler};
 use page_tree::Page;
@@ -104,7 +104,7 @@ fn ask(told: &Told) -> Ask {
 }
 
 fn query(alloc: Global, reps: &[(u32, u32)], wide: &Wide, told: &Told) -> Result<Query, NoMemory> {
-    let reps = Sequence::from_slice(alloc, reps)?;
+    let reps = Counts::from_slice(alloc, reps)?;
     let inline = given(alloc, wide)?;
     Ok(Query {
         ask: ask(told),

@@ -7,7 +7,7 @@ ghost use Rattle.session_tests.specs.Ready.{IsReady};
 
 use Inline::{Halves, Width};
 use doc_text::{Edit, Named, read_doc};
-use layout_cache::{Ask, Given, Query, SharedTracks};
+use layout_cache::{Ask, Counts, Given, Query, SharedTracks};
 use lunit::{Lu, Name, NoMemory, Sequence, Steps};
 use outside::{Tally, WordRuler};
 use page_tree::Page;
@@ -138,7 +138,7 @@ fn given(alloc: Global, inline: &Inline) -> Result<Given, NoMemory> {
 
 fn query(alloc: Global, asked: &Asked) -> Result<Query, NoMemory> {
     let inline = given(alloc, &asked.inline)?;
-    let reps = Sequence::from_slice(alloc, asked.counts)?;
+    let reps = Counts::from_slice(alloc, asked.counts)?;
     Ok(Query {
         ask: asked.ask,
         reps,
