@@ -13,6 +13,7 @@ mod Outers
 mod OwnColumns
 mod PlainChildren
 mod PlainSubgrids
+pub mod ReadBases
 pub mod RowAxes
 mod Same
 mod Seams

@@ -21,6 +21,7 @@ use Rattle.tree_rules.specs.declared.query.Given.{Given}
 use Rattle.tree_rules.specs.declared.query.Query.{Query}
 use Rattle.inline_sizes.specs.Grids.{IsGrid}
 use Rattle.inline_sizes.specs.GridsSeen.{grid_seen}
+use Rattle.placing.specs.declared.wide.GridBase.{GridBase}
 use Rattle.placing.specs.declared.wide.GridParts.{GridParts}
 use Rattle.block_sizes.specs.Children.{inline_of_child}
 use Rattle.block_sizes.specs.Wides.{LeadsDown, asked_of, asks_of, columns_seen, items_from, items_of, items_seen, rows_seen, wide_in, wide_seen, wides_seen}
@@ -168,16 +169,16 @@ unfolding wide_seen
 wide_number b n outer width e sizes = refl
 
 -- what the code tells of a child of the same tree is the child that comes next
-pub record IsTurn (b d : BareTrees) (n : NodeId) (outer : List Pair) (width : Given) (parts : GridParts) (view : View 0) (e : ChildArea) (sizes : ℤ × ℤ) (k : ℕ) : Type 0 where
+pub record IsTurn (b d : BareTrees) (n : NodeId) (outer : List Pair) (width : Given) (base : GridBase) (view : View 0) (e : ChildArea) (sizes : ℤ × ℤ) (k : ℕ) : Type 0 where
   pub wide : Wide
   pub next : drop k (wides_seen b n outer width) ≡ wide ∷ drop (k + 1) (wides_seen b n outer width)
-  pub child : child_of (wide_in d n parts.base view e sizes) ≡ child_of wide
-  pub items : items_seen d n parts.base e (wide_in d n parts.base view e sizes).inline ≡ items_of b n outer width wide
-  pub asked : asked_of d parts.base e (wide_in d n parts.base view e sizes).inline ≡ asks_of b n outer width wide
+  pub child : child_of (wide_in d n base view e sizes) ≡ child_of wide
+  pub items : items_seen d n base e (wide_in d n base view e sizes).inline ≡ items_of b n outer width wide
+  pub asked : asked_of d base e (wide_in d n base view e sizes).inline ≡ asks_of b n outer width wide
   pub number : child_at b n wide.entry.number ≡ Some e.child
 
-pub turn : (b d : BareTrees) → d ≡ b → (n : NodeId) (outer : List Pair) (width : Given) (parts : GridParts) (view : View 0) (e : ChildArea) (sizes : ℤ × ℤ) (k : ℕ) → IsGrid b n outer width parts → view ≡ columns_seen b n outer width →
-    drop k (entries_at d n parts.base.placed) ≡ entry_by d e ∷ drop (k + 1) (entries_at d n parts.base.placed) → drop k parts.inlines ≡ sizes ∷ drop (k + 1) parts.inlines → child_at d n e.number ≡ Some e.child → IsTurn b d n outer width parts view e sizes k
+turn : (b d : BareTrees) → d ≡ b → (n : NodeId) (outer : List Pair) (width : Given) (parts : GridParts) (view : View 0) (e : ChildArea) (sizes : ℤ × ℤ) (k : ℕ) → IsGrid b n outer width parts → view ≡ columns_seen b n outer width →
+    drop k (entries_at d n parts.base.placed) ≡ entry_by d e ∷ drop (k + 1) (entries_at d n parts.base.placed) → drop k parts.inlines ≡ sizes ∷ drop (k + 1) parts.inlines → child_at d n e.number ≡ Some e.child → IsTurn b d n outer width parts.base view e sizes k
 turn b d is n outer width parts view e sizes k grid v next there number =
     record {
       wide = wide_seen b n outer width (entry_by b e) sizes;
@@ -187,3 +188,9 @@ turn b d is n outer width parts view e sizes k grid v next there number =
       asked = ap (λ (z : BareTrees). asked_of z parts.base e (wide_in z n parts.base view e sizes).inline) is ∙ asked_is b n outer width parts grid view v e sizes;
       number = ap (child_at b n) (sym (wide_number b n outer width e sizes)) ∙ subst (λ (z : BareTrees). child_at z n e.number ≡ Some e.child) is number;
     }
+
+-- and by the base that the code reads
+pub turn_read : (b d : BareTrees) → d ≡ b → (n : NodeId) (outer : List Pair) (width : Given) (parts : GridParts) (read : GridBase) → read ≡ parts.base → (view : View 0) (e : ChildArea) (sizes : ℤ × ℤ) (k : ℕ) → IsGrid b n outer width parts → view ≡ columns_seen b n outer width →
+    drop k (entries_at d n parts.base.placed) ≡ entry_by d e ∷ drop (k + 1) (entries_at d n parts.base.placed) → drop k parts.inlines ≡ sizes ∷ drop (k + 1) parts.inlines → child_at d n e.number ≡ Some e.child → IsTurn b d n outer width read view e sizes k
+turn_read b d is n outer width parts read same view e sizes k grid v next there number =
+    subst (λ (base : GridBase). IsTurn b d n outer width base view e sizes k) (sym same) (turn b d is n outer width parts view e sizes k grid v next there number)

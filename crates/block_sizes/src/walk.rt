@@ -301,7 +301,8 @@ fn ask_children<R: Ruler, L: Ledger>(
     ensures stopped { OnErr result ((q : Query) → LeadsDown (bare tree.old.tree) id reps.now width.now q → Stopped id q (state tree.old tally.old passes.old (R.log ruler.old)) (state tree.new tally.new passes.new (R.log ruler.new))) }
 {
     root(tree);
-    let count = parts.base.placed.areas.len();
+    let base = parts.base.grid();
+    let count = base.placed.areas.len();
     let mut children = with_room(alloc, count)?;
     let room = items_room(tree, id, reps, width, parts);
     let mut items = with_room(alloc, room)?;
@@ -309,17 +310,7 @@ fn ask_children<R: Ruler, L: Ledger>(
         let entry = child_in(tree, id, reps, width, parts, index);
         let sizes = sizes_at(parts, index);
         let child = ask_child(
-            alloc,
-            tree,
-            id,
-            &parts.base,
-            columns,
-            entry,
-            sizes,
-            &mut items,
-            ruler,
-            tally,
-            passes,
+            alloc, tree, id, base, columns, entry, sizes, &mut items, ruler, tally, passes,
         )?;
         children.push(child)?;
     }

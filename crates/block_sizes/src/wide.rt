@@ -121,7 +121,8 @@ pub(crate) fn child_in(
 {
     root(tree);
     items_lie_in_their_tracks(tree, id);
-    entry(tree, id, &parts.base.placed, index)
+    let base = parts.base.grid();
+    entry(tree, id, &base.placed, index)
 }
 
 /// How many items along the rows to make room for at once: one for each child, or, where the first child is a subgrid in the rows,
@@ -139,7 +140,7 @@ pub(crate) fn items_room(
     requires kind { (sight_at (bare tree.now.tree) id).label.kind ≡ kind.Grid }
     requires grid { IsGrid (bare tree.now.tree) id reps.now width.now parts.now }
 {
-    let count = parts.base.placed.areas.len();
+    let count = parts.base.grid().placed.areas.len();
     if count == 0 {
         return 0;
     }
@@ -200,7 +201,7 @@ pub(crate) fn columns_of<L: Ledger>(
 {
     items_lie_in_their_tracks(tree, id);
     columns_reach(tree, id);
-    let base = &parts.base;
+    let base = parts.base.grid();
     let spans = column_spans(alloc, base.placed.areas.as_slice())?;
     let (count, _) = base.pair;
     let input = TrackInput {
@@ -281,15 +282,15 @@ pub(crate) fn rows_total<L: Ledger>(
     ensures ticks { passes.new ≤ passes.old + 1 }
 {
     items_lie_in_their_tracks(tree, id);
-    let placed = &wide.parts.base.placed;
+    let base = wide.parts.base.grid();
     let style = &node_at(tree, id).style;
     let pair = own_pair(alloc, style, &Given::None)?;
-    let spans = row_spans(alloc, placed.areas.as_slice())?;
+    let spans = row_spans(alloc, base.placed.areas.as_slice())?;
     let input = TrackInput {
         style,
         count: pair.1,
         spans: &spans,
-        tracks: placed.rows,
+        tracks: base.placed.rows,
         items: wide.items.as_slice(),
     };
     let total = total_for::<1, L>(alloc, &input, Space::MaxContent, passes)?;
@@ -330,7 +331,8 @@ pub(crate) fn lent_rows(
     ensures { IfOk result (λ items. items ≡ grid_lends_rows (grid_seen (bare tree.now.tree) id reps.now width.now) (rows_seen (bare tree.now.tree) id reps.now width.now)) }
 {
     items_lie_in_their_tracks(tree, id);
-    let levels = row_levels(&wide.parts.base.above);
+    let base = wide.parts.base.grid();
+    let levels = row_levels(&base.above);
     let items = with_standing_item(alloc, levels, wide.items.as_slice())?;
     Ok(items)
 }

@@ -142,7 +142,7 @@ fn base_of(held: &HeldBase) -> &GridBase
 {
     match held {
         HeldBase::Made(base) => base.as_ref(),
-        HeldBase::Kept(wide) => &wide.grid().parts.base,
+        HeldBase::Kept(wide) => wide.grid().parts.base.grid(),
     }
 }
 

@@ -68,7 +68,8 @@ fn child_over(
 {
     root(tree);
     items_lie_in_their_tracks(tree, id);
-    entry(tree, id, &wide.parts.base.placed, index)
+    let base = wide.parts.base.grid();
+    entry(tree, id, &base.placed, index)
 }
 
 /// What is known of the child of an index.
@@ -109,13 +110,13 @@ fn framed_child(
     ensures last { OnOk result (IsLastIn rows.now last.new) }
 {
     let entry = child_over(tree, id, reps, width, wide, index);
-    let placed = &wide.parts.base.placed;
+    let base = wide.parts.base.grid();
     let child = wide_child_at(wide, index);
     let container = node_at(tree, id);
     let node = node_at(tree, entry.child);
     let shared = shares(tree, entry.child);
-    let columns = from_first(placed.columns, entry.area.columns);
-    let across = from_first(placed.rows, entry.area.rows);
+    let columns = from_first(base.placed.columns, entry.area.columns);
+    let across = from_first(base.placed.rows, entry.area.rows);
     let over = OverTracks {
         child: entry.child,
         style: &node.style,
@@ -193,6 +194,7 @@ pub(crate) fn grid_frames(
 {
     root(tree);
     count(tree, id);
-    let places = turns(alloc, wide.parts.base.placed.numbers.as_slice())?;
+    let base = wide.parts.base.grid();
+    let places = turns(alloc, base.placed.numbers.as_slice())?;
     framed_children(alloc, tree, id, reps, width, wide, rows, &places)
 }

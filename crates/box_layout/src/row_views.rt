@@ -74,15 +74,15 @@ pub(crate) fn rows_of<L: Ledger>(
     root(tree);
     items_lie_in_their_tracks(tree, id);
     rows_reach(tree, id);
-    let placed = &wide.parts.base.placed;
+    let base = wide.parts.base.grid();
     let style = &node_at(tree, id).style;
     let pair = own_pair(alloc, style, &Given::None)?;
-    let spans = row_spans(alloc, placed.areas.as_slice())?;
+    let spans = row_spans(alloc, base.placed.areas.as_slice())?;
     let input = TrackInput {
         style,
         count: pair.1,
         spans: &spans,
-        tracks: placed.rows,
+        tracks: base.placed.rows,
         items: wide.items.as_slice(),
     };
     let view = view_by::<1, L>(alloc, &input, height, passes)?;

@@ -26,7 +26,7 @@ use Rattle.tree_rules.specs.declared.kind.NodeKind.TheVariants as kind
 use Rattle.tree_rules.specs.declared.query.Given.{Given}
 use Rattle.tree_rules.specs.declared.query.Given.TheVariants as given
 use Rattle.tree_rules.specs.declared.query.Query.{Query}
-use Rattle.inline_sizes.specs.Grids.{AreAnswers, IsBase, IsGrid, LeadsOn, asked_of, items_from, items_seen, sizes_seen}
+use Rattle.inline_sizes.specs.Grids.{AreAnswers, IsBase, IsCounted, IsGrid, LeadsOn, asked_of, items_from, items_seen, sizes_seen}
 use Rattle.placing.specs.Wides.{IsAbove}
 use Rattle.inline_sizes.specs.GridsSeen.{grid_seen}
 use Rattle.placing.specs.declared.wide.GridBase.{GridBase}
@@ -56,20 +56,24 @@ own_pair_same x y (given.Size v) g h = λ i. own_pair (record { name = []; kind 
 own_pair_same x y (given.Tracks edges gap) g h = λ i. own_pair (record { name = []; kind = kind.Grid; grid = g i; content = h i }) (given.Tracks edges gap)
 own_pair_same x y given.None g h = λ i. own_pair (record { name = []; kind = kind.Grid; grid = g i; content = h i }) given.None
 
-pub based : (b : BareTrees) (n : NodeId) (outer : List Pair) (width : Given) (c : Context) (p : Placed) (pair : Pair) (pairs : List Pair) (x : Label) →
-    length outer ≡ length (sight_at b n).chain → pairs ≡ outer ++ pair ∷ [] → pair ≡ own_pair x width → x.grid ≡ (sight_at b n).label.grid → x.content ≡ (sight_at b n).label.content →
-    context_of c ≡ context_at (sight_at b n) (outer ++ pair ∷ []) → IsPlaced b n (context_of c) p →
-    IsBase b n outer width (record { pair = pair; pairs = pairs; above = above.Grid c; placed = p })
-based b n outer width c p pair pairs x l e o g h k q =
-    let ck : context_of c ≡ context_at (sight_at b n) pairs = k ∙ ap (context_at (sight_at b n)) (sym e) in
+-- its counts, by the style alone
+pub counted : (b : BareTrees) (n : NodeId) (outer : List Pair) (width : Given) (pair : Pair) (pairs : List Pair) (x : Label) → pairs ≡ outer ++ pair ∷ [] → pair ≡ own_pair x width → x.grid ≡ (sight_at b n).label.grid → x.content ≡ (sight_at b n).label.content →
+    IsCounted b n outer width (pair, pairs)
+counted b n outer width pair pairs x e o g h = record { pair = o ∙ own_pair_same x (sight_at b n).label width g h; pairs = e }
+
+pub based : (b : BareTrees) (n : NodeId) (outer : List Pair) (width : Given) (c : Context) (p : Placed) (counts : Pair × List Pair) →
+    length outer ≡ length (sight_at b n).chain → IsCounted b n outer width counts → context_of c ≡ context_at (sight_at b n) (outer ++ counts.0 ∷ []) → IsPlaced b n (context_of c) p →
+    IsBase b n outer width (record { pair = counts.0; pairs = counts.1; above = above.Grid c; placed = p })
+based b n outer width c p counts l h k q =
+    let ck : context_of c ≡ context_at (sight_at b n) counts.1 = k ∙ ap (context_at (sight_at b n)) (sym h.pairs) in
     record {
       laid = record {
-        counts = ap length e ∙ length-append outer (pair ∷ []) ∙ ap (λ m. m + 1) l;
+        counts = ap length h.pairs ∙ length-append outer (counts.0 ∷ []) ∙ ap (λ m. m + 1) l;
         context = ck;
         placed = subst (λ z. IsPlaced b n z p) ck q;
       };
-      pair = o ∙ own_pair_same x (sight_at b n).label width g h;
-      pairs = e;
+      pair = h.pair;
+      pairs = h.pairs;
     }
 
 -- ---- the grid of the definitions
@@ -133,6 +137,17 @@ leads_by b n base q h k is i e next =
 
 pub leads_on : (b : BareTrees) (n : NodeId) (outer : List Pair) (width : Given) (base : GridBase) → (sight_at b n).label.kind ≡ kind.Grid → IsBase b n outer width base → (q : Query) → q.reps ≡ outer → q.inline ≡ width → LeadsOn b n base q
 leads_on b n outer width base is h q r w = λ k e next. leads_by b n base q (subst (λ (o : List Pair). IsBase b n o q.inline base) (sym r) (subst (λ (g : Given). IsBase b n outer g base) (sym w) h)) (sight_at b n).label.kind is k e next
+
+-- of the tree that keeps it, and as the code reads it there
+module _ (b d : BareTrees) (same : d ≡ b) (n : NodeId) (outer : List Pair) (width : Given) (base read : GridBase) (is : read ≡ base) (h : IsBase b n outer width base) where
+  base_there : IsBase d n outer width read
+  base_there = subst (λ z. IsBase z n outer width read) (sym same) (subst (IsBase b n outer width) (sym is) h)
+
+  pub grid_there : (sizes : List (ℤ × ℤ)) (made : List Item) → AreAnswers d n read sizes made → IsGrid b n outer width (record { base = base; inlines = sizes; items = made })
+  grid_there sizes made a = grid_made b n outer width base h sizes made (subst (λ z. AreAnswers z n base sizes made) same (subst (λ x. AreAnswers d n x sizes made) is a))
+
+  pub leads_there : (sight_at b n).label.kind ≡ kind.Grid → (q : Query) → q.reps ≡ outer → q.inline ≡ width → LeadsOn d n read q
+  leads_there k q r w = leads_on d n outer width read (subst (λ (z : BareTrees). (sight_at z n).label.kind ≡ kind.Grid) (sym same) k) base_there q r w
 
 -- ---- what its children answer, one after the other
 

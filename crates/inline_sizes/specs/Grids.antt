@@ -46,6 +46,11 @@ pub record IsBase (b : BareTrees) (n : NodeId) (outer : List Pair) (width : Give
   pub pair : base.pair ≡ own_pair (sight_at b n).label width
   pub pairs : base.pairs ≡ outer ++ base.pair ∷ []
 
+-- The counts of a grid that sees these above it and is given this width, and those that its subgrids see, its own last.
+pub record IsCounted (b : BareTrees) (n : NodeId) (outer : List Pair) (width : Given) (counts : Pair × List Pair) : Type 0 where
+  pub pair : counts.0 ≡ own_pair (sight_at b n).label width
+  pub pairs : counts.1 ≡ outer ++ counts.0 ∷ []
+
 -- ---- what its children answer
 
 -- a node is a subgrid where its parent is a grid

@@ -58,12 +58,13 @@ pub(crate) fn grid_inline<L: Ledger>(
     ensures stopped { OnErr result ((passes.old ≤ passes.new) × (passes.new ≤ passes.old + 2)) }
 {
     items_lie_in_their_tracks(tree, id);
-    let spans = column_spans(alloc, parts.base.placed.areas.as_slice())?;
+    let base = parts.base.grid();
+    let spans = column_spans(alloc, base.placed.areas.as_slice())?;
     let input = TrackInput {
         style: &node_at(tree, id).style,
-        count: parts.base.pair.0,
+        count: base.pair.0,
         spans: spans.as_slice(),
-        tracks: parts.base.placed.columns,
+        tracks: base.placed.columns,
         items: parts.items.as_slice(),
     };
     intrinsic_totals(alloc, &input, passes)
@@ -76,7 +77,7 @@ pub(crate) fn grid_lends(alloc: Global, parts: &GridParts) -> Result<Sequence<It
     ensures { (b : BareTrees) (id : NodeId) (outer : List Pair) (width : Given) → IsGrid b id outer width parts.now → IfOk result (λ items. items ≡ grid_lends_columns (grid_seen b id outer width)) }
 {
     let mut items = Sequence::new(alloc);
-    if let Some(item) = empty_item(column_levels(&parts.base.above)) {
+    if let Some(item) = empty_item(column_levels(&parts.base.grid().above)) {
         items.push(item)?;
     }
     append(&mut items, parts.items.as_slice())?;

@@ -1,21 +1,31 @@
 //! A grid once the counts of its repetitions are known: its context, the areas of its children, and, once these are asked, their
 //! inline sizes and their items along the columns (CSS Grid 2, sections 7 to 9 and 12.5).
 
-ghost use Rattle.std.specs.Prelude.{◌≡◌, ◌++◌, ◌∷◌, [], length, map, IfOk};
+ghost use Rattle.std.specs.Prelude.{◌≡◌, ◌++◌, ◌∷◌, [], ℕ, length, map, IfOk, List, Option};
 ghost use Rattle.lunit.specs.declared.geometry.Area.{Area};
 ghost use Rattle.node_arena.specs.declared.number.NodeId.{NodeId};
+ghost use Rattle.outside.specs.declared.event.Event.{Event};
+ghost use Rattle.outside.specs.declared.tally.Tally.{Tally as Told};
+ghost use Rattle.placing.specs.Bases.{HoldsPlaces};
 ghost use Rattle.placing.specs.Counted.{IsGivenSize};
-ghost use Rattle.placing.specs.Nodes.{bare, sight_at, IsLive};
+ghost use Rattle.placing.specs.Kept.{IsRight};
+ghost use Rattle.placing.specs.Nodes.{bare, children_at, sight_at, IsLive};
 ghost use Rattle.placing.specs.Ranges.{AreReadable};
-ghost use Rattle.placing.specs.Seats.{IsSeat};
-ghost use Rattle.inline_sizes.specs.Grids.{IsBase, column_levels};
+ghost use Rattle.placing.specs.Seats.{IsInsideOf, IsSeat};
+ghost use Rattle.placing.specs.Walks.{state, State, Stopped, WalkedBelow};
+ghost use Rattle.tree_rules.specs.Answers.{Pair};
+ghost use Rattle.tree_rules.specs.declared.query.Given.{Given};
+ghost use Rattle.tree_rules.specs.declared.query.Query.{Query};
+ghost use Rattle.inline_sizes.specs.Grids.{IsBase, IsCounted, column_levels};
 
 use layout_cache::Given;
 use lunit::{Area, NoMemory, Sequence, Span};
 use node_arena::{Arena, NodeId};
 use part_rules::Level;
 use placing::counts::own_pair;
-use placing::{Above, GridBase, Node, areas_in, context_in, node_at};
+use placing::{
+    Above, GridBase, Node, SharedBase, areas_in, context_in, find_base, keep_base, node_at,
+};
 use std::alloc::Global;
 
 /// Counts, and then others.
@@ -52,6 +62,52 @@ pub(crate) fn column_spans(alloc: Global, areas: &[(NodeId, Area)]) -> Result<Ve
     Ok(spans)
 }
 
+/// The counts of a grid's own automatic repeats, columns first, by what it is given in the inline axis, and those that its subgrids
+/// see: the counts above it, and its own last. `NoMemory` where memory is wanting.
+fn counts_in(
+    alloc: Global,
+    tree: &Arena<Node>,
+    id: NodeId,
+    reps: &[(u32, u32)],
+    width: &Given,
+) -> Result<((u32, u32), Sequence<(u32, u32)>), NoMemory>
+    requires live { IsLive (bare tree.now.tree) id }
+    requires readable { AreReadable (bare tree.now.tree) }
+    requires width { IsGivenSize width.now }
+    ensures { IfOk result (IsCounted (bare tree.now.tree) id reps.now width.now) }
+{
+    let style = &node_at(tree, id).style;
+    let pair = own_pair(alloc, style, width)?;
+    let pairs = with_pair(alloc, reps, pair)?;
+    Ok((pair, pairs))
+}
+
+/// The context of a grid in its seat and the areas of its children, by its counts. `NoMemory` where memory is wanting.
+fn base_by(
+    alloc: Global,
+    tree: &Arena<Node>,
+    id: NodeId,
+    counts: ((u32, u32), Sequence<(u32, u32)>),
+    above: &Above,
+    area: Area,
+) -> Result<GridBase, NoMemory>
+    requires live { IsLive (bare tree.now.tree) id }
+    requires readable { AreReadable (bare tree.now.tree) }
+    requires area { IsInsideOf above.now area }
+    ensures { (outer : List Pair) (width : Given) → length outer ≡ length (sight_at (bare tree.now.tree) id).chain → IsCounted (bare tree.now.tree) id outer width counts → IsSeat (sight_at (bare tree.now.tree) id) outer above.now area → IfOk result (IsBase (bare tree.now.tree) id outer width) }
+{
+    let (pair, pairs) = counts;
+    let style = &node_at(tree, id).style;
+    let context = context_in(alloc, above, area, style, pair)?;
+    let placed = areas_in(alloc, tree, id, &context)?;
+    Ok(GridBase {
+        pair,
+        pairs,
+        above: Above::Grid(context),
+        placed,
+    })
+}
+
 /// The context of a grid in its seat and the areas of its children, by the counts of the repetitions above it and what it is given
 /// in the inline axis, of which a size is at least 0 (CSS Grid 2, sections 7 to 9). No child is asked. `NoMemory` where memory is
 /// wanting.
@@ -71,14 +127,59 @@ pub fn base_at(
     requires width { IsGivenSize width.now }
     ensures { IfOk result (IsBase (bare tree.now.tree) id reps.now width.now) }
 {
-    let style = &node_at(tree, id).style;
-    let pair = own_pair(alloc, style, width)?;
-    let context = context_in(alloc, above, area, style, pair)?;
-    let placed = areas_in(alloc, tree, id, &context)?;
-    Ok(GridBase {
-        pair,
-        pairs: with_pair(alloc, reps, pair)?,
-        above: Above::Grid(context),
-        placed,
-    })
+    let counts = counts_in(alloc, tree, id, reps, width)?;
+    base_by(alloc, tree, id, counts, above, area)
+}
+
+/// A base that a node keeps from now on, and once more for the one who made it; `NoMemory` where memory is wanting.
+fn kept_base(
+    alloc: Global,
+    tree: &mut Arena<Node>,
+    id: NodeId,
+    base: GridBase,
+) -> Result<SharedBase, NoMemory>
+    requires live { IsLive (bare tree.old.tree) id }
+    requires right { IsRight tree.old.tree }
+    requires holds { HoldsPlaces (sight_at (bare tree.old.tree) id) (children_at (bare tree.old.tree) id) base }
+    ensures value { IfOk result (λ kept. kept ≡ base) }
+    ensures right { IsRight tree.new.tree }
+    ensures same { bare tree.new.tree ≡ bare tree.old.tree }
+    ensures below { (q : Query) (more passes : ℕ) (tally : Told) (log : Option (List Event)) (new : State) → WalkedBelow id q more (state tree.new tally passes log) new → WalkedBelow id q more (state tree.old tally passes log) new }
+    ensures stopped { (q : Query) (passes : ℕ) (tally : Told) (log : Option (List Event)) (new : State) → Stopped id q (state tree.new tally passes log) new → Stopped id q (state tree.old tally passes log) new }
+{
+    let base = SharedBase::new(alloc, base)?;
+    let other = base.again()?;
+    keep_base(tree, id, other);
+    Ok(base)
+}
+
+/// The context of a grid in its seat and the areas of its children, as `base_at` makes them: those that the grid keeps by these
+/// counts, or made anew and kept from now on, so that a walk begins after it as before it. `NoMemory` where memory is wanting.
+pub(crate) fn shared_base(
+    alloc: Global,
+    tree: &mut Arena<Node>,
+    id: NodeId,
+    reps: &[(u32, u32)],
+    above: &Above,
+    area: Area,
+    width: &Given,
+) -> Result<SharedBase, NoMemory>
+    requires live { IsLive (bare tree.old.tree) id }
+    requires right { IsRight tree.old.tree }
+    requires readable { AreReadable (bare tree.old.tree) }
+    requires reps { length reps.now ≡ length (sight_at (bare tree.old.tree) id).chain }
+    requires seat { IsSeat (sight_at (bare tree.old.tree) id) reps.now above.now area }
+    requires width { IsGivenSize width.now }
+    ensures value { IfOk result (IsBase (bare tree.old.tree) id reps.now width.now) }
+    ensures right { IsRight tree.new.tree }
+    ensures same { bare tree.new.tree ≡ bare tree.old.tree }
+    ensures below { (q : Query) (more passes : ℕ) (tally : Told) (log : Option (List Event)) (new : State) → WalkedBelow id q more (state tree.new tally passes log) new → WalkedBelow id q more (state tree.old tally passes log) new }
+    ensures stopped { (q : Query) (passes : ℕ) (tally : Told) (log : Option (List Event)) (new : State) → Stopped id q (state tree.new tally passes log) new → Stopped id q (state tree.old tally passes log) new }
+{
+    let counts = counts_in(alloc, tree, id, reps, width)?;
+    if let Some(base) = find_base(tree, id, counts.1.as_slice()) {
+        return base.again();
+    }
+    let base = base_by(alloc, tree, id, counts, above, area)?;
+    kept_base(alloc, tree, id, base)
 }

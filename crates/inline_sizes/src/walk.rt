@@ -27,7 +27,7 @@ ghost use Rattle.inline_sizes.specs.Lifted.{IsLifted};
 
 use crate::columns::{append, grid_inline, grid_lends, with_room};
 use crate::flex::{FlexParts, Member, flex_inline};
-use crate::grid::{base_at, column_levels};
+use crate::grid::{column_levels, shared_base};
 use crate::laws::items_lie_in_their_tracks;
 use crate::queries::{inline_query, kept_items, kept_sizes};
 use crate::sized::child_item;
@@ -320,8 +320,8 @@ pub fn grid_at<R: Ruler, L: Ledger>(
     ensures below { OnOk result ((q : Query) → q.reps ≡ reps.now → q.inline ≡ width.now → WalkedBelow id q 0 (state tree.old tally.old passes.old (R.log ruler.old)) (state tree.new tally.new passes.new (R.log ruler.new))) }
     ensures stopped { OnErr result ((q : Query) → q.reps ≡ reps.now → q.inline ≡ width.now → Stopped id q (state tree.old tally.old passes.old (R.log ruler.old)) (state tree.new tally.new passes.new (R.log ruler.new))) }
 {
-    let base = base_at(alloc, tree, id, reps, above, area, width)?;
-    let (inlines, items) = ask_children(alloc, tree, id, &base, ruler, tally, passes)?;
+    let base = shared_base(alloc, tree, id, reps, above, area, width)?;
+    let (inlines, items) = ask_children(alloc, tree, id, base.grid(), ruler, tally, passes)?;
     Ok(GridParts {
         base,
         inlines,

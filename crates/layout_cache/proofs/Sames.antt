@@ -46,11 +46,11 @@ pub ruleset item_laws = (other_length, same_next, same_end)
 
 -- ---- the same question is the question
 module _ {A : Type 0} (same : A → A → Bool) where
-  items_refl : ((x : A) → same x x ≡ true) → (xs : List A) → same_items same xs xs ≡ true
+  pub items_refl : ((x : A) → same x x ≡ true) → (xs : List A) → same_items same xs xs ≡ true
   items_refl r [] = refl
   items_refl r (x ∷ xs) = ap (λ b. b && same_items same xs xs) (r x) ∙ items_refl r xs
 
-  items_is : ((x y : A) → same x y ≡ true → x ≡ y) → (xs ys : List A) → same_items same xs ys ≡ true → xs ≡ ys
+  pub items_is : ((x y : A) → same x y ≡ true → x ≡ y) → (xs ys : List A) → same_items same xs ys ≡ true → xs ≡ ys
   items_is r [] [] e = refl
   items_is r [] (y ∷ ys) e = absurd (false≢true e)
   items_is r (x ∷ xs) [] e = absurd (false≢true e)
@@ -73,10 +73,10 @@ ask_back ask.Frames = refl
 ask_is : (a b : Ask) → (ask_number a == ask_number b) ≡ true → a ≡ b
 ask_is a b e = sym (ask_back a) ∙ ap ask_of (eqb_is (ask_number a) (ask_number b) e) ∙ ask_back b
 
-count_is : (x y : ℕ × ℕ) → ((x.0 == y.0) && (x.1 == y.1)) ≡ true → x ≡ y
+pub count_is : (x y : ℕ × ℕ) → ((x.0 == y.0) && (x.1 == y.1)) ≡ true → x ≡ y
 count_is x y e = let parts = and_parts (x.0 == y.0) (x.1 == y.1) e in λ i. (eqb_is x.0 y.0 parts.0 i, eqb_is x.1 y.1 parts.1 i)
 
-count_refl : (x : ℕ × ℕ) → ((x.0 == x.0) && (x.1 == x.1)) ≡ true
+pub count_refl : (x : ℕ × ℕ) → ((x.0 == x.0) && (x.1 == x.1)) ≡ true
 count_refl x = ap (λ b. b && (x.1 == x.1)) (eq-eqb x.0 x.0 refl) ∙ eq-eqb x.1 x.1 refl
 
 int_is : (x y : ℤ) → int_eq x y ≡ true → x ≡ y

@@ -30,7 +30,7 @@ fn same_track(a: (i64, i64), b: (i64, i64)) -> bool
 
 #[tactic(auto, using(crate::proofs::Sames::item_laws))]
 /// Whether two lists of pairs of counts are the same.
-fn same_counts(a: &[(u32, u32)], b: &[(u32, u32)]) -> bool
+pub fn same_counts(a: &[(u32, u32)], b: &[(u32, u32)]) -> bool
     ensures { result ≡ same_items (λ (x : ℕ × ℕ) (y : ℕ × ℕ). (x.0 == y.0) && (x.1 == y.1)) a.now b.now }
 {
     if a.len() != b.len() {

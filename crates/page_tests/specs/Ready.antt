@@ -6,7 +6,7 @@ use Rattle.node_arena.specs.declared.number.NodeId.{NodeId}
 use Rattle.node_arena.specs.Numbers.{EachNode}
 use Rattle.node_arena.specs.Plain.{Nodes}
 use Rattle.placing.specs.declared.node.Node.{Node}
-use Rattle.placing.specs.Keeping.{KeepsNone}
+use Rattle.placing.specs.Keeping.{HoldsNone, KeepsNone}
 use Rattle.placing.specs.Kept.{IsRight}
 use Rattle.placing.specs.Nodes.{IsLive, bare, bare_of, label_of_bare, sight_at}
 use Rattle.placing.specs.Ranges.{AreReadable, IsReadable}
@@ -26,11 +26,13 @@ pub record IsSeated (page : Held) (id : NodeId) (reps : List Pair) : Type 0 wher
 pub record IsNew (v : Node) : Type 0 where
   pub values : IsReadable (label_of_bare (bare_of v))
   pub kept : v.kept ≡ []
+  pub bases : v.bases ≡ []
 
 -- a tree of such nodes, none of which may have more than 65,536 children
 pub record IsMade (a : Nodes Node) : Type 0 where
   pub values : EachNode (λ x. IsReadable (label_of_bare (bare_of x.1))) a.tree
   pub kept : KeepsNone a.tree
+  pub bases : HoldsNone a.tree
   pub most : a.most_children ≡ 65536
 
 -- a tree whose nodes can be asked

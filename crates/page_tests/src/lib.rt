@@ -5,6 +5,8 @@
 #[cfg(test)]
 mod answers;
 #[cfg(test)]
+mod bases;
+#[cfg(test)]
 mod boxes;
 #[cfg(test)]
 mod calls;

@@ -13,20 +13,19 @@ use Rattle.node_arena.proofs.Edited.{edited_not, tops_grafted}
 use Rattle.node_arena.proofs.Parts.{each_weaker}
 use Rattle.node_arena.proofs.Same.{one_yes, part_some, same_is, same_refl}
 use Rattle.node_arena.proofs.Standing.{way_none}
-use Rattle.layout_cache.specs.Reach.{all_forgot, forgets, is_above, reached, reached_by}
+use Rattle.layout_cache.specs.Reach.{is_above, reached, reached_by}
 use Rattle.doc_text.specs.declared.edit.Edit.{Edit}
 use Rattle.doc_text.specs.declared.edit.Edit.TheVariants as edit
 use Rattle.doc_text.specs.Edits.{tree_of, without_props}
 use Rattle.doc_text.specs.NodeText.{with_settings}
 use Rattle.placing.specs.declared.node.Node.{Node}
-use Rattle.placing.specs.Keeping.{without_answers}
 use Rattle.placing.specs.Kept.{IsRight}
 use Rattle.placing.specs.Nodes.{BareTrees, NodeTrees, bare}
-use Rattle.placing.proofs.KeptTrees.{forgets_bare}
 use Rattle.reach_frame.specs.Local.{IsLocal}
 use Rattle.reach_frame.proofs.Frame.{child_live}
 use Rattle.reach_frame.proofs.Unreached.{node_sub}
 use Rattle.page_tree.specs.Documents.{plain_trees}
+use Rattle.page_tree.specs.Left.{all_left, left_in}
 use Rattle.page_tree.specs.Marking.{AreMarked, IsReach, MarksEdit}
 use Rattle.page_tree.specs.Pages.{Held, Stands, document_of, trees_in}
 use Rattle.page_tree.specs.Reach.{KeepsOn, KeepsOthers, is_felt, is_marked, is_touched, reaches}
@@ -35,7 +34,7 @@ use Rattle.page_tree.specs.Shapes.{IsChanged}
 use Rattle.page_tree.proofs.Bares.{same_count, same_plain}
 use Rattle.page_tree.proofs.Locals.{insert_change, own_nodes, remove_change}
 use Rattle.page_tree.proofs.Properties.{content_change, props_change, props_left, settings_left}
-use Rattle.page_tree.proofs.Reaching.{IsChange, IsFrom, IsWhole, kept_after, right_left}
+use Rattle.page_tree.proofs.Reaching.{IsChange, IsFrom, IsWhole, bare_left, kept_after, right_left}
 use Rattle.page_tree.proofs.Refusals.{whole}
 use Rattle.page_tree.proofs.Shifted.{move_change}
 use Rattle.page_tree.proofs.Subgrids.{subgrids}
@@ -125,8 +124,8 @@ still_local touched b =
 -- where the numbers that an edit marks reach these
 abbrev pub IsLeft : Edit → NodeTrees → NodeTrees → List NodeId → Type 0
 IsLeft e t u list =
-    EachNode (λ x. KeepsOn (reaches e (plain_trees t) (plain_trees t) x.1.name || reaches e (plain_trees t) (plain_trees u) x.1.name) t x) (forgets without_answers list u)
-    × (IsRight t → IsRight (forgets without_answers list u))
+    EachNode (λ x. KeepsOn (reaches e (plain_trees t) (plain_trees t) x.1.name || reaches e (plain_trees t) (plain_trees u) x.1.name) t x) (left_in (is_felt e (plain_trees t)) list u)
+    × (IsRight t → IsRight (left_in (is_felt e (plain_trees t)) list u))
 
 module _ (t u : NodeTrees) (st : Stands t) (su : Stands u) where
   root_of : (root : NodeId) × (top_numbers t ≡ root ∷ [])
@@ -171,16 +170,17 @@ module _ (t u : NodeTrees) (st : Stands t) (su : Stands u) where
 
 -- of a page
 pub page_left : (e : Edit) (old between new : Held) (list : List NodeId) → Stands old.nodes.tree → Stands between.nodes.tree → IsChanged e old.nodes.tree between.nodes.tree → IsReach e (trees_in old) old.nodes.tree list →
-    new.nodes ≡ all_forgot without_answers list between.nodes → KeepsOthers e old new × (IsRight old.nodes.tree → IsRight new.nodes.tree)
+    new.nodes ≡ all_left (is_felt e (trees_in old)) list between.nodes → KeepsOthers e old new × (IsRight old.nodes.tree → IsRight new.nodes.tree)
 page_left e old between new list so sb h r is =
     let t = old.nodes.tree in
     let u = between.nodes.tree in
-    let w = forgets without_answers list u in
+    let felt = is_felt e (plain_trees t) in
+    let w = left_in felt list u in
     let tree_is : new.nodes.tree ≡ w = ap (λ (n : Nodes Node). n.tree) is in
     let left = left_by t u so sb e list h r in
-    let one : count_of new.nodes.tree ≡ 1 = ap count_of tree_is ∙ same_count w u (forgets_bare list u) ∙ sb.rooted in
+    let one : count_of new.nodes.tree ≡ 1 = ap count_of tree_is ∙ same_count w u (bare_left felt list u) ∙ sb.rooted in
     let before : tree_of (document_of old) ≡ plain_trees t = whole old so.rooted in
-    let after : tree_of (document_of new) ≡ plain_trees u = whole new one ∙ ap plain_trees tree_is ∙ same_plain w u (forgets_bare list u) in (
+    let after : tree_of (document_of new) ≡ plain_trees u = whole new one ∙ ap plain_trees tree_is ∙ same_plain w u (bare_left felt list u) in (
       subst (EachNode (λ x. KeepsOn (is_touched e (document_of old) (document_of new) x.1.name) t x)) (sym tree_is)
           (each_weaker (λ x. KeepsOn (reaches e (plain_trees t) (plain_trees t) x.1.name || reaches e (plain_trees t) (plain_trees u) x.1.name) t x) (λ x. KeepsOn (is_touched e (document_of old) (document_of new) x.1.name) t x) w
           (λ x k. subst (λ b. KeepsOn b t x) (λ i. reaches e (sym before i) (sym before i) x.1.name || reaches e (sym before i) (sym after i) x.1.name) k) left.0),

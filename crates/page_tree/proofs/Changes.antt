@@ -10,7 +10,7 @@ use Rattle.node_arena.specs.Edits as arena
 use Rattle.node_arena.proofs.Same.{cond_no, cond_yes, one_no, one_yes}
 use Rattle.node_arena.proofs.Edited.{each_edited, each_put, edited_here, edited_not, tops_grafted}
 use Rattle.doc_text.proofs.Standing.{unchanged}
-use Rattle.placing.specs.Keeping.{KeepsNone}
+use Rattle.placing.specs.Keeping.{HoldsNone, KeepsNone}
 use Rattle.doc_text.specs.Label.{Label}
 use Rattle.doc_text.specs.Named as doc
 use Rattle.doc_text.specs.Growth.{holds, alone}
@@ -111,6 +111,9 @@ grafted_count id index new t = sym (tops_count (arena.grafted id index new t)) �
 
 pub grafted_kept : (id : NodeId) (index : ℕ) (new t : NodeTrees) → KeepsNone new → KeepsNone t → KeepsNone (arena.grafted id index new t)
 grafted_kept id index new t n k = each_edited (λ x. x.1.kept ≡ []) id (arena.graft index new) t (λ x below p b. (p, (each_put (λ y. y.1.kept ≡ []) index new below n b, tt))) k
+
+pub grafted_bases : (id : NodeId) (index : ℕ) (new t : NodeTrees) → HoldsNone new → HoldsNone t → HoldsNone (arena.grafted id index new t)
+grafted_bases id index new t n k = each_edited (λ x. x.1.bases ≡ []) id (arena.graft index new) t (λ x below p b. (p, (each_put (λ y. y.1.bases ≡ []) index new below n b, tt))) k
 
 -- under a name that no node has nothing changes
 pub inserted_nowhere : (t : NodeTrees) (name : List ℕ) (index : ℕ) (label : Label) → false ≡ holds (plain_trees t) name → plain_trees t ≡ doc.inserted name index label (plain_trees t)

@@ -89,7 +89,7 @@ new_not t id fresh k v h = at (same id k) refl
 
 -- the numbers of a tree are those that they were
 pub own_nodes : (ts : List NodeId) (t : NodeTrees) → IsDistinct t → EachNode (IsFrom ts t) t
-own_nodes ts t d = each_weaker (λ x. value_at t x.0 ≡ Some x.1) (IsFrom ts t) t (λ x e. inr (x.1, (e, (refl, (refl, refl))))) (numbered t d).each
+own_nodes ts t d = each_weaker (λ x. value_at t x.0 ≡ Some x.1) (IsFrom ts t) t (λ x e. inr (x.1, (e, (refl, (refl, (refl, refl)))))) (numbered t d).each
 
 module _ (t u : NodeTrees) (d : IsDistinct t) (parent name : Word) (ts : List NodeId) (h : Inserts parent name t u) (before : EachNode (λ x. is_among x.0 ts ≡ (bytes_eq x.1.name parent || bytes_eq x.1.name name)) t) where
   abbrev marks : Word → Bool
@@ -118,7 +118,7 @@ module _ (t u : NodeTrees) (d : IsDistinct t) (parent name : Word) (ts : List No
             (λ k calm. omega (arith, one_no (same h.id k) (or_parts (same h.id k) (is_among k ts) calm).0)));
         before = before_all;
         after = subst (EachNode (λ x. is_among x.0 all ≡ marks x.1.name)) (sym h.is) (added (λ x. is_among x.0 all ≡ marks x.1.name) new_marked before_all);
-        nodes = subst (EachNode (IsFrom all t)) (sym h.is) (added (IsFrom all t) (inl (ap (λ b. b || is_among h.id ts) (same_refl h.id), h.kept)) (own_nodes all t d));
+        nodes = subst (EachNode (IsFrom all t)) (sym h.is) (added (IsFrom all t) (inl (ap (λ b. b || is_among h.id ts) (same_refl h.id), (h.kept, h.bases))) (own_nodes all t d));
       }
     where
       added : (P : NodeId × Node → Type 0) → P (h.id, h.value) → EachNode P t → EachNode P (grafted h.upper h.index new t)

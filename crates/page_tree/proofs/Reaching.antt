@@ -1,4 +1,5 @@
--- What an edit leaves in the kept lists of a page: the lists of the nodes of the reached names are empty, and all others are as they were.
+-- What an edit leaves in the kept lists of a page: the lists of the nodes of the reached names are empty, and all others are as they were. So are the contexts
+-- and areas where subgrids feel the edit; where they do not, all are as they were.
 use Rattle.std.proofs.Common.{◌≡◌, ◌≤◌, Bool, true, false, ◌&&◌, List, [], ◌∷◌, Option, Some, None, IsSome, is_some, cond, refl, sym, ap, subst, ◌∙◌, arith, inl, inr}
 use Rattle.std.specs.Prelude.{◌||◌, ◌⊎◌, if◌then◌else◌}
 use Rattle.std.specs.Str.{bytes_eq}
@@ -6,7 +7,7 @@ use Rattle.std.proofs.lemmas.Bool.{or_left, or_right}
 use Rattle.plain_tree.specs.Trees.{leafless, tree, height_of}
 use Rattle.node_arena.specs.declared.number.NodeId.{NodeId}
 use Rattle.node_arena.specs.Numbers.{EachNode, IsDistinct, Part, is_among, part_at, same, times, top_numbers, value_at, value_of}
-use Rattle.node_arena.proofs.Changed.{height_mapped, times_mapped, tops_mapped}
+use Rattle.node_arena.proofs.Changed.{times_mapped}
 use Rattle.node_arena.proofs.Parts.{each_weaker, numbered}
 use Rattle.node_arena.proofs.Same.{by_place, part_after, part_below, part_here, part_some, part_there, same_is}
 use Rattle.layout_cache.specs.Reach.{forgets, forgot, reached_by}
@@ -16,10 +17,12 @@ use Rattle.doc_text.proofs.Grown.{own_name}
 use Rattle.tree_rules.specs.declared.query.Query.{Query}
 use Rattle.placing.specs.declared.node.Answer.{Answer}
 use Rattle.placing.specs.declared.node.Node.{Node}
-use Rattle.placing.specs.Keeping.{without_answers}
-use Rattle.placing.specs.Kept.{IsRight, kept_at, kept_of}
-use Rattle.placing.specs.Nodes.{NodeTrees, bare}
-use Rattle.placing.proofs.KeptTrees.{forgets_bare, forgets_kept}
+use Rattle.placing.specs.declared.wide.GridBase.{GridBase}
+use Rattle.placing.specs.Keeping.{without_answers, without_bases}
+use Rattle.placing.specs.Kept.{IsRight, bases_at, bases_of, kept_at, kept_of}
+use Rattle.placing.specs.Nodes.{NodeTrees, bare, bare_of}
+use Rattle.placing.proofs.Bares.{height_bare, tops_bare}
+use Rattle.placing.proofs.KeptTrees.{drops_bare, drops_bases, drops_kept, forgets_bare, forgets_bases, forgets_kept}
 use Rattle.reach_frame.specs.Local.{IsLocal}
 use Rattle.reach_frame.specs.Marks.{has_mark, is_reached}
 use Rattle.reach_frame.proofs.Calm.{not_later}
@@ -27,6 +30,7 @@ use Rattle.reach_frame.proofs.Frame.{not_both}
 use Rattle.reach_frame.proofs.Marked.{all_found}
 use Rattle.reach_frame.proofs.Unreached.{node_sub, right_after}
 use Rattle.page_tree.specs.Documents.{label_of, plain_trees}
+use Rattle.page_tree.specs.Left.{left_in}
 use Rattle.page_tree.specs.Reach.{KeepsOn, is_subgrid_node}
 use Rattle.page_tree.specs.Registers.{AreNamed, Tells}
 use Rattle.page_tree.proofs.Subgrids.{AreSubgrids}
@@ -90,41 +94,70 @@ each_at P (tree x below after) k v p e =
     some_node : (a b : Node) → Some a ≡ Some b → a ≡ b
     some_node a b e = cc
 
--- a fact that holds whatever is kept holds once answers are let go
-each_forgot : (P : NodeId × Node → Type 0) (n : NodeId) (t : NodeTrees) → EachNode (λ x. (ks : List (Query × Answer)) → P (x.0, record x.1 { kept = ks })) t → EachNode (λ x. (ks : List (Query × Answer)) → P (x.0, record x.1 { kept = ks })) (forgot without_answers n t)
-each_forgot P n leafless h = tt
-each_forgot P n (tree x below after) h = (at (same x.0 n), (each_forgot P n below h.1.0, each_forgot P n after h.1.1))
-  where
-    at : (c : Bool) (ks : List (Query × Answer)) → P (x.0, record (cond c (without_answers x.1) x.1) { kept = ks })
-    at true ks = h.0 ks
-    at false ks = h.0 ks
+-- a fact of a node, whatever it keeps
+abbrev Whatever : (NodeId × Node → Type 0) → NodeId × Node → Type 0
+Whatever P x = (ks : List (Query × Answer)) (bs : List GridBase) → P (x.0, record x.1 { kept = ks; bases = bs })
 
-each_forgets : (P : NodeId × Node → Type 0) (ns : List NodeId) (t : NodeTrees) → EachNode (λ x. (ks : List (Query × Answer)) → P (x.0, record x.1 { kept = ks })) t → EachNode P (forgets without_answers ns t)
-each_forgets P [] t h = each_weaker (λ x. (ks : List (Query × Answer)) → P (x.0, record x.1 { kept = ks })) P t (λ x f. f x.1.kept) h
-each_forgets P (n ∷ ns) t h = each_forgets P ns (forgot without_answers n t) (each_forgot P n t h)
+-- a fact that holds whatever is kept holds once some of it is let go
+module _ (f : Node → Node) (rest : (v : Node) (ks : List (Query × Answer)) (bs : List GridBase) → ◌≡◌ {A = Node} (record (f v) { kept = ks; bases = bs }) (record v { kept = ks; bases = bs })) (P : NodeId × Node → Type 0) where
+  each_forgot : (n : NodeId) (t : NodeTrees) → EachNode (Whatever P) t → EachNode (Whatever P) (forgot f n t)
+  each_forgot n leafless h = tt
+  each_forgot n (tree x below after) h = (at (same x.0 n), (each_forgot n below h.1.0, each_forgot n after h.1.1))
+    where
+      at : (c : Bool) (ks : List (Query × Answer)) (bs : List GridBase) → P (x.0, record (cond c (f x.1) x.1) { kept = ks; bases = bs })
+      at true ks bs = subst (λ (v : Node). P (x.0, v)) (sym (rest x.1 ks bs)) (h.0 ks bs)
+      at false ks bs = h.0 ks bs
+
+  each_forgets : (ns : List NodeId) (t : NodeTrees) → EachNode (Whatever P) t → EachNode (Whatever P) (forgets f ns t)
+  each_forgets [] t h = h
+  each_forgets (n ∷ ns) t h = each_forgets ns (forgot f n t) (each_forgot n t h)
+
+each_left : (P : NodeId × Node → Type 0) (felt : Bool) (ns : List NodeId) (t : NodeTrees) → EachNode (Whatever P) t → EachNode P (left_in felt ns t)
+each_left P felt ns t h = each_weaker (Whatever P) P (left_in felt ns t) (λ x f. f x.1.kept x.1.bases) (at felt)
+  where
+    answers : EachNode (Whatever P) (forgets without_answers ns t)
+    answers = each_forgets without_answers (λ v ks bs. refl) P ns t h
+
+    at : (c : Bool) → EachNode (Whatever P) (left_in c ns t)
+    at true = each_forgets without_bases (λ v ks bs. refl) P ns (forgets without_answers ns t) answers
+    at false = answers
+
+-- ---- what is left
+pub bare_left : (felt : Bool) (ns : List NodeId) (t : NodeTrees) → bare (left_in felt ns t) ≡ bare t
+bare_left true ns t = drops_bare ns (forgets without_answers ns t) ∙ forgets_bare ns t
+bare_left false ns t = forgets_bare ns t
+
+answers_left : (felt : Bool) (ns : List NodeId) (t : NodeTrees) (n : NodeId) → kept_at (left_in felt ns t) n ≡ (if is_among n ns then [] else kept_at t n)
+answers_left true ns t n = drops_kept ns (forgets without_answers ns t) n ∙ forgets_kept ns t n
+answers_left false ns t n = forgets_kept ns t n
+
+bases_left : (felt : Bool) (ns : List NodeId) (t : NodeTrees) (n : NodeId) → bases_at (left_in felt ns t) n ≡ (if felt && is_among n ns then [] else bases_at t n)
+bases_left true ns t n = drops_bases ns (forgets without_answers ns t) n ∙ ap (λ l. cond (is_among n ns) [] l) (forgets_bases ns t n)
+bases_left false ns t n = forgets_bases ns t n
+
+times_bare : (t : NodeTrees) (n : NodeId) → times n (bare t) ≡ times n t
+unfolding bare
+times_bare t n = times_mapped (λ k v. bare_of v) n t
+
+times_left : (felt : Bool) (ns : List NodeId) (t : NodeTrees) (n : NodeId) → times n (left_in felt ns t) ≡ times n t
+times_left felt ns t n = sym (times_bare (left_in felt ns t) n) ∙ ap (times n) (bare_left felt ns t) ∙ times_bare t n
+
+tops_left : (felt : Bool) (ns : List NodeId) (t : NodeTrees) → top_numbers (left_in felt ns t) ≡ top_numbers t
+tops_left felt ns t = sym (tops_bare (left_in felt ns t)) ∙ ap top_numbers (bare_left felt ns t) ∙ tops_bare t
+
+height_left : (felt : Bool) (ns : List NodeId) (t : NodeTrees) → height_of (left_in felt ns t) ≡ height_of t
+height_left felt ns t = sym (height_bare (left_in felt ns t)) ∙ ap height_of (bare_left felt ns t) ∙ height_bare t
 
 own_kept : (t : NodeTrees) → IsDistinct t → EachNode (λ x. x.1.kept ≡ kept_at t x.0) t
 unfolding kept_at
 own_kept t d = each_weaker (λ x. value_at t x.0 ≡ Some x.1) (λ x. x.1.kept ≡ kept_at t x.0) t (λ x e. sym (ap kept_of e)) (numbered t d).each
 
-times_forgets : (ns : List NodeId) (t : NodeTrees) (n : NodeId) → times n (forgets without_answers ns t) ≡ times n t
-times_forgets [] t n = refl
-times_forgets (m ∷ ns) t n = times_forgets ns (forgot without_answers m t) n ∙ times_mapped (λ k v. if same k m then without_answers v else v) n t
-
-tops_forgets : (ns : List NodeId) (t : NodeTrees) → top_numbers (forgets without_answers ns t) ≡ top_numbers t
-tops_forgets [] t = refl
-tops_forgets (m ∷ ns) t = tops_forgets ns (forgot without_answers m t) ∙ tops_mapped (λ k v. if same k m then without_answers v else v) t
-
-height_forgets : (ns : List NodeId) (t : NodeTrees) → height_of (forgets without_answers ns t) ≡ height_of t
-height_forgets [] t = refl
-height_forgets (m ∷ ns) t = height_forgets ns (forgot without_answers m t) ∙ height_mapped (λ k v. if same k m then without_answers v else v) t
-
 -- ---- a changed tree
 -- a node of it is touched and keeps nothing, or it stood in the old one and keeps what it kept there
 abbrev pub IsFrom : List NodeId → NodeTrees → NodeId × Node → Type 0
 IsFrom ts t x =
-    ((is_among x.0 ts ≡ true) × (x.1.kept ≡ []))
-    ⊎ ((v : Node) × ((value_at t x.0 ≡ Some v) × ((v.name ≡ x.1.name) × ((v.kind ≡ x.1.kind) × (x.1.kept ≡ v.kept)))))
+    ((is_among x.0 ts ≡ true) × ((x.1.kept ≡ []) × (x.1.bases ≡ [])))
+    ⊎ ((v : Node) × ((value_at t x.0 ≡ Some v) × ((v.name ≡ x.1.name) × ((v.kind ≡ x.1.kind) × ((x.1.kept ≡ v.kept) × (x.1.bases ≡ v.bases))))))
 
 pub record IsChange (ts : List NodeId) (grid : Bool) (marks : Word → Bool) (t u : NodeTrees) : Type 0 where
   pub local : IsLocal (λ n. is_among n ts) grid (bare t) (bare u)
@@ -145,7 +178,7 @@ module _ (ts : List NodeId) (grid : Bool) (marks : Word → Bool) (root : NodeId
   found = reached_by node_sub t ts grid
 
   abbrev left : NodeTrees
-  left = forgets without_answers found u
+  left = left_in grid found u
 
   -- the node of a name is reached
   abbrev pub reaches_in : NodeTrees → Word → Bool
@@ -178,17 +211,21 @@ module _ (ts : List NodeId) (grid : Bool) (marks : Word → Bool) (root : NodeId
       ∙ not_later t u wt.distinct wu.distinct root wt.tops wu.tops wt.low wu.low ts grid c.local x.0 (there_in t x.0 v old) (there_in u x.0 x.1 new) e) i
 
   kept_left : (k : NodeId) (b : Bool) → is_among k found ≡ b → kept_at left k ≡ (if b then [] else kept_at u k)
-  kept_left k b e = forgets_kept found u k ∙ ap (λ z. cond z [] (kept_at u k)) e
+  kept_left k b e = answers_left grid found u k ∙ ap (λ z. cond z [] (kept_at u k)) e
 
   own_at : (s : NodeTrees) (k : NodeId) (v : Node) → value_at s k ≡ Some v → kept_at s k ≡ v.kept
   unfolding kept_at
   own_at s k v e = ap kept_of e
 
+  own_bases : (s : NodeTrees) (k : NodeId) (v : Node) → value_at s k ≡ Some v → bases_at s k ≡ v.bases
+  unfolding bases_at
+  own_bases s k v e = ap bases_of e
+
   not_both_ways : {P : Type 0} (b : Bool) → b ≡ true → b ≡ false → P
   not_both_ways b e f = absurd (not_both b e f)
 
-  keeps : (x : NodeId × Node) → value_at u x.0 ≡ Some x.1 → is_among x.0 ts ≡ marks x.1.name → IsFrom ts t x → (ks : List (Query × Answer)) → ks ≡ kept_at left x.0 → KeepsOn (touches x.1.name) t (x.0, record x.1 { kept = ks })
-  keeps x e m (inl new) ks k =
+  keeps : (x : NodeId × Node) → value_at u x.0 ≡ Some x.1 → is_among x.0 ts ≡ marks x.1.name → IsFrom ts t x → (ks : List (Query × Answer)) (bs : List GridBase) → ks ≡ kept_at left x.0 → KeepsOn (touches x.1.name) t (x.0, record x.1 { kept = ks; bases = bs })
+  keeps x e m (inl new) ks bs k =
       let touched = new_touched x e m new.0 in
       record {
         kept = k ∙ at (is_among x.0 found) refl ∙ sym (ap (λ b. cond b [] (kept_at t x.0)) touched);
@@ -197,13 +234,13 @@ module _ (ts : List NodeId) (grid : Bool) (marks : Word → Bool) (root : NodeId
     where
       at : (b : Bool) → is_among x.0 found ≡ b → kept_at left x.0 ≡ []
       at true f = kept_left x.0 true f
-      at false f = kept_left x.0 false f ∙ own_at u x.0 x.1 e ∙ new.1
-  keeps x e m (inr old) ks k = at (is_among x.0 found) refl
+      at false f = kept_left x.0 false f ∙ own_at u x.0 x.1 e ∙ new.1.0
+  keeps x e m (inr old) ks bs k = at (is_among x.0 found) refl
     where
       v : Node
       v = old.0
 
-      at : (b : Bool) → is_among x.0 found ≡ b → KeepsOn (touches x.1.name) t (x.0, record x.1 { kept = ks })
+      at : (b : Bool) → is_among x.0 found ≡ b → KeepsOn (touches x.1.name) t (x.0, record x.1 { kept = ks; bases = bs })
       at true f =
           let touched : touches x.1.name ≡ true = or_left _ _ (ap (reaches_in t) (sym old.1.1.0) ∙ old_reached x.0 v old.1.0 ∙ f) in
           record {
@@ -213,36 +250,54 @@ module _ (ts : List NodeId) (grid : Bool) (marks : Word → Bool) (root : NodeId
       at false f =
           let calm = calm_touched x v e old.1.0 old.1.1.0 f in
           record {
-            kept = k ∙ kept_left x.0 false f ∙ own_at u x.0 x.1 e ∙ old.1.1.1.1 ∙ sym (own_at t x.0 v old.1.0) ∙ sym (ap (λ b. cond b [] (kept_at t x.0)) calm);
+            kept = k ∙ kept_left x.0 false f ∙ own_at u x.0 x.1 e ∙ old.1.1.1.1.0 ∙ sym (own_at t x.0 v old.1.0) ∙ sym (ap (λ b. cond b [] (kept_at t x.0)) calm);
             stood = λ g. (v, (old.1.0, (old.1.1.0, old.1.1.1.0)));
           }
 
   pub kept_after : EachNode (λ x. KeepsOn (touches x.1.name) t x) left
   kept_after =
       each_with (λ x. x.1.kept ≡ kept_at left x.0) (λ x. x.1.kept ≡ kept_at left x.0 → KeepsOn (touches x.1.name) t x) (λ x. KeepsOn (touches x.1.name) t x) left (λ x p f. f p)
-      (own_kept left (λ n. omega (arith, times_forgets found u n, wu.distinct n)))
-      (each_forgets (λ x. x.1.kept ≡ kept_at left x.0 → KeepsOn (touches x.1.name) t x) found u
-      (each_with (λ x. (value_at u x.0 ≡ Some x.1) × (is_among x.0 ts ≡ marks x.1.name)) (IsFrom ts t) (λ x. (ks : List (Query × Answer)) → ks ≡ kept_at left x.0 → KeepsOn (touches x.1.name) t (x.0, record x.1 { kept = ks })) u (λ x p f. keeps x p.0 p.1 f)
+      (own_kept left (λ n. omega (arith, times_left grid found u n, wu.distinct n)))
+      (each_left (λ x. x.1.kept ≡ kept_at left x.0 → KeepsOn (touches x.1.name) t x) grid found u
+      (each_with (λ x. (value_at u x.0 ≡ Some x.1) × (is_among x.0 ts ≡ marks x.1.name)) (IsFrom ts t) (Whatever (λ x. x.1.kept ≡ kept_at left x.0 → KeepsOn (touches x.1.name) t x)) u (λ x p f. keeps x p.0 p.1 f)
       (each_with (λ x. value_at u x.0 ≡ Some x.1) (λ x. is_among x.0 ts ≡ marks x.1.name) (λ x. (value_at u x.0 ≡ Some x.1) × (is_among x.0 ts ≡ marks x.1.name)) u (λ x p q. (p, q)) (numbered u wu.distinct).each c.after) c.nodes))
 
   pub right_left : IsRight t → IsRight left
   right_left r =
-      right_after t left wt.distinct (λ n. omega (arith, times_forgets found u n, wu.distinct n)) root wt.tops (tops_forgets found u ∙ wu.tops) wt.low (omega (arith, height_forgets found u, wu.low)) ts grid
-      (subst (λ b. IsLocal (λ n. is_among n ts) grid (bare t) b) (sym (forgets_bare found u)) c.local) r (λ n l. at n (value_at u n) refl (value_there n l))
+      right_after t left wt.distinct (λ n. omega (arith, times_left grid found u n, wu.distinct n)) root wt.tops (tops_left grid found u ∙ wu.tops) wt.low (omega (arith, height_left grid found u, wu.low)) ts grid
+      (subst (λ b. IsLocal (λ n. is_among n ts) grid (bare t) b) (sym (bare_left grid found u)) c.local) r (λ n l. at n (value_at u n) refl (value_there n l)) (λ n l. held n (value_at u n) refl (value_there n l))
     where
       value_there : (n : NodeId) → IsSome (part_at left n) → IsSome (value_at u n)
       value_there n l = by (part_at u n) refl
         where
           by : (o : Option (Part Node)) → part_at u n ≡ o → IsSome (value_of (part_at u n))
-          by None f = let none : 1 ≤ times n u = omega (arith, part_there left n l, times_forgets found u n) in let some = part_some u n none in absurd cc
+          by None f = let none : 1 ≤ times n u = omega (arith, part_there left n l, times_left grid found u n) in let some = part_some u n none in absurd cc
           by (Some q) f = ap (λ o. is_some (value_of o)) f
 
       or_not : (x : NodeId × Node) → value_at u x.0 ≡ Some x.1 → IsFrom ts t x → (b : Bool) → is_among x.0 found ≡ b →
           (kept_at left x.0 ≡ []) ⊎ ((IsSome (part_at t x.0) × (is_among x.0 found ≡ false)) × (kept_at left x.0 ≡ kept_at t x.0))
       or_not x e f true g = inl (kept_left x.0 true g)
-      or_not x e (inl new) false g = inl (kept_left x.0 false g ∙ own_at u x.0 x.1 e ∙ new.1)
-      or_not x e (inr old) false g = inr ((there_in t x.0 old.0 old.1.0, g), kept_left x.0 false g ∙ own_at u x.0 x.1 e ∙ old.1.1.1.1 ∙ sym (own_at t x.0 old.0 old.1.0))
+      or_not x e (inl new) false g = inl (kept_left x.0 false g ∙ own_at u x.0 x.1 e ∙ new.1.0)
+      or_not x e (inr old) false g = inr ((there_in t x.0 old.0 old.1.0, g), kept_left x.0 false g ∙ own_at u x.0 x.1 e ∙ old.1.1.1.1.0 ∙ sym (own_at t x.0 old.0 old.1.0))
 
       at : (n : NodeId) (o : Option Node) → value_at u n ≡ o → IsSome o → (kept_at left n ≡ []) ⊎ ((IsSome (part_at t n) × (is_among n found ≡ false)) × (kept_at left n ≡ kept_at t n))
       at n None e l = absurd cc
       at n (Some v) e l = or_not (n, v) e (each_at (IsFrom ts t) u n v c.nodes e) (is_among n found) refl
+
+      calm_bases : (k : NodeId) (b : Bool) → (grid && is_among k found) ≡ b → bases_at left k ≡ (if b then [] else bases_at u k)
+      calm_bases k b e = bases_left grid found u k ∙ ap (λ z. cond z [] (bases_at u k)) e
+
+      one_not : (b c : Bool) → (b && c) ≡ false → (b ≡ false) ⊎ (c ≡ false)
+      one_not true c e = inr e
+      one_not false c e = inl refl
+
+      holds_or : (x : NodeId × Node) → value_at u x.0 ≡ Some x.1 → IsFrom ts t x → (b : Bool) → (grid && is_among x.0 found) ≡ b →
+          (bases_at left x.0 ≡ []) ⊎ ((IsSome (part_at t x.0) × ((grid ≡ false) ⊎ (is_among x.0 found ≡ false))) × (bases_at left x.0 ≡ bases_at t x.0))
+      holds_or x e f true g = inl (calm_bases x.0 true g)
+      holds_or x e (inl new) false g = inl (calm_bases x.0 false g ∙ own_bases u x.0 x.1 e ∙ new.1.1)
+      holds_or x e (inr old) false g =
+          inr ((there_in t x.0 old.0 old.1.0, one_not grid (is_among x.0 found) g), calm_bases x.0 false g ∙ own_bases u x.0 x.1 e ∙ old.1.1.1.1.1 ∙ sym (own_bases t x.0 old.0 old.1.0))
+
+      held : (n : NodeId) (o : Option Node) → value_at u n ≡ o → IsSome o → (bases_at left n ≡ []) ⊎ ((IsSome (part_at t n) × ((grid ≡ false) ⊎ (is_among n found ≡ false))) × (bases_at left n ≡ bases_at t n))
+      held n None e l = absurd cc
+      held n (Some v) e l = holds_or (n, v) e (each_at (IsFrom ts t) u n v c.nodes e) (grid && is_among n found) refl

@@ -206,10 +206,12 @@ module _ (t u : NodeTrees) (d : IsDistinct t) (one : count_of t ≡ 1) (old : Is
   from x there = at (same x.0 h.id) refl
     where
       at : (c : Bool) → same x.0 h.id ≡ c → IsFrom ts t (x.0, made x.0 x.1)
-      at true e = inl (ap touched (same_is x.0 h.id e) ∙ own_touched, ap (λ (w : Node). w.kept) (cond_yes (same x.0 h.id) h.value x.1 e) ∙ h.kept)
+      at true e =
+          let q = cond_yes (same x.0 h.id) h.value x.1 e in
+          inl (ap touched (same_is x.0 h.id e) ∙ own_touched, (ap (λ (w : Node). w.kept) q ∙ h.kept, ap (λ (w : Node). w.bases) q ∙ h.bases))
       at false e =
           let q = cond_no (same x.0 h.id) h.value x.1 e in
-          inr (x.1, (there, (ap (λ (w : Node). w.name) (sym q), (ap (λ (w : Node). w.kind) (sym q), ap (λ (w : Node). w.kept) q))))
+          inr (x.1, (there, (ap (λ (w : Node). w.name) (sym q), (ap (λ (w : Node). w.kind) (sym q), (ap (λ (w : Node). w.kept) q, ap (λ (w : Node). w.bases) q)))))
 
   pub relabel_change : (grid ≡ true → (k : NodeId) (j : ℕ) → child_at t k j ≡ Some h.id → touched k ≡ true) → (grid ≡ false → SameFace touched grid h.id h.value h.styles t d) → SameFonts touched grid h.id h.value h.styles t d ⊎ AllBelow touched grid h.id h.value h.styles t d →
       IsChange ts grid marks t u

@@ -11,3 +11,4 @@ pub mod Ranges
 pub mod Reach
 pub mod Shapes
 pub mod Marking
+pub mod Left

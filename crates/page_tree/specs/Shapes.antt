@@ -23,6 +23,7 @@ pub record Relabels (name : Word) (change : Label → Label) (t u : NodeTrees) :
   pub found : Finds t name (Some id)
   pub value : Node
   pub kept : value.kept ≡ []
+  pub bases : value.bases ≡ []
   pub label : Becomes id change (label_of value) t
   pub styles : Styles
   pub is : u ≡ restyled styles (replaced id value t)
@@ -36,6 +37,7 @@ pub record Inserts (parent name : Word) (t u : NodeTrees) : Type 0 where
   pub value : Node
   pub named : value.name ≡ name
   pub kept : value.kept ≡ []
+  pub bases : value.bases ≡ []
   pub index : ℕ
   pub is : u ≡ grafted upper index (tree (id, value) leafless leafless) t
 

@@ -9,9 +9,10 @@ ghost use Rattle.doc_text.specs.declared.edit.Edit.TheVariants as edit;
 ghost use Rattle.doc_text.specs.Laws.{NamesItsNode};
 ghost use Rattle.placing.specs.Kept.{IsRight};
 ghost use Rattle.page_tree.specs.Answered.{Applies};
+ghost use Rattle.page_tree.specs.Left.{all_left};
 ghost use Rattle.page_tree.specs.Marking.{IsReach};
 ghost use Rattle.page_tree.specs.Pages.{document_of, trees_in};
-ghost use Rattle.page_tree.specs.Reach.{KeepsOthers};
+ghost use Rattle.page_tree.specs.Reach.{is_felt, KeepsOthers};
 ghost use Rattle.page_tree.specs.Shapes.{Inserts, IsChanged, MovesUnder, Relabels, Removes};
 
 use crate::error::EditError;
@@ -21,15 +22,23 @@ use crate::refusal;
 use crate::touched::marks_of;
 use doc_text::{Edit, Kind, Named, Plain};
 use layout_cache::reach;
-use lunit::{Copied, NoMemory};
+use lunit::{Copied, NoMemory, Sequence};
 use node_arena::NodeId;
 use std::alloc::Global;
 use style_types::{Declared, DeclaredValue, Prop};
 use text_scan::{Fault, Place};
 
+/// What an edit reaches: the numbers of the nodes, and whether subgrids feel it.
+#[derive(Drop)]
+struct Reached {
+    nodes: Sequence<NodeId>,
+    felt: bool,
+}
+
 impl Page {
     /// The document after an edit. The kept answers of the nodes that the edit reaches go, and no others; where all were right
-    /// all are right after it.
+    /// all are right after it. The contexts and areas that these nodes keep go only where subgrids can feel the edit, but for
+    /// those of a node with new values, which is made anew.
     ///
     /// `Refused` exactly where the definition of the edited document refuses the edit, with its fault, the first in the order
     /// of refusals. `NoMemory` where memory is wanting. After either nothing is changed, and no kept answer is lost.
@@ -43,22 +52,39 @@ impl Page {
         let reached = self.reached(&edit)?;
         self.change(&edit)?;
         let _ = self.stands();
-        self.let_go(reached.as_slice());
+        self.let_reached_go(&reached);
         Ok(())
     }
 
-    /// The numbers of the nodes that an edit reaches.
-    fn reached(&self, edit: &Edit) -> Result<Vec<NodeId>, NoMemory>
-        ensures { IfOk result (λ list. IsReach edit.now (trees_in self.now) self.now.nodes.tree list.items) }
+    /// Lets go what may no longer be right: the answers of the reached nodes, and, where subgrids feel the edit, their contexts
+    /// and areas. Takes no memory.
+    fn let_reached_go(&mut self, reached: &Reached)
+        ensures document { document_of self.new ≡ document_of self.old }
+        ensures nodes { self.new.nodes ≡ all_left reached.now.felt reached.now.nodes self.old.nodes }
+    {
+        let nodes = reached.nodes.as_slice();
+        self.let_go(nodes);
+        if reached.felt {
+            self.let_bases_go(nodes);
+        }
+    }
+
+    /// What an edit reaches.
+    fn reached(&self, edit: &Edit) -> Result<Reached, NoMemory>
+        ensures nodes { IfOk result (λ reached. IsReach edit.now (trees_in self.now) self.now.nodes.tree reached.nodes) }
+        ensures felt { IfOk result (λ reached. reached.felt ≡ is_felt edit.now (trees_in self.now)) }
     {
         let marked = marks_of(self, edit)?;
         let tree = self.tree();
         let numbers = marked.numbers.as_slice();
         let list = reach(self.alloc(), tree, numbers, marked.felt)?;
-        Ok(list)
+        Ok(Reached {
+            nodes: Sequence::from_vec(list),
+            felt: marked.felt,
+        })
     }
 
-    /// The document after an edit, with kept answers that may no longer be right.
+    /// The document after an edit, with what the nodes keep, which may no longer be right.
     fn change(&mut self, edit: &Edit) -> Result<(), EditError>
         requires { NamesItsNode edit.now }
         ensures applies { Applies result (edited edit.now (document_of self.old)) self.old self.new }

@@ -7,7 +7,7 @@ ghost use Rattle.page_tree.specs.Documents.{kind_of};
 use doc_text::Kind;
 use layout_cache::Kept;
 use lunit::{Copied, Lu, Name, NoMemory};
-use placing::{Node, NodeKind};
+use placing::{Bases, Node, NodeKind};
 use std::alloc::Global;
 use style_types::Declared;
 
@@ -22,7 +22,7 @@ pub(crate) fn node_kind(alloc: Global, kind: &Kind) -> Result<NodeKind, NoMemory
     }
 }
 
-/// A node that keeps no answer, whose font size is `em` where that of the root is `rem`.
+/// A node that keeps nothing, whose font size is `em` where that of the root is `rem`.
 pub(crate) fn made(
     alloc: Global,
     name: Name,
@@ -36,6 +36,7 @@ pub(crate) fn made(
     ensures declared { IfOk result (λ node. node.declared ≡ declared) }
     ensures style { IfOk result (λ node. node.style ≡ computed_style em rem declared) }
     ensures kept { IfOk result (λ node. node.kept ≡ []) }
+    ensures bases { IfOk result (λ node. node.bases ≡ []) }
 {
     let style = declared.computed(alloc, em, rem)?;
     Ok(Node {
@@ -44,5 +45,6 @@ pub(crate) fn made(
         declared,
         style,
         kept: Kept::new(alloc)?,
+        bases: Bases::new(),
     })
 }

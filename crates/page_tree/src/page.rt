@@ -16,7 +16,7 @@ ghost use Rattle.box_layout.specs.Paths.{IsAllKept, IsAsked, IsCutShort, IsPathK
 ghost use Rattle.doc_text.specs.Valid.{IsValid};
 ghost use Rattle.placing.specs.Walks.{state, Walk};
 ghost use Rattle.layout_cache.specs.Reach.{all_forgot};
-ghost use Rattle.placing.specs.Keeping.{without_answers, KeepsNone};
+ghost use Rattle.placing.specs.Keeping.{without_answers, without_bases, HoldsNone, KeepsNone};
 ghost use Rattle.placing.specs.Nodes.{bare};
 ghost use Rattle.page_tree.specs.Boxes.{boxes_of};
 ghost use Rattle.placing.specs.Kept.{IsRight};
@@ -143,6 +143,7 @@ impl Page {
         ensures nodes { OnOk result (trees_in self.new ≡ inserted parent.now index (label_of plain.now) (trees_in self.old)) }
         ensures around { OnOk result (IsAround self.old self.new) }
         ensures kept { OnOk result (KeepsNone self.old.nodes.tree → KeepsNone self.new.nodes.tree) }
+        ensures bases { OnOk result (HoldsNone self.old.nodes.tree → HoldsNone self.new.nodes.tree) }
         ensures changes { OnOk result (holds (trees_in self.old) parent.now ≡ true → Inserts parent.now plain.now.name self.old.nodes.tree self.new.nodes.tree) }
         ensures err { OnErr result (self.new ≡ self.old) }
     {
@@ -255,6 +256,14 @@ impl Page {
         self.nodes.let_go(reached);
     }
 
+    /// Lets the contexts and areas of these nodes go. Takes no memory.
+    pub(crate) fn let_bases_go(&mut self, reached: &[NodeId])
+        ensures document { document_of self.new ≡ document_of self.old }
+        ensures nodes { self.new.nodes ≡ all_forgot without_bases reached.now self.old.nodes }
+    {
+        self.nodes.let_bases_go(reached);
+    }
+
     /// Where memory is taken.
     pub(crate) fn alloc(&self) -> Global {
         self.alloc
@@ -283,6 +292,7 @@ fn fill(page: &mut Page, node: &Plain) -> Result<(), NoMemory>
     ensures nodes { OnOk result (trees_in page.new ≡ filled node.now.name node.now.children (trees_in page.old)) }
     ensures around { OnOk result (IsAround page.old page.new) }
     ensures kept { OnOk result (KeepsNone page.old.nodes.tree → KeepsNone page.new.nodes.tree) }
+    ensures bases { OnOk result (HoldsNone page.old.nodes.tree → HoldsNone page.new.nodes.tree) }
 {
     let children = node.children.nodes();
     for index in 0..children.len() {

@@ -1,3 +1,4 @@
+pub mod Alike
 pub mod Bares
 mod Counted
 pub mod Each

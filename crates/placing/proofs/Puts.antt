@@ -1,6 +1,6 @@
 -- What the tree shows after an answer was kept.
 use Rattle.std.proofs.Common.{◌≡◌, ℕ, zero, suc, ◌+◌, ◌-◌, ◌≤◌, true, false, List, [], ◌∷◌, ◌++◌, Option, Some, None, cond, length, drop, refl, sym, ap, ◌∙◌, arith, append-nil, subst, inl, inr}
-use Rattle.std.specs.Prelude.{◌⊎◌}
+use Rattle.std.specs.Prelude.{◌⊎◌, take}
 use Rattle.std.proofs.lemmas.Bool.{cases_Bool}
 use Rattle.plain_tree.specs.Trees.{leafless, tree}
 use Rattle.layout_cache.specs.Kept.{answer_to}
@@ -14,13 +14,16 @@ use Rattle.outside.specs.Faults.{one_more}
 use Rattle.outside.specs.Told.{Adds}
 use Rattle.tree_rules.specs.declared.query.Query.{Query}
 use Rattle.tree_rules.specs.KeptAnswers.{AreRight, EachPair, IsAbsent, most_kept}
+use Rattle.tree_rules.specs.Places.{Seen}
 use Rattle.tree_rules.specs.Queries.{Fits, answer_of, same_query}
 use Rattle.tree_rules.proofs.KeptLists.{right_put}
 use Rattle.placing.specs.declared.node.Answer.{Answer}
 use Rattle.placing.specs.declared.node.Node.{Node}
 use Rattle.placing.specs.Children.{IsOutside}
-use Rattle.placing.specs.Keeping.{Keeps, with_answer}
-use Rattle.placing.specs.Kept.{IsRight, IsOfNode, kept_at, kept_of, plain_answer}
+use Rattle.placing.specs.Keeping.{Keeps, with_answer, with_base}
+use Rattle.placing.specs.Bases.{AreOf, HoldsPlaces}
+use Rattle.placing.specs.Kept.{IsRight, IsOfNode, bases_at, bases_of, kept_at, kept_of, plain_answer}
+use Rattle.placing.specs.declared.wide.GridBase.{GridBase}
 use Rattle.placing.specs.Nodes.{NodeTrees, bare, bare_of, children_at, sight_at}
 use Rattle.placing.specs.Walks.{Asks, Entry, State, Walk, Walked, WalkedBelow, bare_in, events_at, events_of, frame_of_arena, itself, kept_in, kept_with, rising}
 use Rattle.placing.proofs.Mapped.{value_by, value_mapped}
@@ -66,6 +69,26 @@ pub kept_there : (t : NodeTrees) (n : NodeId) (v : Node) → Some v ≡ value_at
 unfolding kept_at
 kept_there t n v e = ap kept_of e
 
+bases_swapped : (n m : NodeId) (w : Node) (o : Option Node) → same m n ≡ false → bases_of (value_by (swapped n w) m o) ≡ bases_of o
+bases_swapped n m w None e = refl
+bases_swapped n m w (Some v) e = ap (λ c. (cond c w v).bases) e
+
+bases_other : (t : NodeTrees) (n m : NodeId) (w : Node) → same m n ≡ false → bases_at (replaced n w t) m ≡ bases_at t m
+unfolding bases_at
+bases_other t n m w e = ap bases_of (value_mapped (swapped n w) t m) ∙ bases_swapped n m w (value_at t m) e
+
+bases_same : (t : NodeTrees) (n : NodeId) (v w : Node) → Some v ≡ value_at t n → bases_at (replaced n w t) n ≡ w.bases
+unfolding bases_at
+bases_same t n v w e = ap bases_of (value_mapped (swapped n w) t n) ∙ ap (λ o. bases_of (value_by (swapped n w) n o)) (sym e) ∙ ap (λ c. (cond c w v).bases) (same_refl n)
+
+pub bases_there : (t : NodeTrees) (n : NodeId) (v : Node) → Some v ≡ value_at t n → v.bases ≡ bases_at t n
+unfolding bases_at
+bases_there t n v e = ap bases_of e
+
+newest_of : (s : Seen) (kids : List NodeId) (xs : List GridBase) → AreOf s kids xs → AreOf s kids (take 1 xs)
+newest_of s kids [] h = tt
+newest_of s kids (x ∷ xs) h = (h.0, tt)
+
 bare_swapped : (whole : NodeTrees) (n k : NodeId) (v w x : Node) → Some v ≡ value_at whole n → bare_of w ≡ bare_of v → value_at whole k ≡ Some x → bare_of (swapped n w k x) ≡ bare_of x
 bare_swapped whole n k v w x e l h = at (cases_Bool (same k n))
   where
@@ -106,6 +129,12 @@ module _ (t : NodeTrees) (n : NodeId) (v : Node) (q : Query) (a : Answer) (u : I
   pub own_put : kept_at put_tree n ≡ kept_with (kept_at t n) ((q, a) ∷ [])
   own_put = kept_same t n v (with_answer q a v) e ∙ ap (λ k. kept_with k ((q, a) ∷ [])) (kept_there t n v e)
 
+  own_bases : bases_at put_tree n ≡ bases_at t n
+  own_bases = bases_same t n v (with_answer q a v) e ∙ bases_there t n v e
+
+  abbrev Held : NodeId → List GridBase → Type 0
+  Held m bases = AreOf (sight_at (bare t) m) (children_at (bare t) m) bases
+
   abbrev Named : NodeId → Query → Answer → Type 0
   Named m p x = IsOfNode (sight_at (bare t) m) (children_at (bare t) m) p x
 
@@ -114,6 +143,7 @@ module _ (t : NodeTrees) (n : NodeId) (v : Node) (q : Query) (a : Answer) (u : I
       record {
         lists = λ m. subst (λ b. AreRight (sight_at b m) plain_answer (kept_at put_tree m)) (sym bare_put) (list m (cases_Bool (same m n)));
         children = λ m. subst (λ b. EachPair (λ (p : Query) (x : Answer). IsOfNode (sight_at b m) (children_at b m) p x) (kept_at put_tree m)) (sym bare_put) (named m (cases_Bool (same m n)));
+        bases = λ m. subst (λ b. AreOf (sight_at b m) (children_at b m) (bases_at put_tree m)) (sym bare_put) (held m (cases_Bool (same m n)));
       }
     where
       own_list : AreRight (sight_at (bare t) n) plain_answer (kept_at put_tree n)
@@ -129,6 +159,44 @@ module _ (t : NodeTrees) (n : NodeId) (v : Node) (q : Query) (a : Answer) (u : I
       named : (m : NodeId) → (same m n ≡ true) ⊎ (same m n ≡ false) → EachPair (Named m) (kept_at put_tree m)
       named m (inl s) = subst (λ k. EachPair (Named k) (kept_at put_tree k)) (sym (same_is m n s)) own_named
       named m (inr s) = subst (EachPair (Named m)) (sym (kept_other t n m (with_answer q a v) s)) (r.children m)
+
+      held : (m : NodeId) → (same m n ≡ true) ⊎ (same m n ≡ false) → Held m (bases_at put_tree m)
+      held m (inl s) = subst (λ k. Held k (bases_at put_tree k)) (sym (same_is m n s)) (subst (Held n) (sym own_bases) (r.bases n))
+      held m (inr s) = subst (Held m) (sym (bases_other t n m (with_answer q a v) s)) (r.bases m)
+
+-- ---- a context with its areas kept
+module _ (t : NodeTrees) (n : NodeId) (v : Node) (base : GridBase) (u : IsNumbered t) (e : Some v ≡ value_at t n) where
+  abbrev held_tree : NodeTrees
+  held_tree = replaced n (with_base base v) t
+
+  pub bare_held : bare held_tree ≡ bare t
+  bare_held = bare_each t t n v (with_base base v) e refl u.each
+
+  pub kept_held : (m : NodeId) → kept_at held_tree m ≡ kept_at t m
+  kept_held m = at (cases_Bool (same m n))
+    where
+      at : (same m n ≡ true) ⊎ (same m n ≡ false) → kept_at held_tree m ≡ kept_at t m
+      at (inl s) = subst (λ k. kept_at held_tree k ≡ kept_at t k) (sym (same_is m n s)) (kept_same t n v (with_base base v) e ∙ kept_there t n v e)
+      at (inr s) = kept_other t n m (with_base base v) s
+
+  pub own_held : bases_at held_tree n ≡ base ∷ take 1 (bases_at t n)
+  own_held = bases_same t n v (with_base base v) e ∙ ap (λ l. base ∷ take 1 l) (bases_there t n v e)
+
+  abbrev Holds : NodeId → List GridBase → Type 0
+  Holds m bases = AreOf (sight_at (bare t) m) (children_at (bare t) m) bases
+
+  pub right_held : IsRight t → HoldsPlaces (sight_at (bare t) n) (children_at (bare t) n) base → IsRight held_tree
+  right_held r h =
+      record {
+        lists = λ m. subst (λ b. AreRight (sight_at b m) plain_answer (kept_at held_tree m)) (sym bare_held) (subst (AreRight (sight_at (bare t) m) plain_answer) (sym (kept_held m)) (r.lists m));
+        children = λ m. subst (λ b. EachPair (λ (p : Query) (x : Answer). IsOfNode (sight_at b m) (children_at b m) p x) (kept_at held_tree m)) (sym bare_held)
+            (subst (EachPair (λ (p : Query) (x : Answer). IsOfNode (sight_at (bare t) m) (children_at (bare t) m) p x)) (sym (kept_held m)) (r.children m));
+        bases = λ m. subst (λ b. AreOf (sight_at b m) (children_at b m) (bases_at held_tree m)) (sym bare_held) (held m (cases_Bool (same m n)));
+      }
+    where
+      held : (m : NodeId) → (same m n ≡ true) ⊎ (same m n ≡ false) → Holds m (bases_at held_tree m)
+      held m (inl s) = subst (λ k. Holds k (bases_at held_tree k)) (sym (same_is m n s)) (subst (Holds n) (sym own_held) (h, newest_of (sight_at (bare t) n) (children_at (bare t) n) (bases_at t n) (r.bases n)))
+      held m (inr s) = subst (Holds m) (sym (bases_other t n m (with_base base v) s)) (r.bases m)
 
 -- ---- a call that keeps an answer
 module _ (s w : State) (n : NodeId) (q : Query) (a : Answer) (k : Keeps s.arena w.arena n q a) (r : IsRight s.arena.tree) where

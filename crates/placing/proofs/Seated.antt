@@ -40,7 +40,7 @@ seated s outer above a g p same seat =
 
 -- ---- what a node sees of its children
 
-siblings_below : (above : Above) (n : ℕ) (below : Trees Label) → map (λ (k : Kid). sibling_of k.label) (kids_of above n below) ≡ siblings_of below
+pub siblings_below : (above : Above) (n : ℕ) (below : Trees Label) → map (λ (k : Kid). sibling_of k.label) (kids_of above n below) ≡ siblings_of below
 siblings_below above n leafless = refl
 siblings_below above n (tree x below after) = ap (λ l. sibling_of x ∷ l) (siblings_below above (n + 1) after)
 

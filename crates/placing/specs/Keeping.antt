@@ -1,5 +1,5 @@
 -- What a call that keeps one answer does, and one that measures a leaf (own rule).
-use Rattle.std.specs.Prelude.{◌≡◌, Bool, true, false, List, [], ◌∷◌, ◌++◌, ◌⊎◌, Option, Some, length}
+use Rattle.std.specs.Prelude.{◌≡◌, Bool, true, false, List, [], ◌∷◌, ◌++◌, ◌⊎◌, Option, Some, length, take}
 use Rattle.node_arena.specs.declared.number.NodeId.{NodeId}
 use Rattle.node_arena.specs.Numbers.{EachNode, IsNumbered, value_at}
 use Rattle.node_arena.specs.Plain.{Nodes, with_value}
@@ -11,9 +11,11 @@ use Rattle.tree_rules.specs.declared.kind.NodeKind.TheVariants as kind
 use Rattle.tree_rules.specs.declared.query.Query.{Query}
 use Rattle.placing.specs.declared.node.Answer.{Answer}
 use Rattle.placing.specs.declared.node.Node.{Node}
-use Rattle.placing.specs.Kept.{kept_at}
+use Rattle.placing.specs.declared.wide.GridBase.{GridBase}
+use Rattle.placing.specs.Kept.{bases_at, kept_at}
 use Rattle.placing.specs.Nodes.{NodeTrees, bare, children_at, sight_at}
 use Rattle.placing.specs.Walks.{kept_with, rising}
+use Rattle.tree_rules.specs.Chains.{siblings_of}
 
 -- a leaf
 abbrev pub is_leaf : NodeKind → Bool
@@ -31,6 +33,10 @@ pub record Keeps (old new : Nodes Node) (n : NodeId) (q : Query) (a : Answer) : 
   pub there : Some value ≡ value_at old.tree n
   pub numbered : IsNumbered old.tree
   pub new_is : new ≡ with_value n (with_answer q a value) old
+
+-- a node that keeps one context with its areas more, and of the others the newest
+abbrev pub with_base : GridBase → Node → Node
+with_base base v = record v { bases = base ∷ take 1 v.bases }
 
 -- these events were measured, counted and logged
 pub record Counts (old new : Tally) (before after : Option (List Event)) (events : List Event) : Type 0 where
@@ -51,6 +57,14 @@ pub record CountsSome (old new : Tally) (before after : Option (List Event)) (ev
 abbrev pub without_answers : Node → Node
 without_answers v = record v { kept = [] }
 
+-- a node that keeps no contexts and areas
+abbrev pub without_bases : Node → Node
+without_bases v = record v { bases = [] }
+
+-- no node keeps contexts and areas
+abbrev pub HoldsNone : NodeTrees → Type 0
+HoldsNone t = EachNode (λ x. x.1.bases ≡ []) t
+
 -- no node keeps an answer
 abbrev pub KeepsNone : NodeTrees → Type 0
 KeepsNone t = EachNode (λ x. x.1.kept ≡ []) t
@@ -64,3 +78,16 @@ pub record KeepsSame (old new : NodeTrees) (n : NodeId) : Type 0 where
 -- it does, or it keeps nothing
 abbrev pub KeepsOn : NodeTrees → NodeTrees → NodeId → Type 0
 KeepsOn old new n = (kept_at new n ≡ []) ⊎ KeepsSame old new n
+
+-- A node of the new tree keeps the contexts and areas that it kept in the old one, in which its lines, its chain and its children were the same, and what
+-- areas depend on of these.
+pub record HoldsSame (old new : NodeTrees) (n : NodeId) : Type 0 where
+  pub bases : bases_at new n ≡ bases_at old n
+  pub grid : (sight_at (bare new) n).label.grid ≡ (sight_at (bare old) n).label.grid
+  pub chain : (sight_at (bare new) n).chain ≡ (sight_at (bare old) n).chain
+  pub siblings : siblings_of (sight_at (bare new) n).below ≡ siblings_of (sight_at (bare old) n).below
+  pub children : children_at (bare new) n ≡ children_at (bare old) n
+
+-- it does, or it keeps none
+abbrev pub HoldsOn : NodeTrees → NodeTrees → NodeId → Type 0
+HoldsOn old new n = (bases_at new n ≡ []) ⊎ HoldsSame old new n

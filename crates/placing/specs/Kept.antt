@@ -13,6 +13,8 @@ use Rattle.placing.specs.declared.node.Frame.{Frame}
 use Rattle.placing.specs.declared.node.Node.{Node}
 use Rattle.placing.specs.Nodes.{NodeTrees, bare, children_at, sight_at}
 use Rattle.placing.specs.Wides.{HoldsWide}
+use Rattle.placing.specs.Bases.{AreOf}
+use Rattle.placing.specs.declared.wide.GridBase.{GridBase}
 
 -- a frame without the number of its child
 abbrev pub frame_of : Frame → rules.Frame
@@ -43,8 +45,17 @@ kept_of (Some v) = v.kept
 unfoldable pub kept_at : NodeTrees → NodeId → List (Query × Answer)
 kept_at t n = kept_of (value_at t n)
 
+abbrev pub bases_of : Option Node → List GridBase
+bases_of None = []
+bases_of (Some v) = v.bases
+
+-- the contexts with the areas of its children that the node of a number keeps, the newest first
+unfoldable pub bases_at : NodeTrees → NodeId → List GridBase
+bases_at t n = bases_of (value_at t n)
+
 -- Every kept answer is right: no list has a question twice, each question fits its node, each answer is the defined one, and what it holds
--- besides is of its node.
+-- besides is of its node, as is each kept context with its areas.
 pub record IsRight (t : NodeTrees) : Type 0 where
   pub lists : (n : NodeId) → AreRight (sight_at (bare t) n) plain_answer (kept_at t n)
   pub children : (n : NodeId) → EachPair (IsOfNode (sight_at (bare t) n) (children_at (bare t) n)) (kept_at t n)
+  pub bases : (n : NodeId) → AreOf (sight_at (bare t) n) (children_at (bare t) n) (bases_at t n)

@@ -1,6 +1,7 @@
 pub mod Along
 pub mod Areas
 pub mod Axes
+pub mod Bases
 pub mod Children
 pub mod Counted
 pub mod Covered

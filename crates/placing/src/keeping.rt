@@ -1,6 +1,6 @@
 //! Kept answers: one is looked up before anything else is computed, and what is computed is put last.
 
-ghost use Rattle.std.specs.Prelude.{◌≡◌, ◌∷◌, ◌≤◌, [], ℕ, true, IfOk, IfSome, IfNone, OnOk, OnErr, List, Option};
+ghost use Rattle.std.specs.Prelude.{◌≡◌, ◌∷◌, ◌≤◌, [], ℕ, true, take, IfOk, IfSome, IfNone, OnOk, OnErr, List, Option};
 ghost use Rattle.std.specs.Option.{option_copied};
 ghost use Rattle.layout_cache.specs.Kept.{answer_to};
 ghost use Rattle.outside.specs.declared.event.Event.{Event};
@@ -11,15 +11,20 @@ ghost use Rattle.tree_rules.specs.declared.query.Ask.TheVariants as ask;
 ghost use Rattle.tree_rules.specs.Frames.{given_size};
 ghost use Rattle.tree_rules.specs.KeptAnswers.{IsAbsent};
 ghost use Rattle.tree_rules.specs.Queries.{answer_of, block_size, inline_sizes, Fits};
+ghost use Rattle.tree_rules.specs.declared.query.Query.{Query};
 ghost use Rattle.word_leaf.specs.Leaves.{IsMeasurable};
-ghost use Rattle.placing.specs.Kept.{kept_at, plain_answer, IsRight, IsOfNode};
+ghost use Rattle.layout_cache.specs.Reach.{all_forgot};
+ghost use Rattle.outside.specs.declared.tally.Tally.{Tally as Told};
+ghost use Rattle.placing.specs.Bases.{base_with, HoldsPlaces};
+ghost use Rattle.placing.specs.Kept.{bases_at, kept_at, plain_answer, IsRight, IsOfNode};
 ghost use Rattle.placing.specs.declared.node.Answer.TheVariants as answer;
-ghost use Rattle.placing.specs.Keeping.{Counts, CountsSome, is_leaf, Keeps};
+ghost use Rattle.placing.specs.Keeping.{without_bases, Counts, CountsSome, is_leaf, Keeps};
 ghost use Rattle.placing.specs.Nodes.{bare, children_at, sight_at, IsLive};
 ghost use Rattle.placing.specs.Ranges.{IsKind};
 ghost use Rattle.placing.specs.Walks.{events_at, kept_with, state, State, Stopped, Walked, WalkedBelow};
 
 use crate::node::{Answer, Node};
+use crate::shared::SharedBase;
 use crate::sight::node_at;
 use layout_cache::{Ask, Given, Query};
 use lunit::{Lu, Name, NoMemory};
@@ -102,6 +107,58 @@ pub fn put(
     keep(tree, id, query, answer)?;
     tally.count_added();
     Ok(())
+}
+
+/// The context with the areas of its children that a node keeps by these counts, its own last; `None` exactly where it keeps none.
+pub fn find_base<'a>(
+    tree: &'a Arena<Node>,
+    id: NodeId,
+    pairs: &[(u32, u32)],
+) -> Option<&'a SharedBase>
+    requires live { IsLive (bare tree.now.tree) id }
+    requires right { IsRight tree.now.tree }
+    ensures kept { option_copied result ≡ base_with pairs.now (bases_at tree.now.tree id) }
+    ensures pairs { IfSome (option_copied result) (λ base. base.pairs ≡ pairs.now) }
+    ensures holds { IfSome (option_copied result) (HoldsPlaces (sight_at (bare tree.now.tree) id) (children_at (bare tree.now.tree) id)) }
+{
+    node_at(tree, id).bases.find(pairs)
+}
+
+/// Keeps a context with the areas of its children in a node, and nothing else, so that a walk begins after it as before it. Takes no
+/// memory.
+pub fn keep_base(tree: &mut Arena<Node>, id: NodeId, base: SharedBase)
+    requires live { IsLive (bare tree.old.tree) id }
+    requires right { IsRight tree.old.tree }
+    requires holds { HoldsPlaces (sight_at (bare tree.old.tree) id) (children_at (bare tree.old.tree) id) base }
+    ensures right { IsRight tree.new.tree }
+    ensures same { bare tree.new.tree ≡ bare tree.old.tree }
+    ensures kept { (m : NodeId) → kept_at tree.new.tree m ≡ kept_at tree.old.tree m }
+    ensures own { bases_at tree.new.tree id ≡ base ∷ take 1 (bases_at tree.old.tree id) }
+    ensures below { (q : Query) (more passes : ℕ) (tally : Told) (log : Option (List Event)) (new : State) → WalkedBelow id q more (state tree.new tally passes log) new → WalkedBelow id q more (state tree.old tally passes log) new }
+    ensures stopped { (q : Query) (passes : ℕ) (tally : Told) (log : Option (List Event)) (new : State) → Stopped id q (state tree.new tally passes log) new → Stopped id q (state tree.old tally passes log) new }
+{
+    let node = tree.get_mut(id).unwrap();
+    node.bases.put(base);
+}
+
+/// Lets the contexts and areas of a node go.
+fn forget_bases(node: &mut Node)
+    ensures { node.new ≡ without_bases node.old }
+{
+    node.bases.clear();
+}
+
+#[tactic(auto, using(layout_cache::proofs::Forgets::forget_laws))]
+/// Lets the contexts and areas of these nodes go, and of no others. It passes over a number that names no node. Takes no memory.
+pub fn drop_bases(tree: &mut Arena<Node>, ids: &[NodeId])
+    ensures { tree.new ≡ all_forgot without_bases ids.now tree.old }
+{
+    for id in ids {
+        let Some(node) = tree.get_mut(*id) else {
+            continue;
+        };
+        forget_bases(node);
+    }
 }
 
 /// Asks for both widths of a leaf.

@@ -8,8 +8,8 @@ ghost use Rattle.node_arena.specs.Numbers.{is_among, EachNode, IsNarrow};
 ghost use Rattle.tree_rules.specs.Queries.{answer_of};
 ghost use Rattle.tree_rules.specs.declared.query.Query.{Query};
 ghost use Rattle.placing.specs.declared.node.Answer.{Answer};
-ghost use Rattle.placing.specs.Kept.{kept_at, plain_answer, IsRight, IsOfNode};
-ghost use Rattle.placing.specs.Keeping.{without_answers, KeepsOn, KeepsNone};
+ghost use Rattle.placing.specs.Kept.{bases_at, kept_at, plain_answer, IsRight, IsOfNode};
+ghost use Rattle.placing.specs.Keeping.{without_answers, without_bases, HoldsNone, HoldsOn, KeepsOn, KeepsNone};
 ghost use Rattle.placing.specs.Nodes.{bare, children_at, label_of_bare, sight_at, BareTrees, NodeTrees};
 ghost use Rattle.placing.specs.Ranges.{AreReadable, IsReadable};
 
@@ -21,19 +21,30 @@ pub fn kept_answers_are_defined()
 {}
 
 #[tactic(auto, using(crate::proofs::KeptTrees::none_right, crate::proofs::KeptTrees::still_right))]
-/// Where nothing is kept all is right. A tree is right where each node keeps nothing, or keeps what it kept in a right tree in which the rules saw the same
-/// of it and it had the same children.
+/// Where nothing is kept all is right. A tree is right where each node keeps no answer, or keeps what it kept in a right tree in which the rules saw the same
+/// of it and it had the same children; and keeps no contexts and areas, or those that it kept there, where it stood and its children stood in the same
+/// lines.
 pub fn right_where_seen_the_same()
-    ensures none { (t : NodeTrees) → KeepsNone t → IsRight t }
-    ensures same { (t u : NodeTrees) → IsRight t → ((n : NodeId) → KeepsOn t u n) → IsRight u }
+    ensures none { (t : NodeTrees) → KeepsNone t → HoldsNone t → IsRight t }
+    ensures same { (t u : NodeTrees) → IsRight t → ((n : NodeId) → KeepsOn t u n) → ((n : NodeId) → HoldsOn t u n) → IsRight u }
 {}
 
-#[tactic(auto, using(crate::proofs::KeptTrees::forgets_bare, crate::proofs::KeptTrees::forgets_kept, crate::proofs::KeptTrees::forgets_right))]
+#[tactic(auto, using(crate::proofs::KeptTrees::forgets_bare, crate::proofs::KeptTrees::forgets_kept, crate::proofs::KeptTrees::forgets_bases, crate::proofs::KeptTrees::forgets_right))]
 /// Letting answers go changes nothing but the lists of these nodes, and what is right stays right.
 pub fn forgetting_keeps_the_rest()
     ensures same { (ns : List NodeId) (t : NodeTrees) → bare (forgets without_answers ns t) ≡ bare t }
     ensures kept { (ns : List NodeId) (t : NodeTrees) (n : NodeId) → kept_at (forgets without_answers ns t) n ≡ (if is_among n ns then [] else kept_at t n) }
+    ensures bases { (ns : List NodeId) (t : NodeTrees) (n : NodeId) → bases_at (forgets without_answers ns t) n ≡ bases_at t n }
     ensures right { (ns : List NodeId) (t : NodeTrees) → IsRight t → IsRight (forgets without_answers ns t) }
+{}
+
+#[tactic(auto, using(crate::proofs::KeptTrees::drops_bare, crate::proofs::KeptTrees::drops_kept, crate::proofs::KeptTrees::drops_bases, crate::proofs::KeptTrees::drops_right))]
+/// Letting contexts and areas go changes nothing but the lists of these nodes, and what is right stays right.
+pub fn dropping_keeps_the_rest()
+    ensures same { (ns : List NodeId) (t : NodeTrees) → bare (forgets without_bases ns t) ≡ bare t }
+    ensures kept { (ns : List NodeId) (t : NodeTrees) (n : NodeId) → kept_at (forgets without_bases ns t) n ≡ kept_at t n }
+    ensures bases { (ns : List NodeId) (t : NodeTrees) (n : NodeId) → bases_at (forgets without_bases ns t) n ≡ (if is_among n ns then [] else bases_at t n) }
+    ensures right { (ns : List NodeId) (t : NodeTrees) → IsRight t → IsRight (forgets without_bases ns t) }
 {}
 
 #[tactic(auto, using(crate::proofs::Readable::by_nodes))]

@@ -5,6 +5,7 @@
 //! label, the links upwards, and what stands below it.
 #![tactic(auto)]
 
+mod bases;
 mod contexts;
 pub mod counts;
 mod covered;
@@ -26,18 +27,19 @@ pub mod template;
 mod wide;
 mod wishes;
 
+pub use bases::Bases;
 pub use contexts::{Above, AxisContext, Context, Placed};
 pub use grids::context_in;
 pub use items::{ChildArea, entry, has_subgrid};
-pub use keeping::{find, find_by, leaf_height, leaf_sizes, put};
+pub use keeping::{drop_bases, find, find_base, find_by, keep_base, leaf_height, leaf_sizes, put};
 pub use laws::{
-    forgetting_keeps_the_rest, kept_answers_are_defined, readable_node_by_node,
-    right_where_seen_the_same,
+    dropping_keeps_the_rest, forgetting_keeps_the_rest, kept_answers_are_defined,
+    readable_node_by_node, right_where_seen_the_same,
 };
 pub use node::{Answer, Frame, Node};
 pub use placement::{areas_in, ordered};
 pub use seats::{areas, context, seat};
-pub use shared::{SharedFrames, SharedWide};
+pub use shared::{SharedBase, SharedFrames, SharedWide};
 pub use sight::{child, count, node_at, parent, root};
 pub use tree_rules::NodeKind;
 pub use wide::{GridBase, GridParts, GridWide, WideChild};

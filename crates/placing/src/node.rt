@@ -1,3 +1,4 @@
+use crate::bases::Bases;
 use crate::shared::{SharedFrames, SharedWide};
 use layout_cache::Kept;
 use lunit::{Item, Lu, Name, Rect, Sequence};
@@ -16,6 +17,8 @@ pub struct Node {
     pub kept: Kept<Answer>,
     /// The computed values (CSS Values 4, section 6.1).
     pub style: Style,
+    /// A grid's contexts and the areas of its children, which it keeps longer than its answers.
+    pub bases: Bases,
     /// The values as they are declared. They stand last, since no layout reads them.
     pub declared: Declared,
 }

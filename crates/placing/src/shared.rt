@@ -1,9 +1,9 @@
-//! What a node keeps and all who read it share: a list of frames, a grid in its columns.
+//! What a node keeps and all who read it share: a list of frames, a grid before its children are asked, a grid in its columns.
 
 ghost use Rattle.std.specs.Prelude.{◌≡◌, IfOk};
 
 use crate::node::Frame;
-use crate::wide::GridWide;
+use crate::wide::{GridBase, GridWide};
 use lunit::{NoMemory, Sequence};
 use std::alloc::Global;
 use std::marker::Model;
@@ -52,6 +52,50 @@ impl SharedFrames {
         ensures { result.now ≡ self.now }
     {
         self.frames.as_ref().as_slice()
+    }
+}
+
+/// A grid before its children are asked. It is made once, and all who read it share it.
+#[derive(Drop)]
+pub struct SharedBase {
+    base: Rc<GridBase>,
+}
+
+impl Model for SharedBase {
+    ghost use Rattle.placing.specs.declared.wide.GridBase.{GridBase};
+    ghost use Rattle.placing.specs.contracts.wide.GridBase as grid_base;
+
+    ghost Value = { GridBase };
+
+    ghost coded = { grid_base.the_row.coded };
+
+    ghost view = { λ a. a.base.value };
+}
+
+impl SharedBase {
+    /// This grid; `NoMemory` where memory is wanting.
+    pub fn new(alloc: Global, base: GridBase) -> Result<SharedBase, NoMemory>
+        ensures { IfOk result (λ made. made ≡ base) }
+    {
+        Ok(SharedBase {
+            base: Rc::new(alloc, base)?,
+        })
+    }
+
+    /// The same grid once more. Takes no memory; `NoMemory` only where it is shared more often than can be counted.
+    pub fn again(&self) -> Result<SharedBase, NoMemory>
+        ensures { IfOk result (λ other. other ≡ self.now) }
+    {
+        Ok(SharedBase {
+            base: self.base.clone()?,
+        })
+    }
+
+    /// The grid.
+    pub fn grid(&self) -> &GridBase
+        ensures { result.now ≡ self.now }
+    {
+        self.base.as_ref()
     }
 }
 

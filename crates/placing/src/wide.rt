@@ -2,6 +2,7 @@
 //! its frames begin with it.
 
 use crate::contexts::{Above, Placed};
+use crate::shared::SharedBase;
 use lunit::{Item, Lu, Sequence};
 use part_rules::View;
 use tree_rules::Given;
@@ -23,7 +24,7 @@ pub struct GridBase {
 #[derive(Drop)]
 pub struct GridParts {
     /// What it is without that.
-    pub base: GridBase,
+    pub base: SharedBase,
     /// The two intrinsic inline sizes of each child, in the order of the areas, in units of 1/64 px; 0 for a subgrid in the
     /// columns, which is not asked.
     pub inlines: Sequence<(Lu, Lu)>,

@@ -49,6 +49,15 @@ child_live b p n i e = at (part_at b p) refl e
     at None f g = absurd (none i g)
     at (Some q) f g = ap is_some f
 
+-- ---- where nothing is marked nothing is felt
+pub none_felt : (mark : NodeId → Bool) (b : BareTrees) → ((m : NodeId) → mark m ≡ false) → (k : ℕ) (n : NodeId) → IsFelt mark b k n → ⊥
+none_felt mark b h zero n f = f
+none_felt mark b h (suc k) n f = at f.1.1.1.1 (none_felt mark b h k f.0)
+  where
+    at : (mark f.0 ≡ true) ⊎ IsFelt mark b k f.0 → (IsFelt mark b k f.0 → ⊥) → ⊥
+    at (inl m) up = not_both (mark f.0) m (h f.0)
+    at (inr g) up = up g
+
 -- ---- chains
 module _ (root : NodeId) (b u : BareTrees) (rb : IsRooted root b) (ru : IsRooted root u) (touched : NodeId → Bool) (grid : Bool) (local : IsLocal touched grid b u) where
   abbrev mark : NodeId → Bool

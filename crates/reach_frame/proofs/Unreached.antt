@@ -12,19 +12,20 @@ use Rattle.node_arena.proofs.Same.{part_there, same_refl}
 use Rattle.node_arena.proofs.Standing.{some_is}
 use Rattle.node_arena.proofs.Ways.{within_way}
 use Rattle.layout_cache.specs.Reach.{is_above, reached, reached_by}
-use Rattle.tree_rules.specs.Chains.{has_subgrid, is_grid_kind}
+use Rattle.tree_rules.specs.Chains.{Sibling, has_subgrid, is_grid_kind, siblings_of}
 use Rattle.tree_rules.specs.Labels.{grid_of}
+use Rattle.tree_rules.specs.Places.{Seen}
 use Rattle.placing.specs.declared.node.Node.{Node}
-use Rattle.placing.specs.Keeping.{KeepsOn}
-use Rattle.placing.specs.Kept.{IsRight, kept_at, kept_of}
-use Rattle.placing.specs.Nodes.{BareTrees, NodeTrees, bare, bare_of, children_at, label_of_bare, sight_at}
+use Rattle.placing.specs.Keeping.{HoldsOn, HoldsSame, KeepsOn}
+use Rattle.placing.specs.Kept.{IsRight, bases_at, bases_of, kept_at, kept_of}
+use Rattle.placing.specs.Nodes.{BareTrees, NodeTrees, bare, bare_of, children_at, label_of_bare, level_at, sight_at}
 use Rattle.placing.proofs.Bares.{bare_there, child_bare, distinct_bare, height_bare, live_bare, tops_bare}
 use Rattle.placing.proofs.KeptTrees.{still_right}
 use Rattle.placing.proofs.Mapped.{below_mapped}
 use Rattle.placing.proofs.Sights.{sight_label}
 use Rattle.reach_frame.specs.Local.{IsFelt, IsLocal, is_sub}
 use Rattle.reach_frame.proofs.Above.{above_from, above_upwards}
-use Rattle.reach_frame.proofs.Frame.{not_both}
+use Rattle.reach_frame.proofs.Frame.{none_felt, not_both, same_chain}
 use Rattle.reach_frame.proofs.Frames.{children_stay, seen_same}
 use Rattle.reach_frame.proofs.Reached.{above_reached, felt_top, felt_visits, marked_visits}
 use Rattle.reach_frame.proofs.Rooted.{rooted}
@@ -144,13 +145,47 @@ module _ (t u : NodeTrees) (dt : IsDistinct t) (du : IsDistinct u) (root : NodeI
         children_stay root (bare t) (bare u) rb ru (λ m. is_among m ts) grid local n live calm.own,
       )
 
-  -- a node of the new tree keeps nothing, or it is not reached and keeps what it kept
+  -- where subgrids do not feel the change, the lines, the chain and the children of every node are the same, and what its areas depend on of these
+  same_lines : grid ≡ false → (n : NodeId) → IsSome (part_at u n) → bases_at u n ≡ bases_at t n → HoldsSame t u n
+  same_lines calm n new same =
+      let rb = rooted root (bare t) (distinct_bare t dt) (omega (arith, low_t, height_bare t)) (tops_bare t ∙ tops_t) in
+      let ru = rooted root (bare u) (distinct_bare u du) (omega (arith, low_u, height_bare u)) (tops_bare u ∙ tops_u) in
+      let live = live_bare u n ∙ new in
+      let shows = local.shows n live (marked n) in
+      record {
+        bases = same;
+        grid = ap (λ (s : Sibling). s.grid) shows.own;
+        chain = same_chain root (bare t) (bare u) rb ru (λ m. is_among m ts) grid local (level_at (bare u) n) n (omega arith) live (marked n) (λ k. none_felt (λ m. grid && is_among m ts) (bare u) marked k n);
+        siblings = shows.siblings;
+        children = shows.children;
+      }
+    where
+      marked : (m : NodeId) → (grid && is_among m ts) ≡ false
+      marked m = ap (λ g. g && is_among m ts) calm
+
+  -- so where a node is not reached
+  same_seen : (n : NodeId) → IsSome (part_at t n) → IsSome (part_at u n) → is_among n (reached_by node_sub t ts grid) ≡ false → bases_at u n ≡ bases_at t n → HoldsSame t u n
+  same_seen n old new e same =
+      let s = same_sight n old new e in
+      record {
+        bases = same;
+        grid = ap (λ (v : Seen). v.label.grid) s.0;
+        chain = ap (λ (v : Seen). v.chain) s.0;
+        siblings = ap (λ (v : Seen). siblings_of v.below) s.0;
+        children = s.1;
+      }
+
+  -- a node of the new tree keeps no answer, or it is not reached and keeps what it kept
   abbrev pub KeepsOrNot : NodeId → Type 0
   KeepsOrNot n = (kept_at u n ≡ []) ⊎ ((IsSome (part_at t n) × (is_among n (reached_by node_sub t ts grid) ≡ false)) × (kept_at u n ≡ kept_at t n))
 
-  pub right_after : IsRight t → ((n : NodeId) → IsSome (part_at u n) → KeepsOrNot n) → IsRight u
-  unfolding kept_at
-  right_after r h = still_right t u r keeps
+  -- it keeps no contexts and areas, or subgrids do not feel the change or it is not reached, and it keeps those that it kept
+  abbrev pub HoldsOrNot : NodeId → Type 0
+  HoldsOrNot n = (bases_at u n ≡ []) ⊎ ((IsSome (part_at t n) × ((grid ≡ false) ⊎ (is_among n (reached_by node_sub t ts grid) ≡ false))) × (bases_at u n ≡ bases_at t n))
+
+  pub right_after : IsRight t → ((n : NodeId) → IsSome (part_at u n) → KeepsOrNot n) → ((n : NodeId) → IsSome (part_at u n) → HoldsOrNot n) → IsRight u
+  unfolding kept_at bases_at
+  right_after r h g = still_right t u r keeps holds
     where
       keeps : (n : NodeId) → KeepsOn t u n
       keeps n = at (part_at u n) refl
@@ -162,3 +197,18 @@ module _ (t u : NodeTrees) (dt : IsDistinct t) (du : IsDistinct u) (root : NodeI
           at : (o : Option (Part Node)) → part_at u n ≡ o → KeepsOn t u n
           at None e = inl (ap (λ o. kept_of (value_of o)) e)
           at (Some q) e = by (ap is_some e) (h n (ap is_some e))
+
+      holds : (n : NodeId) → HoldsOn t u n
+      holds n = at (part_at u n) refl
+        where
+          kept : IsSome (part_at u n) → IsSome (part_at t n) → (grid ≡ false) ⊎ (is_among n (reached_by node_sub t ts grid) ≡ false) → bases_at u n ≡ bases_at t n → HoldsOn t u n
+          kept new old (inl calm) same = inr (same_lines calm n new same)
+          kept new old (inr e) same = inr (same_seen n old new e same)
+
+          by : IsSome (part_at u n) → HoldsOrNot n → HoldsOn t u n
+          by new (inl e) = inl e
+          by new (inr k) = kept new k.0.0 k.0.1 k.1
+
+          at : (o : Option (Part Node)) → part_at u n ≡ o → HoldsOn t u n
+          at None e = inl (ap (λ o. bases_of (value_of o)) e)
+          at (Some q) e = by (ap is_some e) (g n (ap is_some e))

@@ -54,9 +54,9 @@ pub leaf_is : (a : Nodes Node) (id : NodeId) → IsLeafTree a id → is_leaf (si
 leaf_is a id h = ap is_leaf h.kind
 
 -- the tree as it is made
-pub made_tree : (a : Nodes Node) (id : NodeId) (v : Node) (nodes children : ℕ) → a ≡ first_node id v nodes children → v.kept ≡ [] → v.kind ≡ kind.Leaf its_content → IsLeafTree a id
+pub made_tree : (a : Nodes Node) (id : NodeId) (v : Node) (nodes children : ℕ) → a ≡ first_node id v nodes children → v.kept ≡ [] → v.bases ≡ [] → v.kind ≡ kind.Leaf its_content → IsLeafTree a id
 unfolding label_of_bare
-made_tree a id v nodes children e k l = subst (λ z. IsLeafTree z id) (sym e) made
+made_tree a id v nodes children e k h l = subst (λ z. IsLeafTree z id) (sym e) made
   where
     value : Some v ≡ value_at (tree (id, v) leafless leafless) id
     value = ap value_of (sym (part_here (id, v) leafless leafless id (record { is = same_refl id })))
@@ -65,7 +65,7 @@ made_tree a id v nodes children e k l = subst (λ z. IsLeafTree z id) (sym e) ma
     made =
         record {
           live = live_from (tree (id, v) leafless leafless) id (top_live (tree (id, v) leafless leafless) id refl);
-          right = none_right (tree (id, v) leafless leafless) (k, (tt, tt));
+          right = none_right (tree (id, v) leafless leafless) (k, (tt, tt)) (h, (tt, tt));
           kind = ap (λ x. x.kind) (sym (sight_label (bare (tree (id, v) leafless leafless)) id (bare_of v) (bare_there (tree (id, v) leafless leafless) id v value))) ∙ kind_of;
           chain = top_chain (bare (tree (id, v) leafless leafless)) id (tops_bare (tree (id, v) leafless leafless));
         }

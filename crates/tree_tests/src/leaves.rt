@@ -7,7 +7,7 @@ use lunit::{Lu, Name, NoMemory};
 use node_arena::{Arena, NodeId};
 use outside::{Event, LogRuler, Tally, Width};
 use part_rules::Content;
-use placing::{Answer, Node, NodeKind, find, leaf_height, leaf_sizes};
+use placing::{Answer, Bases, Node, NodeKind, find, leaf_height, leaf_sizes};
 use std::alloc::Global;
 use std::test::Fail;
 use style_types::{Declared, Style};
@@ -25,6 +25,7 @@ fn one_leaf(alloc: Global, name: Name) -> Result<(Arena<Node>, NodeId), NoMemory
         declared: Declared::new(alloc),
         style: Style::new(alloc),
         kept: Kept::new(alloc)?,
+        bases: Bases::new(),
     };
     Ok(Arena::new(alloc, node, 1, 1)?)
 }

@@ -31,10 +31,11 @@ use Rattle.placing.specs.Nodes.{children_at}
 use Rattle.placing.specs.Wides.{HoldsWide}
 use Rattle.block_sizes.proofs.Joined.{joined_below, joined_stopped}
 use Rattle.block_sizes.proofs.Leading.{leads_down}
-use Rattle.block_sizes.proofs.Widths.{all_there, below_then, child_more, entries_least, items_more, rows_items, sizes_there, stops_then, turn, IsTurn}
+use Rattle.block_sizes.proofs.Widths.{all_there, below_then, child_more, entries_least, items_more, rows_items, sizes_there, stops_then, turn_read, IsTurn}
 use Rattle.placing.specs.Spread.{AreSpread, IsSpread}
 use Rattle.block_sizes.specs.Wides.{AreWide, IsWide, LeadsDown, asked_of, block_seen, columns_seen, farthest, items_from, items_seen, wides_seen}
 use Rattle.placing.specs.Wides.{child_of}
+use Rattle.placing.specs.declared.wide.GridBase.{GridBase}
 use Rattle.placing.specs.declared.wide.WideChild.{WideChild}
 use Rattle.std.specs.Prelude.{Some, ◌≤ℤ◌}
 use Rattle.part_rules.specs.declared.flex.FlexItem.{FlexItem}
@@ -193,6 +194,7 @@ ask_children-child_in-entry-requires g t c =
     let readable : AreReadable (bare c.loop-index.tree.tree) = subst AreReadable back c.requires.readable in
     let grid : (sight_at (bare c.loop-index.tree.tree) c.args.id).label.kind ≡ kind.Grid = subst (λ (z : BareTrees). (sight_at z c.args.id).label.kind ≡ kind.Grid) back c.requires.kind in
     let made : IsGrid (bare c.loop-index.tree.tree) c.args.id c.args.reps.now c.args.width.now c.args.parts.now = (subst (λ (z : BareTrees). IsGrid z c.args.id c.args.reps.now c.args.width.now c.args.parts.now) (sym c.loop-index.invariant.same) c.requires.grid) in
+    let index : c.loop-index.index < length c.args.parts.now.base.placed.areas = omega (arith, ap (λ (base : GridBase). length base.placed.areas) c.grid-base.ensures) in
     search rules
 
 pub ask_children-ask_child-requires : goal.ask_children-ask_child-requires
@@ -211,24 +213,24 @@ ask_children-sizes_at-sizes-requires g t c =
 
 pub ask_children-returns-in_err-child-clause-stopped : goal.ask_children-returns-in_err-child-clause-stopped
 ask_children-returns-in_err-child-clause-stopped g t c =
-    let turn_now : IsTurn (bare c.args.tree.now.tree) (bare c.loop-index.tree.tree) c.args.id c.args.reps.now c.args.width.now c.args.parts.now c.args.columns.now c.child_in-entry.result c.sizes_at-sizes.result c.loop-index.index =
-    turn (bare c.args.tree.now.tree) (bare c.loop-index.tree.tree) c.loop-index.invariant.same c.args.id c.args.reps.now c.args.width.now c.args.parts.now c.args.columns.now c.child_in-entry.result c.sizes_at-sizes.result c.loop-index.index c.requires.grid c.requires.columns c.child_in-entry.ensures.next c.sizes_at-sizes.ensures c.child_in-entry.ensures.child.entry.number in
+    let turn_now : IsTurn (bare c.args.tree.now.tree) (bare c.loop-index.tree.tree) c.args.id c.args.reps.now c.args.width.now c.grid-base.result.now c.args.columns.now c.child_in-entry.result c.sizes_at-sizes.result c.loop-index.index =
+    turn_read (bare c.args.tree.now.tree) (bare c.loop-index.tree.tree) c.loop-index.invariant.same c.args.id c.args.reps.now c.args.width.now c.args.parts.now c.grid-base.result.now c.grid-base.ensures c.args.columns.now c.child_in-entry.result c.sizes_at-sizes.result c.loop-index.index c.requires.grid c.requires.columns c.child_in-entry.ensures.next c.sizes_at-sizes.ensures c.child_in-entry.ensures.child.entry.number in
     let all : (q : Query) → LeadsDown (bare c.args.tree.now.tree) c.args.id c.args.reps.now c.args.width.now q → Stopped c.args.id q (state c.args.tree.now c.args.tally.now c.args.passes.now (g.R.Ruler.log c.args.ruler.now)) (state c.ask_child.new.tree c.ask_child.new.tally c.ask_child.new.passes (g.R.Ruler.log c.ask_child.new.ruler)) =
     λ q leads. stops_then (bare c.args.tree.now.tree) (bare c.loop-index.tree.tree) c.loop-index.invariant.same c.args.id c.args.reps.now c.args.width.now turn_now.wide c.child_in-entry.result.child _ c.loop-index.index turn_now.next turn_now.asked c.root.ensures.steps turn_now.number q leads _ _ _ refl (c.loop-index.invariant.walked q leads) c.in_err-child.ensures.stopped in
     on_err _ _ all
 
 pub ask_children-returns-in_err-push-clause-stopped : goal.ask_children-returns-in_err-push-clause-stopped
 ask_children-returns-in_err-push-clause-stopped g t c =
-    let turn_now : IsTurn (bare c.args.tree.now.tree) (bare c.loop-index.tree.tree) c.args.id c.args.reps.now c.args.width.now c.args.parts.now c.args.columns.now c.child_in-entry.result c.sizes_at-sizes.result c.loop-index.index =
-    turn (bare c.args.tree.now.tree) (bare c.loop-index.tree.tree) c.loop-index.invariant.same c.args.id c.args.reps.now c.args.width.now c.args.parts.now c.args.columns.now c.child_in-entry.result c.sizes_at-sizes.result c.loop-index.index c.requires.grid c.requires.columns c.child_in-entry.ensures.next c.sizes_at-sizes.ensures c.child_in-entry.ensures.child.entry.number in
+    let turn_now : IsTurn (bare c.args.tree.now.tree) (bare c.loop-index.tree.tree) c.args.id c.args.reps.now c.args.width.now c.grid-base.result.now c.args.columns.now c.child_in-entry.result c.sizes_at-sizes.result c.loop-index.index =
+    turn_read (bare c.args.tree.now.tree) (bare c.loop-index.tree.tree) c.loop-index.invariant.same c.args.id c.args.reps.now c.args.width.now c.args.parts.now c.grid-base.result.now c.grid-base.ensures c.args.columns.now c.child_in-entry.result c.sizes_at-sizes.result c.loop-index.index c.requires.grid c.requires.columns c.child_in-entry.ensures.next c.sizes_at-sizes.ensures c.child_in-entry.ensures.child.entry.number in
     let all : (q : Query) → LeadsDown (bare c.args.tree.now.tree) c.args.id c.args.reps.now c.args.width.now q → Stopped c.args.id q (state c.args.tree.now c.args.tally.now c.args.passes.now (g.R.Ruler.log c.args.ruler.now)) (state c.ask_child.new.tree c.ask_child.new.tally c.ask_child.new.passes (g.R.Ruler.log c.ask_child.new.ruler)) =
     λ q leads. stopped c.args.id q 0 _ _ (below_then (bare c.args.tree.now.tree) (bare c.loop-index.tree.tree) c.loop-index.invariant.same c.args.id c.args.reps.now c.args.width.now turn_now.wide c.child_in-entry.result.child _ c.loop-index.index turn_now.next turn_now.asked c.root.ensures.steps turn_now.number q leads _ _ _ refl (c.loop-index.invariant.walked q leads) c.in_ok-child.ensures.walked) in
     on_err _ _ all
 
 pub ask_children-loop-index-preserved : goal.ask_children-loop-index-preserved
 ask_children-loop-index-preserved g t c =
-    let turn_now : IsTurn (bare c.args.tree.now.tree) (bare c.loop-index.tree.tree) c.args.id c.args.reps.now c.args.width.now c.args.parts.now c.args.columns.now c.child_in-entry.result c.sizes_at-sizes.result c.loop-index.index =
-    turn (bare c.args.tree.now.tree) (bare c.loop-index.tree.tree) c.loop-index.invariant.same c.args.id c.args.reps.now c.args.width.now c.args.parts.now c.args.columns.now c.child_in-entry.result c.sizes_at-sizes.result c.loop-index.index c.requires.grid c.requires.columns c.child_in-entry.ensures.next c.sizes_at-sizes.ensures c.child_in-entry.ensures.child.entry.number in
+    let turn_now : IsTurn (bare c.args.tree.now.tree) (bare c.loop-index.tree.tree) c.args.id c.args.reps.now c.args.width.now c.grid-base.result.now c.args.columns.now c.child_in-entry.result c.sizes_at-sizes.result c.loop-index.index =
+    turn_read (bare c.args.tree.now.tree) (bare c.loop-index.tree.tree) c.loop-index.invariant.same c.args.id c.args.reps.now c.args.width.now c.args.parts.now c.grid-base.result.now c.grid-base.ensures c.args.columns.now c.child_in-entry.result c.sizes_at-sizes.result c.loop-index.index c.requires.grid c.requires.columns c.child_in-entry.ensures.next c.sizes_at-sizes.ensures c.child_in-entry.ensures.child.entry.number in
     record {
       right = c.ask_child.ensures.right;
       same = c.in_ok-child.ensures.walked.walk.bare_same ∙ c.loop-index.invariant.same;
@@ -239,7 +241,7 @@ ask_children-loop-index-preserved g t c =
 
 pub ask_children-returns-clause-value : goal.ask_children-returns-clause-value
 ask_children-returns-clause-value g t c =
-    let few : length (wides_seen (bare c.args.tree.now.tree) c.args.id c.args.reps.now c.args.width.now) ≤ c.loop-index.index = omega (arith, entries_least (bare c.args.tree.now.tree) c.args.id c.args.reps.now c.args.width.now c.args.parts.now c.requires.grid, c.len-count.ensures) in
+    let few : length (wides_seen (bare c.args.tree.now.tree) c.args.id c.args.reps.now c.args.width.now) ≤ c.loop-index.index = omega (arith, entries_least (bare c.args.tree.now.tree) c.args.id c.args.reps.now c.args.width.now c.args.parts.now c.requires.grid, c.len-count.ensures, ap (λ (base : GridBase). length base.placed.areas) c.grid-base.ensures) in
     record {
       children = all_there (map child_of) (wides_seen (bare c.args.tree.now.tree) c.args.id c.args.reps.now c.args.width.now) c.loop-index.index c.loop-index.children (map child_of (wides_seen (bare c.args.tree.now.tree) c.args.id c.args.reps.now c.args.width.now)) refl few c.loop-index.invariant.children;
       items = all_there (items_from (bare c.args.tree.now.tree) c.args.id c.args.reps.now c.args.width.now) (wides_seen (bare c.args.tree.now.tree) c.args.id c.args.reps.now c.args.width.now) c.loop-index.index c.loop-index.items (items_from (bare c.args.tree.now.tree) c.args.id c.args.reps.now c.args.width.now (wides_seen (bare c.args.tree.now.tree) c.args.id c.args.reps.now c.args.width.now)) refl few c.loop-index.invariant.items;

@@ -28,7 +28,7 @@ use Rattle.tree_rules.specs.declared.query.Query.{Query}
 use Rattle.inline_sizes.proofs.Anew.{flex_answer, flex_quiet, grid_answer, grid_quiet, lent_answer}
 use Rattle.inline_sizes.proofs.Asked.{chain_in_flex, entry_here, fits_no_chain, lent_fit, levels_above, on_ok, pairs_all, rows_fits, shared_asked, shared_chain, shared_fits, sizes_answered, sizes_are, sizes_fit, walked_stopped}
 use Rattle.inline_sizes.proofs.FlexWalks.{flex_uses_next, members_all, members_first, members_next}
-use Rattle.inline_sizes.proofs.Grids.{all_there, below_then, entries_few, grid_made, inlines_then, items_then, leads_on, stops_then}
+use Rattle.inline_sizes.proofs.Grids.{all_there, below_then, entries_few, grid_there, inlines_then, items_then, leads_there, stops_then}
 use Rattle.inline_sizes.specs.Flexes.{AreMembers, IsChild, member_of, members_from}
 use Rattle.inline_sizes.specs.Grids.{IsEntry, IsGrid, IsLaid, LeadsOn, items_from}
 use Rattle.inline_sizes.specs.GridsSeen.{HasLines}
@@ -395,21 +395,22 @@ grid_anew-returns-clause-own g t c = c.in_ok-put.ensures.own ∙ ap (λ l. kept_
 
 pub grid_at-returns-in_err-base-clause-stopped : goal.grid_at-returns-in_err-base-clause-stopped
 grid_at-returns-in_err-base-clause-stopped g t c =
-    let all : (q : Query) → q.reps ≡ c.args.reps.now → q.inline ≡ c.args.width.now → Stopped c.args.id q (state c.args.tree.now c.args.tally.now c.args.passes.now (g.R.Ruler.log c.args.ruler.now)) (state c.args.tree.now c.args.tally.now c.args.passes.now (g.R.Ruler.log c.args.ruler.now)) =
-    λ q r w. stopped c.args.id q 0 _ _ (walked_none c.args.id q (state c.args.tree.now c.args.tally.now c.args.passes.now (g.R.Ruler.log c.args.ruler.now)) c.requires.right) in
+    let all : (q : Query) → q.reps ≡ c.args.reps.now → q.inline ≡ c.args.width.now → Stopped c.args.id q (state c.args.tree.now c.args.tally.now c.args.passes.now (g.R.Ruler.log c.args.ruler.now)) (state c.shared_base.new.tree c.args.tally.now c.args.passes.now (g.R.Ruler.log c.args.ruler.now)) =
+    λ q r w. c.shared_base.ensures.stopped q _ _ _ _ (stopped c.args.id q 0 _ _ (walked_none c.args.id q (state c.shared_base.new.tree c.args.tally.now c.args.passes.now (g.R.Ruler.log c.args.ruler.now)) c.shared_base.ensures.right)) in
     on_err _ _ all
 
 pub grid_at-returns-in_err-inlines-clause-stopped : goal.grid_at-returns-in_err-inlines-clause-stopped
 grid_at-returns-in_err-inlines-clause-stopped g t c =
     let all : (q : Query) → q.reps ≡ c.args.reps.now → q.inline ≡ c.args.width.now → Stopped c.args.id q (state c.args.tree.now c.args.tally.now c.args.passes.now (g.R.Ruler.log c.args.ruler.now)) (state c.ask_children.new.tree c.ask_children.new.tally c.ask_children.new.passes (g.R.Ruler.log c.ask_children.new.ruler)) =
-    λ q r w. c.in_err-inlines.ensures.stopped q (leads_on (bare c.args.tree.now.tree) c.args.id c.args.reps.now c.args.width.now c.in_ok-base.base c.requires.grid c.in_ok-base.ensures q r w) in
+    λ q r w. c.in_ok-base.ensures.stopped q _ _ _ _ (c.in_err-inlines.ensures.stopped q (leads_there (bare c.args.tree.now.tree) (bare c.shared_base.new.tree.tree) c.in_ok-base.ensures.same c.args.id c.args.reps.now c.args.width.now c.in_ok-base.base c.grid.result.now c.grid.ensures c.in_ok-base.ensures.value c.requires.grid q r w)) in
     on_err _ _ all
 
 pub grid_at-returns-clause-value : goal.grid_at-returns-clause-value
-grid_at-returns-clause-value g t c = grid_made (bare c.args.tree.now.tree) c.args.id c.args.reps.now c.args.width.now c.in_ok-base.base c.in_ok-base.ensures _ _ c.in_ok-inlines.ensures.answers
+grid_at-returns-clause-value g t c = grid_there (bare c.args.tree.now.tree) (bare c.shared_base.new.tree.tree) c.in_ok-base.ensures.same c.args.id c.args.reps.now c.args.width.now c.in_ok-base.base c.grid.result.now c.grid.ensures c.in_ok-base.ensures.value _ _ c.in_ok-inlines.ensures.answers
 
 pub grid_at-returns-clause-below : goal.grid_at-returns-clause-below
-grid_at-returns-clause-below g t c = λ q r w. c.in_ok-inlines.ensures.below q (leads_on (bare c.args.tree.now.tree) c.args.id c.args.reps.now c.args.width.now c.in_ok-base.base c.requires.grid c.in_ok-base.ensures q r w)
+grid_at-returns-clause-below g t c = λ q r w. c.in_ok-base.ensures.below q 0 _ _ _ _
+    (c.in_ok-inlines.ensures.below q (leads_there (bare c.args.tree.now.tree) (bare c.shared_base.new.tree.tree) c.in_ok-base.ensures.same c.args.id c.args.reps.now c.args.width.now c.in_ok-base.base c.grid.result.now c.grid.ensures c.in_ok-base.ensures.value c.requires.grid q r w))
 
 pub inline_at-returns-in_err-query-clause-stopped : goal.inline_at-returns-in_err-query-clause-stopped
 inline_at-returns-in_err-query-clause-stopped g t c = on_err _ _ (stopped c.args.id _ 0 _ _ (walked_none c.args.id (inline_query false c.args.reps.now) (state c.args.tree.now c.args.tally.now c.args.passes.now (g.R.Ruler.log c.args.ruler.now)) c.requires.right))

@@ -52,6 +52,7 @@ returns-clause-changes c change becomes =
       found = c.requires;
       value = v;
       kept = c.in_ok-node.ensures.kept;
+      bases = c.in_ok-node.ensures.bases;
       label = becomes_made c.args.id change _ (label_of v) t label becomes;
       styles = c.in_ok-styles.styles;
       is = ap (λ (n : Nodes Node). n.tree) (c.restyle.ensures ∙ ap (with_styles c.in_ok-styles.styles) c.put.ensures) ∙ ap (λ (h : Held). restyled c.in_ok-styles.styles (replaced c.args.id v h.nodes.tree)) c.self.view_is;

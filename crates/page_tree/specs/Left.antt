@@ -1,0 +1,16 @@
+-- What an edit leaves of what nodes keep (own rule).
+use Rattle.std.specs.Prelude.{Bool, List, if◌then◌else◌}
+use Rattle.layout_cache.specs.Reach.{forgets}
+use Rattle.node_arena.specs.declared.number.NodeId.{NodeId}
+use Rattle.node_arena.specs.Plain.{Nodes}
+use Rattle.placing.specs.declared.node.Node.{Node}
+use Rattle.placing.specs.Keeping.{without_answers, without_bases}
+use Rattle.placing.specs.Nodes.{NodeTrees}
+
+-- Trees in which these nodes keep no answers; and where subgrids feel the edit, no contexts and areas either.
+abbrev pub left_in : Bool → List NodeId → NodeTrees → NodeTrees
+left_in felt ns t = if felt then forgets without_bases ns (forgets without_answers ns t) else forgets without_answers ns t
+
+-- an arena with such trees
+abbrev pub all_left : Bool → List NodeId → Nodes Node → Nodes Node
+all_left felt ns arena = record arena { tree = left_in felt ns arena.tree }
