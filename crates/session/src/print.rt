@@ -1,4 +1,4 @@
-ghost use Rattle.std.specs.Prelude.{◌≡◌, ◌++◌, OnOk, IfOk, decimal};
+ghost use Rattle.std.specs.Prelude.{◌≡◌, ◌++◌, [], OnOk, IfOk, decimal};
 ghost use Rattle.std.specs.List.{All};
 ghost use Rattle.session.specs.Printing.{IsPrintableBox, box_line, print, refusal};
 
@@ -35,13 +35,27 @@ fn append_box(
     append(out, &room[start..])
 }
 
+/// How many bytes to make room for at first for the line of a box.
+const USUAL_LINE: usize = 32;
+
+/// No text, with room for the lines of so many boxes of a usual length, so that it is not moved while it grows; where there is no such
+/// room it grows as they come.
+fn text_for(alloc: Global, boxes: usize) -> Vec<u8>
+    ensures { result.items ≡ [] }
+{
+    match Vec::with_capacity(alloc, boxes.saturating_mul(USUAL_LINE)) {
+        Ok(text) => text,
+        Err(_) => Vec::new(alloc),
+    }
+}
+
 /// The text of a layout with its number k: a line `layout k`, then for each box in order a line `name x y width height`
 /// in px, each line with a line feed. Or `NoMemory`.
 pub fn print_boxes(alloc: Global, k: u32, boxes: &[(Name, Rect)]) -> Result<Vec<u8>, NoMemory>
     requires { All IsPrintableBox boxes.now }
     ensures { IfOk result (λ text. text.items ≡ print k boxes.now) }
 {
-    let mut out = Vec::new(alloc);
+    let mut out = text_for(alloc, boxes.len());
     append(&mut out, b"layout ")?;
     append_number(&mut out, k)?;
     append(&mut out, b"\n")?;
