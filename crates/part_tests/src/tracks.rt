@@ -2,6 +2,7 @@
 
 mod alone;
 mod flexible;
+mod lasting;
 mod spanning;
 
 ghost use Rattle.std.specs.Prelude.{◌≡◌, ◌<◌, ◌≤ℤ◌, IfOk, IfSome, length, negsuc, pos};

@@ -25,9 +25,9 @@ use Rattle.track_sizing.proofs.Singles.{spanned_at}
 use Rattle.track_sizing.proofs.Sums.{drop_item}
 
 -- an item that spans this track alone
-record IsAlone (ts : List Track) (i : Item) (t : Track) : Type 0 where
-  own : spanned i ts ≡ t ∷ []
-  one : span_length i ≡ pos 1
+pub record IsAlone (ts : List Track) (i : Item) (t : Track) : Type 0 where
+  pub own : spanned i ts ≡ t ∷ []
+  pub one : span_length i ≡ pos 1
 
 one_known : (o : Option ℤ) → sum_of_known (o ∷ []) ≡ o
 one_known None = refl
@@ -61,7 +61,7 @@ least_is gap ts i t (Content size margins inner) h e =
     ap (λ (b : Bool). clamp (margins +ℤ int_max inner (if b then content_based gap ts i size margins else pos 0))) (is_based ts i t h e)
     ∙ ap (λ (o : Option ℤ). clamp (margins +ℤ int_max inner (int_max (pos 0) (at_most (option_map (λ s. s -ℤ margins) o) size)))) (fixed_is gap ts i t h)
 
-asks_are : {axis : ℕ} (space : Space axis) (gap : ℤ) (ts : List Track) (i : Item) (t : Track) → IsAlone ts i t → t.rule.least ≡ least.Auto → single_asks (is_definite space) t.rule.most i ≡ auto_asks space gap ts i
+pub asks_are : {axis : ℕ} (space : Space axis) (gap : ℤ) (ts : List Track) (i : Item) (t : Track) → IsAlone ts i t → t.rule.least ≡ least.Auto → single_asks (is_definite space) t.rule.most i ≡ auto_asks space gap ts i
 asks_are space gap ts i t h e = go (is_definite space)
   where
     same : minimum gap ts i ≡ single_least t.rule.most i.floor

@@ -31,3 +31,8 @@ pub mod Lonely
 pub mod Unchanged
 pub mod Ungrown
 pub mod Highest
+pub mod Filled
+pub mod Levelled
+pub mod Again
+pub mod Lows
+pub mod Steady

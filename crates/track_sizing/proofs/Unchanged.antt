@@ -80,7 +80,7 @@ pub record IsQuietFrom (gap : ℤ) (items : List Item) (at : ℕ) (quiet : Bool)
 pub quiet_none : (gap : ℤ) (items : List Item) (at : ℕ) (quiet : Bool) → length items ≤ at → IsQuietFrom gap items at quiet
 quiet_none gap items at quiet h = record { so = λ e. subst (AreQuietItems gap) (sym (drop_of_length-le items h)) tt }
 
-both_true : (b c : Bool) → (b && c) ≡ true → (b ≡ true) × (c ≡ true)
+pub both_true : (b c : Bool) → (b && c) ≡ true → (b ≡ true) × (c ≡ true)
 both_true true c e = (refl, e)
 both_true false c e = absurd (true≢false (sym e))
 
@@ -129,7 +129,7 @@ none_crossed (t ∷ ts) h = ap (λ (b : Bool). b || list_any (affected_of (affec
 
 -- ---- a group of items that ask for nothing
 
-abbrev AreIdle : ℤ → List Item → Type 0
+abbrev pub AreIdle : ℤ → List Item → Type 0
 AreIdle gap [] = Unit {0}
 AreIdle gap (i ∷ rest) = ((i.span.start <ℤ i.span.end) × IsIdle gap i) × AreIdle gap rest
 
@@ -138,28 +138,33 @@ bases_planned a receives definite gap k [] ts r l h = refl
 bases_planned a receives definite gap k (i ∷ rest) ts r l h =
     ap (base_planned_by_all (base_step_of a receives definite gap k) gap rest) (sym (base_still a receives definite gap k i ts r l h.0.0 h.0.1)) ∙ bases_planned a receives definite gap k rest ts r l h.1
 
-limits_planned : (a : Affected) (second : Bool) (gap : ℤ) (items : List Item) (ts : List Track) → AreReady ts → HaveLengths ts → AreIdle gap items → limit_planned_by_all (limit_step_in a second) gap items ts ≡ ts
+pub limits_planned : (a : Affected) (second : Bool) (gap : ℤ) (items : List Item) (ts : List Track) → AreReady ts → HaveLengths ts → AreIdle gap items → limit_planned_by_all (limit_step_in a second) gap items ts ≡ ts
 limits_planned a second gap [] ts r l h = refl
 limits_planned a second gap (i ∷ rest) ts r l h =
     ap (limit_planned_by_all (limit_step_in a second) gap rest) (sym (limit_still a second gap i ts r l h.0.0 h.0.1)) ∙ limits_planned a second gap rest ts r l h.1
 
-one_step : (a : Affected) (receives : Kind) (definite : Bool) (gap : ℤ) (k : Asks) (items : List Item) (ts : List Track) → AreReady ts → AreCalm ts → AreIdle gap items → base_distributed (base_step_of a receives definite gap k) gap items ts ≡ ts
-one_step a receives definite gap k items ts r c h = ap (map raised_base) (bases_planned a receives definite gap k items ts r (lengths_of ts c) h) ∙ same_each raised_base ts (λ t s. s.sure.base) c
+-- tracks without a length below 0, which stay as they are where base sizes are raised by nothing
+pub record AreHeld (ts : List Track) : Type 0 where
+  pub lengths : HaveLengths ts
+  pub raised : map raised_base ts ≡ ts
+
+one_step : (a : Affected) (receives : Kind) (definite : Bool) (gap : ℤ) (k : Asks) (items : List Item) (ts : List Track) → AreReady ts → AreHeld ts → AreIdle gap items → base_distributed (base_step_of a receives definite gap k) gap items ts ≡ ts
+one_step a receives definite gap k items ts r c h = ap (map raised_base) (bases_planned a receives definite gap k items ts r c.lengths h) ∙ c.raised
 
 steps_more : (s : BaseStep) (rest : List BaseStep) (gap : ℤ) (items : List Item) (ts : List Track) → base_distributed s gap items ts ≡ ts → each_distributed rest gap items ts ≡ ts → each_distributed (s ∷ rest) gap items ts ≡ ts
 steps_more s rest gap items ts e d = ap (each_distributed rest gap items) e ∙ d
 
-last_step : (definite : Bool) (gap : ℤ) (items : List Item) (ts : List Track) → AreReady ts → AreCalm ts → AreIdle gap items → each_distributed (base_step_of (affecting kind.MaxContentLeast false) kind.MaxContentMost definite gap asks.High ∷ []) gap items ts ≡ ts
+last_step : (definite : Bool) (gap : ℤ) (items : List Item) (ts : List Track) → AreReady ts → AreHeld ts → AreIdle gap items → each_distributed (base_step_of (affecting kind.MaxContentLeast false) kind.MaxContentMost definite gap asks.High ∷ []) gap items ts ≡ ts
 last_step definite gap items ts r c h = one_step (affecting kind.MaxContentLeast false) kind.MaxContentMost definite gap asks.High items ts r c h
 
-last_steps : (definite max : Bool) (gap : ℤ) (items : List Item) (ts : List Track) → AreReady ts → AreCalm ts → AreIdle gap items
+last_steps : (definite max : Bool) (gap : ℤ) (items : List Item) (ts : List Track) → AreReady ts → AreHeld ts → AreIdle gap items
     → each_distributed ((if max then base_step_of (affecting kind.AutoOrMaxContentLeast false) kind.MaxContentMost definite gap asks.LimitedHigh ∷ [] else []) ++ base_step_of (affecting kind.MaxContentLeast false) kind.MaxContentMost definite gap asks.High ∷ []) gap items ts ≡ ts
 last_steps definite true gap items ts r c h =
     steps_more (base_step_of (affecting kind.AutoOrMaxContentLeast false) kind.MaxContentMost definite gap asks.LimitedHigh) (base_step_of (affecting kind.MaxContentLeast false) kind.MaxContentMost definite gap asks.High ∷ []) gap items ts
     (one_step (affecting kind.AutoOrMaxContentLeast false) kind.MaxContentMost definite gap asks.LimitedHigh items ts r c h) (last_step definite gap items ts r c h)
 last_steps definite false gap items ts r c h = last_step definite gap items ts r c h
 
-all_steps : (definite max : Bool) (gap : ℤ) (items : List Item) (ts : List Track) → AreReady ts → AreCalm ts → AreIdle gap items → each_distributed (base_steps_of definite max gap false) gap items ts ≡ ts
+pub all_steps : (definite max : Bool) (gap : ℤ) (items : List Item) (ts : List Track) → AreReady ts → AreHeld ts → AreIdle gap items → each_distributed (base_steps_of definite max gap false) gap items ts ≡ ts
 all_steps definite max gap items ts r c h =
     ap
     (
@@ -184,7 +189,7 @@ limits_same a second gap items ts r c h =
 group_same : {axis : ℕ} (space : Space axis) (gap : ℤ) (items : List Item) (ts : List Track) → AreReady ts → AreCalm ts → AreIdle gap items → group_fitted space gap false items ts ≡ ts
 unfolding group_fitted
 group_same space gap items ts r c h =
-    ap (λ (xs : List Track). high_limits false gap items (low_limits false gap items (map raise_limit xs))) (all_steps (is_definite space) (is_max_content space) gap items ts r c h)
+    ap (λ (xs : List Track). high_limits false gap items (low_limits false gap items (map raise_limit xs))) (all_steps (is_definite space) (is_max_content space) gap items ts r (record { lengths = lengths_of ts c; raised = same_each raised_base ts (λ t s. s.sure.base) c }) h)
     ∙ ap (λ (xs : List Track). high_limits false gap items (low_limits false gap items xs)) (same_each raise_limit ts (λ t s. s.sure.limit) c)
     ∙ ap (λ (xs : List Track). high_limits false gap items (zipped mark_endless ts xs)) (limits_same (affecting kind.IntrinsicMost false) false gap items ts r c h)
     ∙ ap (high_limits false gap items) (same_marks ts c)
@@ -211,7 +216,7 @@ idle_more gap i n rest true true h q r e = (idle_one gap i n h q (that_number (s
 idle_more gap i n rest true false h q r e = r
 idle_more gap i n rest false c h q r e = r
 
-group_idle : (gap : ℤ) (ts : List Track) (n : ℕ) (items : List Item) → 2 ≤ n → AreQuietItems gap items → AreIdle gap (of_span ts items n)
+pub group_idle : (gap : ℤ) (ts : List Track) (n : ℕ) (items : List Item) → 2 ≤ n → AreQuietItems gap items → AreIdle gap (of_span ts items n)
 group_idle gap ts n [] h q = tt
 group_idle gap ts n (i ∷ rest) h q = idle_more gap i n (of_span ts rest n) (int_eq (span_length i) (pos n)) (not (crosses_flexible ts i)) h q.0 (group_idle gap ts n rest h q.1) refl
 

@@ -1,5 +1,6 @@
 -- Tracks and items of which the steps for groups change nothing.
 use Rattle.std.specs.Prelude.{◌≡◌, ℤ, pos, ◌≤ℤ◌, true, false, List, [], ◌∷◌}
+use Rattle.lunit.specs.Units.{top}
 use Rattle.lunit.specs.declared.item.Item.{Item}
 use Rattle.part_rules.specs.Tracks.{Track, close_limit, flexible, limit_of, raise_limit, raised_base}
 use Rattle.track_sizing.specs.Here.{IsIdle}
@@ -32,3 +33,21 @@ IsQuiet gap i = is_wide i ≡ true → IsIdle gap i
 abbrev pub AreQuietItems : ℤ → List Item → Type 0
 AreQuietItems gap [] = Unit {0}
 AreQuietItems gap (i ∷ rest) = IsQuiet gap i × AreQuietItems gap rest
+
+-- a track that is not flexible and keeps its base size and its growth limit in a step that gives it nothing: one without end becomes
+-- the base size
+pub record IsSteady (t : Track) : Type 0 where
+  pub some : pos 0 ≤ℤ t.base
+  pub reached : t.base ≤ℤ limit_of t
+  pub units : limit_of t ≤ℤ top
+  pub planned : t.planned ≡ pos 0
+  pub fixed : flexible t ≡ false
+
+abbrev pub AreSteady : List Track → Type 0
+AreSteady [] = Unit {0}
+AreSteady (t ∷ ts) = IsSteady t × AreSteady ts
+
+-- items and tracks of which the steps for groups change no size
+pub record AreUntouched (gap : ℤ) (items : List Item) (ts : List Track) : Type 0 where
+  pub quiet : AreQuietItems gap items
+  pub steady : AreSteady ts

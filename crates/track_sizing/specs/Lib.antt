@@ -11,3 +11,4 @@ pub mod Whole
 pub mod Ordered
 pub mod Reached
 pub mod Calm
+pub mod Again

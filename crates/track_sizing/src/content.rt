@@ -1,14 +1,14 @@
 //! Intrinsic track sizes (CSS Grid 2, 12.5).
 
 ghost use Rattle.std.specs.Prelude.{◌≡◌, ◌<◌, ◌≤◌, ◌^◌, IfOk, OnOk, filter, length, map, pos, true};
-ghost use Rattle.part_rules.specs.Tracks.{close_limit, content_sized, crosses_flexible, group_fitted, of_span, some_fitted, spans_fitted};
-ghost use Rattle.track_sizing.specs.Calm.{AreQuietItems};
+ghost use Rattle.part_rules.specs.Tracks.{close_limit, content_sized, crosses_flexible, fit_alone, group_fitted, of_span, some_fitted, spans_fitted};
+ghost use Rattle.track_sizing.specs.Calm.{AreQuietItems, AreUntouched};
 ghost use Rattle.track_sizing.specs.Ordered.{AreFrom, AreOf, AreRising, IsRun};
 ghost use Rattle.track_sizing.specs.Placed.{AreIn, AreSet, IsIn};
 ghost use Rattle.track_sizing.specs.Spans.{is_of_span};
 
 use crate::alone::fit_alone;
-use crate::calm::are_calm;
+use crate::calm::{are_calm, are_steady};
 use crate::distribute::place_of;
 use crate::group::{fit_group, pass_group};
 use crate::item::{some_flexible, span_length};
@@ -227,9 +227,9 @@ fn fit_crossing<const AXIS: u8>(
     Ok(())
 }
 
-#[tactic(auto, using(crate::proofs::Unchanged::nothing_changed))]
+#[tactic(auto, using(crate::proofs::Unchanged::nothing_changed, crate::proofs::Steady::untouched))]
 /// Groups of items of two tracks and more, and last the items that cross a flexible track. Where such items ask for nothing and the
-/// tracks have growth limits, all stay as they are.
+/// tracks have growth limits, all stay as they are. Answers whether surely no size is changed.
 fn size_groups<const AXIS: u8>(
     alloc: Global,
     space: &Space<AXIS>,
@@ -239,7 +239,7 @@ fn size_groups<const AXIS: u8>(
     quiet: bool,
     rows: &mut [Row],
     takers: &mut [Share],
-) -> Result<(), NoMemory>
+) -> Result<bool, NoMemory>
     requires few { length rows.old < 2 ^ 32 }
     requires length { length takers.old ≡ length rows.old }
     requires set { AreSet first rows.old }
@@ -247,20 +247,22 @@ fn size_groups<const AXIS: u8>(
     requires quiet { quiet ≡ true → AreQuietItems gap items.now }
     ensures rows { OnOk result (rows.new ≡ map close_limit (group_fitted space.now gap true (filter (crosses_flexible rows.old) items.now) (spans_fitted space.now gap items.now (length rows.old) 2 rows.old))) }
     ensures set { OnOk result (AreSet first rows.new) }
+    ensures untouched { IfOk result (λ untouched. untouched ≡ true → AreUntouched gap items.now rows.old) }
 {
     if quiet && are_calm(rows) {
-        return Ok(());
+        return Ok(true);
     }
+    let untouched = quiet && are_steady(rows);
     let start = Vec::from_slice(alloc, rows)?;
     fit_spans(alloc, space, gap, first, items, rows, takers)?;
     fit_crossing(alloc, space, gap, first, items, &start, rows, takers)?;
     close_set_limits(first, rows);
-    Ok(())
+    Ok(untouched)
 }
 
 #[tactic(auto, using(crate::proofs::Whole::content_whole))]
 /// Sizes the tracks for the contributions of the items: items of one track, groups of items of more tracks, and last the items
-/// that cross a flexible track.
+/// that cross a flexible track. Answers whether surely the items of one track alone have sized them.
 pub fn size_content<const AXIS: u8>(
     alloc: Global,
     space: &Space<AXIS>,
@@ -269,15 +271,15 @@ pub fn size_content<const AXIS: u8>(
     items: &[Item],
     rows: &mut [Row],
     takers: &mut [Share],
-) -> Result<(), NoMemory>
+) -> Result<bool, NoMemory>
     requires few { length rows.old < 2 ^ 32 }
     requires length { length takers.old ≡ length rows.old }
     requires set { AreSet first rows.old }
     requires items { AreIn first (length rows.old) items.now }
     ensures rows { OnOk result (rows.new ≡ content_sized space.now gap items.now rows.old) }
     ensures set { OnOk result (AreSet first rows.new) }
+    ensures untouched { IfOk result (λ untouched. untouched ≡ true → AreUntouched gap items.now (fit_alone space.now gap items.now rows.old)) }
 {
     let quiet = fit_alone(alloc, space, gap, first, items, rows)?;
-    size_groups(alloc, space, gap, first, items, quiet, rows, takers)?;
-    Ok(())
+    size_groups(alloc, space, gap, first, items, quiet, rows, takers)
 }

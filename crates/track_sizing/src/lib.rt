@@ -12,6 +12,7 @@ mod flex;
 mod group;
 mod item;
 mod kinds;
+mod lasting;
 mod numbers;
 mod reach;
 mod rest;
@@ -22,5 +23,6 @@ mod size;
 mod step;
 mod turn;
 
+pub use lasting::Lasting;
 pub use part_rules::{Fit, Least, Most, Rule, Space};
-pub use size::size_axis;
+pub use size::{size_axis, size_axis_lasting};

@@ -125,7 +125,7 @@ pub fn close_set_limits(first: Wide, rows: &mut [Row])
 
 #[tactic(auto, using(crate::proofs::Grown::full_sums))]
 /// The total once each base size is its growth limit.
-fn full_total(gap: Lu, rows: &[Row]) -> Wide
+pub fn full_total(gap: Lu, rows: &[Row]) -> Wide
     requires { length rows.now < 2 ^ 32 }
     ensures { result ≡ total gap (map full rows.now) }
 {

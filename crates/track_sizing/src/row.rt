@@ -242,6 +242,13 @@ impl Row {
         }
     }
 
+    /// Whether no increase is planned.
+    pub fn is_unplanned(&self) -> bool
+        ensures { result ≡ true → self.now.planned ≡ pos 0 }
+    {
+        is_nothing(self.planned)
+    }
+
     /// The track with a growth limit of at least its base size.
     pub fn raise_limit(&self) -> Row
         ensures { result ≡ raise_limit self.now }

@@ -1,13 +1,15 @@
 //! The sizes of the tracks of one axis (CSS Grid 2, 12.3).
 
-ghost use Rattle.std.specs.Prelude.{◌≡◌, ◌<◌, ◌+◌, ◌^◌, ◌≤ℤ◌, IfOk, OnOk, length, map, pos};
+ghost use Rattle.std.specs.Prelude.{◌≡◌, ◌<◌, ◌+◌, ◌^◌, ◌≤ℤ◌, IfOk, OnOk, length, map, pos, true};
 ghost use Rattle.part_rules.specs.Tracks.{Track, counted_rule, initialised, track_sizes};
+ghost use Rattle.track_sizing.specs.Again.{AreToLast, DoLast};
 ghost use Rattle.track_sizing.specs.Fits.{HaveFixed, IsFixed, IsKnownSpace, IsStart, collapsed_rule};
 ghost use Rattle.track_sizing.specs.Placed.{AreIn, AreSet};
 ghost use Rattle.track_sizing.specs.Whole.{rest_given, sizes_from};
 
 use crate::content::size_content;
 use crate::flex::flex;
+use crate::lasting::{Lasting, are_ordered, is_unbound};
 use crate::rest::{maximise, stretch};
 use crate::row::Row;
 use lunit::{Item, Lu, NoMemory, Steps, Wide};
@@ -126,6 +128,32 @@ fn sizes_from<const AXIS: u8>(
     base_sizes(alloc, rows)
 }
 
+/// The same, and whether they last.
+fn lasting_from<const AXIS: u8>(
+    alloc: Global,
+    fit: &Fit<AXIS>,
+    first: Wide,
+    items: &[Item],
+    rows: &mut [Row],
+) -> Result<Lasting, NoMemory>
+    requires few { length rows.old < 2 ^ 32 }
+    requires gap { pos 0 ≤ℤ fit.now.gap }
+    requires space { IsKnownSpace fit.now.space }
+    requires set { AreSet first rows.old }
+    requires items { AreIn first (length rows.old) items.now }
+    ensures sizes { IfOk result (λ made. made.sizes.items ≡ sizes_from fit.now items.now rows.old) }
+    ensures lasting { IfOk result (λ made. made.lasting ≡ true → AreToLast fit.now items.now rows.old) }
+{
+    let mut takers = takers_for(alloc, rows)?;
+    let untouched = size_content(alloc, &fit.space, fit.gap, first, items, rows, &mut takers)?;
+    let lasting = untouched && is_unbound(fit, rows) && are_ordered(items);
+    give_rest(alloc, fit, first, items, rows, &mut takers)?;
+    Ok(Lasting {
+        sizes: base_sizes(alloc, rows)?,
+        lasting,
+    })
+}
+
 /// The sizes of the tracks of one axis, in their order (CSS Grid 2, 12.3). `first` is the coordinate of the first track. The
 /// lengths are in units of 1/64 px. `NoMemory` where memory is wanting. Each call makes one step.
 ///
@@ -151,4 +179,30 @@ pub fn size_axis<const AXIS: u8, L: Ledger>(
     let first = Wide::of(i128::from(first));
     let mut rows = initialise(alloc, first, rules)?;
     sizes_from(alloc, fit, first, items, &mut rows)
+}
+
+/// The same sizes, and whether they last: whether the tracks surely have these sizes for their own total as a definite space too,
+/// where that total is a length. So it is where the space is max-content, declared lengths do not bind the total, no track is flexible,
+/// no min-content contribution is above the max-content contribution, and items of two tracks or more ask for nothing.
+pub fn size_axis_lasting<const AXIS: u8, L: Ledger>(
+    alloc: Global,
+    rules: &[Rule],
+    first: i32,
+    items: &[Item],
+    fit: &Fit<AXIS>,
+    passes: &mut Steps<L>,
+) -> Result<Lasting, NoMemory>
+    requires few { length rules.now < 2 ^ 32 }
+    requires fixed { HaveFixed rules.now }
+    requires gap { pos 0 ≤ℤ fit.now.gap }
+    requires space { IsKnownSpace fit.now.space }
+    requires items { AreIn first (length rules.now) items.now }
+    ensures sizes { IfOk result (λ made. made.sizes.items ≡ track_sizes rules.now first items.now fit.now) }
+    ensures step { passes.new ≡ passes.old + 1 }
+    ensures lasting { IfOk result (λ made. made.lasting ≡ true → DoLast rules.now first items.now fit.now made.sizes.items) }
+{
+    passes.tick();
+    let first = Wide::of(i128::from(first));
+    let mut rows = initialise(alloc, first, rules)?;
+    lasting_from(alloc, fit, first, items, &mut rows)
 }
