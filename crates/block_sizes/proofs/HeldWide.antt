@@ -1,6 +1,6 @@
 -- A grid in its columns as an answer holds it is the one that the walk tells, and the other way round.
 use Rattle.std.proofs.Common.{◌≡◌, ◌∷◌, [], ℕ, List, Option, Some, None, refl, subst, sym, ◌≤◌, ◌^◌}
-use Rattle.std.specs.Prelude.{ℤ, Result, Ok, Err, IfOk, OnOk, IsSome}
+use Rattle.std.specs.Prelude.{ℤ, Result, Ok, Err, IfOk, IfSome, OnOk, IsSome}
 use Rattle.placing.specs.Walks.{kept_with}
 use Rattle.placing.specs.declared.node.Answer.{Answer}
 use Rattle.placing.specs.declared.node.Answer.TheVariants.{Block}
@@ -9,8 +9,9 @@ use Rattle.block_sizes.specs.Keeping.{GrowsBy}
 use Rattle.node_arena.specs.declared.number.NodeId.{NodeId}
 use Rattle.placing.specs.Nodes.{BareTrees, children_at, level_at, sight_at}
 use Rattle.placing.specs.Spread.{IsSpread}
-use Rattle.placing.specs.Wides.{HoldsWide, columns_in, grid_in, rows_in, wides_in}
+use Rattle.placing.specs.Wides.{HoldsRows, HoldsWide, columns_in, grid_in, rows_in, wides_in}
 use Rattle.placing.specs.declared.wide.GridWide.{GridWide}
+use Rattle.placing.specs.declared.wide.RowsAt.{RowsAt}
 use Rattle.tree_rules.specs.Answers.{Pair}
 use Rattle.tree_rules.specs.declared.query.Given.{Given}
 use Rattle.inline_sizes.proofs.Held.{grid_held, held_grid}
@@ -32,6 +33,7 @@ module _ (b : BareTrees) (n : NodeId) (outer : List Pair) (width : Given) (w : G
         gap = h.gap;
         range = h.range;
         spread = h.far;
+        rows = h.rows;
       }
 
   pub held_wide : IsSpread (farthest (level_at b n)) width → HoldsWide (sight_at b n) (children_at b n) outer width w → IsWide b n outer width w
@@ -47,7 +49,13 @@ module _ (b : BareTrees) (n : NodeId) (outer : List Pair) (width : Given) (w : G
         range = h.range;
         spread = h.spread _ (far_enough (level_at b n)) s;
         far = h.spread;
+        rows = h.rows;
       }
+
+-- ---- rows put into a grid
+pub with_rows : (b : BareTrees) (n : NodeId) (outer : List Pair) (width : Given) (w : GridWide) (rows : Option RowsAt) → IfSome rows (HoldsRows (rows_seen b n outer width) w.parts.base.placed.rows) → IsWide b n outer width w → IsWide b n outer width (record w { rows = rows })
+with_rows b n outer width w rows h is =
+    record { grid = is.grid; columns = is.columns; wide = is.wide; items = is.items; counted = is.counted; gap = is.gap; range = is.range; spread = is.spread; far = is.far; rows = h }
 
 -- ---- what is kept after a question for a block size
 

@@ -1,11 +1,13 @@
 -- The axis of the rows of a grid, as the code holds it.
-use Rattle.std.proofs.Common.{arith, ap, subst, sym, ◌∙◌, ◌≡◌, refl, ℕ, ℤ, Bool, false, if◌then◌else◌, pos, List, [], ◌∷◌, length, map}
+use Rattle.std.proofs.Common.{arith, ap, subst, sym, ◌∙◌, ◌≡◌, refl, ℕ, ◌+◌, ◌^◌, ℤ, Bool, false, if◌then◌else◌, pos, List, [], ◌∷◌, Some, length, map}
+use Rattle.std.specs.Prelude.{◌≤ℤ◌, ◌≤◌}
 use Rattle.lunit.specs.declared.geometry.Area.{Area}
 use Rattle.lunit.specs.declared.geometry.Span.{Span}
 use Rattle.lunit.specs.declared.item.Item.{Item}
 use Rattle.node_arena.specs.declared.number.NodeId.{NodeId}
 use Rattle.part_rules.specs.declared.track.Space.{Space}
-use Rattle.part_rules.specs.declared.track.Space.TheVariants.{MaxContent}
+use Rattle.part_rules.specs.declared.track.Space.TheVariants.{Definite, MaxContent}
+use Rattle.part_rules.specs.declared.view.View.{View}
 use Rattle.part_rules.specs.Lists.{zipped}
 use Rattle.placing.proofs.Entries.{counts}
 use Rattle.placing.specs.Areas.{numbered_area, placed_of}
@@ -18,7 +20,8 @@ use Rattle.style_types.specs.Styles.{StyleMap}
 use Rattle.track_sizing.specs.Placed.{AreIn}
 use Rattle.tree_rules.specs.Answers.{Pair}
 use Rattle.tree_rules.specs.Contexts as rules
-use Rattle.tree_rules.specs.GridSizes.{TrackAxis, grid_block, total_for}
+use Rattle.tree_rules.specs.Distribution.{edges_in}
+use Rattle.tree_rules.specs.GridSizes.{TrackAxis, grid_block, sized_for, total_for, view_for}
 use Rattle.tree_rules.specs.Labels.{GridStyle, content_of, grid_of}
 use Rattle.tree_rules.specs.Queries.{sees_rows}
 use Rattle.tree_rules.specs.Repetitions.{own_pair}
@@ -26,9 +29,13 @@ use Rattle.tree_rules.specs.Templates.{written}
 use Rattle.tree_rules.specs.declared.kind.NodeKind.TheVariants as kind
 use Rattle.tree_rules.specs.declared.query.Given.{Given}
 use Rattle.tree_rules.specs.declared.query.Given.TheVariants as given
-use Rattle.placing.specs.Wides.{IsAbove}
+use Rattle.placing.specs.Spread.{AreSpread}
+use Rattle.placing.specs.Wides.{HoldsRows, IsAbove}
+use Rattle.placing.specs.declared.wide.RowsAt.{RowsAt}
 use Rattle.inline_sizes.specs.GridsSeen.{HasItemsInTracks, grid_seen}
-use Rattle.inline_sizes.specs.TrackAxes.{CanSize, track_axis, track_count}
+use Rattle.inline_sizes.specs.Styled.{content_at}
+use Rattle.inline_sizes.specs.TrackAxes.{CanSize, IsCounted, sized_of, track_axis, track_count}
+use Rattle.inline_sizes.specs.declared.tracks.SizedTracks.{SizedTracks}
 use Rattle.block_sizes.specs.Wides.{IsWide, columns_seen, row_levels, rows_seen, wides_seen}
 use Rattle.placing.specs.declared.wide.GridWide.{GridWide}
 
@@ -95,6 +102,28 @@ module _ (b : BareTrees) (n : NodeId) (outer : List Pair) (width : Given) (w : G
       ∙ ap (λ (is : List Item). all (track_axis 1 style pair.1 spans w.parts.base.placed.rows is)) same
       ∙ ap all (axis_is style pair spans g c p s)
       ∙ ap (λ (t : Bool). if t then pos 0 else all (rows_seen b n outer width)) (sym (h.rows ∙ own))
+
+  pub few_rows : HasItemsInTracks (sight_at b n) (grid_seen b n outer width) → track_count w.parts.base.placed.rows ≤ 131072
+  few_rows h = subst (λ (s : Span). track_count s ≤ 131072) (sym tracks_are) h.inside.few_rows
+
+  -- rows that last lie so in a content box of their total
+  pub rows_hold : (style : StyleMap) (pair : Pair) (spans : List Span) (items : List Item) (made : SizedTracks) (total : ℤ) (r : RowsAt) → grid_of style ≡ (sight_at b n).label.grid → content_of style ≡ (sight_at b n).label.content → pair ≡ own_pair (record { name = []; kind = kind.Grid; grid = grid_of style; content = content_of style }) given.None
+      → spans ≡ map (λ (e : NodeId × Area). e.1.rows) w.parts.base.placed.areas → items ≡ w.items → IsCounted w.parts.base.placed.rows made
+      → sized_of made ≡ sized_for {axis = 1} (track_axis 1 style pair.1 spans w.parts.base.placed.rows items) (Definite total) (Some total)
+      → r.size ≡ total → r.view ≡ record { edges = edges_in (content_at 1 style).distribution total (sized_of made); gap = made.gap } → length r.view.edges ≡ length made.rules → AreSpread (2 ^ 50 + 2 ^ 34) r.view.edges
+      → HoldsRows (rows_seen b n outer width) w.parts.base.placed.rows r
+  rows_hold style pair spans items made total r g c p s same counted last size view count spread =
+      let shown : TrackAxis → View 1 = λ a. view_for {axis = 1} a total in
+      record {
+        view = view
+            ∙ (λ i. record { edges = edges_in (content_at 1 style).distribution total (last i); gap = (last i).gap })
+            ∙ ap (λ (is : List Item). shown (track_axis 1 style pair.1 spans w.parts.base.placed.rows is)) same
+            ∙ ap shown (axis_is style pair spans g c p s)
+            ∙ ap (view_for {axis = 1} (rows_seen b n outer width)) (sym size);
+        counted = count ∙ counted.rules;
+        gap = subst (λ (v : View 1). pos 0 ≤ℤ v.gap) (sym view) counted.gap;
+        spread = spread;
+      }
 
   -- what it lends stands for itself and its children
   pub levels_are : row_levels w.parts.base.above ≡ (grid_seen b n outer width).context.rows.levels

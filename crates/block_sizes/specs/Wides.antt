@@ -1,5 +1,5 @@
 -- A grid by its number once its columns lie where they lie, and what the code holds of it (CSS Grid 2, 12.1).
-use Rattle.std.specs.Prelude.{◌≡◌, ℕ, ◌+◌, ◌*◌, ◌^◌, ◌≤◌, ℤ, pos, ◌-ℤ◌, ◌≤ℤ◌, length, List, [], ◌∷◌, map, drop, Contains, if◌then◌else◌}
+use Rattle.std.specs.Prelude.{◌≡◌, ℕ, ◌+◌, ◌*◌, ◌^◌, ◌≤◌, ℤ, pos, ◌-ℤ◌, ◌≤ℤ◌, length, List, [], ◌∷◌, map, drop, Contains, if◌then◌else◌, IfSome}
 use Rattle.lunit.specs.Units.{IsUnits}
 use Rattle.lunit.specs.declared.item.Item.{Item}
 use Rattle.node_arena.specs.declared.number.NodeId.{NodeId}
@@ -9,7 +9,7 @@ use Rattle.part_rules.specs.declared.view.View.{View}
 use Rattle.placing.specs.Areas.{entry_by}
 use Rattle.placing.specs.Nodes.{BareTrees, kid_at, level_at, sight_at, uses_at}
 use Rattle.placing.specs.Seats.{context_at}
-use Rattle.placing.specs.Wides.{child_of}
+use Rattle.placing.specs.Wides.{HoldsRows, child_of}
 use Rattle.placing.specs.declared.contexts.Above.{Above}
 use Rattle.placing.specs.declared.contexts.Above.TheVariants as above
 use Rattle.placing.specs.declared.items.ChildArea.{ChildArea}
@@ -125,3 +125,5 @@ pub record IsWide (b : BareTrees) (n : NodeId) (outer : List Pair) (width : Give
   pub range : IsUnits w.columns.gap
   pub spread : AreSpread (farthest (level_at b n)) w.columns.edges
   pub far : (by : ℕ) → 2 ^ 51 ≤ by → IsSpread by width → AreSpread by w.columns.edges
+  -- where they lie where the content box is as great as the content, if that is known
+  pub rows : IfSome w.rows (HoldsRows (rows_seen b n outer width) w.parts.base.placed.rows)

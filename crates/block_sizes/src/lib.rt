@@ -13,6 +13,7 @@ mod held;
 mod last_tracks;
 mod laws;
 mod queries;
+mod row_sizes;
 mod views;
 mod walk;
 mod wide;

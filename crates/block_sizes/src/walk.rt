@@ -34,9 +34,10 @@ use crate::flex::{
 };
 use crate::flexes::row_lines;
 use crate::queries::{block_query, kept_block, kept_rows};
+use crate::row_sizes::laid_rows;
 use crate::wide::{
-    append, child_in, columns_of, items_room, lent_rows, row_item, rows_total, shares, sizes_at,
-    wide_child, with_room,
+    append, child_in, columns_of, items_room, lent_rows, row_item, shares, sizes_at, wide_child,
+    with_room,
 };
 use inline_sizes::{Member, flex_at, grid_at};
 use layout_cache::{Given, Query};
@@ -360,6 +361,7 @@ pub fn wide_at<R: Ruler, L: Ledger>(
         columns,
         children,
         items,
+        rows: None,
     })
 }
 
@@ -530,8 +532,8 @@ fn grid_anew<R: Ruler, L: Ledger>(
     let wide = wide_at(
         alloc, tree, id, reps, above, area, width, ruler, tally, passes,
     )?;
-    let size = rows_total(alloc, tree, id, reps, width, &wide, passes)?;
-    let held = SharedWide::new(alloc, wide)?;
+    let (size, laid) = laid_rows(alloc, tree, id, reps, width, wide, passes)?;
+    let held = SharedWide::new(alloc, laid)?;
     put(tree, id, query, Answer::Laid(size, held), tally)?;
     Ok(size)
 }

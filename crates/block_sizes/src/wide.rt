@@ -9,11 +9,11 @@ ghost use Rattle.placing.specs.Nodes.{bare, kid_at, level_at, sight_at, IsLive};
 ghost use Rattle.placing.specs.Ranges.{AreReadable};
 ghost use Rattle.tree_rules.specs.Answers.{Pair};
 ghost use Rattle.tree_rules.specs.AskedQueries.{block_query};
-ghost use Rattle.tree_rules.specs.GridSizes.{from_first, grid_block, grid_lends_rows, shares_columns, shares_rows};
+ghost use Rattle.tree_rules.specs.GridSizes.{from_first, grid_lends_rows, shares_columns, shares_rows};
 ghost use Rattle.tree_rules.specs.Chains.{is_subgrid};
 ghost use Rattle.placing.specs.Axes.{grid_axis};
 ghost use Rattle.tree_rules.specs.LentItems.{child_item, empty_item};
-ghost use Rattle.tree_rules.specs.Queries.{Fits, IsGivenFor, outer_context, sees_columns, sees_rows};
+ghost use Rattle.tree_rules.specs.Queries.{Fits, IsGivenFor, outer_context, sees_columns};
 ghost use Rattle.tree_rules.specs.declared.kind.NodeKind.TheVariants as kind;
 ghost use Rattle.tree_rules.specs.declared.query.Given.{Given};
 ghost use Rattle.inline_sizes.specs.GridsSeen.{grid_seen};
@@ -27,18 +27,16 @@ ghost use Rattle.block_sizes.specs.Wides.{IsChildIn, IsWide, columns_seen, farth
 use crate::children::{child_inline, from_first};
 use crate::views::view_by;
 use crate::walk::is_grid;
-use inline_sizes::{TrackInput, child_item, empty_item, items_lie_in_their_tracks, total_for};
+use inline_sizes::{TrackInput, child_item, empty_item, items_lie_in_their_tracks};
 use layout_cache::Given;
 use lunit::{Area, Item, Lu, NoMemory, Sequence, Span, Steps};
 use node_arena::{Arena, NodeId};
 use part_rules::{Level, View};
-use placing::counts::own_pair;
 use placing::style::{is_subgrid, items};
 use placing::{Above, ChildArea, GridBase, GridParts, GridWide, Node, entry, node_at, root};
 use std::alloc::Global;
 use std::mem;
 use std::sync::ledger::Ledger;
-use track_sizing::Space;
 
 /// The subgrids from a grid up to the grid that sizes its rows, itself first.
 pub(crate) fn row_levels(above: &Above) -> &[Level]
@@ -62,7 +60,7 @@ fn column_spans(alloc: Global, areas: &[(NodeId, Area)]) -> Result<Vec<Span>, No
 }
 
 /// The spans of the children of a grid along the rows.
-fn row_spans(alloc: Global, areas: &[(NodeId, Area)]) -> Result<Vec<Span>, NoMemory>
+pub(crate) fn row_spans(alloc: Global, areas: &[(NodeId, Area)]) -> Result<Vec<Span>, NoMemory>
     ensures { IfOk result (λ spans. spans.items ≡ map (λ (e : NodeId × Area). e.1.rows) areas.now) }
 {
     let mut spans = Vec::with_capacity(alloc, areas.len())?;
@@ -260,41 +258,6 @@ pub(crate) fn row_item(tree: &Arena<Node>, base: &GridBase, entry: ChildArea, bl
         entry.area.rows,
         (block, block),
     )
-}
-
-/// The block size of the content of a grid that sizes its rows: the total of the rows under a max-content space (CSS Grid 2, 5.2).
-/// It makes one step. `NoMemory` where memory is wanting.
-pub(crate) fn rows_total<L: Ledger>(
-    alloc: Global,
-    tree: &Arena<Node>,
-    id: NodeId,
-    reps: &[(u32, u32)],
-    width: &Given,
-    wide: &GridWide,
-    passes: &mut Steps<L>,
-) -> Result<Lu, NoMemory>
-    requires live { IsLive (bare tree.now.tree) id }
-    requires readable { AreReadable (bare tree.now.tree) }
-    requires kind { (sight_at (bare tree.now.tree) id).label.kind ≡ kind.Grid }
-    requires own { sees_rows (sight_at (bare tree.now.tree) id) ≡ false }
-    requires wide { IsWide (bare tree.now.tree) id reps.now width.now wide.now }
-    ensures value { IfOk result (λ size. size ≡ grid_block (grid_seen (bare tree.now.tree) id reps.now width.now) (rows_seen (bare tree.now.tree) id reps.now width.now)) }
-    ensures ticks { passes.new ≤ passes.old + 1 }
-{
-    items_lie_in_their_tracks(tree, id);
-    let base = wide.parts.base.grid();
-    let style = &node_at(tree, id).style;
-    let pair = own_pair(alloc, style, &Given::None)?;
-    let spans = row_spans(alloc, base.placed.areas.as_slice())?;
-    let input = TrackInput {
-        style,
-        count: pair.1,
-        spans: &spans,
-        tracks: base.placed.rows,
-        items: wide.items.as_slice(),
-    };
-    let total = total_for::<1, L>(alloc, &input, Space::MaxContent, passes)?;
-    Ok(total)
 }
 
 /// The item that stands for a subgrid under these levels, and other items after it.

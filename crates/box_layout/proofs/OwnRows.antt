@@ -1,6 +1,6 @@
 -- The rows of a grid by what it is given, as the code holds them.
 use Rattle.std.proofs.Common.{arith, refl, ap, subst, sym, ◌∙◌, ◌≡◌, ℕ, zero, suc, ◌^◌, ◌<◌, ◌≤◌, ℤ, pos, ◌-ℤ◌, ◌≤ℤ◌, Bool, true, false, List, [], ◌∷◌, length, map}
-use Rattle.std.specs.Prelude.{get_or}
+use Rattle.std.specs.Prelude.{get_or, Some, IfSome, ◌+◌}
 use Rattle.std.proofs.lemmas.Int.{ints}
 use Rattle.lunit.specs.declared.geometry.Area.{Area}
 use Rattle.lunit.specs.declared.geometry.Span.{Span}
@@ -27,9 +27,13 @@ use Rattle.tree_rules.specs.declared.query.Given.TheVariants as given
 use Rattle.inline_sizes.specs.GridsSeen.{HasItemsInTracks, grid_seen}
 use Rattle.inline_sizes.specs.TrackAxes.{CanSize, track_axis, track_count}
 use Rattle.block_sizes.proofs.RowAxes.{rows_can_size}
+use Rattle.block_sizes.proofs.Seen.{spread_grows}
 use Rattle.block_sizes.specs.Fitting.{CanSizeFor}
 use Rattle.block_sizes.specs.Spans.{HasZero, tracks_to}
+use Rattle.part_rules.specs.declared.view.View.{View}
 use Rattle.placing.specs.Spread.{AreBetween, AreSpread, IsBetween}
+use Rattle.placing.specs.Wides.{HoldsRows}
+use Rattle.placing.specs.declared.wide.RowsAt.{RowsAt}
 use Rattle.block_sizes.specs.Wides.{IsWide, farthest, rows_seen}
 use Rattle.placing.specs.declared.wide.GridWide.{GridWide}
 use Rattle.box_layout.specs.GridFrames.{AreTracks}
@@ -163,3 +167,18 @@ module _ (b : BareTrees) (n : NodeId) (outer : List Pair) (width : Given) (w : G
 
   pub count_placed : HasZero (grid_seen b n outer width).placed.rows → (edges : ℕ) → edges ≡ track_count w.parts.base.placed.rows → pos edges ≡ (w.parts.base.placed.rows.end -ℤ w.parts.base.placed.rows.start)
   count_placed from_zero edges e = ap pos e ∙ count_is w.parts.base.placed.rows (subst HasZero (sym tracks_are) from_zero)
+
+  -- the rows that it holds for a size are those of the definitions
+  held_one : (r : RowsAt) → w.rows ≡ Some r → HoldsRows (rows_seen b n outer width) w.parts.base.placed.rows r
+  held_one r is = subst (λ o. IfSome o (HoldsRows (rows_seen b n outer width) w.parts.base.placed.rows)) is wide.rows
+
+  pub held_view : (r : RowsAt) (height : Given) (v : View 1) → w.rows ≡ Some r → height ≡ given.Size r.size → v ≡ r.view → v ≡ view_by {axis = 1} (rows_seen b n outer width) height
+  held_view r height v is h e = e ∙ (held_one r is).view ∙ ap (view_by {axis = 1} (rows_seen b n outer width)) (sym h)
+
+  pub held_tracks : (r : RowsAt) (v : View 1) (level : ℕ) → level ≤ 64 → HasZero (grid_seen b n outer width).placed.rows → w.rows ≡ Some r → v ≡ r.view → AreTracks w.parts.base.placed.rows v.edges
+  held_tracks r v level low from_zero is e =
+      subst (λ (x : View 1). AreTracks w.parts.base.placed.rows x.edges) (sym e)
+      (are_tracks w.parts.base.placed.rows r.view.edges level low (count_placed from_zero (length r.view.edges) (held_one r is).counted) (spread_grows (2 ^ 50 + 2 ^ 34) (farthest level) r.view.edges (omega arith) (held_one r is).spread))
+
+  pub held_gap : (r : RowsAt) (v : View 1) → w.rows ≡ Some r → v ≡ r.view → pos 0 ≤ℤ v.gap
+  held_gap r v is e = subst (λ (x : View 1). pos 0 ≤ℤ x.gap) (sym e) (held_one r is).gap

@@ -10,6 +10,7 @@ pub mod FlexMembers
 pub mod FlexWalks
 pub mod Grids
 pub mod InRange
+pub mod Lastings
 pub mod Lengths
 pub mod LentInside
 pub mod Limits

@@ -12,6 +12,7 @@ mod flex;
 mod flex_items;
 mod grid;
 mod inline;
+mod lasting;
 mod laws;
 mod levels;
 mod numbers;
@@ -37,6 +38,7 @@ pub use flex_items::{
 };
 pub use grid::base_at;
 pub use inline::{inline_of, lend_columns};
+pub use lasting::{LastingTracks, lasting_for};
 pub use laws::{items_lie_in_their_tracks, lent_items_stay_inside};
 pub use levels::{empty_item, extra_margins, lifted, offset_of};
 pub use plain::{is_plain, plain_block, plain_inline};

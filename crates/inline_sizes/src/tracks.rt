@@ -54,7 +54,7 @@ pub struct SizedTracks {
 }
 
 /// What the tracks of an axis are sized for: the declared minimum and maximum count where they are lengths, as content sizes.
-fn fit_for<const AXIS: u8>(style: &Style, space: Space<AXIS>, gap: Lu) -> Fit<AXIS>
+pub(crate) fn fit_for<const AXIS: u8>(style: &Style, space: Space<AXIS>, gap: Lu) -> Fit<AXIS>
     requires { IsGridAxis (grid_at AXIS style.now) }
     ensures { result ≡ fit_in (content_of style.now).border_box (grid_at AXIS style.now) (content_at AXIS style.now) space.entry gap }
 {
@@ -70,7 +70,7 @@ fn fit_for<const AXIS: u8>(style: &Style, space: Space<AXIS>, gap: Lu) -> Fit<AX
 
 #[tactic(auto, using(crate::proofs::Fixing::gap_some))]
 /// The gap between two tracks of an axis, where percentages are of this size, or of none.
-fn gap_for<const AXIS: u8>(style: &Style, base: &Option<Lu>) -> Lu
+pub(crate) fn gap_for<const AXIS: u8>(style: &Style, base: &Option<Lu>) -> Lu
     requires axis { IsGridAxis (grid_at AXIS style.now) }
     requires base { IsBase base.now }
     ensures value { result ≡ gap_by base.now (pos 0) (grid_at AXIS style.now).gap }
@@ -81,7 +81,7 @@ fn gap_for<const AXIS: u8>(style: &Style, base: &Option<Lu>) -> Lu
 
 #[tactic(auto, using(crate::proofs::Fixing::fixed_rules, crate::proofs::Fixing::rules_counted, crate::proofs::Fixing::few_tracks))]
 /// How the tracks of an axis are sized, where percentages are of this size, or of none.
-fn rules_for<const AXIS: u8>(
+pub(crate) fn rules_for<const AXIS: u8>(
     alloc: Global,
     input: &TrackInput<'_>,
     base: Option<Lu>,

@@ -1,15 +1,16 @@
 -- A grid in its columns, as its answer for the block size holds it: what the rules say of the node alone, whatever stands around it (CSS Grid
 -- 2, 12.1).
-use Rattle.std.specs.Prelude.{◌≡◌, ◌≤◌, ◌+◌, ◌^◌, ◌++◌, ◌∷◌, ℕ, ℤ, pos, ◌-ℤ◌, ◌≤ℤ◌, List, [], length, map, slice_get, if◌then◌else◌}
+use Rattle.std.specs.Prelude.{◌≡◌, ◌≤◌, ◌+◌, ◌^◌, ◌++◌, ◌∷◌, ℕ, ℤ, pos, ◌-ℤ◌, ◌≤ℤ◌, List, [], length, map, slice_get, if◌then◌else◌, IfSome}
 use Rattle.lunit.specs.Units.{IsUnits}
 use Rattle.lunit.specs.declared.geometry.Area.{Area}
+use Rattle.lunit.specs.declared.geometry.Span.{Span}
 use Rattle.node_arena.specs.declared.number.NodeId.{NodeId}
-use Rattle.part_rules.specs.Lists.{joined, zipped}
+use Rattle.part_rules.specs.Lists.{above_zero, joined, zipped}
 use Rattle.part_rules.specs.declared.view.View.{View}
 use Rattle.tree_rules.specs.Answers.{Kid, Pair}
 use Rattle.tree_rules.specs.Chains.{above_of, sibling_of}
 use Rattle.tree_rules.specs.Contexts as rules
-use Rattle.tree_rules.specs.GridSizes.{Entry, Grid, TrackAxis, Wide, entry_of, grid_by, row_items_of, rows_of_grid, shares_rows, view_by, wide_children}
+use Rattle.tree_rules.specs.GridSizes.{Entry, Grid, TrackAxis, Wide, entry_of, grid_by, row_items_of, rows_of_grid, shares_rows, view_by, view_for, wide_children}
 use Rattle.tree_rules.specs.Orders.{in_order}
 use Rattle.tree_rules.specs.Places.{Seen}
 use Rattle.tree_rules.specs.Repetitions.{own_pair}
@@ -21,6 +22,7 @@ use Rattle.placing.specs.declared.contexts.Placed.{Placed}
 use Rattle.placing.specs.declared.wide.GridBase.{GridBase}
 use Rattle.placing.specs.declared.wide.GridParts.{GridParts}
 use Rattle.placing.specs.declared.wide.GridWide.{GridWide}
+use Rattle.placing.specs.declared.wide.RowsAt.{RowsAt}
 use Rattle.placing.specs.declared.wide.WideChild.{WideChild}
 use Rattle.placing.specs.Areas.{child_in, placed_of}
 use Rattle.placing.specs.Insides.{AreInside}
@@ -86,6 +88,13 @@ pub record HoldsGrid (s : Seen) (kids : List NodeId) (outer : List Pair) (width 
   pub inlines : parts.inlines ≡ (grid_in s outer width).inlines
   pub items : parts.items ≡ (grid_in s outer width).columns.items
 
+-- They are the rows of this axis, as many as these tracks, and not far from each other, in a content box of their size.
+pub record HoldsRows (axis : TrackAxis) (tracks : Span) (r : RowsAt) : Type 0 where
+  pub view : r.view ≡ view_for {axis = 1} axis r.size
+  pub counted : length r.view.edges ≡ above_zero (tracks.end -ℤ tracks.start)
+  pub gap : pos 0 ≤ℤ r.view.gap
+  pub spread : AreSpread (2 ^ 50 + 2 ^ 34) r.view.edges
+
 -- It is the grid of a node of which the rules see this and which has these children, in its columns.
 pub record HoldsWide (s : Seen) (kids : List NodeId) (outer : List Pair) (width : Given) (w : GridWide) : Type 0 where
   pub grid : HoldsGrid s kids outer width w.parts
@@ -98,3 +107,4 @@ pub record HoldsWide (s : Seen) (kids : List NodeId) (outer : List Pair) (width 
   pub range : IsUnits w.columns.gap
   -- the columns are not far from each other where the tracks are not that the grid is given
   pub spread : (by : ℕ) → 2 ^ 51 ≤ by → IsSpread by width → AreSpread by w.columns.edges
+  pub rows : IfSome w.rows (HoldsRows (rows_in s outer width) w.parts.base.placed.rows)

@@ -42,4 +42,4 @@ pub use seats::{areas, context, seat};
 pub use shared::{SharedBase, SharedFrames, SharedWide};
 pub use sight::{child, count, node_at, parent, root};
 pub use tree_rules::NodeKind;
-pub use wide::{GridBase, GridParts, GridWide, WideChild};
+pub use wide::{GridBase, GridParts, GridWide, RowsAt, WideChild};

@@ -43,6 +43,15 @@ pub struct WideChild {
     pub block: Lu,
 }
 
+/// Where the rows of a grid lie in a content box of this size.
+#[derive(Drop)]
+pub struct RowsAt {
+    /// The block size of the content box, in units of 1/64 px.
+    pub size: Lu,
+    /// The rows.
+    pub view: View<1>,
+}
+
 /// A grid with its columns, and its children as wide as they are there.
 #[derive(Drop)]
 pub struct GridWide {
@@ -54,4 +63,6 @@ pub struct GridWide {
     pub children: Sequence<WideChild>,
     /// The items that size the rows: one for each child, or those that it lends.
     pub items: Sequence<Item>,
+    /// Where the rows lie where the content box is as great as the content, if that is known.
+    pub rows: Option<RowsAt>,
 }

@@ -312,6 +312,7 @@ wide_at-returns-clause-value g t c =
       range = c.in_ok-columns.ensures.range;
       far = c.in_ok-columns.ensures.far;
       spread = subst (λ (z : BareTrees). AreSpread (farthest (level_at z c.args.id)) c.in_ok-columns.columns.edges) (c.in_ok-parts.ensures.below (block_query false c.args.reps.now c.args.width.now) refl refl).walk.bare_same c.in_ok-columns.ensures.spread;
+      rows = tt;
     }
 
 pub grid_anew-wide_at-requires : goal.grid_anew-wide_at-requires
@@ -326,17 +327,17 @@ grid_anew-wide_at-requires g t c =
     let small : 8 * size_at (bare c.args.tree.now.tree) c.args.id + 1 < 8 * size_at (bare c.args.tree.now.tree) c.args.id + 2 = omega arith in
     search rules
 
-pub grid_anew-rows_total-requires-clause-live : goal.grid_anew-rows_total-requires-clause-live
-grid_anew-rows_total-requires-clause-live g t c = subst (λ (z : BareTrees). IsLive z c.args.id) (sym (c.in_ok-wide.ensures.below c.args.query (sym c.as_slice-reps.ensures) refl (ap (λ (q : Query). needs_inline q.ask) c.requires.query)).walk.bare_same) c.requires.live
+pub grid_anew-laid_rows-requires-clause-live : goal.grid_anew-laid_rows-requires-clause-live
+grid_anew-laid_rows-requires-clause-live g t c = subst (λ (z : BareTrees). IsLive z c.args.id) (sym (c.in_ok-wide.ensures.below c.args.query (sym c.as_slice-reps.ensures) refl (ap (λ (q : Query). needs_inline q.ask) c.requires.query)).walk.bare_same) c.requires.live
 
-pub grid_anew-rows_total-requires-clause-readable : goal.grid_anew-rows_total-requires-clause-readable
-grid_anew-rows_total-requires-clause-readable g t c = subst AreReadable (sym (c.in_ok-wide.ensures.below c.args.query (sym c.as_slice-reps.ensures) refl (ap (λ (q : Query). needs_inline q.ask) c.requires.query)).walk.bare_same) c.requires.readable
+pub grid_anew-laid_rows-requires-clause-readable : goal.grid_anew-laid_rows-requires-clause-readable
+grid_anew-laid_rows-requires-clause-readable g t c = subst AreReadable (sym (c.in_ok-wide.ensures.below c.args.query (sym c.as_slice-reps.ensures) refl (ap (λ (q : Query). needs_inline q.ask) c.requires.query)).walk.bare_same) c.requires.readable
 
-pub grid_anew-rows_total-requires-clause-kind : goal.grid_anew-rows_total-requires-clause-kind
-grid_anew-rows_total-requires-clause-kind g t c = subst (λ (z : BareTrees). (sight_at z c.args.id).label.kind ≡ kind.Grid) (sym (c.in_ok-wide.ensures.below c.args.query (sym c.as_slice-reps.ensures) refl (ap (λ (q : Query). needs_inline q.ask) c.requires.query)).walk.bare_same) c.requires.grid
+pub grid_anew-laid_rows-requires-clause-kind : goal.grid_anew-laid_rows-requires-clause-kind
+grid_anew-laid_rows-requires-clause-kind g t c = subst (λ (z : BareTrees). (sight_at z c.args.id).label.kind ≡ kind.Grid) (sym (c.in_ok-wide.ensures.below c.args.query (sym c.as_slice-reps.ensures) refl (ap (λ (q : Query). needs_inline q.ask) c.requires.query)).walk.bare_same) c.requires.grid
 
-pub grid_anew-rows_total-requires-clause-wide : goal.grid_anew-rows_total-requires-clause-wide
-grid_anew-rows_total-requires-clause-wide g t c = subst (λ (z : BareTrees). IsWide z c.args.id c.as_slice-reps.result.now c.args.query.inline c.in_ok-wide.wide) (sym (c.in_ok-wide.ensures.below c.args.query (sym c.as_slice-reps.ensures) refl (ap (λ (q : Query). needs_inline q.ask) c.requires.query)).walk.bare_same) c.in_ok-wide.ensures.value
+pub grid_anew-laid_rows-requires-clause-wide : goal.grid_anew-laid_rows-requires-clause-wide
+grid_anew-laid_rows-requires-clause-wide g t c = subst (λ (z : BareTrees). IsWide z c.args.id c.as_slice-reps.result.now c.args.query.inline c.in_ok-wide.wide) (sym (c.in_ok-wide.ensures.below c.args.query (sym c.as_slice-reps.ensures) refl (ap (λ (q : Query). needs_inline q.ask) c.requires.query)).walk.bare_same) c.in_ok-wide.ensures.value
 
 pub grid_anew-put-requires-clause-quiet : goal.grid_anew-put-requires-clause-quiet
 grid_anew-put-requires-clause-quiet g t c = grid_quiet (bare c.wide_at.new.tree.tree) c.args.id c.args.query (subst (λ (z : BareTrees). (sight_at z c.args.id).label.kind ≡ kind.Grid) (sym (c.in_ok-wide.ensures.below c.args.query (sym c.as_slice-reps.ensures) refl (ap (λ (q : Query). needs_inline q.ask) c.requires.query)).walk.bare_same) c.requires.grid)
@@ -350,8 +351,8 @@ grid_anew-put-requires-clause-absent g t c = subst (IsAbsent c.args.query) (sym 
 pub grid_anew-put-requires-clause-fits : goal.grid_anew-put-requires-clause-fits
 grid_anew-put-requires-clause-fits g t c = subst (λ (z : BareTrees). Fits (sight_at z c.args.id) c.args.query) (sym (c.in_ok-wide.ensures.below c.args.query (sym c.as_slice-reps.ensures) refl (ap (λ (q : Query). needs_inline q.ask) c.requires.query)).walk.bare_same) c.requires.fits
 
-pub grid_anew-rows_total-requires-clause-own : goal.grid_anew-rows_total-requires-clause-own
-grid_anew-rows_total-requires-clause-own g t c = subst (λ (z : BareTrees). sees_rows (sight_at z c.args.id) ≡ false) (sym (c.in_ok-wide.ensures.below c.args.query (sym c.as_slice-reps.ensures) refl (ap (λ (q : Query). needs_inline q.ask) c.requires.query)).walk.bare_same) (block_fit (sight_at (bare c.args.tree.now.tree) c.args.id) c.args.query (ap (λ (q : Query). q.ask) c.requires.query) c.requires.fits)
+pub grid_anew-laid_rows-requires-clause-own : goal.grid_anew-laid_rows-requires-clause-own
+grid_anew-laid_rows-requires-clause-own g t c = subst (λ (z : BareTrees). sees_rows (sight_at z c.args.id) ≡ false) (sym (c.in_ok-wide.ensures.below c.args.query (sym c.as_slice-reps.ensures) refl (ap (λ (q : Query). needs_inline q.ask) c.requires.query)).walk.bare_same) (block_fit (sight_at (bare c.args.tree.now.tree) c.args.id) c.args.query (ap (λ (q : Query). q.ask) c.requires.query) c.requires.fits)
 
 pub grid_anew-put-requires-clause-value : goal.grid_anew-put-requires-clause-value
 grid_anew-put-requires-clause-value g t c =
@@ -368,20 +369,21 @@ pub grid_anew-returns-in_err-wide-clause-stopped : goal.grid_anew-returns-in_err
 grid_anew-returns-in_err-wide-clause-stopped g t c = on_err _ _ (c.in_err-wide.ensures.stopped c.args.query (sym c.as_slice-reps.ensures) refl (ap (λ (q : Query). needs_inline q.ask) c.requires.query))
 
 pub grid_anew-returns-in_err-size-clause-stopped : goal.grid_anew-returns-in_err-size-clause-stopped
-grid_anew-returns-in_err-size-clause-stopped g t c = on_err _ _ (stopped c.args.id c.args.query 2 _ _ (ticked c.args.id c.args.query 1 1 _ _ c.rows_total.new.passes c.rows_total.ensures.ticks (c.in_ok-wide.ensures.below c.args.query (sym c.as_slice-reps.ensures) refl (ap (λ (q : Query). needs_inline q.ask) c.requires.query))))
+grid_anew-returns-in_err-size-clause-stopped g t c = on_err _ _ (stopped c.args.id c.args.query 2 _ _ (ticked c.args.id c.args.query 1 1 _ _ c.laid_rows.new.passes c.laid_rows.ensures.ticks (c.in_ok-wide.ensures.below c.args.query (sym c.as_slice-reps.ensures) refl (ap (λ (q : Query). needs_inline q.ask) c.requires.query))))
 
 pub grid_anew-returns-clause-walked : goal.grid_anew-returns-clause-walked
-grid_anew-returns-clause-walked g t c = c.in_ok-put.ensures.joins _ 2 _ _ (omega arith) (ticked c.args.id c.args.query 1 1 _ _ c.rows_total.new.passes c.rows_total.ensures.ticks (c.in_ok-wide.ensures.below c.args.query (sym c.as_slice-reps.ensures) refl (ap (λ (q : Query). needs_inline q.ask) c.requires.query)))
+grid_anew-returns-clause-walked g t c = c.in_ok-put.ensures.joins _ 2 _ _ (omega arith) (ticked c.args.id c.args.query 1 1 _ _ c.laid_rows.new.passes c.laid_rows.ensures.ticks (c.in_ok-wide.ensures.below c.args.query (sym c.as_slice-reps.ensures) refl (ap (λ (q : Query). needs_inline q.ask) c.requires.query)))
 
 pub grid_anew-returns-in_err-put-clause-stopped : goal.grid_anew-returns-in_err-put-clause-stopped
-grid_anew-returns-in_err-put-clause-stopped g t c = on_err _ _ (c.in_err-put.ensures.stopped _ 2 _ _ (ticked c.args.id c.args.query 1 1 _ _ c.rows_total.new.passes c.rows_total.ensures.ticks (c.in_ok-wide.ensures.below c.args.query (sym c.as_slice-reps.ensures) refl (ap (λ (q : Query). needs_inline q.ask) c.requires.query))))
+grid_anew-returns-in_err-put-clause-stopped g t c = on_err _ _ (c.in_err-put.ensures.stopped _ 2 _ _ (ticked c.args.id c.args.query 1 1 _ _ c.laid_rows.new.passes c.laid_rows.ensures.ticks (c.in_ok-wide.ensures.below c.args.query (sym c.as_slice-reps.ensures) refl (ap (λ (q : Query). needs_inline q.ask) c.requires.query))))
 
 pub grid_anew-returns-in_err-held-clause-stopped : goal.grid_anew-returns-in_err-held-clause-stopped
-grid_anew-returns-in_err-held-clause-stopped g t c = on_err _ _ (stopped c.args.id c.args.query 2 _ _ (ticked c.args.id c.args.query 1 1 _ _ c.rows_total.new.passes c.rows_total.ensures.ticks (c.in_ok-wide.ensures.below c.args.query (sym c.as_slice-reps.ensures) refl (ap (λ (q : Query). needs_inline q.ask) c.requires.query))))
+grid_anew-returns-in_err-held-clause-stopped g t c = on_err _ _ (stopped c.args.id c.args.query 2 _ _ (ticked c.args.id c.args.query 1 1 _ _ c.laid_rows.new.passes c.laid_rows.ensures.ticks (c.in_ok-wide.ensures.below c.args.query (sym c.as_slice-reps.ensures) refl (ap (λ (q : Query). needs_inline q.ask) c.requires.query))))
 
 pub grid_anew-put-requires-clause-children : goal.grid_anew-put-requires-clause-children
 grid_anew-put-requires-clause-children g t c =
-    let by_query : IsWide (bare c.args.tree.now.tree) c.args.id c.args.query.reps c.args.query.inline c.in_ok-wide.wide = subst (λ (r : List Pair). IsWide (bare c.args.tree.now.tree) c.args.id r c.args.query.inline c.in_ok-wide.wide) c.as_slice-reps.ensures c.in_ok-wide.ensures.value in
+    let laid : IsWide (bare c.args.tree.now.tree) c.args.id c.as_slice-reps.result.now c.args.query.inline c.in_ok-size.laid = subst (λ (z : BareTrees). IsWide z c.args.id c.as_slice-reps.result.now c.args.query.inline c.in_ok-size.laid) (c.in_ok-wide.ensures.below c.args.query (sym c.as_slice-reps.ensures) refl (ap (λ (q : Query). needs_inline q.ask) c.requires.query)).walk.bare_same c.in_ok-size.ensures.wide in
+    let by_query : IsWide (bare c.args.tree.now.tree) c.args.id c.args.query.reps c.args.query.inline c.in_ok-size.laid = subst (λ (r : List Pair). IsWide (bare c.args.tree.now.tree) c.args.id r c.args.query.inline c.in_ok-size.laid) c.as_slice-reps.ensures laid in
     let held : IsWide (bare c.args.tree.now.tree) c.args.id c.args.query.reps c.args.query.inline c.in_ok-held.held = subst (IsWide (bare c.args.tree.now.tree) c.args.id c.args.query.reps c.args.query.inline) (sym c.in_ok-held.ensures) by_query in
     subst (λ (z : BareTrees). HoldsWide (sight_at z c.args.id) (children_at z c.args.id) c.args.query.reps c.args.query.inline c.in_ok-held.held) (sym (c.in_ok-wide.ensures.below c.args.query (sym c.as_slice-reps.ensures) refl (ap (λ (q : Query). needs_inline q.ask) c.requires.query)).walk.bare_same) (wide_held (bare c.args.tree.now.tree) c.args.id c.args.query.reps c.args.query.inline c.in_ok-held.held held)
 
