@@ -1,7 +1,7 @@
 -- The children of a container one after the other, on the way of the boxes.
 use Rattle.std.proofs.Common.{arith, refl, ◌≡◌, ℕ, ◌+◌, ◌≤◌, ◌<◌, ◌∷◌, ◌++◌, [], List, Bool, true, false, if◌then◌else◌, length, map, drop, sym, ap, ◌∙◌, subst, ℤ, Some, inl, inr, OnOk, OnErr, Ok, Err}
 use Rattle.std.specs.Prelude.{Contains, Result, get_or}
-use Rattle.std.proofs.lemmas.List.{append_assoc, get_or_default, get_or-map, length-map}
+use Rattle.std.proofs.lemmas.List.{get_or_default, get_or-map, length-map}
 use Rattle.lunit.specs.declared.geometry.Area.{Area}
 use Rattle.lunit.specs.declared.geometry.Rect.{Rect}
 use Rattle.node_arena.specs.declared.number.NodeId.{NodeId}
@@ -37,7 +37,7 @@ use Rattle.box_layout.specs.Stands.{StandBelow}
 use Rattle.box_layout.specs.declared.child_seats.ChildSeats.{ChildSeats}
 use Rattle.box_layout.proofs.BoxSteps.{boxes_more, frame_there, kept_through, leaf_boxes, passed_there, with_is}
 use Rattle.box_layout.proofs.LaidWalks.{laid_then, part_then}
-use Rattle.box_layout.proofs.NearBoxes.{near_child, near_push, near_rect, stands_at}
+use Rattle.box_layout.proofs.NearBoxes.{near_child, near_rect, stands_at}
 use Rattle.box_layout.proofs.Seating.{counts_here, pairs_here, seat_here}
 
 -- what fits is a size of at least 0, where it is a size
@@ -57,22 +57,26 @@ pub err_then : {T E : Type 0} (r : Result T E) (P Q : Type 0) → (P → Q) → 
 err_then (Ok x) P Q f h = tt
 err_then (Err e) P Q f h = f h
 
-pub leaf_told : (b : BareTrees) (n : NodeId) (reps : List Pair) (f : Frame) (at : ℤ × ℤ) (old new : List Box) (name : List ℕ) (rect : Rect) → is_container (sight_at b n).label.kind ≡ false → new ≡ old ++ (name, rect) ∷ [] → name ≡ (sight_at b n).label.name → rect ≡ moved_by at f.rect
-    → new ≡ old ++ boxes_with b n reps f at
-leaf_told b n reps f at old new name rect leaf grown named moved =
+-- the box of a node, and those below it
+pub leaf_told : (b : BareTrees) (n : NodeId) (reps : List Pair) (f : Frame) (at : ℤ × ℤ) (name : List ℕ) (rect : Rect) → is_container (sight_at b n).label.kind ≡ false → name ≡ (sight_at b n).label.name → rect ≡ moved_by at f.rect
+    → (name, rect) ∷ [] ≡ boxes_with b n reps f at
+leaf_told b n reps f at name rect leaf named moved =
     let none = leaf_boxes b n (frames_asked reps f.inline f.block) ((moved_by at f.rect).x, (moved_by at f.rect).y) leaf in
-    grown ∙ ap (λ l. old ++ l) (λ i. (named i, moved i) ∷ sym none i)
+    λ i. (named i, moved i) ∷ sym none i
 
-pub below_told : (b : BareTrees) (n : NodeId) (reps pairs : List Pair) → reps ≡ pairs → (f : Frame) (at : ℤ × ℤ) (old mid new : List Box) (name : List ℕ) (rect : Rect) → mid ≡ old ++ (name, rect) ∷ [] → name ≡ (sight_at b n).label.name → rect ≡ moved_by at f.rect
-    → new ≡ mid ++ boxes_seen b n (frames_asked reps f.inline f.block) (rect.x, rect.y) → new ≡ old ++ boxes_with b n pairs f at
-below_told b n reps pairs same f at old mid new name rect put named moved grown =
-    grown
-    ∙ ap (λ l. l ++ boxes_seen b n (frames_asked reps f.inline f.block) (rect.x, rect.y)) put
-    ∙ append_assoc old ((name, rect) ∷ []) (boxes_seen b n (frames_asked reps f.inline f.block) (rect.x, rect.y))
-    ∙ ap (λ l. old ++ l) (λ i. (named i, moved i) ∷ boxes_seen b n (frames_asked (same i) f.inline f.block) ((moved i).x, (moved i).y))
+pub below_told : (b : BareTrees) (n : NodeId) (reps pairs : List Pair) → reps ≡ pairs → (f : Frame) (at : ℤ × ℤ) (name : List ℕ) (rect : Rect) → name ≡ (sight_at b n).label.name → rect ≡ moved_by at f.rect
+    → (name, rect) ∷ boxes_seen b n (frames_asked reps f.inline f.block) (rect.x, rect.y) ≡ boxes_with b n pairs f at
+below_told b n reps pairs same f at name rect named moved = λ i. (named i, moved i) ∷ boxes_seen b n (frames_asked (same i) f.inline f.block) ((moved i).x, (moved i).y)
 
-pub near_told : (level : ℕ) (x y : ℤ) (f : Frame) (old new : List Box) (name : List ℕ) (rect : Rect) → new ≡ old ++ (name, rect) ∷ [] → rect ≡ moved_by (x, y) f.rect → IsNearAt level x y f → AreNear old → AreNear new
-near_told level x y f old new name rect grown moved near all = near_push old new (name, rect) grown (subst IsNearRect (sym moved) (near_rect level x y f near)) all
+pub near_told : (level : ℕ) (x y : ℤ) (f : Frame) (rect : Rect) → rect ≡ moved_by (x, y) f.rect → IsNearAt level x y f → IsNearRect rect
+near_told level x y f rect moved near = subst IsNearRect (sym moved) (near_rect level x y f near)
+
+-- What a sink took between two of its states, where these boxes are still to come of all: each number of it is near.
+pub record HasTaken {S : Type 0} (adds : S → S → List Box → Type 0) (old now : S) (rest all : List Box) : Type 0 where
+  pub part : List Box
+  pub added : adds old now part
+  pub whole : part ++ rest ≡ all
+  pub near : AreNear part
 
 pub kind_is : (k l : NodeKind) (t : Bool) → k ≡ l → t ≡ is_container k → is_container l ≡ t
 kind_is k l t same told = ap is_container (sym same) ∙ sym told

@@ -63,12 +63,9 @@ reached level z h = (omega (arith, ints, h.0), omega (arith, ints, h.1))
 pub near_rect : (level : ℕ) (x y : ℤ) (f : Frame) → IsNearAt level x y f → IsNearRect (moved_by (x, y) f.rect)
 near_rect level x y f h = record { x = reached level (x +ℤ f.rect.x) h.x; y = reached level (y +ℤ f.rect.y) h.y; width = units_within f.rect.width h.width; height = units_within f.rect.height h.height }
 
-pub near_push : (told new : List Box) (b : Box) → new ≡ told ++ b ∷ [] → IsNearRect b.1 → AreNear told → AreNear new
-near_push told new b grown near all = subst AreNear (sym grown) (go told all)
-  where
-    go : (xs : List Box) → AreNear xs → AreNear (xs ++ b ∷ [])
-    go [] h = (near, tt)
-    go (x ∷ xs) h = (h.0, go xs h.1)
+pub near_both : (xs ys : List Box) → AreNear xs → AreNear ys → AreNear (xs ++ ys)
+near_both [] ys h all = all
+near_both (x ∷ xs) ys h all = (h.0, near_both xs ys h.1 all)
 
 pub long : (level : ℕ) (z : ℤ) → IsWithin (reach level) z → IsLong z
 long level z h = (omega (arith, ints, h.0), omega (arith, ints, h.1))

@@ -187,6 +187,7 @@ fn seats_in(held: HeldBase, areas: Sequence<Area>) -> ChildSeats
     }
 }
 
+#[inline(always)]
 /// The seats of the children of a node in its own seat, by the counts of the repetitions above it and what it is given in the inline
 /// axis. The frames of its children tell which of them are subgrids of it, so that no child is looked up. The context of a grid is made
 /// only where there is one and the grid keeps none. `NoMemory` where memory is wanting.

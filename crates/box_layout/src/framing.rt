@@ -162,6 +162,7 @@ fn frames_anew<R: Ruler, L: Ledger>(
     flex_frames_anew(alloc, tree, id, query, ruler, tally, passes)
 }
 
+#[inline(always)]
 /// The frames of the children of a container in its seat, by the counts of the repetitions above it and what it is given along each
 /// axis, in document order: `frames_of` says more.
 pub fn frames_at<R: Ruler, L: Ledger>(

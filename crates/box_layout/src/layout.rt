@@ -1,6 +1,6 @@
 //! The boxes of a whole tree in a viewport.
 
-ghost use Rattle.std.specs.Prelude.{◌≡◌, [], IfOk, OnOk, OnErr};
+ghost use Rattle.std.specs.Prelude.{◌≡◌, [], OnOk, OnErr};
 ghost use Rattle.placing.specs.Kept.{IsRight};
 ghost use Rattle.placing.specs.Nodes.{bare};
 ghost use Rattle.placing.specs.Ranges.{AreReadable};
@@ -10,9 +10,9 @@ ghost use Rattle.box_layout.specs.LeafHeights.{AreMeasured};
 ghost use Rattle.box_layout.specs.Paths.{IsAllKept, IsAsked, IsCutShort, IsPathKept};
 
 use crate::root_frame::root_frame;
-use crate::told::Told;
+use crate::told::BoxSink;
 use crate::walk::boxes_of;
-use lunit::{Along, Area, Lu, Name, NoMemory, Rect, Sequence, Span, Steps};
+use lunit::{Along, Area, Lu, NoMemory, Span, Steps};
 use node_arena::Arena;
 use outside::{Ruler, Tally};
 use placing::{Above, Node, root};
@@ -25,26 +25,27 @@ const NO_AREA: Area = Area {
     rows: Span { start: 0, end: 0 },
 };
 
-/// The name and the border box of each node of a tree in a viewport of this width and height, in units of 1/64 px from the origin
-/// of the viewport, in document order (CSS Grid 2, section 6; CSS Flexbox 1, section 9; that the root is an item in the viewport is
+/// Hands over the name and the border box of each node of a tree in a viewport of this width and height, in units of 1/64 px from the
+/// origin of the viewport, in document order (CSS Grid 2, section 6; CSS Flexbox 1, section 9; that the root is an item in the viewport is
 /// an own rule). No number of a box is beyond 2^56.
 ///
 /// Each container is asked once for its frames; the answers that the nodes keep are taken as they are, and what is found is kept. Each
 /// leaf among the children of a grid whose frames are found then keeps its block size at the content width of its box. Where all of
 /// that is kept, nothing changes. `NoMemory` where memory is wanting; what was kept by then is right.
-pub fn walk_boxes<R: Ruler, L: Ledger>(
+pub fn walk_boxes<T: BoxSink, R: Ruler, L: Ledger>(
     alloc: Global,
     tree: &mut Arena<Node>,
     width: Lu,
     height: Lu,
+    told: &mut T,
     ruler: &mut R,
     tally: &mut Tally,
     passes: &mut Steps<L>,
-) -> Result<Sequence<(Name, Rect)>, NoMemory>
+) -> Result<(), NoMemory>
     requires right { IsRight tree.old.tree }
     requires readable { AreReadable (bare tree.old.tree) }
-    ensures value { IfOk result (λ told. told ≡ bare_boxes width height (bare tree.old.tree)) }
-    ensures near { IfOk result AreNear }
+    ensures value { OnOk result (T.adds told.old told.new (bare_boxes width height (bare tree.old.tree))) }
+    ensures near { OnOk result (AreNear (bare_boxes width height (bare tree.old.tree))) }
     ensures bare { bare tree.new.tree ≡ bare tree.old.tree }
     ensures right { IsRight tree.new.tree }
     ensures laid { OnOk result (Walk (IsAsked (bare tree.old.tree) width height) 0 [] (state tree.old tally.old passes.old (R.log ruler.old)) (state tree.new tally.new passes.new (R.log ruler.new))) }
@@ -58,7 +59,7 @@ pub fn walk_boxes<R: Ruler, L: Ledger>(
     let x = Along::of(0);
     let y = Along::of(0);
     let nothing = Above::Nothing;
-    let mut told = Told::with_room(alloc, tree.len());
+    told.make_room(tree.len());
     boxes_of(
         alloc,
         tree,
@@ -70,10 +71,10 @@ pub fn walk_boxes<R: Ruler, L: Ledger>(
         &frame,
         x,
         y,
-        &mut told,
+        told,
         ruler,
         tally,
         passes,
     )?;
-    Ok(told.into_sequence())
+    Ok(())
 }

@@ -45,3 +45,4 @@ pub use queries::frames_query;
 pub use root::{given_box, root_height, root_rect, root_width};
 pub use seats::Seat;
 pub use sitting::{Container, Sitting, container_of, sitting_of};
+pub use told::{BoxList, BoxSink};

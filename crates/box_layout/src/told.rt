@@ -1,63 +1,65 @@
-//! The boxes of a tree as the walk puts them, one after the other.
+//! What takes the boxes of a tree as the walk finds them, one after the other.
 
-ghost use Rattle.std.specs.Prelude.{◌≡◌, ◌++◌, ◌∷◌, [], OnOk};
+ghost use Rattle.std.specs.Prelude.{◌≡◌, ◌++◌, ◌∷◌, [], List, OnOk};
+ghost use Rattle.box_layout.specs.Adding.{boxes_join, boxes_none};
+ghost use Rattle.tree_rules.specs.Answers.{Box};
 
-use lunit::{Name, NoMemory, Rect, Sequence};
+use lunit::{Name, NoMemory, Rect};
 use std::alloc::Global;
-use std::marker::Model;
 
-/// A list that contracts see as the list of its items. What is put at its end is not handed back where memory is wanting, so that a box
-/// is written in its place alone.
+/// What takes the boxes of a tree, one after the other in document order.
+pub trait BoxSink {
+    /// That it took these boxes between two of its states, the earlier one first.
+    ghost adds: { Self → Self → List Box → Type 0 };
+
+    /// So many boxes will come. It may make room for them, and takes none; where there is no such room it takes them all the same.
+    fn make_room(&mut self, count: usize)
+        ensures { adds self.old self.new [] };
+
+    /// Takes the box of a node: its name and its border box, in units of 1/64 px. `NoMemory` where memory is wanting.
+    fn take(&mut self, name: &Name, rect: Rect) -> Result<(), NoMemory>
+        ensures { OnOk result (adds self.old self.new ((name.now, rect) ∷ [])) };
+
+    /// It took no boxes where nothing happened.
+    ghost adds_none: { (a : Self) → adds a a [] };
+
+    /// What it took one after the other it took.
+    ghost adds_both: { (a b c : Self) (x y : List Box) → adds a b x → adds b c y → adds a c (x ++ y) };
+}
+
+/// The boxes of a tree as a list.
 #[derive(Drop)]
-pub(crate) struct Told<T> {
-    items: Vec<T>,
+pub struct BoxList {
+    /// The name and the border box of each node, in units of 1/64 px.
+    pub boxes: Vec<(Name, Rect)>,
 }
 
-impl<T> Model for Told<T> {
-    ghost use Rattle.std.specs.Prelude.{List};
-    ghost use Rattle.std.specs.Coded.{coded_list};
-
-    ghost Value = { List T };
-
-    ghost coded = { coded_list T.code };
-
-    ghost view = { λ t. t.items.items };
-}
-
-impl<T> Told<T> {
-    /// No items. Takes no memory.
-    fn new(alloc: Global) -> Told<T>
-        ensures { result ≡ [] }
+impl BoxList {
+    /// No boxes. Takes no memory.
+    pub fn new(alloc: Global) -> BoxList
+        ensures { result.boxes.items ≡ [] }
     {
-        Told {
-            items: Vec::new(alloc),
+        BoxList {
+            boxes: Vec::new(alloc),
         }
     }
-
-    /// No items, with room for so many, so that the list need not grow; where there is no such room it grows as they come.
-    pub(crate) fn with_room(alloc: Global, count: usize) -> Told<T>
-        ensures { result ≡ [] }
-    {
-        match Vec::with_capacity(alloc, count) {
-            Ok(items) => Told { items },
-            Err(_) => Told::new(alloc),
-        }
-    }
-
-    /// The list of the items. Takes no memory.
-    pub(crate) fn into_sequence(self) -> Sequence<T>
-        ensures { result ≡ self }
-    {
-        let Told { items } = self;
-        Sequence::from_vec(items)
-    }
 }
 
-/// Puts the box of a node at the end: its name and its border box. The place is made before the name is read.
-pub(crate) fn tell(told: &mut Told<(Name, Rect)>, name: &Name, rect: Rect) -> Result<(), NoMemory>
-    ensures { OnOk result (told.new ≡ told.old ++ (name.now, rect) ∷ []) }
-{
-    told.items.reserve(1)?;
-    told.items.push_reserved((*name, rect));
-    Ok(())
+impl BoxSink for BoxList {
+    ghost adds = { λ a b more. b.boxes.items ≡ a.boxes.items ++ more };
+
+    ghost adds_none = { λ a. boxes_none a.boxes.items };
+
+    ghost adds_both = { λ a b c x y first second. boxes_join a.boxes.items b.boxes.items c.boxes.items x y first second };
+
+    fn make_room(&mut self, count: usize) {
+        let _ = self.boxes.reserve(count);
+    }
+
+    // The place is made before the name is read, so that a box is written in its place alone.
+    fn take(&mut self, name: &Name, rect: Rect) -> Result<(), NoMemory> {
+        self.boxes.reserve(1)?;
+        self.boxes.push_reserved((*name, rect));
+        Ok(())
+    }
 }

@@ -1,7 +1,7 @@
 //! The walk down the tree on the way of the boxes: each container is asked once for its frames, and the seat of each child is handed
 //! down, so that a context is made at most once a grid, and only where a child is a subgrid of it.
 
-ghost use Rattle.std.specs.Prelude.{◌≡◌, ◌++◌, ◌≤◌, ◌<◌, true, length, map, OnOk, OnErr};
+ghost use Rattle.std.specs.Prelude.{◌≡◌, ◌≤◌, ◌<◌, true, length, map, OnOk, OnErr};
 ghost use Rattle.node_arena.specs.Numbers.{IsDistinct};
 ghost use Rattle.placing.specs.Children.{IsNext, IsTree};
 ghost use Rattle.placing.specs.Kept.{frame_of, IsRight};
@@ -24,9 +24,9 @@ use crate::child_seats::{ChildSeats, above_for, area_for, is_lower, pairs_for, s
 use crate::frames::moved_by;
 use crate::framing::frames_at;
 use crate::laws::{frames_fit_below, frames_stand_near, frames_tell_subgrids};
-use crate::told::{Told, tell};
+use crate::told::BoxSink;
 use layout_cache::Given;
-use lunit::{Along, Area, BLOCK, INLINE, Name, NoMemory, Rect, Steps};
+use lunit::{Along, Area, BLOCK, INLINE, NoMemory, Steps};
 use node_arena::{Arena, NodeId};
 use outside::{Ruler, Tally};
 use placing::{Above, Frame, Node, NodeKind, node_at, root};
@@ -65,7 +65,7 @@ fn differ(tree: &Arena<Node>) -> NodeId
 /// The box of the child of an index that has this frame, and the boxes below it, are put after others, as `boxes_of` says. Where it stands
 /// below a grid that it is a subgrid of is looked at where it is a container alone. It is called in one place, so that it is put in line
 /// there: a leaf costs no call.
-fn child_boxes<R: Ruler, L: Ledger>(
+fn child_boxes<T: BoxSink, R: Ruler, L: Ledger>(
     alloc: Global,
     tree: &mut Arena<Node>,
     id: NodeId,
@@ -75,7 +75,7 @@ fn child_boxes<R: Ruler, L: Ledger>(
     frame: &Frame,
     x: Along<INLINE>,
     y: Along<BLOCK>,
-    told: &mut Told<(Name, Rect)>,
+    told: &mut T,
     ruler: &mut R,
     tally: &mut Tally,
     passes: &mut Steps<L>,
@@ -89,8 +89,8 @@ fn child_boxes<R: Ruler, L: Ledger>(
     requires fits { is_container (sight_at (bare tree.old.tree) id).label.kind ≡ true → Fits (sight_at (bare tree.old.tree) id) (frames_asked (pairs_to seats.now (frame_of frame.now)) frame.now.inline frame.now.block) }
     requires level { 1 ≤ level_at (bare tree.old.tree) id }
     requires near { IsNearAt (level_at (bare tree.old.tree) id) x y (frame_of frame.now) }
-    ensures value { OnOk result (told.new ≡ told.old ++ boxes_with (bare tree.old.tree) id (pairs_to seats.now (frame_of frame.now)) (frame_of frame.now) (x, y)) }
-    ensures near { OnOk result (AreNear told.old → AreNear told.new) }
+    ensures value { OnOk result (T.adds told.old told.new (boxes_with (bare tree.old.tree) id (pairs_to seats.now (frame_of frame.now)) (frame_of frame.now) (x, y))) }
+    ensures near { OnOk result (AreNear (boxes_with (bare tree.old.tree) id (pairs_to seats.now (frame_of frame.now)) (frame_of frame.now) (x, y))) }
     ensures right { IsRight tree.new.tree }
     ensures laid { OnOk result (IsChildLaid (bare tree.old.tree) id (frames_asked (pairs_to seats.now (frame_of frame.now)) frame.now.inline frame.now.block) (state tree.old tally.old passes.old (R.log ruler.old)) (state tree.new tally.new passes.new (R.log ruler.new))) }
     ensures part { OnErr result (IsChildPart (bare tree.old.tree) id (frames_asked (pairs_to seats.now (frame_of frame.now)) frame.now.inline frame.now.block) (state tree.old tally.old passes.old (R.log ruler.old)) (state tree.new tally.new passes.new (R.log ruler.new))) }
@@ -104,7 +104,7 @@ fn child_boxes<R: Ruler, L: Ledger>(
     let rect = moved_by(x, y, &frame.rect);
     let x = rect.x;
     let y = rect.y;
-    tell(told, &node.name, rect)?;
+    told.take(&node.name, rect)?;
     if !container {
         return Ok(());
     }
@@ -131,7 +131,7 @@ fn child_boxes<R: Ruler, L: Ledger>(
 #[cycle(boxes)]
 /// The boxes below a container in its seat that is given this along each axis and whose border box is at this position, in document
 /// order, are put after others.
-fn boxes_below<R: Ruler, L: Ledger>(
+fn boxes_below<T: BoxSink, R: Ruler, L: Ledger>(
     alloc: Global,
     tree: &mut Arena<Node>,
     id: NodeId,
@@ -143,7 +143,7 @@ fn boxes_below<R: Ruler, L: Ledger>(
     block: &Given,
     x: Along<INLINE>,
     y: Along<BLOCK>,
-    told: &mut Told<(Name, Rect)>,
+    told: &mut T,
     ruler: &mut R,
     tally: &mut Tally,
     passes: &mut Steps<L>,
@@ -159,8 +159,8 @@ fn boxes_below<R: Ruler, L: Ledger>(
     requires rows { IsGivenNear (level_at (bare tree.old.tree) id) block.now }
     requires x { IsWithin (reach (level_at (bare tree.old.tree) id)) x }
     requires y { IsWithin (reach (level_at (bare tree.old.tree) id)) y }
-    ensures value { OnOk result (told.new ≡ told.old ++ boxes_seen (bare tree.old.tree) id (frames_asked reps.now inline.now block.now) (x, y)) }
-    ensures near { OnOk result (AreNear told.old → AreNear told.new) }
+    ensures value { OnOk result (T.adds told.old told.new (boxes_seen (bare tree.old.tree) id (frames_asked reps.now inline.now block.now) (x, y))) }
+    ensures near { OnOk result (AreNear (boxes_seen (bare tree.old.tree) id (frames_asked reps.now inline.now block.now) (x, y))) }
     ensures right { IsRight tree.new.tree }
     ensures laid { OnOk result (IsLaidOut id (frames_asked reps.now inline.now block.now) (state tree.old tally.old passes.old (R.log ruler.old)) (state tree.new tally.new passes.new (R.log ruler.new))) }
     ensures part { OnErr result (IsLaidPart id (frames_asked reps.now inline.now block.now) (state tree.old tally.old passes.old (R.log ruler.old)) (state tree.new tally.new passes.new (R.log ruler.new))) }
@@ -190,7 +190,7 @@ fn boxes_below<R: Ruler, L: Ledger>(
 
 /// The box of a node in its seat that has this frame, and the boxes below it, where its parent's border box is at this position,
 /// are put after others. What a node sees that is no subgrid is handed down.
-pub(crate) fn boxes_of<R: Ruler, L: Ledger>(
+pub(crate) fn boxes_of<T: BoxSink, R: Ruler, L: Ledger>(
     alloc: Global,
     tree: &mut Arena<Node>,
     id: NodeId,
@@ -201,7 +201,7 @@ pub(crate) fn boxes_of<R: Ruler, L: Ledger>(
     frame: &Frame,
     x: Along<INLINE>,
     y: Along<BLOCK>,
-    told: &mut Told<(Name, Rect)>,
+    told: &mut T,
     ruler: &mut R,
     tally: &mut Tally,
     passes: &mut Steps<L>,
@@ -215,8 +215,8 @@ pub(crate) fn boxes_of<R: Ruler, L: Ledger>(
     requires fits { is_container (sight_at (bare tree.old.tree) id).label.kind ≡ true → Fits (sight_at (bare tree.old.tree) id) (frames_asked reps.now frame.now.inline frame.now.block) }
     requires level { 1 ≤ level_at (bare tree.old.tree) id }
     requires near { IsNearAt (level_at (bare tree.old.tree) id) x y (frame_of frame.now) }
-    ensures value { OnOk result (told.new ≡ told.old ++ boxes_with (bare tree.old.tree) id reps.now (frame_of frame.now) (x, y)) }
-    ensures near { OnOk result (AreNear told.old → AreNear told.new) }
+    ensures value { OnOk result (T.adds told.old told.new (boxes_with (bare tree.old.tree) id reps.now (frame_of frame.now) (x, y))) }
+    ensures near { OnOk result (AreNear (boxes_with (bare tree.old.tree) id reps.now (frame_of frame.now) (x, y))) }
     ensures right { IsRight tree.new.tree }
     ensures laid { OnOk result (IsChildLaid (bare tree.old.tree) id (frames_asked reps.now frame.now.inline frame.now.block) (state tree.old tally.old passes.old (R.log ruler.old)) (state tree.new tally.new passes.new (R.log ruler.new))) }
     ensures part { OnErr result (IsChildPart (bare tree.old.tree) id (frames_asked reps.now frame.now.inline frame.now.block) (state tree.old tally.old passes.old (R.log ruler.old)) (state tree.new tally.new passes.new (R.log ruler.new))) }
@@ -230,7 +230,7 @@ pub(crate) fn boxes_of<R: Ruler, L: Ledger>(
     let rect = moved_by(x, y, &frame.rect);
     let x = rect.x;
     let y = rect.y;
-    tell(told, &node.name, rect)?;
+    told.take(&node.name, rect)?;
     if !container {
         return Ok(());
     }

@@ -10,7 +10,7 @@ use crate::pages::has_links;
 use crate::trees::{node_on, tree_of_text};
 use Asked::{Columns, Frames, Height, Rows, Widths};
 use block_sizes::{block_of, lend_rows};
-use box_layout::{frames_of, walk_boxes};
+use box_layout::{BoxList, frames_of, walk_boxes};
 use inline_sizes::{inline_of, lend_columns};
 use layout_cache::Given;
 use lunit::{Lu, Steps};
@@ -391,8 +391,11 @@ fn walks<L: Ledger>(
     let (width, height) = (Lu::of(19200), Lu::of(12800));
     let mut ruler = WordRuler::new();
     let mut tally = Tally::new();
-    let boxes = walk_boxes(alloc, tree, width, height, &mut ruler, &mut tally, passes)?;
-    Ok(are_boxes(boxes.as_slice(), wants))
+    let mut list = BoxList::new(alloc);
+    walk_boxes(
+        alloc, tree, width, height, &mut list, &mut ruler, &mut tally, passes,
+    )?;
+    Ok(are_boxes(&list.boxes, wants))
 }
 
 fn is_walked<L: Ledger>(

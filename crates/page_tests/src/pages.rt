@@ -6,6 +6,7 @@ ghost use Rattle.placing.specs.Nodes.{bare, sight_at, IsLive};
 ghost use Rattle.placing.specs.Seats.{HasGrid};
 ghost use Rattle.page_tests.specs.Ready.{IsReady};
 
+use box_layout::BoxList;
 use doc_text::read_doc;
 use lunit::{Name, Rect, Sequence, Steps};
 use node_arena::{Arena, NodeId};
@@ -83,7 +84,9 @@ pub(crate) fn laid_out<R: Ruler, L: Ledger>(
     requires { IsReady page.old }
     ensures { IsReady page.new }
 {
-    Ok(page.lay_out(ruler, tally, passes)?)
+    let mut list = BoxList::new(page.alloc());
+    page.lay_out(&mut list, ruler, tally, passes)?;
+    Ok(Sequence::from_vec(list.boxes))
 }
 
 #[tactic(auto, using(crate::proofs::Readied::live_named))]

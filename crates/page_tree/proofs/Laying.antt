@@ -1,6 +1,6 @@
 -- The labels of a page's nodes are those that the definitions compute from the declared ones, and so its boxes are the document's.
-use Rattle.std.proofs.Common.{◌≡◌, ℤ, refl, sym, ap, ◌∙◌, arith}
-use Rattle.std.specs.Prelude.{List, Result, Ok, Err, IfOk}
+use Rattle.std.proofs.Common.{◌≡◌, ℤ, refl, sym, ap, subst, ◌∙◌, arith}
+use Rattle.std.specs.Prelude.{List, Result, OnOk}
 use Rattle.plain_tree.specs.Trees.{leafless, tree, count_of, map_trees}
 use Rattle.node_arena.specs.declared.number.NodeId.{NodeId}
 use Rattle.node_arena.specs.Numbers.{mapped}
@@ -43,6 +43,7 @@ page_boxes h p = at h.nodes.tree p.rooted p.styled
     at (tree x below after) e s =
         λ i. boxes h.width h.height (label_computed (root_font x.1.declared) (root_font x.1.declared) x.0 x.1 s.0 i) (trees_computed (root_font x.1.declared) (root_font x.1.declared) below s.1 i)
 
-pub boxes_told : {E : Type 0} (r : Result (List Box) E) (inside now : Held) → inside ≡ now → bare_boxes inside.width inside.height (bare inside.nodes.tree) ≡ boxes_of (document_of inside) → IfOk r (λ told. told ≡ bare_boxes inside.width inside.height (bare inside.nodes.tree)) → IfOk r (λ told. told ≡ boxes_of (document_of now))
-boxes_told (Ok told) inside now same is e = e ∙ is ∙ ap (λ (h : Held). boxes_of (document_of h)) same
-boxes_told (Err error) inside now same is e = e
+-- what holds of the boxes of the bare tree holds of those of the document
+pub boxes_told : {T E : Type 0} (P : List Box → Type 0) (r : Result T E) (inside now : Held) → inside ≡ now → bare_boxes inside.width inside.height (bare inside.nodes.tree) ≡ boxes_of (document_of inside)
+    → OnOk r (P (bare_boxes inside.width inside.height (bare inside.nodes.tree))) → OnOk r (P (boxes_of (document_of now)))
+boxes_told P r inside now same is = subst (λ (boxes : List Box). OnOk r (P boxes)) (is ∙ ap (λ (h : Held). boxes_of (document_of h)) same)

@@ -32,8 +32,9 @@ use crate::laws::valid_documents_are_readable;
 use crate::node::{made, node_kind};
 use crate::register::Register;
 use crate::restyle::{fonts_with, styles_below, styles_under};
+use box_layout::BoxSink;
 use doc_text::{Doc, MAX_CHILDREN, Plain, node_limit};
-use lunit::{Copied, Lu, Name, NoMemory, Rect, Sequence, Steps};
+use lunit::{Copied, Lu, Name, NoMemory, Steps};
 use node_arena::{Arena, NodeId};
 use outside::{Ruler, Tally};
 use placing::{Node, NodeKind};
@@ -219,20 +220,21 @@ impl Page {
         Ok(())
     }
 
-    /// The boxes of the document in its viewport, each with the name of its node, in document order, in units of 1/64 px (CSS
+    /// Hands over the boxes of the document in its viewport, each with the name of its node, in document order, in units of 1/64 px (CSS
     /// Grid 2, section 6; CSS Flexbox 1, section 9). Kept answers are taken, and what is found is kept; each of both is right.
     ///
     /// `NoMemory` where memory is wanting; what was kept by then is right, and the document is the same.
-    pub fn lay_out<R: Ruler, L: Ledger>(
+    pub fn lay_out<T: BoxSink, R: Ruler, L: Ledger>(
         &mut self,
+        told: &mut T,
         ruler: &mut R,
         tally: &mut Tally,
         passes: &mut Steps<L>,
-    ) -> Result<Sequence<(Name, Rect)>, NoMemory>
+    ) -> Result<(), NoMemory>
         requires valid { IsValid (document_of self.old) }
         requires right { IsRight self.old.nodes.tree }
-        ensures boxes { IfOk result (λ told. told ≡ boxes_of (document_of self.old)) }
-        ensures near { IfOk result AreNear }
+        ensures boxes { OnOk result (T.adds told.old told.new (boxes_of (document_of self.old))) }
+        ensures near { OnOk result (AreNear (boxes_of (document_of self.old))) }
         ensures document { document_of self.new ≡ document_of self.old }
         ensures bare { bare self.new.nodes.tree ≡ bare self.old.nodes.tree }
         ensures right { IsRight self.new.nodes.tree }
@@ -244,8 +246,15 @@ impl Page {
     {
         let _ = self.stands();
         valid_documents_are_readable(self);
-        self.nodes
-            .lay_out(self.alloc, self.width, self.height, ruler, tally, passes)
+        self.nodes.lay_out(
+            self.alloc,
+            self.width,
+            self.height,
+            told,
+            ruler,
+            tally,
+            passes,
+        )
     }
 
     /// Lets the answers of these nodes go. Takes no memory.
@@ -265,7 +274,7 @@ impl Page {
     }
 
     /// Where memory is taken.
-    pub(crate) fn alloc(&self) -> Global {
+    pub fn alloc(&self) -> Global {
         self.alloc
     }
 

@@ -21,9 +21,9 @@ ghost use Rattle.page_tree.specs.Restyled.{with_styles};
 
 use crate::children::take_names;
 use crate::restyle::write_all;
-use box_layout::walk_boxes;
+use box_layout::{BoxSink, walk_boxes};
 use layout_cache::drop_reached;
-use lunit::{Lu, Name, NoMemory, Rect, Sequence, Steps};
+use lunit::{Lu, Name, NoMemory, Sequence, Steps};
 use node_arena::{Arena, NodeId};
 use outside::{Ruler, Tally};
 use placing::{Node, drop_bases};
@@ -166,20 +166,22 @@ impl Register {
         }
     }
 
-    /// The boxes of all nodes in a viewport of this size, in document order. What is kept is taken, and what is found is kept.
-    pub(crate) fn lay_out<R: Ruler, L: Ledger>(
+    /// Hands over the boxes of all nodes in a viewport of this size, in document order. What is kept is taken, and what is found is
+    /// kept.
+    pub(crate) fn lay_out<T: BoxSink, R: Ruler, L: Ledger>(
         &mut self,
         alloc: Global,
         width: Lu,
         height: Lu,
+        told: &mut T,
         ruler: &mut R,
         tally: &mut Tally,
         passes: &mut Steps<L>,
-    ) -> Result<Sequence<(Name, Rect)>, NoMemory>
+    ) -> Result<(), NoMemory>
         requires right { IsRight self.old.tree }
         requires readable { AreReadable (bare self.old.tree) }
-        ensures value { IfOk result (λ told. told ≡ bare_boxes width height (bare self.old.tree)) }
-        ensures near { IfOk result AreNear }
+        ensures value { OnOk result (T.adds told.old told.new (bare_boxes width height (bare self.old.tree))) }
+        ensures near { OnOk result (AreNear (bare_boxes width height (bare self.old.tree))) }
         ensures bare { bare self.new.tree ≡ bare self.old.tree }
         ensures right { IsRight self.new.tree }
         ensures laid { OnOk result (Walk (IsAsked (bare self.old.tree) width height) 0 [] (state self.old tally.old passes.old (R.log ruler.old)) (state self.new tally.new passes.new (R.log ruler.new))) }
@@ -188,7 +190,16 @@ impl Register {
         ensures leaves { OnOk result (AreMeasured (bare self.old.tree) width height (state self.old tally.old passes.old (R.log ruler.old)) (state self.new tally.new passes.new (R.log ruler.new))) }
         ensures quiet { IsAllKept (bare self.old.tree) width height (state self.old tally.old passes.old (R.log ruler.old)) → state self.new tally.new passes.new (R.log ruler.new) ≡ state self.old tally.old passes.old (R.log ruler.old) }
     {
-        walk_boxes(alloc, &mut self.tree, width, height, ruler, tally, passes)
+        walk_boxes(
+            alloc,
+            &mut self.tree,
+            width,
+            height,
+            told,
+            ruler,
+            tally,
+            passes,
+        )
     }
 
     /// Lets the answers of these nodes go, and passes over a number that names no node. Takes no memory.

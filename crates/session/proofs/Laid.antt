@@ -9,7 +9,7 @@ use Rattle.placing.specs.Walks.{rising, state}
 use Rattle.placing.proofs.Walks.{walk_none}
 use Rattle.page_tree.specs.Pages.{Held}
 use Rattle.session.specs.Boxes.{boxes_of}
-use Rattle.session.specs.Printing.{Box, print, counts}
+use Rattle.session.specs.Printing.{box_lines, counts, layout_line, print}
 use Rattle.session.specs.Script.{text_of}
 use Rattle.session.specs.Written.{Prints}
 use Rattle.session.specs.Laying.{Measures, LaysOut, KeepsMore}
@@ -57,10 +57,10 @@ pub laid_front : (a c : Option (List Event)) (k : ℕ) (doc : Doc) (measured : �
 laid_front a c k doc measured p = front_all a c k (Ok doc ∷ []) (laid_logs a c k doc measured p)
 
 -- its text, with its counts where they are wanted
-pub laid_prints : (stats : Bool) (a c : Option (List Event)) (k : ℕ) (doc : Doc) (measured added : ℕ) (boxes : List Box) (old new : List ℕ) → LaysOut k doc a c measured → boxes ≡ boxes_of doc
-    → old ≡ print k boxes → new ≡ old ++ counts stats measured added → Prints stats a c k (Ok doc) new
+pub laid_prints : (stats : Bool) (a c : Option (List Event)) (k : ℕ) (doc : Doc) (measured added : ℕ) (first old new : List ℕ) → LaysOut k doc a c measured → first ≡ layout_line k → old ≡ first ++ box_lines (boxes_of doc)
+    → new ≡ old ++ counts stats measured added → Prints stats a c k (Ok doc) new
 unfolding text_of
-laid_prints stats a c k doc measured added boxes old new p b o n =
+laid_prints stats a c k doc measured added first old new p f o n =
     record {
       told = Begin k ∷ p.events;
       log = p.log;
@@ -70,7 +70,7 @@ laid_prints stats a c k doc measured added boxes old new p b o n =
         each = p.each;
         added = added;
         text =
-            n ∙ ap (λ (x : List ℕ). x ++ counts stats measured added) (o ∙ ap (print k) b)
+            n ∙ ap (λ (x : List ℕ). x ++ counts stats measured added) (o ∙ ap (λ (x : List ℕ). x ++ box_lines (boxes_of doc)) f)
             ∙ ap (λ (m : ℕ). print k (boxes_of doc) ++ counts stats m added) p.count;
       };
     }

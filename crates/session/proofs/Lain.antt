@@ -1,6 +1,6 @@
 -- What a layout of a held document measures and keeps.
 use Rattle.std.proofs.Common.{◌≡◌, refl, sym, subst, ℕ, append-nil, Bool, true, false, List, [], ◌∷◌, ◌++◌, Option, Result, Ok, Err, ◌⊎◌, inl, inr, ℤ, pos, ◌≤◌, ◌^◌, ◌≤ℤ◌, arith}
-use Rattle.std.specs.Prelude.{◌-◌, ◌&&◌, not, IfOk, OnOk, OnErr, neg_ℤ, unsigned_abs}
+use Rattle.std.specs.Prelude.{◌-◌, ◌&&◌, not, OnOk, OnErr, neg_ℤ, unsigned_abs}
 use Rattle.std.proofs.lemmas.Int.{ints}
 use Rattle.std.specs.List.{All}
 use Rattle.node_arena.specs.declared.number.NodeId.{NodeId}
@@ -120,13 +120,13 @@ each_near [] p = tt
 each_near (b ∷ boxes) p =
     (record { x = near_abs b.1.x p.0.x; y = near_abs b.1.y p.0.y; width = near_abs b.1.width p.0.width; height = near_abs b.1.height p.0.height }, each_near boxes p.1)
 
-pub printable : {E : Type 0} (r : Result (List Box) E) → IfOk r AreNear → IfOk r (λ boxes. All IsPrintableBox boxes)
-printable (Ok boxes) p = all_each IsPrintableBox boxes (each_near boxes p)
-printable (Err e) p = tt
+pub printable : {T E : Type 0} (r : Result T E) (boxes : List Box) → OnOk r (AreNear boxes) → OnOk r (All IsPrintableBox boxes)
+printable (Ok x) boxes p = all_each IsPrintableBox boxes (each_near boxes p)
+printable (Err e) boxes p = tt
 
 -- ---- the boxes
 
-pub hidden : {E : Type 0} (r : Result (List Box) E) (doc : Doc) → IfOk r (λ boxes. boxes ≡ defined.boxes_of doc) → IfOk r (λ boxes. boxes ≡ boxes_of doc)
+-- what holds of them as they are defined
+pub hidden : {T E : Type 0} (P : List Box → Type 0) (r : Result T E) (doc : Doc) → OnOk r (P (defined.boxes_of doc)) → OnOk r (P (boxes_of doc))
 unfolding boxes_of
-hidden (Ok boxes) doc p = p
-hidden (Err e) doc p = tt
+hidden P r doc p = p

@@ -19,6 +19,7 @@ pub mod Words
 pub mod FaultNames
 pub mod Script
 pub mod ScriptExamples
+pub mod BoxLines
 pub mod Logs
 pub mod Written
 pub mod Laying

@@ -18,7 +18,7 @@ ghost use Rattle.session.specs.FaultNames.{fault_name};
 
 use crate::engine::Engine;
 use crate::faults::fault_name;
-use crate::print::{print_boxes, print_refusal};
+use crate::print::{BoxText, print_refusal};
 use crate::stats::append_counts;
 use doc_text::{ReadError, read_edit};
 use lunit::{NoMemory, Steps};
@@ -58,9 +58,10 @@ pub(crate) fn layout_text<R: Ruler, L: Ledger>(
     ensures replies { (touches : Touches) → IsEmptied (is_new touches k) engine.old.page → IfOk result (λ text. HasReply stats touches (R.log ruler.old) (R.log ruler.new) passes.old passes.new k (Ok (doc_of engine.old)) text.items) }
     ensures spares { (touches : Touches) (before : Option (List Event)) → SparesDue touches before (R.log ruler.old) k engine.old.page → SparesAfter touches before (R.log ruler.new) engine.new.page result }
 {
-    let layout = engine.layout(k, ruler, passes)?;
-    let mut text = print_boxes(alloc, k, layout.boxes.as_slice())?;
-    append_counts(&mut text, stats, layout.measured, layout.added)?;
+    let mut boxes = BoxText::new(alloc, k)?;
+    let counted = engine.lay_out(k, &mut boxes, ruler, passes)?;
+    let mut text = boxes.into_text();
+    append_counts(&mut text, stats, counted.measured, counted.added)?;
     Ok(text)
 }
 

@@ -18,6 +18,7 @@ ghost use Rattle.session.specs.Printing.{IsPrintableBox};
 ghost use Rattle.session.specs.Standing.{doc_of};
 
 use crate::laying::lay_out;
+use box_layout::{BoxList, BoxSink};
 use doc_text::{Doc, Edit};
 use lunit::{Name, NoMemory, Rect, Sequence, Steps};
 use outside::{Ruler, Tally};
@@ -54,6 +55,15 @@ pub struct Layout {
     pub measured: u64,
     /// How many answers were kept, or 2^64 - 1 where that is less.
     pub added: u64,
+}
+
+/// What it took to lay a document out.
+#[derive(Clone, Copy, Debug)]
+pub(crate) struct Counted {
+    /// How often a leaf was measured, or 2^64 - 1 where that is less.
+    pub(crate) measured: u64,
+    /// How many answers were kept, or 2^64 - 1 where that is less.
+    pub(crate) added: u64,
 }
 
 impl Engine {
@@ -105,6 +115,37 @@ impl Engine {
     }
 
     #[tactic(auto, using(crate::proofs::Laid::laying, crate::proofs::Walks::walking))]
+    /// Lays the document out as [`Engine::layout`] does, and hands each box over as it is found.
+    pub(crate) fn lay_out<T: BoxSink, R: Ruler, L: Ledger>(
+        &mut self,
+        k: u32,
+        told: &mut T,
+        ruler: &mut R,
+        passes: &mut Steps<L>,
+    ) -> Result<Counted, NoMemory>
+        ensures boxes { OnOk result (T.adds told.old told.new (boxes_of (doc_of self.old))) }
+        ensures printable { OnOk result (All IsPrintableBox (boxes_of (doc_of self.old))) }
+        ensures laid { IfOk result (λ counted. LaysOut k (doc_of self.old) (R.log ruler.old) (R.log ruler.new) counted.measured) }
+        ensures stopped { OnErr result (LogsFront (R.log ruler.old) (R.log ruler.new) k (Ok (doc_of self.old) ∷ [])) }
+        ensures document { doc_of self.new ≡ doc_of self.old }
+        ensures calls { self.new.calls ≡ self.old.calls }
+        ensures kept { IfOk result (λ counted. Keeps self.old.page self.new.page 0 counted.added passes.old passes.new) }
+        ensures kept_some { OnErr result (KeepsMore self.old.page self.new.page) }
+        ensures walks { IfOk result (λ counted. Walks k self.old.page self.new.page (R.log ruler.old) (R.log ruler.new) counted.measured counted.added passes.old passes.new) }
+        ensures paths { OnOk result (KeepsPath self.old.page self.new.page) }
+        ensures quiet { KeepsAll self.old.page → IfOk result (λ counted. IsQuiet k self.old.page self.new.page (R.log ruler.old) (R.log ruler.new) counted.measured counted.added passes.old passes.new) }
+        ensures spares { (touches : Touches) (before : Option (List Event)) → SparesDue touches before (R.log ruler.old) k self.old.page → SparesAfter touches before (R.log ruler.new) self.new.page result }
+    {
+        let page = &mut self.page;
+        ruler.begin(k)?;
+        let mut tally = Tally::new();
+        lay_out(page, told, ruler, &mut tally, passes)?;
+        Ok(Counted {
+            measured: tally.measured,
+            added: tally.added,
+        })
+    }
+
     /// Lays the document out: the ruler is told that the layout with the number `k` begins, and then measures leaves. Or
     /// `NoMemory`; then a front of that was told. The document is as before, and every answer that is kept is right. Each one that
     /// is added answers a question that laying out the document can ask.
@@ -127,14 +168,12 @@ impl Engine {
         ensures quiet { KeepsAll self.old.page → IfOk result (λ layout. IsQuiet k self.old.page self.new.page (R.log ruler.old) (R.log ruler.new) layout.measured layout.added passes.old passes.new) }
         ensures spares { (touches : Touches) (before : Option (List Event)) → SparesDue touches before (R.log ruler.old) k self.old.page → SparesAfter touches before (R.log ruler.new) self.new.page result }
     {
-        let page = &mut self.page;
-        ruler.begin(k)?;
-        let mut tally = Tally::new();
-        let boxes = lay_out(page, ruler, &mut tally, passes)?;
+        let mut list = BoxList::new(self.page.alloc());
+        let counted = self.lay_out(k, &mut list, ruler, passes)?;
         Ok(Layout {
-            boxes,
-            measured: tally.measured,
-            added: tally.added,
+            boxes: Sequence::from_vec(list.boxes),
+            measured: counted.measured,
+            added: counted.added,
         })
     }
 }

@@ -1,6 +1,6 @@
 //! One layout of a held document.
 
-ghost use Rattle.std.specs.Prelude.{◌≡◌, List, Option, IfOk, OnOk, OnErr};
+ghost use Rattle.std.specs.Prelude.{◌≡◌, List, Option, OnOk, OnErr};
 ghost use Rattle.box_layout.specs.Paths.{IsAllKept, IsPathKept};
 ghost use Rattle.placing.specs.Nodes.{bare};
 ghost use Rattle.placing.specs.Walks.{state};
@@ -15,24 +15,26 @@ ghost use Rattle.session.specs.Printing.{IsPrintableBox};
 ghost use Rattle.session.specs.Standing.{IsSound};
 
 use asked_pages::layouts_of_pages;
-use lunit::{Name, NoMemory, Rect, Sequence, Steps};
+use box_layout::BoxSink;
+use lunit::{NoMemory, Steps};
 use outside::{Ruler, Tally};
 use page_tree::Page;
 use std::sync::ledger::Ledger;
 
-/// Lays a document out. Its values stay as they are, and every answer that a node keeps stays right, after want of memory
-/// too.
-pub(crate) fn lay_out<R: Ruler, L: Ledger>(
+/// Lays a document out and hands its boxes over. Its values stay as they are, and every answer that a node keeps stays right, after
+/// want of memory too.
+pub(crate) fn lay_out<T: BoxSink, R: Ruler, L: Ledger>(
     page: &mut Page,
+    told: &mut T,
     ruler: &mut R,
     tally: &mut Tally,
     passes: &mut Steps<L>,
-) -> Result<Sequence<(Name, Rect)>, NoMemory>
+) -> Result<(), NoMemory>
     requires { IsSound page.old }
     ensures sound { IsSound page.new }
     ensures document { document_of page.new ≡ document_of page.old }
-    ensures boxes { IfOk result (λ boxes. boxes ≡ boxes_of (document_of page.old)) }
-    ensures printable { IfOk result (λ boxes. All IsPrintableBox boxes) }
+    ensures boxes { OnOk result (T.adds told.old told.new (boxes_of (document_of page.old))) }
+    ensures printable { OnOk result (All IsPrintableBox (boxes_of (document_of page.old))) }
     ensures measures { Measures (document_of page.old) (R.log ruler.old) (R.log ruler.new) tally.old.measured tally.new.measured }
     ensures keeps { OnOk result (Keeps page.old page.new tally.old.added tally.new.added passes.old passes.new) }
     ensures keeps_some { OnErr result (KeepsMore page.old page.new) }
@@ -43,5 +45,5 @@ pub(crate) fn lay_out<R: Ruler, L: Ledger>(
 {
     let _ = page.tree().root();
     layouts_of_pages(page);
-    page.lay_out(ruler, tally, passes)
+    page.lay_out(told, ruler, tally, passes)
 }

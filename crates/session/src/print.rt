@@ -1,8 +1,10 @@
-ghost use Rattle.std.specs.Prelude.{◌≡◌, ◌++◌, [], OnOk, IfOk, decimal};
+ghost use Rattle.std.specs.Prelude.{◌≡◌, ◌++◌, OnOk, IfOk, decimal};
 ghost use Rattle.std.specs.List.{All};
-ghost use Rattle.session.specs.Printing.{IsPrintableBox, box_line, print, refusal};
+ghost use Rattle.session.specs.BoxLines.{lines_join, lines_none};
+ghost use Rattle.session.specs.Printing.{IsPrintableBox, box_line, box_lines, layout_line, print, refusal};
 
 use crate::box_text::{ROOM, put_box};
+use box_layout::BoxSink;
 use itoa::Buffer;
 use lunit::{Name, NoMemory, Rect};
 use std::alloc::Global;
@@ -38,14 +40,54 @@ fn append_box(
 /// How many bytes to make room for at first for the line of a box.
 const USUAL_LINE: usize = 32;
 
-/// No text, with room for the lines of so many boxes of a usual length, so that it is not moved while it grows; where there is no such
-/// room it grows as they come.
-fn text_for(alloc: Global, boxes: usize) -> Vec<u8>
-    ensures { result.items ≡ [] }
-{
-    match Vec::with_capacity(alloc, boxes.saturating_mul(USUAL_LINE)) {
-        Ok(text) => text,
-        Err(_) => Vec::new(alloc),
+/// The text of a layout, to which the line of each box is added as the box comes.
+#[derive(Drop)]
+pub(crate) struct BoxText {
+    /// What is written so far.
+    pub(crate) text: Vec<u8>,
+    /// Where a line is made.
+    room: [u8; ROOM],
+}
+
+impl BoxText {
+    /// The first line of the layout with the number k. Or `NoMemory`.
+    pub(crate) fn new(alloc: Global, k: u32) -> Result<BoxText, NoMemory>
+        ensures { IfOk result (λ made. made.text.items ≡ layout_line k) }
+    {
+        let mut text = Vec::new(alloc);
+        append(&mut text, b"layout ")?;
+        append_number(&mut text, k)?;
+        append(&mut text, b"\n")?;
+        Ok(BoxText {
+            text,
+            room: [0; ROOM],
+        })
+    }
+
+    /// The text. Takes no memory.
+    pub(crate) fn into_text(self) -> Vec<u8>
+        ensures { result ≡ self.text }
+    {
+        let BoxText { text, .. } = self;
+        text
+    }
+}
+
+impl BoxSink for BoxText {
+    ghost adds = { λ a b more. b.text.items ≡ a.text.items ++ box_lines more };
+
+    ghost adds_none = { λ a. lines_none a.text.items };
+
+    ghost adds_both = { λ a b c x y first second. lines_join a.text.items b.text.items c.text.items x y first second };
+
+    // Room for lines of a usual length, so that the text is not moved while it grows.
+    fn make_room(&mut self, count: usize) {
+        let _ = self.text.reserve(count.saturating_mul(USUAL_LINE));
+    }
+
+    #[inline(always)]
+    fn take(&mut self, name: &Name, rect: Rect) -> Result<(), NoMemory> {
+        append_box(&mut self.text, &mut self.room, name, rect)
     }
 }
 
@@ -55,15 +97,12 @@ pub fn print_boxes(alloc: Global, k: u32, boxes: &[(Name, Rect)]) -> Result<Vec<
     requires { All IsPrintableBox boxes.now }
     ensures { IfOk result (λ text. text.items ≡ print k boxes.now) }
 {
-    let mut out = text_for(alloc, boxes.len());
-    append(&mut out, b"layout ")?;
-    append_number(&mut out, k)?;
-    append(&mut out, b"\n")?;
-    let mut room = [0; ROOM];
+    let mut out = BoxText::new(alloc, k)?;
+    out.make_room(boxes.len());
     for (name, rect) in boxes {
-        append_box(&mut out, &mut room, name, *rect)?;
+        out.take(name, *rect)?;
     }
-    Ok(out)
+    Ok(out.into_text())
 }
 
 /// The line of a refusal: `refused k L:C name` and a line feed, with the place and the name of the fault. Or `NoMemory`.

@@ -6,6 +6,7 @@ ghost use Rattle.doc_text.specs.Valid.{AreShort};
 ghost use Rattle.session_tests.specs.Ready.{IsReady};
 
 use Inline::{Halves, Width};
+use box_layout::BoxList;
 use doc_text::{Edit, Named, read_doc};
 use layout_cache::{Ask, Counts, Given, Query, SharedTracks};
 use lunit::{Lu, Name, NoMemory, Sequence, Steps};
@@ -219,7 +220,8 @@ fn page(alloc: Global) -> Result<Page, Fail>
 /// The page after its first layout.
 fn laid_out<L: Ledger>(alloc: Global, passes: &mut Steps<L>) -> Result<Page, Fail> {
     let mut page = page(alloc)?;
-    page.lay_out(&mut WordRuler::new(), &mut Tally::new(), passes)?;
+    let mut list = BoxList::new(alloc);
+    page.lay_out(&mut list, &mut WordRuler::new(), &mut Tally::new(), passes)?;
     Ok(page)
 }
 

@@ -4,7 +4,7 @@ use Rattle.placing.specs.Nodes.{BareTrees, bare, level_at, sight_at}
 use Rattle.placing.specs.Walks.{state}
 use Rattle.placing.proofs.Leaves.{on_err}
 use Rattle.box_layout.specs.Asking.{frames_asked}
-use Rattle.box_layout.specs.BoxesSeen.{IsNearAt}
+use Rattle.box_layout.specs.BoxesSeen.{AreNear, IsNearAt}
 use Rattle.tree_rules.specs.Queries.{is_container}
 use Rattle.box_layout.specs.LeafHeights.{MeasuresBelow}
 use Rattle.box_layout.specs.Paths.{AreKeptBelow, IsAllKept, IsChildLaid, IsChildPart}
@@ -41,8 +41,15 @@ returns-in_err-boxes_of-clause-quiet g c =
 
 pub returns-clause-value : goal.returns-clause-value
 returns-clause-value g c =
-    c.into_sequence.ensures
-    ∙ value_all (bare c.args.tree.now.tree) (bare c.root_frame.new.tree.tree) c.root-id.result c.args.width c.args.height [] (frame_of c.in_ok-frame.frame) c.of-x.result c.of-y.result c.with_room-told.result c.boxes_of.new.told c.root_frame.ensures.bare c.root-id.ensures.root c.root-id.ensures.top refl c.of-x.ensures c.of-y.ensures c.with_room-told.ensures c.in_ok-frame.ensures.value c.in_ok-boxes_of.ensures.value
+    subst (g.T.BoxSink.adds c.args.told.now c.boxes_of.new.told)
+    (value_all (bare c.args.tree.now.tree) (bare c.root_frame.new.tree.tree) c.root-id.result c.args.width c.args.height [] (frame_of c.in_ok-frame.frame) c.of-x.result c.of-y.result [] _ c.root_frame.ensures.bare c.root-id.ensures.root c.root-id.ensures.top refl c.of-x.ensures c.of-y.ensures refl c.in_ok-frame.ensures.value refl)
+    (g.met.T.BoxSink.adds_both c.args.told.now c.make_room.new.self c.boxes_of.new.told [] _ c.make_room.ensures c.in_ok-boxes_of.ensures.value)
+
+pub returns-clause-near : goal.returns-clause-near
+returns-clause-near g c =
+    subst AreNear
+    (value_all (bare c.args.tree.now.tree) (bare c.root_frame.new.tree.tree) c.root-id.result c.args.width c.args.height [] (frame_of c.in_ok-frame.frame) c.of-x.result c.of-y.result [] _ c.root_frame.ensures.bare c.root-id.ensures.root c.root-id.ensures.top refl c.of-x.ensures c.of-y.ensures refl c.in_ok-frame.ensures.value refl)
+    c.in_ok-boxes_of.ensures.near
 
 pub returns-clause-bare : goal.returns-clause-bare
 returns-clause-bare g c = child_same (bare c.root_frame.new.tree.tree) c.root-id.result (frames_asked [] c.in_ok-frame.frame.inline c.in_ok-frame.frame.block) (state c.root_frame.new.tree c.root_frame.new.tally c.root_frame.new.passes (g.R.Ruler.log c.root_frame.new.ruler)) (state c.boxes_of.new.tree c.boxes_of.new.tally c.boxes_of.new.passes (g.R.Ruler.log c.boxes_of.new.ruler)) c.in_ok-boxes_of.ensures.laid ∙ c.root_frame.ensures.bare

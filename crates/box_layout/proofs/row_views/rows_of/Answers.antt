@@ -1,4 +1,4 @@
-use Rattle.std.proofs.Common.{pos, arith}
+use Rattle.std.proofs.Common.{pos}
 use Rattle.std.specs.Prelude.{◌≡◌, ◌≤ℤ◌}
 use Rattle.std.proofs.lemmas.Result.{IfOk-weaker}
 use Rattle.placing.specs.Nodes.{bare, level_at}

@@ -1,4 +1,4 @@
-use Rattle.std.proofs.Common.{rules, arith, refl, sym, ap, subst, ◌≡◌, ◌∙◌, ◌+◌, ◌*◌, ◌<◌, ◌≤◌, ◌++◌, List, true, length, map, inr}
+use Rattle.std.proofs.Common.{rules, arith, refl, sym, ap, subst, ◌≡◌, ◌∙◌, ◌+◌, ◌*◌, ◌<◌, ◌≤◌, ◌++◌, ◌∷◌, [], List, true, length, map, inr}
 use Rattle.std.specs.Prelude.{get_or}
 use Rattle.std.proofs.lemmas.Bool.{false≢true}
 use Rattle.std.proofs.lemmas.List.{length-map}
@@ -16,7 +16,7 @@ use Rattle.tree_rules.specs.Answers.{Pair}
 use Rattle.tree_rules.specs.Queries.{Fits, is_container}
 use Rattle.box_layout.specs.Asking.{frames_asked}
 use Rattle.box_layout.specs.Beneath.{AreSeats, AreTelling, HasPairs, IsSeatTo, above_to, pairs_to}
-use Rattle.box_layout.specs.BoxesSeen.{AreNear, IsNearAt, frames_seen, pairs_seen, reach}
+use Rattle.box_layout.specs.BoxesSeen.{AreNear, IsNearAt, boxes_seen, boxes_with, frames_seen, pairs_seen, reach}
 use Rattle.box_layout.specs.LeafHeights.{MeasuresBelow}
 use Rattle.box_layout.specs.Paths.{AreKeptBelow, IsChildLaid, IsChildPart, its_own}
 use Rattle.box_layout.specs.Ranges.{IsWithin}
@@ -28,7 +28,7 @@ use Rattle.box_layout.proofs.Lower.{tell_seen}
 use Rattle.box_layout.proofs.Seating.{number_there}
 use Rattle.box_layout.proofs.LaidWalks.{laid_first, part_first, part_laid}
 use Rattle.box_layout.proofs.LeafSteps.{absent_next, all_absent, all_measured, measured_next, none_measured, own_measured, untold}
-use Rattle.box_layout.proofs.NearBoxes.{given_spread, long, stand_seen}
+use Rattle.box_layout.proofs.NearBoxes.{given_spread, long, near_both, stand_seen}
 use Rattle.box_layout.proofs.walk.+boxes.Goals as goal
 
 -- ---- one node
@@ -41,12 +41,11 @@ child_boxes-moved_by-rect-requires-clause-y g t c = long (level_at (bare c.args.
 
 pub child_boxes-returns-then-not-container-clause-value : goal.child_boxes-returns-then-not-container-clause-value
 child_boxes-returns-then-not-container-clause-value g t c =
-    leaf_told (bare c.args.tree.now.tree) c.args.id (pairs_to c.args.seats.now (frame_of c.args.frame.now)) (frame_of c.args.frame.now) (c.args.x, c.args.y) c.args.told.now c.tell.new.told c.node_at-node.result.now.name c.moved_by-rect.result
-    (kind_is c.node_at-node.result.now.kind (sight_at (bare c.args.tree.now.tree) c.args.id).label.kind c.is_container-container.result c.node_at-node.ensures.kind c.is_container-container.ensures ∙ c.if-not-container.true) c.in_ok-tell.ensures c.node_at-node.ensures.name c.moved_by-rect.ensures
+    subst (g.T.BoxSink.adds c.args.told.now c.take.new.self) (leaf_told (bare c.args.tree.now.tree) c.args.id (pairs_to c.args.seats.now (frame_of c.args.frame.now)) (frame_of c.args.frame.now) (c.args.x, c.args.y) c.node_at-node.result.now.name c.moved_by-rect.result (kind_is c.node_at-node.result.now.kind (sight_at (bare c.args.tree.now.tree) c.args.id).label.kind c.is_container-container.result c.node_at-node.ensures.kind c.is_container-container.ensures ∙ c.if-not-container.true) c.node_at-node.ensures.name c.moved_by-rect.ensures) c.in_ok-take.ensures
 
 pub child_boxes-returns-then-not-container-clause-near : goal.child_boxes-returns-then-not-container-clause-near
 child_boxes-returns-then-not-container-clause-near g t c =
-    near_told (level_at (bare c.args.tree.now.tree) c.args.id) c.args.x c.args.y (frame_of c.args.frame.now) c.args.told.now c.tell.new.told c.node_at-node.result.now.name c.moved_by-rect.result c.in_ok-tell.ensures c.moved_by-rect.ensures c.requires.near
+    subst AreNear (leaf_told (bare c.args.tree.now.tree) c.args.id (pairs_to c.args.seats.now (frame_of c.args.frame.now)) (frame_of c.args.frame.now) (c.args.x, c.args.y) c.node_at-node.result.now.name c.moved_by-rect.result (kind_is c.node_at-node.result.now.kind (sight_at (bare c.args.tree.now.tree) c.args.id).label.kind c.is_container-container.result c.node_at-node.ensures.kind c.is_container-container.ensures ∙ c.if-not-container.true) c.node_at-node.ensures.name c.moved_by-rect.ensures) ((near_told (level_at (bare c.args.tree.now.tree) c.args.id) c.args.x c.args.y (frame_of c.args.frame.now) c.moved_by-rect.result c.moved_by-rect.ensures c.requires.near), tt)
 
 pub child_boxes-boxes_below-requires : goal.child_boxes-boxes_below-requires
 child_boxes-boxes_below-requires g t c =
@@ -65,14 +64,14 @@ child_boxes-boxes_below-requires g t c =
 pub child_boxes-returns-clause-near : goal.child_boxes-returns-clause-near
 child_boxes-returns-clause-near g t c =
     ok_then c.boxes_below.result _ _
-    (λ (more : AreNear c.tell.new.told → AreNear c.boxes_below.new.told) (all : AreNear c.args.told.now).
-    more (near_told (level_at (bare c.args.tree.now.tree) c.args.id) c.args.x c.args.y (frame_of c.args.frame.now) c.args.told.now c.tell.new.told c.node_at-node.result.now.name c.moved_by-rect.result c.in_ok-tell.ensures c.moved_by-rect.ensures c.requires.near all))
+    (λ more. subst AreNear (below_told (bare c.args.tree.now.tree) c.args.id c.pairs_for.result.now (pairs_to c.args.seats.now (frame_of c.args.frame.now)) (to_pairs c.args.seats.now (frame_of c.args.frame.now) c.is_lower-lower.result c.is_lower-lower.ensures c.pairs_for.result.now c.pairs_for.ensures) (frame_of c.args.frame.now) (c.args.x, c.args.y) c.node_at-node.result.now.name c.moved_by-rect.result c.node_at-node.ensures.name c.moved_by-rect.ensures) ((near_told (level_at (bare c.args.tree.now.tree) c.args.id) c.args.x c.args.y (frame_of c.args.frame.now) c.moved_by-rect.result c.moved_by-rect.ensures c.requires.near), more))
     c.boxes_below.ensures.near
 
 pub child_boxes-returns-clause-value : goal.child_boxes-returns-clause-value
 child_boxes-returns-clause-value g t c =
     ok_then c.boxes_below.result _ _
-    (below_told (bare c.args.tree.now.tree) c.args.id c.pairs_for.result.now (pairs_to c.args.seats.now (frame_of c.args.frame.now)) (to_pairs c.args.seats.now (frame_of c.args.frame.now) c.is_lower-lower.result c.is_lower-lower.ensures c.pairs_for.result.now c.pairs_for.ensures) (frame_of c.args.frame.now) (c.args.x, c.args.y) c.args.told.now c.tell.new.told c.boxes_below.new.told c.node_at-node.result.now.name c.moved_by-rect.result c.in_ok-tell.ensures c.node_at-node.ensures.name c.moved_by-rect.ensures)
+    (λ more. subst (g.T.BoxSink.adds c.args.told.now c.boxes_below.new.told) (below_told (bare c.args.tree.now.tree) c.args.id c.pairs_for.result.now (pairs_to c.args.seats.now (frame_of c.args.frame.now)) (to_pairs c.args.seats.now (frame_of c.args.frame.now) c.is_lower-lower.result c.is_lower-lower.ensures c.pairs_for.result.now c.pairs_for.ensures) (frame_of c.args.frame.now) (c.args.x, c.args.y) c.node_at-node.result.now.name c.moved_by-rect.result c.node_at-node.ensures.name c.moved_by-rect.ensures)
+    (g.met.T.BoxSink.adds_both c.args.told.now c.take.new.self c.boxes_below.new.told ((c.node_at-node.result.now.name, c.moved_by-rect.result) ∷ []) (boxes_seen (bare c.args.tree.now.tree) c.args.id (frames_asked c.pairs_for.result.now c.args.frame.now.inline c.args.frame.now.block) (c.moved_by-rect.result.x, c.moved_by-rect.result.y)) c.in_ok-take.ensures more))
     c.boxes_below.ensures.value
 
 pub child_boxes-returns-clause-laid : goal.child_boxes-returns-clause-laid
@@ -154,7 +153,12 @@ boxes_below-loop-index-init g t c =
       right = c.frames_at.ensures.right;
       same = c.in_ok-frames.ensures.walked.walk.bare_same;
       laid = laid_first c.args.id (frames_asked c.args.reps.now c.args.inline.now c.args.block.now) _ _ c.in_ok-frames.ensures.walked;
-      value = ap (λ l. c.args.told.now ++ l) (sym (boxes_are (bare c.args.tree.now.tree) c.args.id (frames_asked c.args.reps.now c.args.inline.now c.args.block.now) (c.args.x, c.args.y)));
+      value = record {
+        part = [];
+        added = g.met.T.BoxSink.adds_none c.args.told.now;
+        whole = sym (boxes_are (bare c.args.tree.now.tree) c.args.id (frames_asked c.args.reps.now c.args.inline.now c.args.block.now) (c.args.x, c.args.y));
+        near = tt;
+      };
       below = record {
         tree = c.root.ensures.tree;
         seen = frames_told (bare c.args.tree.now.tree) c.args.id c.args.reps.now c.args.inline.now c.args.block.now c.in_ok-frames.frames c.in_ok-frames.ensures.value ∙ ap (map frame_of) (sym c.as_slice-listed.ensures);
@@ -173,7 +177,6 @@ boxes_below-loop-index-init g t c =
       leaves = c.in_ok-frames.ensures.leaves;
       measured = none_measured (bare c.args.tree.now.tree) c.args.id (frames_asked c.args.reps.now c.args.inline.now c.args.block.now) (state c.args.tree.now c.args.tally.now c.args.passes.now (g.R.Ruler.log c.args.ruler.now)) (state c.frames_at.new.tree c.frames_at.new.tally c.frames_at.new.passes (g.R.Ruler.log c.frames_at.new.ruler));
       absent = all_absent (bare c.args.tree.now.tree) c.differ.ensures c.args.id (frames_asked c.args.reps.now c.args.inline.now c.args.block.now) (state c.args.tree.now c.args.tally.now c.args.passes.now (g.R.Ruler.log c.args.ruler.now)) (state c.frames_at.new.tree c.frames_at.new.tally c.frames_at.new.passes (g.R.Ruler.log c.frames_at.new.ruler)) c.in_ok-frames.ensures.walked;
-      near = λ h. h;
       quiet = λ kept. c.frames_at.ensures.found (kept c.args.id (frames_asked c.args.reps.now c.args.inline.now c.args.block.now) (its_own c.args.id (frames_asked c.args.reps.now c.args.inline.now c.args.block.now)));
     }
 
@@ -226,7 +229,12 @@ boxes_below-loop-index-preserved g t c =
       right = c.child_boxes.ensures.right;
       same = child_same (bare c.loop-index.tree.tree) c.child_of_frame-child.result _ _ _ c.in_ok-child_boxes.ensures.laid ∙ c.loop-index.invariant.same;
       laid = laid_next (bare c.args.tree.now.tree) (bare c.loop-index.tree.tree) c.loop-index.invariant.same c.args.id (frames_asked c.args.reps.now c.args.inline.now c.args.block.now) c.args.x c.args.y c.loop-index.index c.child_of_frame-child.result (pairs_to c.in_ok-seats.seats (frame_of c.index-listed-index.result)) (above_to c.in_ok-seats.seats (frame_of c.index-listed-index.result)) (get_or c.in_ok-seats.seats.areas c.loop-index.index c.args.area) c.index-listed-index.result turn (state c.args.tree.now c.args.tally.now c.args.passes.now (g.R.Ruler.log c.args.ruler.now)) (state c.loop-index.tree c.loop-index.tally c.loop-index.passes (g.R.Ruler.log c.loop-index.ruler)) (state c.child_boxes.new.tree c.child_boxes.new.tally c.child_boxes.new.passes (g.R.Ruler.log c.child_boxes.new.ruler)) refl c.loop-index.invariant.laid c.in_ok-child_boxes.ensures.laid;
-      value = value_next (bare c.args.tree.now.tree) (bare c.loop-index.tree.tree) c.loop-index.invariant.same c.args.id (frames_asked c.args.reps.now c.args.inline.now c.args.block.now) c.args.x c.args.y c.loop-index.index c.child_of_frame-child.result (pairs_to c.in_ok-seats.seats (frame_of c.index-listed-index.result)) (above_to c.in_ok-seats.seats (frame_of c.index-listed-index.result)) (get_or c.in_ok-seats.seats.areas c.loop-index.index c.args.area) c.index-listed-index.result turn c.loop-index.told c.child_boxes.new.told _ c.in_ok-child_boxes.ensures.value c.loop-index.invariant.value;
+      value = record {
+        part = c.loop-index.invariant.value.part ++ (boxes_with (bare c.loop-index.tree.tree) c.child_of_frame-child.result (pairs_to c.in_ok-seats.seats (frame_of c.index-listed-index.result)) (frame_of c.index-listed-index.result) (c.args.x, c.args.y));
+        added = g.met.T.BoxSink.adds_both c.args.told.now c.loop-index.told c.child_boxes.new.told c.loop-index.invariant.value.part (boxes_with (bare c.loop-index.tree.tree) c.child_of_frame-child.result (pairs_to c.in_ok-seats.seats (frame_of c.index-listed-index.result)) (frame_of c.index-listed-index.result) (c.args.x, c.args.y)) c.loop-index.invariant.value.added c.in_ok-child_boxes.ensures.value;
+        whole = value_next (bare c.args.tree.now.tree) (bare c.loop-index.tree.tree) c.loop-index.invariant.same c.args.id (frames_asked c.args.reps.now c.args.inline.now c.args.block.now) c.args.x c.args.y c.loop-index.index c.child_of_frame-child.result (pairs_to c.in_ok-seats.seats (frame_of c.index-listed-index.result)) (above_to c.in_ok-seats.seats (frame_of c.index-listed-index.result)) (get_or c.in_ok-seats.seats.areas c.loop-index.index c.args.area) c.index-listed-index.result turn c.loop-index.invariant.value.part (c.loop-index.invariant.value.part ++ (boxes_with (bare c.loop-index.tree.tree) c.child_of_frame-child.result (pairs_to c.in_ok-seats.seats (frame_of c.index-listed-index.result)) (frame_of c.index-listed-index.result) (c.args.x, c.args.y))) _ refl c.loop-index.invariant.value.whole;
+        near = near_both c.loop-index.invariant.value.part (boxes_with (bare c.loop-index.tree.tree) c.child_of_frame-child.result (pairs_to c.in_ok-seats.seats (frame_of c.index-listed-index.result)) (frame_of c.index-listed-index.result) (c.args.x, c.args.y)) c.loop-index.invariant.value.near c.in_ok-child_boxes.ensures.near;
+      };
       below = c.loop-index.invariant.below;
       own = own_next (bare c.args.tree.now.tree) c.differ.ensures c.args.id c.args.reps.now c.args.inline.now c.args.block.now c.args.x c.args.y c.loop-index.index c.child_of_frame-child.result (pairs_to c.in_ok-seats.seats (frame_of c.index-listed-index.result)) (above_to c.in_ok-seats.seats (frame_of c.index-listed-index.result)) (get_or c.in_ok-seats.seats.areas c.loop-index.index c.args.area) c.index-listed-index.result (subst (λ (z : BareTrees). IsTurn z c.args.id (frames_asked c.args.reps.now c.args.inline.now c.args.block.now) c.args.x c.args.y c.loop-index.index c.child_of_frame-child.result (pairs_to c.in_ok-seats.seats (frame_of c.index-listed-index.result)) (above_to c.in_ok-seats.seats (frame_of c.index-listed-index.result)) (get_or c.in_ok-seats.seats.areas c.loop-index.index c.args.area) c.index-listed-index.result) c.loop-index.invariant.same turn) (state c.loop-index.tree c.loop-index.tally c.loop-index.passes (g.R.Ruler.log c.loop-index.ruler)) (state c.child_boxes.new.tree c.child_boxes.new.tally c.child_boxes.new.passes (g.R.Ruler.log c.child_boxes.new.ruler)) (outside_same (bare c.args.tree.now.tree) c.child_of_frame-child.result (frames_asked (pairs_to c.in_ok-seats.seats (frame_of c.index-listed-index.result)) c.index-listed-index.result.inline c.index-listed-index.result.block) (state c.loop-index.tree c.loop-index.tally c.loop-index.passes (g.R.Ruler.log c.loop-index.ruler)) (state c.child_boxes.new.tree c.child_boxes.new.tally c.child_boxes.new.passes (g.R.Ruler.log c.child_boxes.new.ruler)) c.loop-index.invariant.same (subst (λ (z : BareTrees). IsChildLaid z c.child_of_frame-child.result (frames_asked (pairs_to c.in_ok-seats.seats (frame_of c.index-listed-index.result)) c.index-listed-index.result.inline c.index-listed-index.result.block) (state c.loop-index.tree c.loop-index.tally c.loop-index.passes (g.R.Ruler.log c.loop-index.ruler)) (state c.child_boxes.new.tree c.child_boxes.new.tally c.child_boxes.new.passes (g.R.Ruler.log c.child_boxes.new.ruler))) c.loop-index.invariant.same c.in_ok-child_boxes.ensures.laid)) (frames_asked c.args.reps.now c.args.inline.now c.args.block.now) c.loop-index.invariant.own;
       done = done_next (bare c.args.tree.now.tree) c.differ.ensures c.args.id c.args.reps.now c.args.inline.now c.args.block.now c.args.x c.args.y c.loop-index.index c.child_of_frame-child.result (pairs_to c.in_ok-seats.seats (frame_of c.index-listed-index.result)) (above_to c.in_ok-seats.seats (frame_of c.index-listed-index.result)) (get_or c.in_ok-seats.seats.areas c.loop-index.index c.args.area) c.index-listed-index.result (subst (λ (z : BareTrees). IsTurn z c.args.id (frames_asked c.args.reps.now c.args.inline.now c.args.block.now) c.args.x c.args.y c.loop-index.index c.child_of_frame-child.result (pairs_to c.in_ok-seats.seats (frame_of c.index-listed-index.result)) (above_to c.in_ok-seats.seats (frame_of c.index-listed-index.result)) (get_or c.in_ok-seats.seats.areas c.loop-index.index c.args.area) c.index-listed-index.result) c.loop-index.invariant.same turn) (state c.loop-index.tree c.loop-index.tally c.loop-index.passes (g.R.Ruler.log c.loop-index.ruler)) (state c.child_boxes.new.tree c.child_boxes.new.tally c.child_boxes.new.passes (g.R.Ruler.log c.child_boxes.new.ruler)) (outside_same (bare c.args.tree.now.tree) c.child_of_frame-child.result (frames_asked (pairs_to c.in_ok-seats.seats (frame_of c.index-listed-index.result)) c.index-listed-index.result.inline c.index-listed-index.result.block) (state c.loop-index.tree c.loop-index.tally c.loop-index.passes (g.R.Ruler.log c.loop-index.ruler)) (state c.child_boxes.new.tree c.child_boxes.new.tally c.child_boxes.new.passes (g.R.Ruler.log c.child_boxes.new.ruler)) c.loop-index.invariant.same (subst (λ (z : BareTrees). IsChildLaid z c.child_of_frame-child.result (frames_asked (pairs_to c.in_ok-seats.seats (frame_of c.index-listed-index.result)) c.index-listed-index.result.inline c.index-listed-index.result.block) (state c.loop-index.tree c.loop-index.tally c.loop-index.passes (g.R.Ruler.log c.loop-index.ruler)) (state c.child_boxes.new.tree c.child_boxes.new.tally c.child_boxes.new.passes (g.R.Ruler.log c.child_boxes.new.ruler))) c.loop-index.invariant.same c.in_ok-child_boxes.ensures.laid)) c.loop-index.invariant.done
@@ -235,17 +243,18 @@ boxes_below-loop-index-preserved g t c =
       measured = measured_next (bare c.args.tree.now.tree) c.differ.ensures c.args.id c.args.reps.now c.args.inline.now c.args.block.now c.args.x c.args.y c.loop-index.index c.child_of_frame-child.result (pairs_to c.in_ok-seats.seats (frame_of c.index-listed-index.result)) (above_to c.in_ok-seats.seats (frame_of c.index-listed-index.result)) (get_or c.in_ok-seats.seats.areas c.loop-index.index c.args.area) c.index-listed-index.result (subst (λ (z : BareTrees). IsTurn z c.args.id (frames_asked c.args.reps.now c.args.inline.now c.args.block.now) c.args.x c.args.y c.loop-index.index c.child_of_frame-child.result (pairs_to c.in_ok-seats.seats (frame_of c.index-listed-index.result)) (above_to c.in_ok-seats.seats (frame_of c.index-listed-index.result)) (get_or c.in_ok-seats.seats.areas c.loop-index.index c.args.area) c.index-listed-index.result) c.loop-index.invariant.same turn) (state c.args.tree.now c.args.tally.now c.args.passes.now (g.R.Ruler.log c.args.ruler.now)) (state c.loop-index.tree c.loop-index.tally c.loop-index.passes (g.R.Ruler.log c.loop-index.ruler)) (state c.child_boxes.new.tree c.child_boxes.new.tally c.child_boxes.new.passes (g.R.Ruler.log c.child_boxes.new.ruler)) (outside_same (bare c.args.tree.now.tree) c.child_of_frame-child.result (frames_asked (pairs_to c.in_ok-seats.seats (frame_of c.index-listed-index.result)) c.index-listed-index.result.inline c.index-listed-index.result.block) (state c.loop-index.tree c.loop-index.tally c.loop-index.passes (g.R.Ruler.log c.loop-index.ruler)) (state c.child_boxes.new.tree c.child_boxes.new.tally c.child_boxes.new.passes (g.R.Ruler.log c.child_boxes.new.ruler)) c.loop-index.invariant.same (subst (λ (z : BareTrees). IsChildLaid z c.child_of_frame-child.result (frames_asked (pairs_to c.in_ok-seats.seats (frame_of c.index-listed-index.result)) c.index-listed-index.result.inline c.index-listed-index.result.block) (state c.loop-index.tree c.loop-index.tally c.loop-index.passes (g.R.Ruler.log c.loop-index.ruler)) (state c.child_boxes.new.tree c.child_boxes.new.tally c.child_boxes.new.passes (g.R.Ruler.log c.child_boxes.new.ruler))) c.loop-index.invariant.same c.in_ok-child_boxes.ensures.laid)) c.loop-index.invariant.measured c.loop-index.invariant.absent
           (subst (λ (z : BareTrees). is_container (sight_at z c.child_of_frame-child.result).label.kind ≡ true → MeasuresBelow z c.child_of_frame-child.result (frames_asked (pairs_to c.in_ok-seats.seats (frame_of c.index-listed-index.result)) c.index-listed-index.result.inline c.index-listed-index.result.block) (state c.loop-index.tree c.loop-index.tally c.loop-index.passes (g.R.Ruler.log c.loop-index.ruler)) (state c.child_boxes.new.tree c.child_boxes.new.tally c.child_boxes.new.passes (g.R.Ruler.log c.child_boxes.new.ruler))) c.loop-index.invariant.same c.in_ok-child_boxes.ensures.leaves);
       absent = absent_next (bare c.args.tree.now.tree) c.differ.ensures c.args.id c.args.reps.now c.args.inline.now c.args.block.now c.args.x c.args.y c.loop-index.index c.child_of_frame-child.result (pairs_to c.in_ok-seats.seats (frame_of c.index-listed-index.result)) (above_to c.in_ok-seats.seats (frame_of c.index-listed-index.result)) (get_or c.in_ok-seats.seats.areas c.loop-index.index c.args.area) c.index-listed-index.result (subst (λ (z : BareTrees). IsTurn z c.args.id (frames_asked c.args.reps.now c.args.inline.now c.args.block.now) c.args.x c.args.y c.loop-index.index c.child_of_frame-child.result (pairs_to c.in_ok-seats.seats (frame_of c.index-listed-index.result)) (above_to c.in_ok-seats.seats (frame_of c.index-listed-index.result)) (get_or c.in_ok-seats.seats.areas c.loop-index.index c.args.area) c.index-listed-index.result) c.loop-index.invariant.same turn) (state c.args.tree.now c.args.tally.now c.args.passes.now (g.R.Ruler.log c.args.ruler.now)) (state c.loop-index.tree c.loop-index.tally c.loop-index.passes (g.R.Ruler.log c.loop-index.ruler)) (state c.child_boxes.new.tree c.child_boxes.new.tally c.child_boxes.new.passes (g.R.Ruler.log c.child_boxes.new.ruler)) (outside_same (bare c.args.tree.now.tree) c.child_of_frame-child.result (frames_asked (pairs_to c.in_ok-seats.seats (frame_of c.index-listed-index.result)) c.index-listed-index.result.inline c.index-listed-index.result.block) (state c.loop-index.tree c.loop-index.tally c.loop-index.passes (g.R.Ruler.log c.loop-index.ruler)) (state c.child_boxes.new.tree c.child_boxes.new.tally c.child_boxes.new.passes (g.R.Ruler.log c.child_boxes.new.ruler)) c.loop-index.invariant.same (subst (λ (z : BareTrees). IsChildLaid z c.child_of_frame-child.result (frames_asked (pairs_to c.in_ok-seats.seats (frame_of c.index-listed-index.result)) c.index-listed-index.result.inline c.index-listed-index.result.block) (state c.loop-index.tree c.loop-index.tally c.loop-index.passes (g.R.Ruler.log c.loop-index.ruler)) (state c.child_boxes.new.tree c.child_boxes.new.tally c.child_boxes.new.passes (g.R.Ruler.log c.child_boxes.new.ruler))) c.loop-index.invariant.same c.in_ok-child_boxes.ensures.laid)) c.loop-index.invariant.absent;
-      near = λ h. c.in_ok-child_boxes.ensures.near (c.loop-index.invariant.near h);
       quiet = quiet_next (bare c.args.tree.now.tree) (bare c.loop-index.tree.tree) c.loop-index.invariant.same c.args.id (frames_asked c.args.reps.now c.args.inline.now c.args.block.now) c.args.x c.args.y c.loop-index.index c.child_of_frame-child.result (pairs_to c.in_ok-seats.seats (frame_of c.index-listed-index.result)) (above_to c.in_ok-seats.seats (frame_of c.index-listed-index.result)) (get_or c.in_ok-seats.seats.areas c.loop-index.index c.args.area) c.index-listed-index.result turn (state c.args.tree.now c.args.tally.now c.args.passes.now (g.R.Ruler.log c.args.ruler.now)) (state c.loop-index.tree c.loop-index.tally c.loop-index.passes (g.R.Ruler.log c.loop-index.ruler)) (state c.child_boxes.new.tree c.child_boxes.new.tally c.child_boxes.new.passes (g.R.Ruler.log c.child_boxes.new.ruler)) c.loop-index.invariant.quiet c.child_boxes.ensures.quiet;
     }
 
 pub boxes_below-returns-clause-value : goal.boxes_below-returns-clause-value
 boxes_below-returns-clause-value g t c =
     let few : length (frames_seen (bare c.args.tree.now.tree) c.args.id (frames_asked c.args.reps.now c.args.inline.now c.args.block.now)) ≤ c.loop-index.index = omega (arith, ap length c.loop-index.invariant.below.seen, length-map c.as_slice-listed.result.now frame_of, c.loop-index-test.false) in
-    boxes_all (pairs_seen (bare c.args.tree.now.tree) c.args.id (frames_asked c.args.reps.now c.args.inline.now c.args.block.now)) (c.args.x, c.args.y) (kids_at (bare c.args.tree.now.tree) c.args.id) (frames_seen (bare c.args.tree.now.tree) c.args.id (frames_asked c.args.reps.now c.args.inline.now c.args.block.now)) c.loop-index.index c.loop-index.told _ few c.loop-index.invariant.value
+    subst (g.T.BoxSink.adds c.args.told.now c.loop-index.told) (boxes_all (pairs_seen (bare c.args.tree.now.tree) c.args.id (frames_asked c.args.reps.now c.args.inline.now c.args.block.now)) (c.args.x, c.args.y) (kids_at (bare c.args.tree.now.tree) c.args.id) (frames_seen (bare c.args.tree.now.tree) c.args.id (frames_asked c.args.reps.now c.args.inline.now c.args.block.now)) c.loop-index.index c.loop-index.invariant.value.part _ few c.loop-index.invariant.value.whole) c.loop-index.invariant.value.added
 
 pub boxes_below-returns-clause-near : goal.boxes_below-returns-clause-near
-boxes_below-returns-clause-near g t c = c.loop-index.invariant.near
+boxes_below-returns-clause-near g t c =
+    let few : length (frames_seen (bare c.args.tree.now.tree) c.args.id (frames_asked c.args.reps.now c.args.inline.now c.args.block.now)) ≤ c.loop-index.index = omega (arith, ap length c.loop-index.invariant.below.seen, length-map c.as_slice-listed.result.now frame_of, c.loop-index-test.false) in
+    subst AreNear (boxes_all (pairs_seen (bare c.args.tree.now.tree) c.args.id (frames_asked c.args.reps.now c.args.inline.now c.args.block.now)) (c.args.x, c.args.y) (kids_at (bare c.args.tree.now.tree) c.args.id) (frames_seen (bare c.args.tree.now.tree) c.args.id (frames_asked c.args.reps.now c.args.inline.now c.args.block.now)) c.loop-index.index c.loop-index.invariant.value.part _ few c.loop-index.invariant.value.whole) c.loop-index.invariant.value.near
 
 pub boxes_below-returns-clause-right : goal.boxes_below-returns-clause-right
 boxes_below-returns-clause-right g t c = c.loop-index.invariant.right

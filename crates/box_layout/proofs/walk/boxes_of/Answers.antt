@@ -1,14 +1,14 @@
-use Rattle.std.proofs.Common.{rules, sym, subst, ◌≡◌, ◌∙◌, ◌≤◌, true}
+use Rattle.std.proofs.Common.{rules, refl, sym, subst, ◌∷◌, [], ◌≡◌, ◌∙◌, ◌≤◌, true}
 use Rattle.lunit.specs.declared.geometry.Rect.{Rect}
 use Rattle.placing.specs.Kept.{frame_of}
 use Rattle.placing.specs.Nodes.{bare, level_at, sight_at}
 use Rattle.placing.specs.declared.contexts.Above.TheVariants as above
 use Rattle.tree_rules.specs.Queries.{Fits, is_container}
 use Rattle.box_layout.specs.Asking.{frames_asked}
-use Rattle.box_layout.specs.BoxesSeen.{AreNear, reach}
+use Rattle.box_layout.specs.BoxesSeen.{AreNear, boxes_seen, reach}
 use Rattle.box_layout.specs.Ranges.{IsWithin}
 use Rattle.box_layout.specs.Stands.{IsGivenNear}
-use Rattle.box_layout.proofs.BelowSteps.{kind_is, leaf_told, near_told, ok_then}
+use Rattle.box_layout.proofs.BelowSteps.{below_told, kind_is, leaf_told, near_told, ok_then}
 use Rattle.box_layout.proofs.NearBoxes.{long}
 use Rattle.box_layout.proofs.walk.boxes_of.Goals as goal
 
@@ -20,12 +20,11 @@ moved_by-rect-requires-clause-y g c = long (level_at (bare c.args.tree.now.tree)
 
 pub returns-then-not-container-clause-value : goal.returns-then-not-container-clause-value
 returns-then-not-container-clause-value g c =
-    leaf_told (bare c.args.tree.now.tree) c.args.id c.args.reps.now (frame_of c.args.frame.now) (c.args.x, c.args.y) c.args.told.now c.tell.new.told c.node_at-node.result.now.name c.moved_by-rect.result
-    (kind_is c.node_at-node.result.now.kind (sight_at (bare c.args.tree.now.tree) c.args.id).label.kind c.is_container-container.result c.node_at-node.ensures.kind c.is_container-container.ensures ∙ c.if-not-container.true) c.in_ok-tell.ensures c.node_at-node.ensures.name c.moved_by-rect.ensures
+    subst (g.T.BoxSink.adds c.args.told.now c.take.new.self) (leaf_told (bare c.args.tree.now.tree) c.args.id c.args.reps.now (frame_of c.args.frame.now) (c.args.x, c.args.y) c.node_at-node.result.now.name c.moved_by-rect.result (kind_is c.node_at-node.result.now.kind (sight_at (bare c.args.tree.now.tree) c.args.id).label.kind c.is_container-container.result c.node_at-node.ensures.kind c.is_container-container.ensures ∙ c.if-not-container.true) c.node_at-node.ensures.name c.moved_by-rect.ensures) c.in_ok-take.ensures
 
 pub returns-then-not-container-clause-near : goal.returns-then-not-container-clause-near
 returns-then-not-container-clause-near g c =
-    near_told (level_at (bare c.args.tree.now.tree) c.args.id) c.args.x c.args.y (frame_of c.args.frame.now) c.args.told.now c.tell.new.told c.node_at-node.result.now.name c.moved_by-rect.result c.in_ok-tell.ensures c.moved_by-rect.ensures c.requires.near
+    subst AreNear (leaf_told (bare c.args.tree.now.tree) c.args.id c.args.reps.now (frame_of c.args.frame.now) (c.args.x, c.args.y) c.node_at-node.result.now.name c.moved_by-rect.result (kind_is c.node_at-node.result.now.kind (sight_at (bare c.args.tree.now.tree) c.args.id).label.kind c.is_container-container.result c.node_at-node.ensures.kind c.is_container-container.ensures ∙ c.if-not-container.true) c.node_at-node.ensures.name c.moved_by-rect.ensures) ((near_told (level_at (bare c.args.tree.now.tree) c.args.id) c.args.x c.args.y (frame_of c.args.frame.now) c.moved_by-rect.result c.moved_by-rect.ensures c.requires.near), tt)
 
 pub boxes_below-requires : goal.boxes_below-requires
 boxes_below-requires g c =
@@ -42,6 +41,12 @@ boxes_below-requires g c =
 pub returns-clause-near : goal.returns-clause-near
 returns-clause-near g c =
     ok_then c.boxes_below.result _ _
-    (λ (more : AreNear c.tell.new.told → AreNear c.boxes_below.new.told) (all : AreNear c.args.told.now).
-    more (near_told (level_at (bare c.args.tree.now.tree) c.args.id) c.args.x c.args.y (frame_of c.args.frame.now) c.args.told.now c.tell.new.told c.node_at-node.result.now.name c.moved_by-rect.result c.in_ok-tell.ensures c.moved_by-rect.ensures c.requires.near all))
+    (λ more. subst AreNear (below_told (bare c.args.tree.now.tree) c.args.id c.args.reps.now c.args.reps.now refl (frame_of c.args.frame.now) (c.args.x, c.args.y) c.node_at-node.result.now.name c.moved_by-rect.result c.node_at-node.ensures.name c.moved_by-rect.ensures) ((near_told (level_at (bare c.args.tree.now.tree) c.args.id) c.args.x c.args.y (frame_of c.args.frame.now) c.moved_by-rect.result c.moved_by-rect.ensures c.requires.near), more))
     c.boxes_below.ensures.near
+
+pub returns-clause-value : goal.returns-clause-value
+returns-clause-value g c =
+    ok_then c.boxes_below.result _ _
+    (λ more. subst (g.T.BoxSink.adds c.args.told.now c.boxes_below.new.told) (below_told (bare c.args.tree.now.tree) c.args.id c.args.reps.now c.args.reps.now refl (frame_of c.args.frame.now) (c.args.x, c.args.y) c.node_at-node.result.now.name c.moved_by-rect.result c.node_at-node.ensures.name c.moved_by-rect.ensures)
+    (g.met.T.BoxSink.adds_both c.args.told.now c.take.new.self c.boxes_below.new.told ((c.node_at-node.result.now.name, c.moved_by-rect.result) ∷ []) (boxes_seen (bare c.args.tree.now.tree) c.args.id (frames_asked c.args.reps.now c.args.frame.now.inline c.args.frame.now.block) (c.moved_by-rect.result.x, c.moved_by-rect.result.y)) c.in_ok-take.ensures more))
+    c.boxes_below.ensures.value

@@ -1,17 +1,20 @@
 use Rattle.std.proofs.Common.{◌≡◌, [], ◌∷◌, ap, sym, subst, ◌∙◌}
 use Rattle.node_arena.specs.Numbers.{IsDistinct, top_numbers}
 use Rattle.node_arena.specs.Plain.{Nodes}
+use Rattle.page_tree.specs.Boxes as defined
 use Rattle.page_tree.specs.Pages.{document_of}
 use Rattle.placing.specs.declared.node.Node.{Node}
+use Rattle.std.specs.List.{All}
+use Rattle.session.specs.Printing.{IsPrintableBox}
 use Rattle.session.proofs.Spares.{spares_laid}
 use Rattle.session.proofs.Lain.{measures, keeps, keeps_some, printable, hidden, walks_page}
 use Rattle.session.proofs.laying.lay_out.Goals as goal
 
 pub returns-clause-boxes : goal.returns-clause-boxes
-returns-clause-boxes g c = hidden c.lay_out.result (document_of c.args.page.now) c.lay_out.ensures.boxes
+returns-clause-boxes g c = hidden (g.T.BoxSink.adds c.args.told.now c.lay_out.new.told) c.lay_out.result (document_of c.args.page.now) c.lay_out.ensures.boxes
 
 pub returns-clause-printable : goal.returns-clause-printable
-returns-clause-printable g c = printable c.lay_out.result c.lay_out.ensures.near
+returns-clause-printable g c = hidden (All IsPrintableBox) c.lay_out.result (document_of c.args.page.now) (printable c.lay_out.result (defined.boxes_of (document_of c.args.page.now)) c.lay_out.ensures.near)
 
 pub returns-clause-measures : goal.returns-clause-measures
 returns-clause-measures g c =

@@ -3,4 +3,4 @@ use Rattle.session.specs.Printing.{box_lines, print}
 use Rattle.session.proofs.print.print_boxes.Given as goal
 
 abbrev pub invariant-loop-name : goal.invariant-loop-name
-invariant-loop-name l = l.out.items ++ box_lines (drop l.name-index l.boxes) ≡ print l.k l.boxes
+invariant-loop-name l = l.out.text.items ++ box_lines (drop l.name-index l.boxes) ≡ print l.k l.boxes

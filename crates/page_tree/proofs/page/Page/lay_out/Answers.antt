@@ -1,5 +1,6 @@
 use Rattle.std.specs.Prelude.{OnOk}
 use Rattle.placing.specs.Walks.{state}
+use Rattle.box_layout.specs.BoxesSeen.{AreNear}
 use Rattle.box_layout.specs.LeafHeights.{AreMeasured}
 use Rattle.box_layout.specs.Paths.{IsPathKept}
 use Rattle.std.proofs.Common.{ap, sym, subst, ◌∙◌}
@@ -25,7 +26,12 @@ lay_out-requires-clause-readable g c = subst (λ (h : Held). AreReadable (bare h
 pub returns-clause-boxes : goal.returns-clause-boxes
 returns-clause-boxes g c =
     let held : Held = record { version = c.self.inside.version; width = c.self.inside.width; height = c.self.inside.height; nodes = c.self.inside.nodes } in
-    boxes_told c.lay_out.result held c.args.self.now c.self.view_is (page_boxes held c.self.invariant) c.lay_out.ensures.value
+    boxes_told (g.T.BoxSink.adds c.args.told.now c.lay_out.new.told) c.lay_out.result held c.args.self.now c.self.view_is (page_boxes held c.self.invariant) c.lay_out.ensures.value
+
+pub returns-clause-near : goal.returns-clause-near
+returns-clause-near g c =
+    let held : Held = record { version = c.self.inside.version; width = c.self.inside.width; height = c.self.inside.height; nodes = c.self.inside.nodes } in
+    boxes_told AreNear c.lay_out.result held c.args.self.now c.self.view_is (page_boxes held c.self.invariant) c.lay_out.ensures.near
 
 pub returns-clause-paths : goal.returns-clause-paths
 returns-clause-paths g c =
