@@ -24,6 +24,7 @@ fn append_number(out: &mut Vec<u8>, number: u32) -> Result<(), NoMemory>
     append(out, buffer.format(number).as_bytes())
 }
 
+#[inline(always)]
 /// Adds the line of a box, which is made in the room.
 fn append_box(
     out: &mut Vec<u8>,
