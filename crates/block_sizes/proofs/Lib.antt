@@ -21,5 +21,6 @@ pub mod Seen
 mod SeenAlike
 pub mod Settled
 mod SharedTracks
+mod ToldRows
 mod Widths
 pub mod HeldWide

@@ -1,9 +1,7 @@
 -- The children of a grid in its columns, as the code holds them, one after the other.
-use Rattle.std.proofs.Common.{arith, ◌≡◌, ℕ, zero, suc, ◌+◌, ◌<◌, ◌≤◌, ◌∷◌, ◌++◌, [], List, length, map, drop, refl, sym, ap, ◌∙◌, subst, append_assoc, append-nil, ℤ, Some}
+use Rattle.std.proofs.Common.{arith, ◌≡◌, ℕ, zero, suc, ◌+◌, ◌<◌, ◌≤◌, ◌∷◌, ◌++◌, [], List, length, drop, refl, sym, ap, ◌∙◌, subst, append-nil, ℤ, Some}
 use Rattle.std.specs.Prelude.{get_or}
 use Rattle.std.proofs.lemmas.List.{drop_all, drop_more, length-map}
-use Rattle.inline_sizes.proofs.Grids.{entries_few}
-use Rattle.lunit.specs.declared.item.Item.{Item}
 use Rattle.node_arena.specs.Numbers.{child_at}
 use Rattle.node_arena.specs.declared.number.NodeId.{NodeId}
 use Rattle.part_rules.specs.Lists.{zipped}
@@ -16,7 +14,7 @@ use Rattle.placing.specs.declared.items.ChildArea.{ChildArea}
 use Rattle.tree_rules.specs.Answers.{Pair}
 use Rattle.tree_rules.specs.Contexts as rules
 use Rattle.tree_rules.specs.AskedQueries.{block_query}
-use Rattle.tree_rules.specs.GridSizes.{Entry, Wide, from_first, pairs_for, row_items_of, shares_columns, shares_rows}
+use Rattle.tree_rules.specs.GridSizes.{Entry, Wide, from_first, pairs_for, shares_columns, shares_rows}
 use Rattle.tree_rules.specs.declared.query.Given.{Given}
 use Rattle.tree_rules.specs.declared.query.Query.{Query}
 use Rattle.inline_sizes.specs.Grids.{IsGrid}
@@ -24,9 +22,7 @@ use Rattle.inline_sizes.specs.GridsSeen.{grid_seen}
 use Rattle.placing.specs.declared.wide.GridBase.{GridBase}
 use Rattle.placing.specs.declared.wide.GridParts.{GridParts}
 use Rattle.block_sizes.specs.Children.{inline_of_child}
-use Rattle.block_sizes.specs.Wides.{LeadsDown, asked_of, asks_of, columns_seen, items_from, items_of, items_seen, rows_seen, wide_in, wide_seen, wides_seen}
-use Rattle.placing.specs.Wides.{child_of}
-use Rattle.placing.specs.declared.wide.WideChild.{WideChild}
+use Rattle.block_sizes.specs.Wides.{LeadsDown, asked_of, asks_of, columns_seen, items_from, rows_seen, wide_in, wide_seen, wides_seen}
 
 -- ---- lists
 
@@ -84,9 +80,6 @@ module _ (b : BareTrees) (n : NodeId) (outer : List Pair) (width : Given) (parts
     unfolding wide_seen
     asked_is = λ i. block_query (shares_rows (kid_at b e.child)) (pairs_for (kid_at b e.child) (grid.pairs i)) (wide_is i).inline
 
-    pub items_is : items_seen b n parts.base e (wide_in b n parts.base view e sizes).inline ≡ items_of b n outer width (wide_seen b n outer width (entry_by b e) sizes)
-    items_is = λ i. row_items_of (context_is i).rows (wide_is i).entry (wide_is i).down
-
     -- it comes next
     pub wide_next : (k : ℕ) → drop k (entries_at b n parts.base.placed) ≡ entry_by b e ∷ drop (k + 1) (entries_at b n parts.base.placed) → drop k parts.inlines ≡ sizes ∷ drop (k + 1) parts.inlines
         → drop k (wides_seen b n outer width) ≡ wide_seen b n outer width (entry_by b e) sizes ∷ drop (k + 1) (wides_seen b n outer width)
@@ -96,30 +89,10 @@ module _ (b : BareTrees) (n : NodeId) (outer : List Pair) (width : Given) (parts
         (subst (λ (l : List Entry). drop k l ≡ entry_by b e ∷ drop (k + 1) l) grid.entries h)
         (subst (λ (l : List (ℤ × ℤ)). drop k l ≡ sizes ∷ drop (k + 1) l) grid.inlines s)
 
--- ---- the children so far
+-- ---- all of them
 
-pub child_more : (wides : List Wide) (k : ℕ) (w : Wide) (old new all : List WideChild) → drop k wides ≡ w ∷ drop (k + 1) wides → new ≡ old ++ child_of w ∷ [] → old ++ map child_of (drop k wides) ≡ all → new ++ map child_of (drop (k + 1) wides) ≡ all
-child_more wides k w old new all next grown so_far =
-    ap (λ z. z ++ map child_of (drop (k + 1) wides)) grown ∙ append_assoc old (child_of w ∷ []) (map child_of (drop (k + 1) wides)) ∙ ap (λ l. old ++ map child_of l) (sym next) ∙ so_far
-
-pub items_more : (b : BareTrees) (n : NodeId) (outer : List Pair) (width : Given) (wides : List Wide) (k : ℕ) (w : Wide) (old new all : List Item) → drop k wides ≡ w ∷ drop (k + 1) wides → new ≡ old ++ items_of b n outer width w →
-    old ++ items_from b n outer width (drop k wides) ≡ all → new ++ items_from b n outer width (drop (k + 1) wides) ≡ all
-items_more b n outer width wides k w old new all next grown so_far =
-    ap (λ z. z ++ items_from b n outer width (drop (k + 1) wides)) grown ∙ append_assoc old (items_of b n outer width w) (items_from b n outer width (drop (k + 1) wides))
-    ∙ ap (λ l. old ++ items_from b n outer width l) (sym next) ∙ so_far
-
--- all of them
 pub all_there : {A B : Type 0} (f : List A → List B) (xs : List A) (k : ℕ) (done all : List B) → f [] ≡ [] → length xs ≤ k → done ++ f (drop k xs) ≡ all → done ≡ all
 all_there f xs k done all none end so_far = sym (ap (λ l. done ++ f l) (drop_all k xs end) ∙ ap (λ l. done ++ l) none ∙ append-nil done) ∙ so_far
-
-zipped_few : {A B C : Type 0} (f : A → B → C) (xs : List A) (ys : List B) → length (zipped f xs ys) ≤ length xs
-zipped_few f [] ys = omega arith
-zipped_few f (x ∷ xs) [] = omega arith
-zipped_few f (x ∷ xs) (y ∷ ys) = omega (arith, zipped_few f xs ys)
-
-pub wides_few : (b : BareTrees) (n : NodeId) (outer : List Pair) (width : Given) → length (wides_seen b n outer width) ≤ length (grid_seen b n outer width).entries
-unfolding wides_seen
-wides_few b n outer width = zipped_few _ (grid_seen b n outer width).entries (grid_seen b n outer width).inlines
 
 -- the items of the rows
 pub rows_items : (b : BareTrees) (n : NodeId) (outer : List Pair) (width : Given) → items_from b n outer width (wides_seen b n outer width) ≡ (rows_seen b n outer width).items
@@ -158,22 +131,16 @@ sizes_there b n outer width parts k e rest grid next =
 pub sizes_next : (xs ys : List (ℤ × ℤ)) (k : ℕ) (d x : ℤ × ℤ) → ys ≡ xs → k < length xs → x ≡ get_or ys k d → drop k xs ≡ x ∷ drop (k + 1) xs
 sizes_next xs ys k d x same h is = drop_more xs k d h ∙ ap (λ (z : ℤ × ℤ). z ∷ drop (k + 1) xs) (sym (is ∙ ap (λ (l : List (ℤ × ℤ)). get_or l k d) same))
 
-pub entries_least : (b : BareTrees) (n : NodeId) (outer : List Pair) (width : Given) (parts : GridParts) → IsGrid b n outer width parts → length (wides_seen b n outer width) ≤ length parts.base.placed.areas
-entries_least b n outer width parts grid =
-    omega (arith, wides_few b n outer width, ap length grid.entries, entries_few b n parts.base.placed)
-
 -- ---- one turn, in the middle of a walk
 
 wide_number : (b : BareTrees) (n : NodeId) (outer : List Pair) (width : Given) (e : ChildArea) (sizes : ℤ × ℤ) → e.number ≡ (wide_seen b n outer width (entry_by b e) sizes).entry.number
 unfolding wide_seen
 wide_number b n outer width e sizes = refl
 
--- what the code tells of a child of the same tree is the child that comes next
+-- what the code asks of a child of the same tree is what is asked of the child that comes next
 pub record IsTurn (b d : BareTrees) (n : NodeId) (outer : List Pair) (width : Given) (base : GridBase) (view : View 0) (e : ChildArea) (sizes : ℤ × ℤ) (k : ℕ) : Type 0 where
   pub wide : Wide
   pub next : drop k (wides_seen b n outer width) ≡ wide ∷ drop (k + 1) (wides_seen b n outer width)
-  pub child : child_of (wide_in d n base view e sizes) ≡ child_of wide
-  pub items : items_seen d n base e (wide_in d n base view e sizes).inline ≡ items_of b n outer width wide
   pub asked : asked_of d base e (wide_in d n base view e sizes).inline ≡ asks_of b n outer width wide
   pub number : child_at b n wide.entry.number ≡ Some e.child
 
@@ -183,8 +150,6 @@ turn b d is n outer width parts view e sizes k grid v next there number =
     record {
       wide = wide_seen b n outer width (entry_by b e) sizes;
       next = wide_next b n outer width parts grid view v e sizes k (subst (λ (z : BareTrees). drop k (entries_at z n parts.base.placed) ≡ entry_by z e ∷ drop (k + 1) (entries_at z n parts.base.placed)) is next) there;
-      child = ap (λ (z : BareTrees). child_of (wide_in z n parts.base view e sizes)) is ∙ ap child_of (wide_is b n outer width parts grid view v e sizes);
-      items = ap (λ (z : BareTrees). items_seen z n parts.base e (wide_in z n parts.base view e sizes).inline) is ∙ items_is b n outer width parts grid view v e sizes;
       asked = ap (λ (z : BareTrees). asked_of z parts.base e (wide_in z n parts.base view e sizes).inline) is ∙ asked_is b n outer width parts grid view v e sizes;
       number = ap (child_at b n) (sym (wide_number b n outer width e sizes)) ∙ subst (λ (z : BareTrees). child_at z n e.number ≡ Some e.child) is number;
     }

@@ -2,6 +2,7 @@
 use Rattle.std.specs.Prelude.{ℤ, Bool, Some, if◌then◌else◌}
 use Rattle.lunit.specs.declared.geometry.Span.{Span}
 use Rattle.part_rules.specs.declared.view.View.{View}
+use Rattle.placing.specs.Told.{inline_told}
 use Rattle.part_rules.specs.Views.{area_size, tracks_over}
 use Rattle.style_types.specs.declared.value.Align.{Align}
 use Rattle.tree_rules.specs.declared.query.Given.{Given}
@@ -25,11 +26,7 @@ own_block items x room content =
 
 -- The border box of a child over these columns, and what it is given there.
 abbrev pub inline_of_child : Align → View 0 → Span → Label → Bool → ℤ × ℤ → ℤ × Given
-inline_of_child items columns span x shares sizes =
-    let room = area_size (tracks_over columns.edges span) in
-    let own : ℤ × Given = (own_inline items x room sizes, given_box x.grid.columns (own_inline items x room sizes)) in
-    let shared : ℤ × Given = (subgrid_box x.grid.columns room, given_view (view_in columns span x.grid.columns)) in
-    if shares then shared else own
+inline_of_child items columns span x shares sizes = inline_told items columns span x shares sizes
 
 -- The border box of a child over these rows, and what it is given there.
 abbrev pub block_of_child : Align → View 1 → Span → Label → Bool → ℤ → ℤ × Given

@@ -6,4 +6,5 @@ pub mod Moving
 pub mod Settling
 pub mod Sharing
 pub mod Spans
+pub mod Told
 pub mod Wides

@@ -12,8 +12,8 @@ ghost use Rattle.tree_rules.specs.declared.kind.NodeKind.TheVariants as kind;
 ghost use Rattle.tree_rules.specs.declared.query.Query.{Query};
 ghost use Rattle.block_sizes.specs.Wides.{farthest, IsWide};
 
+use crate::asking::wide_at;
 use crate::queries::kept_wide;
-use crate::walk::wide_at;
 use layout_cache::Given;
 use lunit::{Area, NoMemory, Steps};
 use node_arena::{Arena, NodeId};

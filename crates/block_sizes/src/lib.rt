@@ -4,6 +4,8 @@
 //! block axis, along which the rows lie.
 #![tactic(auto)]
 
+mod again;
+mod asking;
 mod block;
 mod children;
 mod edges;
@@ -18,6 +20,7 @@ mod views;
 mod walk;
 mod wide;
 
+pub use asking::wide_at;
 pub use block::{block_of, lend_rows};
 pub use children::{
     child_block, child_inline, first_start, from_first, given_box, given_view, own_block,
@@ -31,4 +34,4 @@ pub use last_tracks::{LastTracks, ViewParts, box_after};
 pub use laws::{children_of_grids_are_as_defined, lines_are_as_defined};
 pub use queries::{block_query, kept_wide};
 pub use views::{view_by, view_for};
-pub use walk::{block_at, column_at, lend_rows_at, row_at, wide_at};
+pub use walk::{block_at, column_at, lend_rows_at, row_at};

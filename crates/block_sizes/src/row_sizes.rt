@@ -111,6 +111,7 @@ pub(crate) fn laid_rows<L: Ledger>(
     requires wide { IsWide (bare tree.now.tree) id reps.now width.now wide }
     ensures value { IfOk result (λ laid. laid.0 ≡ grid_block (grid_seen (bare tree.now.tree) id reps.now width.now) (rows_seen (bare tree.now.tree) id reps.now width.now)) }
     ensures wide { IfOk result (λ laid. IsWide (bare tree.now.tree) id reps.now width.now laid.1) }
+    ensures same { IfOk result (λ laid. laid.1 ≡ record wide { rows = laid.1.rows }) }
     ensures ticks { passes.new ≤ passes.old + 1 }
 {
     let (size, rows) = rows_total(alloc, tree, id, reps, width, &wide, passes)?;

@@ -1,32 +1,30 @@
 //! The walk down the tree for the block axis: a kept answer is taken as it is, else the children are asked, and what is found is
 //! kept last, once. The seat of a node is handed down, so that a context is made once for each grid.
 
-ghost use Rattle.std.specs.Prelude.{◌≡◌, ◌++◌, ◌∷◌, ◌-ℤ◌, ◌≤ℤ◌, [], true, false, length, map, pos, IfOk, OnOk, OnErr};
-ghost use Rattle.lunit.specs.Units.{IsUnits};
+ghost use Rattle.std.specs.Prelude.{◌≡◌, ◌∷◌, [], true, false, map, IfOk, OnOk, OnErr};
 ghost use Rattle.placing.specs.Keeping.{is_leaf};
 ghost use Rattle.placing.specs.Kept.{kept_at, IsRight};
-ghost use Rattle.placing.specs.Nodes.{bare, kid_at, level_at, sight_at, IsLive};
+ghost use Rattle.placing.specs.Nodes.{bare, level_at, sight_at, IsLive};
 ghost use Rattle.placing.specs.Ranges.{AreReadable};
 ghost use Rattle.placing.specs.Seats.{IsSeat};
 ghost use Rattle.placing.specs.Walks.{kept_with, state, Stopped, Walked, WalkedBelow};
 ghost use Rattle.placing.specs.declared.node.Answer.TheVariants as answer;
 ghost use Rattle.tree_rules.specs.AskedQueries.{block_query};
 ghost use Rattle.tree_rules.specs.Chains.{has_chain, is_grid_kind};
-ghost use Rattle.tree_rules.specs.GridSizes.{shares_rows};
 ghost use Rattle.tree_rules.specs.KeptAnswers.{IsAbsent};
-ghost use Rattle.tree_rules.specs.Queries.{answer_of, block_size, lent_items, needs_inline, sees_columns, outer_context, Fits, IsGivenFor};
+ghost use Rattle.tree_rules.specs.Queries.{answer_of, block_size, lent_items, needs_inline, Fits};
 ghost use Rattle.tree_rules.specs.declared.kind.NodeKind.TheVariants as kind;
 ghost use Rattle.tree_rules.specs.declared.query.Query.{Query};
 ghost use Rattle.inline_sizes.specs.Calls.{Found, Keeps};
-ghost use Rattle.inline_sizes.specs.Grids.{IsGrid, IsLaid, pairs_seen};
-ghost use Rattle.placing.specs.Spread.{AreSpread, IsSpread};
+ghost use Rattle.placing.specs.Spread.{IsSpread};
 ghost use Rattle.block_sizes.specs.Keeping.{GrowsBy, KeepsSize};
-ghost use Rattle.block_sizes.specs.Wides.{AreWide, IsChildIn, IsWide, LeadsDown, asked_of, block_seen, columns_seen, farthest, items_seen, wide_in};
-ghost use Rattle.placing.specs.Wides.{child_of};
+ghost use Rattle.block_sizes.specs.Wides.{farthest};
 ghost use Rattle.block_sizes.specs.Settling.{AreRoomy, IsColumn, IsRow, LeadsTo, block_of, settled_seen};
 ghost use Rattle.inline_sizes.specs.Flexes.{AreMembers, flex_seen};
 ghost use Rattle.tree_rules.specs.Frames.{given_size};
 
+use crate::again::{ToldWide, keep_told};
+use crate::asking::{told_wide_at, wide_at};
 use crate::children::given_box;
 use crate::flex::{
     ColumnParts, RowParts, box_at, boxes_in_column, column_size, items_in_row, member_at, row_size,
@@ -35,21 +33,14 @@ use crate::flex::{
 use crate::flexes::row_lines;
 use crate::queries::{block_query, kept_block, kept_rows};
 use crate::row_sizes::laid_rows;
-use crate::wide::{
-    append, child_in, columns_of, items_room, lent_rows, row_item, shares, sizes_at, wide_child,
-    with_room,
-};
-use inline_sizes::{Member, flex_at, grid_at};
+use crate::wide::lent_rows;
+use inline_sizes::{Member, flex_at};
 use layout_cache::{Given, Query};
 use lunit::{Area, Item, Lu, NoMemory, Sequence, Span, Steps};
 use node_arena::{Arena, NodeId};
 use outside::{Ruler, Tally};
-use part_rules::View;
 use placing::style::is_column;
-use placing::{
-    Above, Answer, ChildArea, GridBase, GridParts, GridWide, Node, NodeKind, SharedWide, WideChild,
-    has_subgrid, leaf_height, node_at, parent, put, root,
-};
+use placing::{Above, Answer, Node, NodeKind, SharedWide, leaf_height, node_at, parent, put, root};
 use std::alloc::Global;
 use std::sync::ledger::Ledger;
 
@@ -85,284 +76,6 @@ fn subgrids_are_grids(tree: &Arena<Node>, id: NodeId)
     ensures { has_chain (sight_at (bare tree.now.tree) id).chain ≡ true → (sight_at (bare tree.now.tree) id).label.kind ≡ kind.Grid }
 {
     parent(tree, id);
-}
-
-// ---- the children of a grid
-
-#[cycle(walk)]
-/// The items that a child that is a subgrid in the rows lends, put after others.
-fn ask_lent<R: Ruler, L: Ledger>(
-    alloc: Global,
-    tree: &mut Arena<Node>,
-    id: NodeId,
-    base: &GridBase,
-    entry: ChildArea,
-    width: &Given,
-    items: &mut Sequence<Item>,
-    ruler: &mut R,
-    tally: &mut Tally,
-    passes: &mut Steps<L>,
-) -> Result<(), NoMemory>
-    requires live { IsLive (bare tree.old.tree) id }
-    requires right { IsRight tree.old.tree }
-    requires readable { AreReadable (bare tree.old.tree) }
-    requires entry { IsChildIn (bare tree.old.tree) id base.now entry }
-    requires shared { shares_rows (kid_at (bare tree.old.tree) entry.child) ≡ true }
-    requires fits { Fits (sight_at (bare tree.old.tree) entry.child) (block_query true (pairs_seen (bare tree.old.tree) base.now entry) width.now) }
-    requires spread { IsSpread (farthest (level_at (bare tree.old.tree) entry.child)) width.now }
-    ensures items { OnOk result (items.new ≡ items.old ++ ((kid_at (bare tree.old.tree) entry.child).answers.down (pairs_seen (bare tree.old.tree) base.now entry) width.now).lend_rows) }
-    ensures right { IsRight tree.new.tree }
-    ensures walked { OnOk result (Walked entry.child (block_query true (pairs_seen (bare tree.old.tree) base.now entry) width.now) (state tree.old tally.old passes.old (R.log ruler.old)) (state tree.new tally.new passes.new (R.log ruler.new))) }
-    ensures stopped { OnErr result (Stopped entry.child (block_query true (pairs_seen (bare tree.old.tree) base.now entry) width.now) (state tree.old tally.old passes.old (R.log ruler.old)) (state tree.new tally.new passes.new (R.log ruler.new))) }
-{
-    let reps = base.pairs.as_slice();
-    if let Some(kept) = kept_rows(tree, entry.child, reps, width) {
-        return append(alloc, items, kept.as_slice());
-    }
-    let lent = lend_rows_at(
-        alloc,
-        tree,
-        entry.child,
-        reps,
-        &base.above,
-        entry.area,
-        width,
-        ruler,
-        tally,
-        passes,
-    )?;
-    append(alloc, items, lent.as_slice())?;
-    Ok(())
-}
-
-#[cycle(walk)]
-/// The block size of the content of a child that sizes its own rows or has none.
-fn ask_block<R: Ruler, L: Ledger>(
-    alloc: Global,
-    tree: &mut Arena<Node>,
-    id: NodeId,
-    base: &GridBase,
-    entry: ChildArea,
-    width: &Given,
-    ruler: &mut R,
-    tally: &mut Tally,
-    passes: &mut Steps<L>,
-) -> Result<Lu, NoMemory>
-    requires live { IsLive (bare tree.old.tree) id }
-    requires right { IsRight tree.old.tree }
-    requires readable { AreReadable (bare tree.old.tree) }
-    requires entry { IsChildIn (bare tree.old.tree) id base.now entry }
-    requires own { shares_rows (kid_at (bare tree.old.tree) entry.child) ≡ false }
-    requires fits { Fits (sight_at (bare tree.old.tree) entry.child) (block_query false (pairs_seen (bare tree.old.tree) base.now entry) width.now) }
-    requires spread { IsSpread (farthest (level_at (bare tree.old.tree) entry.child)) width.now }
-    ensures value { IfOk result (λ size. size ≡ ((kid_at (bare tree.old.tree) entry.child).answers.down (pairs_seen (bare tree.old.tree) base.now entry) width.now).block) }
-    ensures right { IsRight tree.new.tree }
-    ensures walked { OnOk result (Walked entry.child (block_query false (pairs_seen (bare tree.old.tree) base.now entry) width.now) (state tree.old tally.old passes.old (R.log ruler.old)) (state tree.new tally.new passes.new (R.log ruler.new))) }
-    ensures stopped { OnErr result (Stopped entry.child (block_query false (pairs_seen (bare tree.old.tree) base.now entry) width.now) (state tree.old tally.old passes.old (R.log ruler.old)) (state tree.new tally.new passes.new (R.log ruler.new))) }
-{
-    if has_subgrid(node_at(tree, entry.child)) {
-        let reps = base.pairs.as_slice();
-        let size = block_at(
-            alloc,
-            tree,
-            entry.child,
-            reps,
-            &base.above,
-            entry.area,
-            width,
-            ruler,
-            tally,
-            passes,
-        )?;
-        return Ok(size);
-    }
-    let alone = block_at(
-        alloc,
-        tree,
-        entry.child,
-        &[],
-        &Above::Nothing,
-        entry.area,
-        width,
-        ruler,
-        tally,
-        passes,
-    )?;
-    Ok(alone)
-}
-
-#[cycle(walk)]
-/// The block size of the content of a child of a grid that is given this, 0 for a subgrid in the rows; its items along the rows are
-/// put after others.
-fn ask_rows<R: Ruler, L: Ledger>(
-    alloc: Global,
-    tree: &mut Arena<Node>,
-    id: NodeId,
-    base: &GridBase,
-    entry: ChildArea,
-    width: &Given,
-    items: &mut Sequence<Item>,
-    ruler: &mut R,
-    tally: &mut Tally,
-    passes: &mut Steps<L>,
-) -> Result<Lu, NoMemory>
-    requires live { IsLive (bare tree.old.tree) id }
-    requires right { IsRight tree.old.tree }
-    requires readable { AreReadable (bare tree.old.tree) }
-    requires laid { IsLaid (bare tree.old.tree) id base.now }
-    requires entry { IsChildIn (bare tree.old.tree) id base.now entry }
-    requires fits { Fits (sight_at (bare tree.old.tree) entry.child) (asked_of (bare tree.old.tree) base.now entry width.now) }
-    requires spread { IsSpread (farthest (level_at (bare tree.old.tree) entry.child)) width.now }
-    ensures value { IfOk result (λ size. size ≡ block_seen (bare tree.old.tree) base.now entry width.now) }
-    ensures items { OnOk result (items.new ≡ items.old ++ items_seen (bare tree.old.tree) id base.now entry width.now) }
-    ensures right { IsRight tree.new.tree }
-    ensures walked { OnOk result (Walked entry.child (asked_of (bare tree.old.tree) base.now entry width.now) (state tree.old tally.old passes.old (R.log ruler.old)) (state tree.new tally.new passes.new (R.log ruler.new))) }
-    ensures stopped { OnErr result (Stopped entry.child (asked_of (bare tree.old.tree) base.now entry width.now) (state tree.old tally.old passes.old (R.log ruler.old)) (state tree.new tally.new passes.new (R.log ruler.new))) }
-{
-    if shares::<1>(tree, entry.child) {
-        ask_lent(
-            alloc, tree, id, base, entry, width, items, ruler, tally, passes,
-        )?;
-        return Ok(Lu::default());
-    }
-    let block = ask_block(alloc, tree, id, base, entry, width, ruler, tally, passes)?;
-    let item = row_item(tree, base, entry, block);
-    items.push(item)?;
-    Ok(block)
-}
-
-#[cycle(walk)]
-/// A child of a grid in its columns; its items along the rows are put after others.
-fn ask_child<R: Ruler, L: Ledger>(
-    alloc: Global,
-    tree: &mut Arena<Node>,
-    id: NodeId,
-    base: &GridBase,
-    columns: &View<0>,
-    entry: ChildArea,
-    sizes: (Lu, Lu),
-    items: &mut Sequence<Item>,
-    ruler: &mut R,
-    tally: &mut Tally,
-    passes: &mut Steps<L>,
-) -> Result<WideChild, NoMemory>
-    requires live { IsLive (bare tree.old.tree) id }
-    requires right { IsRight tree.old.tree }
-    requires readable { AreReadable (bare tree.old.tree) }
-    requires laid { IsLaid (bare tree.old.tree) id base.now }
-    requires entry { IsChildIn (bare tree.old.tree) id base.now entry }
-    requires counted { pos (length columns.now.edges) ≡ (base.now.placed.columns.end -ℤ base.now.placed.columns.start) }
-    requires gap { pos 0 ≤ℤ columns.now.gap }
-    requires range { IsUnits columns.now.gap }
-    requires spread { AreSpread (farthest (level_at (bare tree.old.tree) id)) columns.now.edges }
-    ensures value { IfOk result (λ child. child ≡ child_of (wide_in (bare tree.old.tree) id base.now columns.now entry sizes)) }
-    ensures items { OnOk result (items.new ≡ items.old ++ items_seen (bare tree.old.tree) id base.now entry (wide_in (bare tree.old.tree) id base.now columns.now entry sizes).inline) }
-    ensures right { IsRight tree.new.tree }
-    ensures walked { OnOk result (Walked entry.child (asked_of (bare tree.old.tree) base.now entry (wide_in (bare tree.old.tree) id base.now columns.now entry sizes).inline) (state tree.old tally.old passes.old (R.log ruler.old)) (state tree.new tally.new passes.new (R.log ruler.new))) }
-    ensures stopped { OnErr result (Stopped entry.child (asked_of (bare tree.old.tree) base.now entry (wide_in (bare tree.old.tree) id base.now columns.now entry sizes).inline) (state tree.old tally.old passes.old (R.log ruler.old)) (state tree.new tally.new passes.new (R.log ruler.new))) }
-{
-    let (size, inline) = wide_child(alloc, tree, id, base, columns, entry, sizes)?;
-    let block = ask_rows(
-        alloc, tree, id, base, entry, &inline, items, ruler, tally, passes,
-    )?;
-    Ok(WideChild {
-        box_: size,
-        inline,
-        block,
-    })
-}
-
-#[cycle(walk)]
-/// Each child of a grid in its columns, and the items of all along the rows, in the order of the areas.
-fn ask_children<R: Ruler, L: Ledger>(
-    alloc: Global,
-    tree: &mut Arena<Node>,
-    id: NodeId,
-    reps: &[(u32, u32)],
-    width: &Given,
-    parts: &GridParts,
-    columns: &View<0>,
-    ruler: &mut R,
-    tally: &mut Tally,
-    passes: &mut Steps<L>,
-) -> Result<(Sequence<WideChild>, Sequence<Item>), NoMemory>
-    requires live { IsLive (bare tree.old.tree) id }
-    requires right { IsRight tree.old.tree }
-    requires readable { AreReadable (bare tree.old.tree) }
-    requires kind { (sight_at (bare tree.old.tree) id).label.kind ≡ kind.Grid }
-    requires grid { IsGrid (bare tree.old.tree) id reps.now width.now parts.now }
-    requires columns { columns.now ≡ columns_seen (bare tree.old.tree) id reps.now width.now }
-    requires counted { pos (length columns.now.edges) ≡ (parts.now.base.placed.columns.end -ℤ parts.now.base.placed.columns.start) }
-    requires gap { pos 0 ≤ℤ columns.now.gap }
-    requires range { IsUnits columns.now.gap }
-    requires spread { AreSpread (farthest (level_at (bare tree.old.tree) id)) columns.now.edges }
-    ensures value { IfOk result (λ made. AreWide (bare tree.old.tree) id reps.now width.now made.0 made.1) }
-    ensures right { IsRight tree.new.tree }
-    ensures below { OnOk result ((q : Query) → LeadsDown (bare tree.old.tree) id reps.now width.now q → WalkedBelow id q 0 (state tree.old tally.old passes.old (R.log ruler.old)) (state tree.new tally.new passes.new (R.log ruler.new))) }
-    ensures stopped { OnErr result ((q : Query) → LeadsDown (bare tree.old.tree) id reps.now width.now q → Stopped id q (state tree.old tally.old passes.old (R.log ruler.old)) (state tree.new tally.new passes.new (R.log ruler.new))) }
-{
-    root(tree);
-    let base = parts.base.grid();
-    let count = base.placed.areas.len();
-    let mut children = with_room(alloc, count)?;
-    let room = items_room(tree, id, reps, width, parts);
-    let mut items = with_room(alloc, room)?;
-    for index in 0..count {
-        let entry = child_in(tree, id, reps, width, parts, index);
-        let sizes = sizes_at(parts, index);
-        let child = ask_child(
-            alloc, tree, id, base, columns, entry, sizes, &mut items, ruler, tally, passes,
-        )?;
-        children.push(child)?;
-    }
-    Ok((children, items))
-}
-
-#[cycle(walk)]
-/// A grid in its seat, by the counts of the repetitions above it and what it is given in the inline axis, with its columns placed:
-/// each child has its inline size or the columns as it sees them, and is asked for its block size or its lent rows there (CSS Grid
-/// 2, 12.1). Nothing is kept for the grid itself. It makes one step, or none where it is given its columns. The edges of tracks
-/// that it is given differ from 0 and from each other by at most 2^54, and 2^33 more for each level.
-/// `NoMemory` where memory is wanting.
-pub fn wide_at<R: Ruler, L: Ledger>(
-    alloc: Global,
-    tree: &mut Arena<Node>,
-    id: NodeId,
-    reps: &[(u32, u32)],
-    above: &Above,
-    area: Area,
-    width: &Given,
-    ruler: &mut R,
-    tally: &mut Tally,
-    passes: &mut Steps<L>,
-) -> Result<GridWide, NoMemory>
-    requires live { IsLive (bare tree.old.tree) id }
-    requires right { IsRight tree.old.tree }
-    requires readable { AreReadable (bare tree.old.tree) }
-    requires grid { (sight_at (bare tree.old.tree) id).label.kind ≡ kind.Grid }
-    requires reps { length reps.now ≡ length (sight_at (bare tree.old.tree) id).chain }
-    requires seat { IsSeat (sight_at (bare tree.old.tree) id) reps.now above.now area }
-    requires inline { IsGivenFor true (sees_columns (sight_at (bare tree.old.tree) id)) (outer_context (sight_at (bare tree.old.tree) id) reps.now).columns.table.tracks width.now }
-    requires spread { IsSpread (farthest (level_at (bare tree.old.tree) id)) width.now }
-    ensures value { IfOk result (IsWide (bare tree.old.tree) id reps.now width.now) }
-    ensures right { IsRight tree.new.tree }
-    ensures below { OnOk result ((q : Query) → q.reps ≡ reps.now → q.inline ≡ width.now → needs_inline q.ask ≡ true → WalkedBelow id q 1 (state tree.old tally.old passes.old (R.log ruler.old)) (state tree.new tally.new passes.new (R.log ruler.new))) }
-    ensures stopped { OnErr result ((q : Query) → q.reps ≡ reps.now → q.inline ≡ width.now → needs_inline q.ask ≡ true → Stopped id q (state tree.old tally.old passes.old (R.log ruler.old)) (state tree.new tally.new passes.new (R.log ruler.new))) }
-{
-    let parts = grid_at(
-        alloc, tree, id, reps, above, area, width, ruler, tally, passes,
-    )?;
-    let columns = columns_of(alloc, tree, id, reps, width, &parts, passes)?;
-    let (children, items) = ask_children(
-        alloc, tree, id, reps, width, &parts, &columns, ruler, tally, passes,
-    )?;
-    Ok(GridWide {
-        parts,
-        columns,
-        children,
-        items,
-        rows: None,
-    })
 }
 
 // ---- the children of a flex container
@@ -529,11 +242,17 @@ fn grid_anew<R: Ruler, L: Ledger>(
 {
     let reps = query.reps.as_slice();
     let width = &query.inline;
-    let wide = wide_at(
+    let told = told_wide_at(
         alloc, tree, id, reps, above, area, width, ruler, tally, passes,
     )?;
+    let ToldWide {
+        wide,
+        column_ends,
+        row_ends,
+    } = told;
     let (size, laid) = laid_rows(alloc, tree, id, reps, width, wide, passes)?;
     let held = SharedWide::new(alloc, laid)?;
+    keep_told(alloc, tree, id, &held, column_ends, row_ends)?;
     put(tree, id, query, Answer::Laid(size, held), tally)?;
     Ok(size)
 }

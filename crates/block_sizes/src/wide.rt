@@ -1,6 +1,6 @@
 //! A grid once its columns lie where they lie: its columns, and each child as wide as it is there (CSS Grid 2, 12.1 and 6.2).
 
-ghost use Rattle.std.specs.Prelude.{◌≡◌, ◌+◌, ◌^◌, ◌-ℤ◌, ◌&&◌, ℕ, ◌<◌, ◌≤◌, ◌≤ℤ◌, ◌∷◌, [], ◌++◌, List, drop, false, length, map, pos, true, IfOk, OnOk};
+ghost use Rattle.std.specs.Prelude.{◌≡◌, ◌+◌, ◌^◌, ◌-ℤ◌, ◌&&◌, ℕ, ◌<◌, ◌≤◌, ◌≤ℤ◌, ◌∷◌, [], ◌++◌, List, drop, false, length, map, pos, slice_get, true, IfOk, OnOk, Some};
 ghost use Rattle.lunit.specs.declared.geometry.Area.{Area};
 ghost use Rattle.lunit.specs.Units.{IsUnits};
 ghost use Rattle.node_arena.specs.declared.number.NodeId.{NodeId};
@@ -115,6 +115,7 @@ pub(crate) fn child_in(
     requires grid { IsGrid (bare tree.now.tree) id reps.now width.now parts.now }
     requires index { index < length parts.now.base.placed.areas }
     ensures child { IsChildIn (bare tree.now.tree) id parts.now.base result }
+    ensures told { slice_get parts.now.base.placed.areas index ≡ Some (result.child, result.area) }
     ensures next { drop index (entries_at (bare tree.now.tree) id parts.now.base.placed) ≡ entry_by (bare tree.now.tree) result ∷ drop (index + 1) (entries_at (bare tree.now.tree) id parts.now.base.placed) }
 {
     root(tree);

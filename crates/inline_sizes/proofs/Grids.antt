@@ -1,5 +1,5 @@
 -- The grid of the code is that of the definitions, and its questions lead to its children.
-use Rattle.std.proofs.Common.{◌≡◌, ℕ, zero, suc, ◌+◌, ◌∷◌, ◌++◌, [], List, length, map, drop, refl, sym, ap, ◌∙◌, subst, arith, ◌≤◌, length-append, append_assoc, append-nil, Contains, ℤ, Some}
+use Rattle.std.proofs.Common.{◌≡◌, ℕ, zero, suc, ◌+◌, ◌∷◌, ◌++◌, [], List, length, map, drop, refl, sym, ap, ◌∙◌, subst, arith, ◌≤◌, length-append, append-nil, Contains, ℤ, Some}
 use Rattle.std.proofs.lemmas.List.{drop_all}
 use Rattle.std.proofs.lemmas.List.Elements.{Contains-append_left, Contains-append_right, Contains-push}
 use Rattle.lunit.specs.declared.item.Item.{Item}
@@ -17,7 +17,7 @@ use Rattle.placing.specs.declared.contexts.Placed.{Placed}
 use Rattle.tree_rules.specs.Answers.{Kid, Pair}
 use Rattle.tree_rules.specs.AskedQueries.{ToChild, grid_asks_inline, inline_query, uses_by}
 use Rattle.tree_rules.specs.Contexts as rules
-use Rattle.tree_rules.specs.GridSizes.{Entry, column_items_of, entry_of, inline_of_entry, pairs_for, shares_columns}
+use Rattle.tree_rules.specs.GridSizes.{Entry, entry_of, inline_of_entry, pairs_for, shares_columns}
 use Rattle.tree_rules.specs.Labels.{Label}
 use Rattle.tree_rules.specs.Orders.{in_order}
 use Rattle.tree_rules.specs.Repetitions.{own_pair}
@@ -26,7 +26,7 @@ use Rattle.tree_rules.specs.declared.kind.NodeKind.TheVariants as kind
 use Rattle.tree_rules.specs.declared.query.Given.{Given}
 use Rattle.tree_rules.specs.declared.query.Given.TheVariants as given
 use Rattle.tree_rules.specs.declared.query.Query.{Query}
-use Rattle.inline_sizes.specs.Grids.{AreAnswers, IsBase, IsCounted, IsGrid, LeadsOn, asked_of, items_from, items_seen, sizes_seen}
+use Rattle.inline_sizes.specs.Grids.{AreAnswers, IsBase, IsCounted, IsGrid, LeadsOn, asked_of, items_from}
 use Rattle.placing.specs.Wides.{IsAbove}
 use Rattle.inline_sizes.specs.GridsSeen.{grid_seen}
 use Rattle.placing.specs.declared.wide.GridBase.{GridBase}
@@ -140,7 +140,7 @@ leads_on b n outer width base is h q r w = λ k e next. leads_by b n base q (sub
 
 -- of the tree that keeps it, and as the code reads it there
 module _ (b d : BareTrees) (same : d ≡ b) (n : NodeId) (outer : List Pair) (width : Given) (base read : GridBase) (is : read ≡ base) (h : IsBase b n outer width base) where
-  base_there : IsBase d n outer width read
+  pub base_there : IsBase d n outer width read
   base_there = subst (λ z. IsBase z n outer width read) (sym same) (subst (IsBase b n outer width) (sym is) h)
 
   pub grid_there : (sizes : List (ℤ × ℤ)) (made : List Item) → AreAnswers d n read sizes made → IsGrid b n outer width (record { base = base; inlines = sizes; items = made })
@@ -148,22 +148,6 @@ module _ (b d : BareTrees) (same : d ≡ b) (n : NodeId) (outer : List Pair) (wi
 
   pub leads_there : (sight_at b n).label.kind ≡ kind.Grid → (q : Query) → q.reps ≡ outer → q.inline ≡ width → LeadsOn d n read q
   leads_there k q r w = leads_on d n outer width read (subst (λ (z : BareTrees). (sight_at z n).label.kind ≡ kind.Grid) (sym same) k) base_there q r w
-
--- ---- what its children answer, one after the other
-
-pub inlines_next : (pairs : List Pair) (entries : List Entry) (k : ℕ) (e : Entry) (old new : List (ℤ × ℤ)) (sizes : ℤ × ℤ) (all : List (ℤ × ℤ)) → drop k entries ≡ e ∷ drop (k + 1) entries → new ≡ old ++ sizes ∷ [] → sizes ≡ inline_of_entry pairs e →
-    old ++ map (inline_of_entry pairs) (drop k entries) ≡ all → new ++ map (inline_of_entry pairs) (drop (k + 1) entries) ≡ all
-inlines_next pairs entries k e old new sizes all next grown is so_far =
-    (λ j. (grown ∙ ap (λ z. old ++ z ∷ []) is) j ++ map (inline_of_entry pairs) (drop (k + 1) entries))
-    ∙ append_assoc old (inline_of_entry pairs e ∷ []) (map (inline_of_entry pairs) (drop (k + 1) entries))
-    ∙ ap (λ l. old ++ map (inline_of_entry pairs) l) (sym next) ∙ so_far
-
-pub items_next : (c : rules.AxisContext) (pairs : List Pair) (entries : List Entry) (k : ℕ) (e : Entry) (old new all : List Item) → drop k entries ≡ e ∷ drop (k + 1) entries → new ≡ old ++ column_items_of c pairs e (inline_of_entry pairs e) →
-    old ++ items_from c pairs (drop k entries) ≡ all → new ++ items_from c pairs (drop (k + 1) entries) ≡ all
-items_next c pairs entries k e old new all next grown so_far =
-    ap (λ z. z ++ items_from c pairs (drop (k + 1) entries)) grown
-    ∙ append_assoc old (column_items_of c pairs e (inline_of_entry pairs e)) (items_from c pairs (drop (k + 1) entries))
-    ∙ ap (λ l. old ++ items_from c pairs l) (sym next) ∙ so_far
 
 -- all of them
 pub all_there : {A B : Type 0} (f : List A → List B) (xs : List A) (k : ℕ) (done all : List B) → f [] ≡ [] → length xs ≤ k → done ++ f (drop k xs) ≡ all → done ≡ all
@@ -181,15 +165,6 @@ entries_few b n p = omega (arith, zipped_few entry_of (in_order (λ (k : Kid). k
 
 -- of a grid of the same tree, as it is called in the middle of a walk
 module _ (b d : BareTrees) (is : d ≡ b) (n : NodeId) (base : GridBase) (e : ChildArea) (k : ℕ) (next : drop k (entries_at d n base.placed) ≡ entry_by d e ∷ drop (k + 1) (entries_at d n base.placed)) where
-  next_first : drop k (entries_at b n base.placed) ≡ entry_by b e ∷ drop (k + 1) (entries_at b n base.placed)
-  next_first = subst (λ z. drop k (entries_at z n base.placed) ≡ entry_by z e ∷ drop (k + 1) (entries_at z n base.placed)) is next
-
-  pub inlines_then : (old new : List (ℤ × ℤ)) (sizes : ℤ × ℤ) (all : List (ℤ × ℤ)) → new ≡ old ++ sizes ∷ [] → sizes ≡ sizes_seen d base e → old ++ map (inline_of_entry base.pairs) (drop k (entries_at b n base.placed)) ≡ all → new ++ map (inline_of_entry base.pairs) (drop (k + 1) (entries_at b n base.placed)) ≡ all
-  inlines_then old new sizes all grown value so_far = inlines_next base.pairs (entries_at b n base.placed) k (entry_by b e) old new sizes all next_first grown (value ∙ ap (λ z. sizes_seen z base e) is) so_far
-
-  pub items_then : (old new all : List Item) → new ≡ old ++ items_seen d n base e → old ++ items_from (context_at (sight_at b n) base.pairs).columns base.pairs (drop k (entries_at b n base.placed)) ≡ all → new ++ items_from (context_at (sight_at b n) base.pairs).columns base.pairs (drop (k + 1) (entries_at b n base.placed)) ≡ all
-  items_then old new all grown so_far = items_next (context_at (sight_at b n) base.pairs).columns base.pairs (entries_at b n base.placed) k (entry_by b e) old new all next_first (grown ∙ ap (λ z. old ++ items_seen z n base e) is) so_far
-
   module _ (steps : StepsDown b) (number : child_at d n e.number ≡ Some e.child) (q : Query) (leads : LeadsOn b n base q) (old mid new : State) (here : bare_in mid ≡ d) (w : WalkedBelow n q 0 old mid) where
     step_here : IsStep d n e.number e.child
     step_here = subst StepsDown (sym is) steps n e.child e.number number

@@ -18,3 +18,4 @@ pub mod Nested
 pub mod Offsets
 pub mod Held
 pub mod Plains
+pub mod Tellings

@@ -10,6 +10,7 @@ use Rattle.placing.specs.Insides.{IsInside}
 use Rattle.placing.specs.declared.items.ChildArea.{ChildArea}
 use Rattle.placing.specs.Nodes.{BareTrees, IsLive, kid_at, sight_at, size_at, uses_at}
 use Rattle.placing.specs.Seats.{IsSeat, context_at}
+use Rattle.placing.specs.Told.{AreTold, TellsColumns}
 use Rattle.placing.specs.Wides.{IsAbove}
 use Rattle.tree_rules.specs.Chains.{has_chain, has_subgrid, is_grid_kind}
 use Rattle.tree_rules.specs.Labels.{Label}
@@ -97,6 +98,11 @@ LeadsOn b n base q = (k : ℕ) (e : Entry) → drop k (entries_at b n base.place
 pub record AreAnswers (b : BareTrees) (n : NodeId) (base : GridBase) (sizes : List (ℤ × ℤ)) (made : List Item) : Type 0 where
   pub inlines : sizes ≡ map (inline_of_entry base.pairs) (entries_at b n base.placed)
   pub items : made ≡ items_from (context_at (sight_at b n) base.pairs).columns base.pairs (entries_at b n base.placed)
+
+-- So the children told them: as many sizes as there are areas, and the items of each child up to its end, where those count.
+pub record HaveTold (b : BareTrees) (n : NodeId) (base : GridBase) (Counts : ℕ → Type 0) (sizes : List (ℤ × ℤ)) (made : List Item) (ends : List ℕ) : Type 0 where
+  pub counted : length sizes ≡ length base.placed.areas
+  pub told : AreTold Counts (TellsColumns (sight_at b n) (kid_at b) base) sizes made ends
 
 -- ---- the grid of the code
 

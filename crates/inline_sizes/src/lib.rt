@@ -5,6 +5,7 @@
 #![tactic(auto)]
 
 mod bounds;
+mod children;
 mod columns;
 mod contributions;
 mod distribution;

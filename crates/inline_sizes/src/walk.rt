@@ -1,44 +1,44 @@
 //! The walk down the tree for the inline axis: a kept answer is taken as it is, else the children are asked, and what is found is
-//! kept last, once. The seat of a node is handed down, so that a context is made once for each grid.
+//! kept last, once. Of the children of a grid that keeps what they told it, only those are asked whose answers went since. The seat
+//! of a node is handed down, so that a context is made once for each grid.
 
-ghost use Rattle.std.specs.Prelude.{◌≡◌, ◌++◌, ◌∷◌, ◌<◌, ◌≤◌, [], ◌&&◌, List, Some, None, true, false, length, IfOk, OnOk, OnErr, IsSome};
-ghost use Rattle.layout_cache.specs.Kept.{answer_to};
+ghost use Rattle.std.specs.Prelude.{◌≡◌, ◌++◌, ◌∷◌, ◌<◌, [], Some, None, true, false, length, IfOk, IfSome, OnOk, OnErr};
+ghost use Rattle.std.specs.List.{All};
+ghost use Rattle.placing.specs.Bases.{HoldsPlaces};
 ghost use Rattle.placing.specs.Counted.{IsGivenSize};
 ghost use Rattle.placing.specs.Keeping.{is_leaf};
 ghost use Rattle.placing.specs.Kept.{kept_at, IsRight};
-ghost use Rattle.placing.specs.Nodes.{bare, kid_at, sight_at, IsLive};
+ghost use Rattle.placing.specs.Nodes.{bare, children_at, kid_at, sight_at, IsLive};
 ghost use Rattle.placing.specs.Ranges.{AreReadable};
 ghost use Rattle.placing.specs.Seats.{IsSeat};
+ghost use Rattle.placing.specs.Told.{AllBut, AreColumns, Each, IsPastColumns};
 ghost use Rattle.placing.specs.Walks.{kept_with, state, Stopped, Walked, WalkedBelow};
 ghost use Rattle.placing.specs.declared.contexts.Above.TheVariants as over;
 ghost use Rattle.placing.specs.declared.node.Answer.TheVariants as answer;
 ghost use Rattle.tree_rules.specs.AskedQueries.{inline_query};
 ghost use Rattle.tree_rules.specs.KeptAnswers.{IsAbsent};
-ghost use Rattle.tree_rules.specs.Chains.{has_chain, is_grid_kind, is_subgrid};
+ghost use Rattle.tree_rules.specs.Chains.{has_chain};
 ghost use Rattle.tree_rules.specs.GridSizes.{shares_columns};
-ghost use Rattle.tree_rules.specs.LentItems.{child_item};
 ghost use Rattle.tree_rules.specs.Queries.{answer_of, inline_sizes, lent_items, Fits};
 ghost use Rattle.tree_rules.specs.declared.kind.NodeKind.TheVariants as kind;
 ghost use Rattle.tree_rules.specs.declared.query.Query.{Query};
 ghost use Rattle.inline_sizes.specs.Calls.{Found, Keeps};
 ghost use Rattle.inline_sizes.specs.Flexes.{AreMembers};
-ghost use Rattle.inline_sizes.specs.Grids.{AreAnswers, IsEntry, IsGrid, IsLaid, LeadsOn, asked_of, column_levels, has_subgrid_kind, items_seen, sizes_seen};
-ghost use Rattle.inline_sizes.specs.Lifted.{IsLifted};
+ghost use Rattle.inline_sizes.specs.Grids.{HaveTold, IsEntry, IsGrid, IsLaid, LeadsOn, asked_of, items_seen, sizes_seen};
 
+use crate::children::{is_grid, keep_told, own_item, shares_columns};
 use crate::columns::{append, grid_inline, grid_lends, with_room};
 use crate::flex::{FlexParts, Member, flex_inline};
-use crate::grid::{column_levels, shared_base};
+use crate::grid::shared_base;
 use crate::laws::items_lie_in_their_tracks;
 use crate::queries::{inline_query, kept_items, kept_sizes};
-use crate::sized::child_item;
-use layout_cache::{Given, Query};
+use layout_cache::{Given, Query, same_counts};
 use lunit::{Area, Item, Lu, NoMemory, Sequence, Span, Steps};
 use node_arena::{Arena, NodeId};
 use outside::{Ruler, Tally};
-use placing::style::is_subgrid;
 use placing::{
-    Above, Answer, ChildArea, GridBase, GridParts, Node, NodeKind, child, entry, has_subgrid,
-    leaf_sizes, node_at, ordered, parent, put, root,
+    Above, Answer, ChildArea, GridBase, GridParts, Node, NodeKind, PastColumns, ToldColumns, child,
+    entry, has_subgrid, leaf_sizes, node_at, ordered, parent, put, put_items, root, take_columns,
 };
 use std::alloc::Global;
 use std::sync::ledger::Ledger;
@@ -59,47 +59,12 @@ fn is_leaf(kind: &NodeKind) -> bool
     }
 }
 
-/// Whether a node is a grid.
-fn is_grid(kind: &NodeKind) -> bool
-    ensures { result ≡ is_grid_kind kind.now }
-{
-    match kind {
-        NodeKind::Grid => true,
-        _ => false,
-    }
-}
-
 /// A node that sees a grid above it is a grid itself. The function does next to nothing: the law is its contract.
 fn subgrids_are_grids(tree: &Arena<Node>, id: NodeId)
     requires { IsLive (bare tree.now.tree) id }
     ensures { has_chain (sight_at (bare tree.now.tree) id).chain ≡ true → (sight_at (bare tree.now.tree) id).label.kind ≡ kind.Grid }
 {
     parent(tree, id);
-}
-
-/// Whether a child of a grid is a subgrid in the columns.
-fn shares_columns(tree: &Arena<Node>, id: NodeId) -> bool
-    requires { IsLive (bare tree.now.tree) id }
-    ensures { result ≡ (has_subgrid_kind (sight_at (bare tree.now.tree) id).label && is_subgrid (sight_at (bare tree.now.tree) id).label.grid.columns.template) }
-{
-    let node = node_at(tree, id);
-    is_grid(&node.kind) && is_subgrid::<0>(&node.style)
-}
-
-/// A child of a grid that is no subgrid in the columns as an item along the columns, by its two inline sizes.
-fn own_item(tree: &Arena<Node>, base: &GridBase, entry: ChildArea, low: Lu, high: Lu) -> Item
-    requires live { IsLive (bare tree.now.tree) entry.child }
-    requires readable { AreReadable (bare tree.now.tree) }
-    requires lifted { IsLifted (column_levels base.now.above) entry.area.columns }
-    ensures { result ≡ child_item (column_levels base.now.above) (kid_at (bare tree.now.tree) entry.child).label.content.border_box (kid_at (bare tree.now.tree) entry.child).label.content.scrolls (kid_at (bare tree.now.tree) entry.child).label.grid.columns (kid_at (bare tree.now.tree) entry.child).label.content.inline entry.area.columns (low, high) }
-{
-    let style = &node_at(tree, entry.child).style;
-    child_item::<0>(
-        column_levels(&base.above),
-        style,
-        entry.area.columns,
-        (low, high),
-    )
 }
 
 // ---- the children of a grid
@@ -257,7 +222,7 @@ fn ask_child<R: Ruler, L: Ledger>(
 }
 
 #[cycle(walk)]
-/// The two inline sizes of each child of a grid, and the items of all along the columns, in the order of the areas.
+/// What each child of a grid tells for its columns: its two inline sizes, its items, and where these end, in the order of the areas.
 fn ask_children<R: Ruler, L: Ledger>(
     alloc: Global,
     tree: &mut Arena<Node>,
@@ -266,13 +231,13 @@ fn ask_children<R: Ruler, L: Ledger>(
     ruler: &mut R,
     tally: &mut Tally,
     passes: &mut Steps<L>,
-) -> Result<(Sequence<(Lu, Lu)>, Sequence<Item>), NoMemory>
+) -> Result<(Sequence<(Lu, Lu)>, Sequence<Item>, Sequence<usize>), NoMemory>
     requires live { IsLive (bare tree.old.tree) id }
     requires right { IsRight tree.old.tree }
     requires readable { AreReadable (bare tree.old.tree) }
     requires grid { (sight_at (bare tree.old.tree) id).label.kind ≡ kind.Grid }
     requires laid { IsLaid (bare tree.old.tree) id base.now }
-    ensures answers { IfOk result (λ answers. AreAnswers (bare tree.old.tree) id base.now answers.0 answers.1) }
+    ensures told { IfOk result (λ told. HaveTold (bare tree.old.tree) id base.now Each told.0 told.1 told.2) }
     ensures right { IsRight tree.new.tree }
     ensures below { OnOk result ((q : Query) → LeadsOn (bare tree.old.tree) id base.now q → WalkedBelow id q 0 (state tree.old tally.old passes.old (R.log ruler.old)) (state tree.new tally.new passes.new (R.log ruler.new))) }
     ensures stopped { OnErr result ((q : Query) → LeadsOn (bare tree.old.tree) id base.now q → Stopped id q (state tree.old tally.old passes.old (R.log ruler.old)) (state tree.new tally.new passes.new (R.log ruler.new))) }
@@ -282,20 +247,147 @@ fn ask_children<R: Ruler, L: Ledger>(
     let count = base.placed.areas.len();
     let mut inlines = with_room(alloc, count)?;
     let mut items = with_room(alloc, count)?;
+    let mut ends = with_room(alloc, count)?;
     for index in 0..count {
         let entry = entry(tree, id, &base.placed, index);
         let sizes = ask_child(
             alloc, tree, id, base, entry, &mut items, ruler, tally, passes,
         )?;
         inlines.push(sizes)?;
+        ends.push(items.len())?;
     }
-    Ok((inlines, items))
+    Ok((inlines, items, ends))
+}
+
+#[cycle(walk)]
+/// Asks the children of a grid at these indices again: what they tell for its columns takes the place of what they told.
+fn ask_stale<R: Ruler, L: Ledger>(
+    alloc: Global,
+    tree: &mut Arena<Node>,
+    id: NodeId,
+    base: &GridBase,
+    inlines: &mut Sequence<(Lu, Lu)>,
+    items: &mut Sequence<Item>,
+    ends: &mut Sequence<usize>,
+    stale: &[usize],
+    ruler: &mut R,
+    tally: &mut Tally,
+    passes: &mut Steps<L>,
+) -> Result<(), NoMemory>
+    requires live { IsLive (bare tree.old.tree) id }
+    requires right { IsRight tree.old.tree }
+    requires readable { AreReadable (bare tree.old.tree) }
+    requires grid { (sight_at (bare tree.old.tree) id).label.kind ≡ kind.Grid }
+    requires laid { IsLaid (bare tree.old.tree) id base.now }
+    requires stale { All (λ k. k < length base.now.placed.areas) stale.now }
+    requires told { HaveTold (bare tree.old.tree) id base.now (AllBut stale.now) inlines.old items.old ends.old }
+    ensures told { OnOk result (HaveTold (bare tree.old.tree) id base.now Each inlines.new items.new ends.new) }
+    ensures right { IsRight tree.new.tree }
+    ensures below { OnOk result ((q : Query) → LeadsOn (bare tree.old.tree) id base.now q → WalkedBelow id q 0 (state tree.old tally.old passes.old (R.log ruler.old)) (state tree.new tally.new passes.new (R.log ruler.new))) }
+    ensures stopped { OnErr result ((q : Query) → LeadsOn (bare tree.old.tree) id base.now q → Stopped id q (state tree.old tally.old passes.old (R.log ruler.old)) (state tree.new tally.new passes.new (R.log ruler.new))) }
+{
+    root(tree);
+    items_lie_in_their_tracks(tree, id);
+    for index in stale {
+        let entry = entry(tree, id, &base.placed, *index);
+        let mut own = Sequence::new(alloc);
+        let sizes = ask_child(alloc, tree, id, base, entry, &mut own, ruler, tally, passes)?;
+        put_items(alloc, items, ends, *index, own.as_slice())?;
+        inlines.set(*index, sizes);
+    }
+    Ok(())
+}
+
+#[cycle(walk)]
+/// What the children of a grid tell for its columns, where it is known what they told by the same counts: only those are asked whose
+/// answers went.
+fn ask_again<R: Ruler, L: Ledger>(
+    alloc: Global,
+    tree: &mut Arena<Node>,
+    id: NodeId,
+    base: &GridBase,
+    past: PastColumns,
+    ruler: &mut R,
+    tally: &mut Tally,
+    passes: &mut Steps<L>,
+) -> Result<(Sequence<(Lu, Lu)>, Sequence<Item>, Sequence<usize>), NoMemory>
+    requires live { IsLive (bare tree.old.tree) id }
+    requires right { IsRight tree.old.tree }
+    requires readable { AreReadable (bare tree.old.tree) }
+    requires grid { (sight_at (bare tree.old.tree) id).label.kind ≡ kind.Grid }
+    requires laid { IsLaid (bare tree.old.tree) id base.now }
+    requires stale { All (λ k. k < length base.now.placed.areas) past.stale }
+    requires told { HaveTold (bare tree.old.tree) id base.now (AllBut past.stale) past.told.parts.inlines past.told.parts.items past.told.ends }
+    ensures told { IfOk result (λ told. HaveTold (bare tree.old.tree) id base.now Each told.0 told.1 told.2) }
+    ensures right { IsRight tree.new.tree }
+    ensures below { OnOk result ((q : Query) → LeadsOn (bare tree.old.tree) id base.now q → WalkedBelow id q 0 (state tree.old tally.old passes.old (R.log ruler.old)) (state tree.new tally.new passes.new (R.log ruler.new))) }
+    ensures stopped { OnErr result ((q : Query) → LeadsOn (bare tree.old.tree) id base.now q → Stopped id q (state tree.old tally.old passes.old (R.log ruler.old)) (state tree.new tally.new passes.new (R.log ruler.new))) }
+{
+    let PastColumns { told, stale } = past;
+    let ToldColumns { parts, ends } = told;
+    let GridParts {
+        base: _,
+        inlines,
+        items,
+    } = parts;
+    let mut inlines = inlines;
+    let mut items = items;
+    let mut ends = ends;
+    ask_stale(
+        alloc,
+        tree,
+        id,
+        base,
+        &mut inlines,
+        &mut items,
+        &mut ends,
+        stale.as_slice(),
+        ruler,
+        tally,
+        passes,
+    )?;
+    Ok((inlines, items, ends))
+}
+
+#[cycle(walk)]
+/// What the children of a grid tell for its columns: where what they told by the same counts is known, only those are asked whose
+/// answers went, else each of them.
+fn ask_needed<R: Ruler, L: Ledger>(
+    alloc: Global,
+    tree: &mut Arena<Node>,
+    id: NodeId,
+    base: &GridBase,
+    past: Option<PastColumns>,
+    ruler: &mut R,
+    tally: &mut Tally,
+    passes: &mut Steps<L>,
+) -> Result<(Sequence<(Lu, Lu)>, Sequence<Item>, Sequence<usize>), NoMemory>
+    requires live { IsLive (bare tree.old.tree) id }
+    requires right { IsRight tree.old.tree }
+    requires readable { AreReadable (bare tree.old.tree) }
+    requires grid { (sight_at (bare tree.old.tree) id).label.kind ≡ kind.Grid }
+    requires laid { IsLaid (bare tree.old.tree) id base.now }
+    requires places { HoldsPlaces (sight_at (bare tree.old.tree) id) (children_at (bare tree.old.tree) id) base.now }
+    requires past { IfSome past (IsPastColumns (bare tree.old.tree) id) }
+    ensures told { IfOk result (λ told. HaveTold (bare tree.old.tree) id base.now Each told.0 told.1 told.2) }
+    ensures right { IsRight tree.new.tree }
+    ensures below { OnOk result ((q : Query) → LeadsOn (bare tree.old.tree) id base.now q → WalkedBelow id q 0 (state tree.old tally.old passes.old (R.log ruler.old)) (state tree.new tally.new passes.new (R.log ruler.new))) }
+    ensures stopped { OnErr result ((q : Query) → LeadsOn (bare tree.old.tree) id base.now q → Stopped id q (state tree.old tally.old passes.old (R.log ruler.old)) (state tree.new tally.new passes.new (R.log ruler.new))) }
+{
+    let Some(past) = past else {
+        return ask_children(alloc, tree, id, base, ruler, tally, passes);
+    };
+    let counts = past.told.parts.base.grid().pairs.as_slice();
+    if !same_counts(counts, base.pairs.as_slice()) {
+        return ask_children(alloc, tree, id, base, ruler, tally, passes);
+    }
+    ask_again(alloc, tree, id, base, past, ruler, tally, passes)
 }
 
 #[cycle(walk)]
 /// A grid in its seat, by the counts of the repetitions above it and what it is given in the inline axis, with what its children
-/// answer for the columns: each child is asked once (CSS Grid 2, sections 7 to 9 and 12.5). Nothing is kept for the grid itself.
-/// `NoMemory` where memory is wanting.
+/// answer for the columns: each child is asked once, or, where it is known what the children told last, each whose answers went
+/// since (CSS Grid 2, sections 7 to 9 and 12.5). Nothing is kept for the grid itself. `NoMemory` where memory is wanting.
 pub fn grid_at<R: Ruler, L: Ledger>(
     alloc: Global,
     tree: &mut Arena<Node>,
@@ -304,10 +396,11 @@ pub fn grid_at<R: Ruler, L: Ledger>(
     above: &Above,
     area: Area,
     width: &Given,
+    past: Option<PastColumns>,
     ruler: &mut R,
     tally: &mut Tally,
     passes: &mut Steps<L>,
-) -> Result<GridParts, NoMemory>
+) -> Result<ToldColumns, NoMemory>
     requires live { IsLive (bare tree.old.tree) id }
     requires right { IsRight tree.old.tree }
     requires readable { AreReadable (bare tree.old.tree) }
@@ -315,18 +408,31 @@ pub fn grid_at<R: Ruler, L: Ledger>(
     requires reps { length reps.now ≡ length (sight_at (bare tree.old.tree) id).chain }
     requires seat { IsSeat (sight_at (bare tree.old.tree) id) reps.now above.now area }
     requires width { IsGivenSize width.now }
-    ensures value { IfOk result (IsGrid (bare tree.old.tree) id reps.now width.now) }
+    requires past { IfSome past (IsPastColumns (bare tree.old.tree) id) }
+    ensures value { IfOk result (λ told. IsGrid (bare tree.old.tree) id reps.now width.now told.parts) }
+    ensures told { IfOk result (AreColumns (sight_at (bare tree.old.tree) id) (kid_at (bare tree.old.tree)) Each) }
     ensures right { IsRight tree.new.tree }
     ensures below { OnOk result ((q : Query) → q.reps ≡ reps.now → q.inline ≡ width.now → WalkedBelow id q 0 (state tree.old tally.old passes.old (R.log ruler.old)) (state tree.new tally.new passes.new (R.log ruler.new))) }
     ensures stopped { OnErr result ((q : Query) → q.reps ≡ reps.now → q.inline ≡ width.now → Stopped id q (state tree.old tally.old passes.old (R.log ruler.old)) (state tree.new tally.new passes.new (R.log ruler.new))) }
 {
+    root(tree);
     let base = shared_base(alloc, tree, id, reps, above, area, width)?;
-    let (inlines, items) = ask_children(alloc, tree, id, base.grid(), ruler, tally, passes)?;
-    Ok(GridParts {
+    let (inlines, items, ends) = ask_needed(
+        alloc,
+        tree,
+        id,
+        base.grid(),
+        past,
+        ruler,
+        tally,
+        passes,
+    )?;
+    let parts = GridParts {
         base,
         inlines,
         items,
-    })
+    };
+    Ok(ToldColumns { parts, ends })
 }
 
 // ---- the children of a flex container
@@ -378,6 +484,52 @@ pub fn flex_at<R: Ruler, L: Ledger>(
 // ---- the two inline sizes of a node
 
 #[cycle(walk)]
+/// The two inline sizes of a grid in its seat: a child that told it before is asked only where its answers went since. What the
+/// children told is kept, where they are many; no answer is kept for the grid itself.
+fn grid_sizes<R: Ruler, L: Ledger>(
+    alloc: Global,
+    tree: &mut Arena<Node>,
+    id: NodeId,
+    query: &Query,
+    above: &Above,
+    area: Area,
+    ruler: &mut R,
+    tally: &mut Tally,
+    passes: &mut Steps<L>,
+) -> Result<(Lu, Lu), NoMemory>
+    requires live { IsLive (bare tree.old.tree) id }
+    requires right { IsRight tree.old.tree }
+    requires readable { AreReadable (bare tree.old.tree) }
+    requires grid { (sight_at (bare tree.old.tree) id).label.kind ≡ kind.Grid }
+    requires query { query.now ≡ inline_query false query.now.reps }
+    requires fits { Fits (sight_at (bare tree.old.tree) id) query.now }
+    requires seat { IsSeat (sight_at (bare tree.old.tree) id) query.now.reps above.now area }
+    ensures value { IfOk result (λ sizes. inline_sizes sizes ≡ answer_of (sight_at (bare tree.old.tree) id) query.now) }
+    ensures right { IsRight tree.new.tree }
+    ensures below { OnOk result (WalkedBelow id query.now 2 (state tree.old tally.old passes.old (R.log ruler.old)) (state tree.new tally.new passes.new (R.log ruler.new))) }
+    ensures stopped { OnErr result (Stopped id query.now (state tree.old tally.old passes.old (R.log ruler.old)) (state tree.new tally.new passes.new (R.log ruler.new))) }
+{
+    let past = take_columns(alloc, tree, id)?;
+    let reps = query.reps.as_slice();
+    let told = grid_at(
+        alloc,
+        tree,
+        id,
+        reps,
+        above,
+        area,
+        &query.inline,
+        past,
+        ruler,
+        tally,
+        passes,
+    )?;
+    let sizes = grid_inline(alloc, tree, id, &told.parts, passes)?;
+    keep_told(alloc, tree, id, told)?;
+    Ok(sizes)
+}
+
+#[cycle(walk)]
 /// The two inline sizes of a grid that keeps none for this question.
 fn grid_anew<R: Ruler, L: Ledger>(
     alloc: Global,
@@ -404,20 +556,7 @@ fn grid_anew<R: Ruler, L: Ledger>(
     ensures stopped { OnErr result (Stopped id query (state tree.old tally.old passes.old (R.log ruler.old)) (state tree.new tally.new passes.new (R.log ruler.new))) }
     ensures own { IfOk result (λ sizes. kept_at tree.new.tree id ≡ kept_with (kept_at tree.old.tree id) ((query, answer.Sizes sizes.0 sizes.1) ∷ [])) }
 {
-    let reps = query.reps.as_slice();
-    let parts = grid_at(
-        alloc,
-        tree,
-        id,
-        reps,
-        above,
-        area,
-        &query.inline,
-        ruler,
-        tally,
-        passes,
-    )?;
-    let (low, high) = grid_inline(alloc, tree, id, &parts, passes)?;
+    let (low, high) = grid_sizes(alloc, tree, id, &query, above, area, ruler, tally, passes)?;
     put(tree, id, query, Answer::Sizes(low, high), tally)?;
     Ok((low, high))
 }
@@ -552,7 +691,7 @@ pub(crate) fn columns_anew<R: Ruler, L: Ledger>(
     subgrids_are_grids(tree, id);
     items_lie_in_their_tracks(tree, id);
     let reps = query.reps.as_slice();
-    let parts = grid_at(
+    let told = grid_at(
         alloc,
         tree,
         id,
@@ -560,11 +699,12 @@ pub(crate) fn columns_anew<R: Ruler, L: Ledger>(
         above,
         area,
         &query.inline,
+        None,
         ruler,
         tally,
         passes,
     )?;
-    let items = grid_lends(alloc, &parts)?;
+    let items = grid_lends(alloc, &told.parts)?;
     let lent = Sequence::from_slice(alloc, items.as_slice())?;
     put(tree, id, query, Answer::Lent(items), tally)?;
     Ok(lent)

@@ -15,8 +15,8 @@ use std::marker::Model;
 /// A name of a node, a line or an area: at most 64 bytes. Contracts see the bytes, and names are ordered by them.
 #[derive(Clone, Copy, Debug)]
 pub struct Name {
-    bytes: [u8; 64],
     len: u8,
+    bytes: [u8; 64],
 }
 
 impl Model for Name {

@@ -1,3 +1,4 @@
 mod Readied
 mod Made
 mod Asking
+mod Contents

@@ -1,6 +1,8 @@
 -- Pages and trees that tests ask.
 use Rattle.std.specs.Prelude.{◌≡◌, ◌+◌, [], List, length}
-use Rattle.doc_text.specs.Valid.{IsValid}
+use Rattle.doc_text.specs.declared.edit.Edit.{Edit}
+use Rattle.doc_text.specs.declared.edit.Edit.TheVariants as edit
+use Rattle.doc_text.specs.Valid.{IsToldKind, IsValid}
 use Rattle.page_tree.specs.Pages.{Held, document_of}
 use Rattle.node_arena.specs.declared.number.NodeId.{NodeId}
 use Rattle.node_arena.specs.Numbers.{EachNode}
@@ -10,6 +12,7 @@ use Rattle.placing.specs.Keeping.{HoldsNone, KeepsNone}
 use Rattle.placing.specs.Kept.{IsRight}
 use Rattle.placing.specs.Nodes.{IsLive, bare, bare_of, label_of_bare, sight_at}
 use Rattle.placing.specs.Ranges.{AreReadable, IsReadable}
+use Rattle.placing.specs.Told.{no_past}
 use Rattle.tree_rules.specs.Answers.{Pair}
 
 -- the document is valid, and every answer that a node keeps is right
@@ -26,16 +29,21 @@ pub record IsSeated (page : Held) (id : NodeId) (reps : List Pair) : Type 0 wher
 pub record IsNew (v : Node) : Type 0 where
   pub values : IsReadable (label_of_bare (bare_of v))
   pub kept : v.kept ≡ []
-  pub bases : v.bases ≡ []
+  pub past : v.past ≡ no_past
 
 -- a tree of such nodes, none of which may have more than 65,536 children
 pub record IsMade (a : Nodes Node) : Type 0 where
   pub values : EachNode (λ x. IsReadable (label_of_bare (bare_of x.1))) a.tree
   pub kept : KeepsNone a.tree
-  pub bases : HoldsNone a.tree
+  pub past : HoldsNone a.tree
   pub most : a.most_children ≡ 65536
 
 -- a tree whose nodes can be asked
 pub record CanAsk (a : Nodes Node) : Type 0 where
   pub readable : AreReadable (bare a.tree)
   pub right : IsRight a.tree
+
+-- an edit that gives a node a content that a text can tell
+abbrev pub GivesContent : Edit → Type 0
+GivesContent (edit.Content named kind) = IsToldKind kind
+GivesContent e = ⊥

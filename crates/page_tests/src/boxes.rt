@@ -542,7 +542,7 @@ const CARD: &[(&[u8], &[u8])] = &[
 ];
 
 /// A line with a number of two digits.
-fn numbered(alloc: Global, line: &(&[u8], &[u8]), number: u8) -> Result<Vec<u8>, Fail> {
+pub(crate) fn numbered(alloc: Global, line: &(&[u8], &[u8]), number: u8) -> Result<Vec<u8>, Fail> {
     let (front, back) = *line;
     let mut text = Vec::from_slice(alloc, front)?;
     text.push(b'0' + number / 10 % 10)?;

@@ -10,7 +10,7 @@ use layout_cache::Kept;
 use lunit::{Copied, NoMemory};
 use node_arena::{Arena, NodeId};
 use page_tree::{Page, valid_documents_are_readable};
-use placing::{Bases, Node, child, count, node_at, root};
+use placing::{Node, Past, child, count, node_at, root};
 use std::alloc::Global;
 use std::test::Fail;
 
@@ -27,7 +27,8 @@ fn like(alloc: Global, nodes: &Arena<Node>, id: NodeId) -> Result<Node, NoMemory
         declared: node.declared.copy(alloc)?,
         style: node.style.copy(alloc)?,
         kept: Kept::new(alloc)?,
-        bases: Bases::new(),
+        turn: 1,
+        past: Past::new(),
     })
 }
 

@@ -16,6 +16,7 @@ use Rattle.doc_text.specs.Named as doc
 use Rattle.doc_text.specs.Growth.{holds, alone}
 use Rattle.placing.specs.declared.node.Node.{Node}
 use Rattle.placing.specs.Nodes.{NodeTrees}
+use Rattle.placing.specs.Told.{no_past}
 use Rattle.node_arena.proofs.Parts.{each_weaker}
 use Rattle.doc_text.proofs.Grown.{same_name}
 use Rattle.style_types.specs.Computed.{DeclaredMap}
@@ -112,8 +113,8 @@ grafted_count id index new t = sym (tops_count (arena.grafted id index new t)) �
 pub grafted_kept : (id : NodeId) (index : ℕ) (new t : NodeTrees) → KeepsNone new → KeepsNone t → KeepsNone (arena.grafted id index new t)
 grafted_kept id index new t n k = each_edited (λ x. x.1.kept ≡ []) id (arena.graft index new) t (λ x below p b. (p, (each_put (λ y. y.1.kept ≡ []) index new below n b, tt))) k
 
-pub grafted_bases : (id : NodeId) (index : ℕ) (new t : NodeTrees) → HoldsNone new → HoldsNone t → HoldsNone (arena.grafted id index new t)
-grafted_bases id index new t n k = each_edited (λ x. x.1.bases ≡ []) id (arena.graft index new) t (λ x below p b. (p, (each_put (λ y. y.1.bases ≡ []) index new below n b, tt))) k
+pub grafted_past : (id : NodeId) (index : ℕ) (new t : NodeTrees) → HoldsNone new → HoldsNone t → HoldsNone (arena.grafted id index new t)
+grafted_past id index new t n k = each_edited (λ x. x.1.past ≡ no_past) id (arena.graft index new) t (λ x below p b. (p, (each_put (λ y. y.1.past ≡ no_past) index new below n b, tt))) k
 
 -- under a name that no node has nothing changes
 pub inserted_nowhere : (t : NodeTrees) (name : List ℕ) (index : ℕ) (label : Label) → false ≡ holds (plain_trees t) name → plain_trees t ≡ doc.inserted name index label (plain_trees t)

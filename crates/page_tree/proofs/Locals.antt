@@ -14,6 +14,8 @@ use Rattle.doc_text.proofs.Grown.{own_name}
 use Rattle.doc_text.specs.Named.{has_top}
 use Rattle.doc_text.specs.Texts.{Word}
 use Rattle.placing.specs.declared.node.Node.{Node}
+use Rattle.placing.specs.Keeping.{HasGone}
+use Rattle.placing.specs.Kept.{turn_at, turn_of}
 use Rattle.placing.specs.Nodes.{NodeTrees, bare}
 use Rattle.reach_frame.specs.Local.{IsLocal}
 use Rattle.reach_frame.proofs.Grafts.{graft_local}
@@ -87,9 +89,13 @@ new_not t id fresh k v h = at (same id k) refl
     at true e = let none : None ≡ Some v = sym (ap value_of fresh) ∙ ap (value_at t) (same_is id k e) ∙ h in absurd cc
     at false e = e
 
+no_turn : (t : NodeTrees) (id : NodeId) → part_at t id ≡ None → turn_at t id ≡ 0
+unfolding turn_at
+no_turn t id fresh = ap (λ o. turn_of (value_of o)) fresh
+
 -- the numbers of a tree are those that they were
 pub own_nodes : (ts : List NodeId) (t : NodeTrees) → IsDistinct t → EachNode (IsFrom ts t) t
-own_nodes ts t d = each_weaker (λ x. value_at t x.0 ≡ Some x.1) (IsFrom ts t) t (λ x e. inr (x.1, (e, (refl, (refl, (refl, refl)))))) (numbered t d).each
+own_nodes ts t d = each_weaker (λ x. value_at t x.0 ≡ Some x.1) (IsFrom ts t) t (λ x e. inr (x.1, (e, (refl, (refl, (refl, (refl, refl))))))) (numbered t d).each
 
 module _ (t u : NodeTrees) (d : IsDistinct t) (parent name : Word) (ts : List NodeId) (h : Inserts parent name t u) (before : EachNode (λ x. is_among x.0 ts ≡ (bytes_eq x.1.name parent || bytes_eq x.1.name name)) t) where
   abbrev marks : Word → Bool
@@ -118,9 +124,14 @@ module _ (t u : NodeTrees) (d : IsDistinct t) (parent name : Word) (ts : List No
             (λ k calm. omega (arith, one_no (same h.id k) (or_parts (same h.id k) (is_among k ts) calm).0)));
         before = before_all;
         after = subst (EachNode (λ x. is_among x.0 all ≡ marks x.1.name)) (sym h.is) (added (λ x. is_among x.0 all ≡ marks x.1.name) new_marked before_all);
-        nodes = subst (EachNode (IsFrom all t)) (sym h.is) (added (IsFrom all t) (inl (ap (λ b. b || is_among h.id ts) (same_refl h.id), (h.kept, h.bases))) (own_nodes all t d));
+        nodes = subst (EachNode (IsFrom all t)) (sym h.is) (added (IsFrom all t) (inl (ap (λ b. b || is_among h.id ts) (same_refl h.id), (h.kept, (h.past, inl first_turn)))) (own_nodes all t d));
       }
     where
+      first_turn : HasGone (turn_at t h.id) h.value.turn
+      first_turn =
+          let none = no_turn t h.id h.fresh in
+          record { later = omega (arith, none); last = λ e. absurd (omega (arith, e, none, h.turn)) }
+
       added : (P : NodeId × Node → Type 0) → P (h.id, h.value) → EachNode P t → EachNode P (grafted h.upper h.index new t)
       added P n each = each_edited P h.upper (graft h.index new) t (λ x below p b. (p, (each_put P h.index new below (n, (tt, tt)) b, tt))) each
 

@@ -1,6 +1,6 @@
--- What an edit leaves in the kept lists of a page: the lists of the nodes of the reached names are empty, and all others are as they were. So are the contexts
--- and areas where subgrids feel the edit; where they do not, all are as they were.
-use Rattle.std.proofs.Common.{◌≡◌, ◌≤◌, Bool, true, false, ◌&&◌, List, [], ◌∷◌, Option, Some, None, IsSome, is_some, cond, refl, sym, ap, subst, ◌∙◌, arith, inl, inr}
+-- What an edit leaves in the kept lists of a page: the lists of the nodes of the reached names are empty, and all others are as they were. So is what nodes
+-- keep longer than their answers where subgrids feel the edit; where they do not, all of it is as it was. The turns of the reached nodes went.
+use Rattle.std.proofs.Common.{◌≡◌, ◌≤◌, ℕ, Bool, true, false, ◌&&◌, List, [], ◌∷◌, Option, Some, None, IsSome, is_some, cond, refl, sym, ap, subst, ◌∙◌, arith, inl, inr}
 use Rattle.std.specs.Prelude.{◌||◌, ◌⊎◌, if◌then◌else◌}
 use Rattle.std.specs.Str.{bytes_eq}
 use Rattle.std.proofs.lemmas.Bool.{or_left, or_right}
@@ -17,12 +17,13 @@ use Rattle.doc_text.proofs.Grown.{own_name}
 use Rattle.tree_rules.specs.declared.query.Query.{Query}
 use Rattle.placing.specs.declared.node.Answer.{Answer}
 use Rattle.placing.specs.declared.node.Node.{Node}
-use Rattle.placing.specs.declared.wide.GridBase.{GridBase}
-use Rattle.placing.specs.Keeping.{without_answers, without_bases}
-use Rattle.placing.specs.Kept.{IsRight, bases_at, bases_of, kept_at, kept_of}
-use Rattle.placing.specs.Nodes.{NodeTrees, bare, bare_of}
-use Rattle.placing.proofs.Bares.{height_bare, tops_bare}
-use Rattle.placing.proofs.KeptTrees.{drops_bare, drops_bases, drops_kept, forgets_bare, forgets_bases, forgets_kept}
+use Rattle.placing.specs.declared.told.Past.{Past}
+use Rattle.placing.specs.Keeping.{HasGone, HasTurn, without_answers, without_past}
+use Rattle.placing.specs.Kept.{IsRight, kept_at, kept_of, past_at, past_of, turn_at, turn_of}
+use Rattle.placing.specs.Nodes.{IsLive, NodeTrees, bare, bare_of}
+use Rattle.placing.specs.Told.{no_past}
+use Rattle.placing.proofs.Bares.{height_bare, live_from, tops_bare}
+use Rattle.placing.proofs.KeptTrees.{drops_bare, drops_kept, drops_past, drops_turn, forgets_bare, forgets_kept, forgets_past, forgets_turn, turn_twice}
 use Rattle.reach_frame.specs.Local.{IsLocal}
 use Rattle.reach_frame.specs.Marks.{has_mark, is_reached}
 use Rattle.reach_frame.proofs.Calm.{not_later}
@@ -96,30 +97,30 @@ each_at P (tree x below after) k v p e =
 
 -- a fact of a node, whatever it keeps
 abbrev Whatever : (NodeId × Node → Type 0) → NodeId × Node → Type 0
-Whatever P x = (ks : List (Query × Answer)) (bs : List GridBase) → P (x.0, record x.1 { kept = ks; bases = bs })
+Whatever P x = (ks : List (Query × Answer)) (p : Past) (n : ℕ) → P (x.0, record x.1 { kept = ks; past = p; turn = n })
 
 -- a fact that holds whatever is kept holds once some of it is let go
-module _ (f : Node → Node) (rest : (v : Node) (ks : List (Query × Answer)) (bs : List GridBase) → ◌≡◌ {A = Node} (record (f v) { kept = ks; bases = bs }) (record v { kept = ks; bases = bs })) (P : NodeId × Node → Type 0) where
+module _ (f : Node → Node) (rest : (v : Node) (ks : List (Query × Answer)) (p : Past) (n : ℕ) → ◌≡◌ {A = Node} (record (f v) { kept = ks; past = p; turn = n }) (record v { kept = ks; past = p; turn = n })) (P : NodeId × Node → Type 0) where
   each_forgot : (n : NodeId) (t : NodeTrees) → EachNode (Whatever P) t → EachNode (Whatever P) (forgot f n t)
   each_forgot n leafless h = tt
   each_forgot n (tree x below after) h = (at (same x.0 n), (each_forgot n below h.1.0, each_forgot n after h.1.1))
     where
-      at : (c : Bool) (ks : List (Query × Answer)) (bs : List GridBase) → P (x.0, record (cond c (f x.1) x.1) { kept = ks; bases = bs })
-      at true ks bs = subst (λ (v : Node). P (x.0, v)) (sym (rest x.1 ks bs)) (h.0 ks bs)
-      at false ks bs = h.0 ks bs
+      at : (c : Bool) (ks : List (Query × Answer)) (p : Past) (k : ℕ) → P (x.0, record (cond c (f x.1) x.1) { kept = ks; past = p; turn = k })
+      at true ks p k = subst (λ (v : Node). P (x.0, v)) (sym (rest x.1 ks p k)) (h.0 ks p k)
+      at false ks p k = h.0 ks p k
 
   each_forgets : (ns : List NodeId) (t : NodeTrees) → EachNode (Whatever P) t → EachNode (Whatever P) (forgets f ns t)
   each_forgets [] t h = h
   each_forgets (n ∷ ns) t h = each_forgets ns (forgot f n t) (each_forgot n t h)
 
 each_left : (P : NodeId × Node → Type 0) (felt : Bool) (ns : List NodeId) (t : NodeTrees) → EachNode (Whatever P) t → EachNode P (left_in felt ns t)
-each_left P felt ns t h = each_weaker (Whatever P) P (left_in felt ns t) (λ x f. f x.1.kept x.1.bases) (at felt)
+each_left P felt ns t h = each_weaker (Whatever P) P (left_in felt ns t) (λ x f. f x.1.kept x.1.past x.1.turn) (at felt)
   where
     answers : EachNode (Whatever P) (forgets without_answers ns t)
-    answers = each_forgets without_answers (λ v ks bs. refl) P ns t h
+    answers = each_forgets without_answers (λ v ks p n. refl) P ns t h
 
     at : (c : Bool) → EachNode (Whatever P) (left_in c ns t)
-    at true = each_forgets without_bases (λ v ks bs. refl) P ns (forgets without_answers ns t) answers
+    at true = each_forgets without_past (λ v ks p n. refl) P ns (forgets without_answers ns t) answers
     at false = answers
 
 -- ---- what is left
@@ -131,9 +132,13 @@ answers_left : (felt : Bool) (ns : List NodeId) (t : NodeTrees) (n : NodeId) →
 answers_left true ns t n = drops_kept ns (forgets without_answers ns t) n ∙ forgets_kept ns t n
 answers_left false ns t n = forgets_kept ns t n
 
-bases_left : (felt : Bool) (ns : List NodeId) (t : NodeTrees) (n : NodeId) → bases_at (left_in felt ns t) n ≡ (if felt && is_among n ns then [] else bases_at t n)
-bases_left true ns t n = drops_bases ns (forgets without_answers ns t) n ∙ ap (λ l. cond (is_among n ns) [] l) (forgets_bases ns t n)
-bases_left false ns t n = forgets_bases ns t n
+past_left : (felt : Bool) (ns : List NodeId) (t : NodeTrees) (n : NodeId) → past_at (left_in felt ns t) n ≡ (if felt && is_among n ns then no_past else past_at t n)
+past_left true ns t n = drops_past ns (forgets without_answers ns t) n ∙ ap (λ p. cond (is_among n ns) no_past p) (forgets_past ns t n)
+past_left false ns t n = forgets_past ns t n
+
+turns_left : (felt : Bool) (ns : List NodeId) (t : NodeTrees) (n : NodeId) → IsLive (bare t) n → HasTurn (is_among n ns) (turn_at t n) (turn_at (left_in felt ns t) n)
+turns_left true ns t n l = subst (HasTurn (is_among n ns) (turn_at t n)) (sym (drops_turn ns (forgets without_answers ns t) n)) (forgets_turn ns t n l)
+turns_left false ns t n l = forgets_turn ns t n l
 
 times_bare : (t : NodeTrees) (n : NodeId) → times n (bare t) ≡ times n t
 unfolding bare
@@ -153,11 +158,12 @@ unfolding kept_at
 own_kept t d = each_weaker (λ x. value_at t x.0 ≡ Some x.1) (λ x. x.1.kept ≡ kept_at t x.0) t (λ x e. sym (ap kept_of e)) (numbered t d).each
 
 -- ---- a changed tree
--- a node of it is touched and keeps nothing, or it stood in the old one and keeps what it kept there
+-- A node of it is touched and keeps nothing, and its turn is later than in the old one or the same as there; or it stood in the old one and has its turn and
+-- keeps what it kept there.
 abbrev pub IsFrom : List NodeId → NodeTrees → NodeId × Node → Type 0
 IsFrom ts t x =
-    ((is_among x.0 ts ≡ true) × ((x.1.kept ≡ []) × (x.1.bases ≡ [])))
-    ⊎ ((v : Node) × ((value_at t x.0 ≡ Some v) × ((v.name ≡ x.1.name) × ((v.kind ≡ x.1.kind) × ((x.1.kept ≡ v.kept) × (x.1.bases ≡ v.bases))))))
+    ((is_among x.0 ts ≡ true) × ((x.1.kept ≡ []) × ((x.1.past ≡ no_past) × (HasGone (turn_at t x.0) x.1.turn ⊎ (IsSome (part_at t x.0) × (x.1.turn ≡ turn_at t x.0))))))
+    ⊎ ((v : Node) × ((value_at t x.0 ≡ Some v) × ((v.name ≡ x.1.name) × ((v.kind ≡ x.1.kind) × ((x.1.kept ≡ v.kept) × ((x.1.past ≡ v.past) × (x.1.turn ≡ v.turn)))))))
 
 pub record IsChange (ts : List NodeId) (grid : Bool) (marks : Word → Bool) (t u : NodeTrees) : Type 0 where
   pub local : IsLocal (λ n. is_among n ts) grid (bare t) (bare u)
@@ -217,15 +223,19 @@ module _ (ts : List NodeId) (grid : Bool) (marks : Word → Bool) (root : NodeId
   unfolding kept_at
   own_at s k v e = ap kept_of e
 
-  own_bases : (s : NodeTrees) (k : NodeId) (v : Node) → value_at s k ≡ Some v → bases_at s k ≡ v.bases
-  unfolding bases_at
-  own_bases s k v e = ap bases_of e
+  own_past : (s : NodeTrees) (k : NodeId) (v : Node) → value_at s k ≡ Some v → past_at s k ≡ v.past
+  unfolding past_at
+  own_past s k v e = ap past_of e
+
+  own_turn : (s : NodeTrees) (k : NodeId) (v : Node) → value_at s k ≡ Some v → turn_at s k ≡ v.turn
+  unfolding turn_at
+  own_turn s k v e = ap turn_of e
 
   not_both_ways : {P : Type 0} (b : Bool) → b ≡ true → b ≡ false → P
   not_both_ways b e f = absurd (not_both b e f)
 
-  keeps : (x : NodeId × Node) → value_at u x.0 ≡ Some x.1 → is_among x.0 ts ≡ marks x.1.name → IsFrom ts t x → (ks : List (Query × Answer)) (bs : List GridBase) → ks ≡ kept_at left x.0 → KeepsOn (touches x.1.name) t (x.0, record x.1 { kept = ks; bases = bs })
-  keeps x e m (inl new) ks bs k =
+  keeps : (x : NodeId × Node) → value_at u x.0 ≡ Some x.1 → is_among x.0 ts ≡ marks x.1.name → IsFrom ts t x → (ks : List (Query × Answer)) (p : Past) (n : ℕ) → ks ≡ kept_at left x.0 → KeepsOn (touches x.1.name) t (x.0, record x.1 { kept = ks; past = p; turn = n })
+  keeps x e m (inl new) ks p n k =
       let touched = new_touched x e m new.0 in
       record {
         kept = k ∙ at (is_among x.0 found) refl ∙ sym (ap (λ b. cond b [] (kept_at t x.0)) touched);
@@ -235,12 +245,12 @@ module _ (ts : List NodeId) (grid : Bool) (marks : Word → Bool) (root : NodeId
       at : (b : Bool) → is_among x.0 found ≡ b → kept_at left x.0 ≡ []
       at true f = kept_left x.0 true f
       at false f = kept_left x.0 false f ∙ own_at u x.0 x.1 e ∙ new.1.0
-  keeps x e m (inr old) ks bs k = at (is_among x.0 found) refl
+  keeps x e m (inr old) ks p n k = at (is_among x.0 found) refl
     where
       v : Node
       v = old.0
 
-      at : (b : Bool) → is_among x.0 found ≡ b → KeepsOn (touches x.1.name) t (x.0, record x.1 { kept = ks; bases = bs })
+      at : (b : Bool) → is_among x.0 found ≡ b → KeepsOn (touches x.1.name) t (x.0, record x.1 { kept = ks; past = p; turn = n })
       at true f =
           let touched : touches x.1.name ≡ true = or_left _ _ (ap (reaches_in t) (sym old.1.1.0) ∙ old_reached x.0 v old.1.0 ∙ f) in
           record {
@@ -259,13 +269,17 @@ module _ (ts : List NodeId) (grid : Bool) (marks : Word → Bool) (root : NodeId
       each_with (λ x. x.1.kept ≡ kept_at left x.0) (λ x. x.1.kept ≡ kept_at left x.0 → KeepsOn (touches x.1.name) t x) (λ x. KeepsOn (touches x.1.name) t x) left (λ x p f. f p)
       (own_kept left (λ n. omega (arith, times_left grid found u n, wu.distinct n)))
       (each_left (λ x. x.1.kept ≡ kept_at left x.0 → KeepsOn (touches x.1.name) t x) grid found u
-      (each_with (λ x. (value_at u x.0 ≡ Some x.1) × (is_among x.0 ts ≡ marks x.1.name)) (IsFrom ts t) (Whatever (λ x. x.1.kept ≡ kept_at left x.0 → KeepsOn (touches x.1.name) t x)) u (λ x p f. keeps x p.0 p.1 f)
+      (each_with (λ x. (value_at u x.0 ≡ Some x.1) × (is_among x.0 ts ≡ marks x.1.name)) (IsFrom ts t) (Whatever (λ x. x.1.kept ≡ kept_at left x.0 → KeepsOn (touches x.1.name) t x)) u (λ x q f. keeps x q.0 q.1 f)
       (each_with (λ x. value_at u x.0 ≡ Some x.1) (λ x. is_among x.0 ts ≡ marks x.1.name) (λ x. (value_at u x.0 ≡ Some x.1) × (is_among x.0 ts ≡ marks x.1.name)) u (λ x p q. (p, q)) (numbered u wu.distinct).each c.after) c.nodes))
+
+  -- the turn of a node went, or it is not reached and has its turn still
+  abbrev TurnsOn : NodeId → Type 0
+  TurnsOn n = HasGone (turn_at t n) (turn_at left n) ⊎ ((IsSome (part_at t n) × (is_among n found ≡ false)) × (turn_at left n ≡ turn_at t n))
 
   pub right_left : IsRight t → IsRight left
   right_left r =
       right_after t left wt.distinct (λ n. omega (arith, times_left grid found u n, wu.distinct n)) root wt.tops (tops_left grid found u ∙ wu.tops) wt.low (omega (arith, height_left grid found u, wu.low)) ts grid
-      (subst (λ b. IsLocal (λ n. is_among n ts) grid (bare t) b) (sym (bare_left grid found u)) c.local) r (λ n l. at n (value_at u n) refl (value_there n l)) (λ n l. held n (value_at u n) refl (value_there n l))
+      (subst (λ b. IsLocal (λ n. is_among n ts) grid (bare t) b) (sym (bare_left grid found u)) c.local) r (λ n l. at n (value_at u n) refl (value_there n l)) (λ n l. held n (value_at u n) refl (value_there n l)) (λ n l. turned n (value_at u n) refl (value_there n l))
     where
       value_there : (n : NodeId) → IsSome (part_at left n) → IsSome (value_at u n)
       value_there n l = by (part_at u n) refl
@@ -284,20 +298,36 @@ module _ (ts : List NodeId) (grid : Bool) (marks : Word → Bool) (root : NodeId
       at n None e l = absurd cc
       at n (Some v) e l = or_not (n, v) e (each_at (IsFrom ts t) u n v c.nodes e) (is_among n found) refl
 
-      calm_bases : (k : NodeId) (b : Bool) → (grid && is_among k found) ≡ b → bases_at left k ≡ (if b then [] else bases_at u k)
-      calm_bases k b e = bases_left grid found u k ∙ ap (λ z. cond z [] (bases_at u k)) e
+      calm_past : (k : NodeId) (b : Bool) → (grid && is_among k found) ≡ b → past_at left k ≡ (if b then no_past else past_at u k)
+      calm_past k b e = past_left grid found u k ∙ ap (λ z. cond z no_past (past_at u k)) e
 
       one_not : (b c : Bool) → (b && c) ≡ false → (b ≡ false) ⊎ (c ≡ false)
       one_not true c e = inr e
       one_not false c e = inl refl
 
       holds_or : (x : NodeId × Node) → value_at u x.0 ≡ Some x.1 → IsFrom ts t x → (b : Bool) → (grid && is_among x.0 found) ≡ b →
-          (bases_at left x.0 ≡ []) ⊎ ((IsSome (part_at t x.0) × ((grid ≡ false) ⊎ (is_among x.0 found ≡ false))) × (bases_at left x.0 ≡ bases_at t x.0))
-      holds_or x e f true g = inl (calm_bases x.0 true g)
-      holds_or x e (inl new) false g = inl (calm_bases x.0 false g ∙ own_bases u x.0 x.1 e ∙ new.1.1)
+          (past_at left x.0 ≡ no_past) ⊎ ((IsSome (part_at t x.0) × ((grid ≡ false) ⊎ (is_among x.0 found ≡ false))) × (past_at left x.0 ≡ past_at t x.0))
+      holds_or x e f true g = inl (calm_past x.0 true g)
+      holds_or x e (inl new) false g = inl (calm_past x.0 false g ∙ own_past u x.0 x.1 e ∙ new.1.1.0)
       holds_or x e (inr old) false g =
-          inr ((there_in t x.0 old.0 old.1.0, one_not grid (is_among x.0 found) g), calm_bases x.0 false g ∙ own_bases u x.0 x.1 e ∙ old.1.1.1.1.1 ∙ sym (own_bases t x.0 old.0 old.1.0))
+          inr ((there_in t x.0 old.0 old.1.0, one_not grid (is_among x.0 found) g), calm_past x.0 false g ∙ own_past u x.0 x.1 e ∙ old.1.1.1.1.1.0 ∙ sym (own_past t x.0 old.0 old.1.0))
 
-      held : (n : NodeId) (o : Option Node) → value_at u n ≡ o → IsSome o → (bases_at left n ≡ []) ⊎ ((IsSome (part_at t n) × ((grid ≡ false) ⊎ (is_among n found ≡ false))) × (bases_at left n ≡ bases_at t n))
+      held : (n : NodeId) (o : Option Node) → value_at u n ≡ o → IsSome o → (past_at left n ≡ no_past) ⊎ ((IsSome (part_at t n) × ((grid ≡ false) ⊎ (is_among n found ≡ false))) × (past_at left n ≡ past_at t n))
       held n None e l = absurd cc
       held n (Some v) e l = holds_or (n, v) e (each_at (IsFrom ts t) u n v c.nodes e) (grid && is_among n found) refl
+
+      stayed : (n : NodeId) → IsSome (part_at t n) → turn_at u n ≡ turn_at t n → (b : Bool) → is_among n found ≡ b → HasTurn b (turn_at u n) (turn_at left n) → TurnsOn n
+      stayed n old same true e h = inl (subst (λ k. HasGone k (turn_at left n)) same h)
+      stayed n old same false e h = inr ((old, e), h ∙ same)
+
+      turns_or : (x : NodeId × Node) → value_at u x.0 ≡ Some x.1 → IsFrom ts t x → HasTurn (is_among x.0 found) (turn_at u x.0) (turn_at left x.0) → TurnsOn x.0
+      turns_or x e (inl new) h = by new.1.1.1
+        where
+          by : HasGone (turn_at t x.0) x.1.turn ⊎ (IsSome (part_at t x.0) × (x.1.turn ≡ turn_at t x.0)) → TurnsOn x.0
+          by (inl gone) = inl (turn_twice true (is_among x.0 found) (turn_at t x.0) (turn_at u x.0) (turn_at left x.0) (subst (HasGone (turn_at t x.0)) (sym (own_turn u x.0 x.1 e)) gone) h)
+          by (inr old) = stayed x.0 old.0 (own_turn u x.0 x.1 e ∙ old.1) (is_among x.0 found) refl h
+      turns_or x e (inr old) h = stayed x.0 (there_in t x.0 old.0 old.1.0) (own_turn u x.0 x.1 e ∙ old.1.1.1.1.1.1 ∙ sym (own_turn t x.0 old.0 old.1.0)) (is_among x.0 found) refl h
+
+      turned : (n : NodeId) (o : Option Node) → value_at u n ≡ o → IsSome o → TurnsOn n
+      turned n None e l = absurd cc
+      turned n (Some v) e l = turns_or (n, v) e (each_at (IsFrom ts t) u n v c.nodes e) (turns_left grid found u n (live_from u n (there_in u n v e)))

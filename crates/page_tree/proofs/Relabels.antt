@@ -13,6 +13,7 @@ use Rattle.tree_rules.specs.Documents.{first_font}
 use Rattle.doc_text.specs.Label.{Label}
 use Rattle.doc_text.specs.Texts.{Word}
 use Rattle.placing.specs.declared.node.Node.{Node}
+use Rattle.placing.specs.Kept.{turn_at}
 use Rattle.placing.specs.Nodes.{NodeTrees, bare, label_of_bare}
 use Rattle.placing.proofs.Mapped.{mapped_twice}
 use Rattle.reach_frame.specs.Local.{IsLocal}
@@ -23,7 +24,7 @@ use Rattle.page_tree.specs.Documents.{label_of}
 use Rattle.page_tree.specs.Fonts.{AreStyled, HasStyle, IsStyled, root_font}
 use Rattle.page_tree.specs.Restyled.{Styles, styled_from}
 use Rattle.page_tree.specs.Shapes.{Relabels}
-use Rattle.page_tree.proofs.Reaching.{IsChange, IsFrom, each_with}
+use Rattle.page_tree.proofs.Reaching.{IsChange, IsFrom, each_with, there_in}
 use Rattle.page_tree.proofs.Locals.{touched_number}
 
 -- all nodes of these trees are touched, where subgrids feel it
@@ -208,10 +209,11 @@ module _ (t u : NodeTrees) (d : IsDistinct t) (one : count_of t ≡ 1) (old : Is
       at : (c : Bool) → same x.0 h.id ≡ c → IsFrom ts t (x.0, made x.0 x.1)
       at true e =
           let q = cond_yes (same x.0 h.id) h.value x.1 e in
-          inl (ap touched (same_is x.0 h.id e) ∙ own_touched, (ap (λ (w : Node). w.kept) q ∙ h.kept, ap (λ (w : Node). w.bases) q ∙ h.bases))
+          let turn = ap (λ (w : Node). w.turn) q ∙ h.turn ∙ ap (turn_at t) (sym (same_is x.0 h.id e)) in
+          inl (ap touched (same_is x.0 h.id e) ∙ own_touched, (ap (λ (w : Node). w.kept) q ∙ h.kept, (ap (λ (w : Node). w.past) q ∙ h.past, inr (there_in t x.0 x.1 there, turn))))
       at false e =
           let q = cond_no (same x.0 h.id) h.value x.1 e in
-          inr (x.1, (there, (ap (λ (w : Node). w.name) (sym q), (ap (λ (w : Node). w.kind) (sym q), (ap (λ (w : Node). w.kept) q, ap (λ (w : Node). w.bases) q)))))
+          inr (x.1, (there, (ap (λ (w : Node). w.name) (sym q), (ap (λ (w : Node). w.kind) (sym q), (ap (λ (w : Node). w.kept) q, (ap (λ (w : Node). w.past) q, ap (λ (w : Node). w.turn) q))))))
 
   pub relabel_change : (grid ≡ true → (k : NodeId) (j : ℕ) → child_at t k j ≡ Some h.id → touched k ≡ true) → (grid ≡ false → SameFace touched grid h.id h.value h.styles t d) → SameFonts touched grid h.id h.value h.styles t d ⊎ AllBelow touched grid h.id h.value h.styles t d →
       IsChange ts grid marks t u

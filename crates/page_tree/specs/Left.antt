@@ -4,12 +4,12 @@ use Rattle.layout_cache.specs.Reach.{forgets}
 use Rattle.node_arena.specs.declared.number.NodeId.{NodeId}
 use Rattle.node_arena.specs.Plain.{Nodes}
 use Rattle.placing.specs.declared.node.Node.{Node}
-use Rattle.placing.specs.Keeping.{without_answers, without_bases}
+use Rattle.placing.specs.Keeping.{without_answers, without_past}
 use Rattle.placing.specs.Nodes.{NodeTrees}
 
--- Trees in which these nodes keep no answers; and where subgrids feel the edit, no contexts and areas either.
+-- Trees in which these nodes keep no answers; and where subgrids feel the edit, nothing longer than these either.
 abbrev pub left_in : Bool → List NodeId → NodeTrees → NodeTrees
-left_in felt ns t = if felt then forgets without_bases ns (forgets without_answers ns t) else forgets without_answers ns t
+left_in felt ns t = if felt then forgets without_past ns (forgets without_answers ns t) else forgets without_answers ns t
 
 -- an arena with such trees
 abbrev pub all_left : Bool → List NodeId → Nodes Node → Nodes Node

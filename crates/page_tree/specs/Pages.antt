@@ -17,6 +17,7 @@ use Rattle.node_arena.specs.declared.number.NodeId.{NodeId}
 use Rattle.node_arena.specs.Numbers.{EachNode, IsDistinct, value_at}
 use Rattle.placing.specs.Keeping.{HoldsNone, KeepsNone}
 use Rattle.placing.specs.Nodes.{NodeTrees}
+use Rattle.placing.specs.Told.{no_past}
 use Rattle.page_tree.specs.Documents.{label_of, plain_trees}
 use Rattle.page_tree.specs.Fonts.{HasFont, HasStyle, IsStyled, root_font_of}
 use Rattle.page_tree.specs.Registers.{AreNamed}
@@ -71,13 +72,14 @@ pub record IsRoot (doc : Doc) (h : Held) : Type 0 where
   pub height : h.height ≡ doc.height
   pub nodes : trees_in h ≡ tree (plain_label doc.root) leafless leafless
   pub kept : KeepsNone h.nodes.tree
-  pub bases : HoldsNone h.nodes.tree
+  pub past : HoldsNone h.nodes.tree
 
 -- a node as it stands under another
 pub record StandsUnder (parent : NodeId) (t : NodeTrees) (plain : Plain) (v : Node) : Type 0 where
   pub label : label_of v ≡ plain_label plain
   pub kept : v.kept ≡ []
-  pub bases : v.bases ≡ []
+  pub past : v.past ≡ no_past
+  pub turn : v.turn ≡ 1
   pub font : ℤ
   pub has : HasFont font parent t
   pub style : HasStyle (font_of font (root_font_of t) v.declared) (root_font_of t) v

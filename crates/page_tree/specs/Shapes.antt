@@ -11,24 +11,27 @@ use Rattle.node_arena.specs.Edits.{grafted, moved, removed}
 use Rattle.node_arena.specs.Faults.{is_top}
 use Rattle.node_arena.specs.Numbers.{part_at, replaced}
 use Rattle.placing.specs.declared.node.Node.{Node}
+use Rattle.placing.specs.Kept.{turn_at}
 use Rattle.placing.specs.Nodes.{NodeTrees}
+use Rattle.placing.specs.Told.{no_past}
 use Rattle.page_tree.specs.Documents.{Becomes, label_of}
 use Rattle.page_tree.specs.Moves.{AreApart}
 use Rattle.page_tree.specs.Registers.{Finds}
 use Rattle.page_tree.specs.Restyled.{RestylesUnder, Styles, restyled}
 
--- the node of a name has another value, which keeps nothing, and some nodes other computed styles
+-- the node of a name has another value, which keeps nothing and has the turn of the old one, and some nodes other computed styles
 pub record Relabels (name : Word) (change : Label → Label) (t u : NodeTrees) : Type 0 where
   pub id : NodeId
   pub found : Finds t name (Some id)
   pub value : Node
   pub kept : value.kept ≡ []
-  pub bases : value.bases ≡ []
+  pub past : value.past ≡ no_past
+  pub turn : value.turn ≡ turn_at t id
   pub label : Becomes id change (label_of value) t
   pub styles : Styles
   pub is : u ≡ restyled styles (replaced id value t)
 
--- a new node, which keeps nothing, stands under the node of a name
+-- a new node, which keeps nothing and has its first turn, stands under the node of a name
 pub record Inserts (parent name : Word) (t u : NodeTrees) : Type 0 where
   pub upper : NodeId
   pub found : Finds t parent (Some upper)
@@ -37,7 +40,8 @@ pub record Inserts (parent name : Word) (t u : NodeTrees) : Type 0 where
   pub value : Node
   pub named : value.name ≡ name
   pub kept : value.kept ≡ []
-  pub bases : value.bases ≡ []
+  pub past : value.past ≡ no_past
+  pub turn : value.turn ≡ 1
   pub index : ℕ
   pub is : u ≡ grafted upper index (tree (id, value) leafless leafless) t
 

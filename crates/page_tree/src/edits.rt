@@ -37,8 +37,8 @@ struct Reached {
 
 impl Page {
     /// The document after an edit. The kept answers of the nodes that the edit reaches go, and no others; where all were right
-    /// all are right after it. The contexts and areas that these nodes keep go only where subgrids can feel the edit, but for
-    /// those of a node with new values, which is made anew.
+    /// all are right after it. What these nodes keep longer than their answers goes only where subgrids can feel the edit, but
+    /// for that of a node with new values, which is made anew.
     ///
     /// `Refused` exactly where the definition of the edited document refuses the edit, with its fault, the first in the order
     /// of refusals. `NoMemory` where memory is wanting. After either nothing is changed, and no kept answer is lost.
@@ -56,8 +56,8 @@ impl Page {
         Ok(())
     }
 
-    /// Lets go what may no longer be right: the answers of the reached nodes, and, where subgrids feel the edit, their contexts
-    /// and areas. Takes no memory.
+    /// Lets go what may no longer be right: the answers of the reached nodes, and, where subgrids feel the edit, what they keep
+    /// longer. Takes no memory.
     fn let_reached_go(&mut self, reached: &Reached)
         ensures document { document_of self.new ≡ document_of self.old }
         ensures nodes { self.new.nodes ≡ all_left reached.now.felt reached.now.nodes self.old.nodes }
@@ -65,7 +65,7 @@ impl Page {
         let nodes = reached.nodes.as_slice();
         self.let_go(nodes);
         if reached.felt {
-            self.let_bases_go(nodes);
+            self.let_past_go(nodes);
         }
     }
 

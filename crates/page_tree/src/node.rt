@@ -2,14 +2,16 @@
 
 ghost use Rattle.std.specs.Prelude.{◌≡◌, [], IfOk};
 ghost use Rattle.style_types.specs.Computed.{computed_style};
+ghost use Rattle.placing.specs.Told.{no_past};
 ghost use Rattle.page_tree.specs.Documents.{kind_of};
 
 use doc_text::Kind;
 use layout_cache::Kept;
 use lunit::{Copied, Lu, Name, NoMemory};
-use placing::{Bases, Node, NodeKind};
+use placing::{Node, NodeKind, Past};
 use std::alloc::Global;
 use style_types::Declared;
+use tree_rules::SharedContent;
 
 /// The kind of a node in the arena.
 pub(crate) fn node_kind(alloc: Global, kind: &Kind) -> Result<NodeKind, NoMemory>
@@ -18,11 +20,14 @@ pub(crate) fn node_kind(alloc: Global, kind: &Kind) -> Result<NodeKind, NoMemory
     match kind {
         Kind::Grid => Ok(NodeKind::Grid),
         Kind::Flex => Ok(NodeKind::Flex),
-        Kind::Leaf(content) => Ok(NodeKind::Leaf(content.copy(alloc)?)),
+        Kind::Leaf(content) => {
+            let content = content.copy(alloc)?;
+            Ok(NodeKind::Leaf(SharedContent::new(alloc, content)?))
+        }
     }
 }
 
-/// A node that keeps nothing, whose font size is `em` where that of the root is `rem`.
+/// A node of this turn that keeps nothing, whose font size is `em` where that of the root is `rem`.
 pub(crate) fn made(
     alloc: Global,
     name: Name,
@@ -30,13 +35,15 @@ pub(crate) fn made(
     declared: Declared,
     em: Lu,
     rem: Lu,
+    turn: u64,
 ) -> Result<Node, NoMemory>
     ensures name { IfOk result (λ node. node.name ≡ name) }
     ensures kind { IfOk result (λ node. node.kind ≡ kind) }
     ensures declared { IfOk result (λ node. node.declared ≡ declared) }
     ensures style { IfOk result (λ node. node.style ≡ computed_style em rem declared) }
     ensures kept { IfOk result (λ node. node.kept ≡ []) }
-    ensures bases { IfOk result (λ node. node.bases ≡ []) }
+    ensures past { IfOk result (λ node. node.past ≡ no_past) }
+    ensures turn { IfOk result (λ node. node.turn ≡ turn) }
 {
     let style = declared.computed(alloc, em, rem)?;
     Ok(Node {
@@ -45,6 +52,7 @@ pub(crate) fn made(
         declared,
         style,
         kept: Kept::new(alloc)?,
-        bases: Bases::new(),
+        turn,
+        past: Past::new(),
     })
 }

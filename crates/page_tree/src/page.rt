@@ -16,7 +16,7 @@ ghost use Rattle.box_layout.specs.Paths.{IsAllKept, IsAsked, IsCutShort, IsPathK
 ghost use Rattle.doc_text.specs.Valid.{IsValid};
 ghost use Rattle.placing.specs.Walks.{state, Walk};
 ghost use Rattle.layout_cache.specs.Reach.{all_forgot};
-ghost use Rattle.placing.specs.Keeping.{without_answers, without_bases, HoldsNone, KeepsNone};
+ghost use Rattle.placing.specs.Keeping.{without_answers, without_past, HoldsNone, KeepsNone};
 ghost use Rattle.placing.specs.Nodes.{bare};
 ghost use Rattle.page_tree.specs.Boxes.{boxes_of};
 ghost use Rattle.placing.specs.Kept.{IsRight};
@@ -37,7 +37,7 @@ use doc_text::{Doc, MAX_CHILDREN, Plain, node_limit};
 use lunit::{Copied, Lu, Name, NoMemory, Steps};
 use node_arena::{Arena, NodeId};
 use outside::{Ruler, Tally};
-use placing::{Node, NodeKind};
+use placing::{Node, NodeKind, turn_of};
 use std::alloc::Global;
 use std::marker::Model;
 use std::sync::ledger::Ledger;
@@ -113,7 +113,7 @@ impl Page {
         let font = font_of_root(&doc.root.style);
         let kind = node_kind(alloc, &doc.root.kind)?;
         let declared = doc.root.style.copy(alloc)?;
-        let root = made(alloc, doc.root.name, kind, declared, font, font)?;
+        let root = made(alloc, doc.root.name, kind, declared, font, font, 1)?;
         let (nodes, _) = Register::new(alloc, root, node_limit(doc.version), MAX_CHILDREN)?;
         Ok(Page {
             version: doc.version,
@@ -134,7 +134,7 @@ impl Page {
         let font = plain.style.font(font_at(tree, root, parent), root);
         let kind = node_kind(self.alloc, &plain.kind)?;
         let declared = plain.style.copy(self.alloc)?;
-        made(self.alloc, plain.name, kind, declared, font, root)
+        made(self.alloc, plain.name, kind, declared, font, root, 1)
     }
 
     /// Makes a node without children under the node of a name, at an index of its children; where no node has the name,
@@ -144,7 +144,7 @@ impl Page {
         ensures nodes { OnOk result (trees_in self.new ≡ inserted parent.now index (label_of plain.now) (trees_in self.old)) }
         ensures around { OnOk result (IsAround self.old self.new) }
         ensures kept { OnOk result (KeepsNone self.old.nodes.tree → KeepsNone self.new.nodes.tree) }
-        ensures bases { OnOk result (HoldsNone self.old.nodes.tree → HoldsNone self.new.nodes.tree) }
+        ensures past { OnOk result (HoldsNone self.old.nodes.tree → HoldsNone self.new.nodes.tree) }
         ensures changes { OnOk result (holds (trees_in self.old) parent.now ≡ true → Inserts parent.now plain.now.name self.old.nodes.tree self.new.nodes.tree) }
         ensures err { OnErr result (self.new ≡ self.old) }
     {
@@ -179,7 +179,8 @@ impl Page {
         let _ = tree.root();
         let (font, root) = fonts_with(tree, id, &declared);
         let styles = styles_below(self.alloc, tree, id, font, root)?;
-        let node = made(self.alloc, *name, kind, declared, font, root)?;
+        let turn = turn_of(tree, id);
+        let node = made(self.alloc, *name, kind, declared, font, root, turn)?;
         self.nodes.put(id, node);
         self.nodes.restyle(styles);
         Ok(())
@@ -265,12 +266,12 @@ impl Page {
         self.nodes.let_go(reached);
     }
 
-    /// Lets the contexts and areas of these nodes go. Takes no memory.
-    pub(crate) fn let_bases_go(&mut self, reached: &[NodeId])
+    /// Lets go what these nodes keep longer than their answers. Takes no memory.
+    pub(crate) fn let_past_go(&mut self, reached: &[NodeId])
         ensures document { document_of self.new ≡ document_of self.old }
-        ensures nodes { self.new.nodes ≡ all_forgot without_bases reached.now self.old.nodes }
+        ensures nodes { self.new.nodes ≡ all_forgot without_past reached.now self.old.nodes }
     {
-        self.nodes.let_bases_go(reached);
+        self.nodes.let_past_go(reached);
     }
 
     /// Where memory is taken.
@@ -301,7 +302,7 @@ fn fill(page: &mut Page, node: &Plain) -> Result<(), NoMemory>
     ensures nodes { OnOk result (trees_in page.new ≡ filled node.now.name node.now.children (trees_in page.old)) }
     ensures around { OnOk result (IsAround page.old page.new) }
     ensures kept { OnOk result (KeepsNone page.old.nodes.tree → KeepsNone page.new.nodes.tree) }
-    ensures bases { OnOk result (HoldsNone page.old.nodes.tree → HoldsNone page.new.nodes.tree) }
+    ensures past { OnOk result (HoldsNone page.old.nodes.tree → HoldsNone page.new.nodes.tree) }
 {
     let children = node.children.nodes();
     for index in 0..children.len() {

@@ -7,7 +7,7 @@ ghost use Rattle.node_arena.specs.Faults.{is_top};
 ghost use Rattle.node_arena.specs.Plain.{first_node, with_node, with_move, with_value, without_node};
 ghost use Rattle.node_arena.specs.Edits.{removed};
 ghost use Rattle.doc_text.specs.Growth.{holds};
-ghost use Rattle.placing.specs.Keeping.{without_answers, without_bases};
+ghost use Rattle.placing.specs.Keeping.{without_answers, without_past};
 ghost use Rattle.box_layout.specs.BoxesSeen.{bare_boxes, AreNear};
 ghost use Rattle.box_layout.specs.LeafHeights.{AreMeasured};
 ghost use Rattle.box_layout.specs.Paths.{IsAllKept, IsAsked, IsCutShort, IsPathKept};
@@ -26,7 +26,7 @@ use layout_cache::drop_reached;
 use lunit::{Lu, Name, NoMemory, Sequence, Steps};
 use node_arena::{Arena, NodeId};
 use outside::{Ruler, Tally};
-use placing::{Node, drop_bases};
+use placing::{Node, drop_past};
 use std::alloc::Global;
 use std::collections::BTreeMap;
 use std::marker::Model;
@@ -209,11 +209,11 @@ impl Register {
         drop_reached(&mut self.tree, reached);
     }
 
-    /// Lets the contexts and areas of these nodes go, and passes over a number that names no node. Takes no memory.
-    pub(crate) fn let_bases_go(&mut self, reached: &[NodeId])
-        ensures { self.new ≡ all_forgot without_bases reached.now self.old }
+    /// Lets go what these nodes keep longer than their answers, and passes over a number that names no node. Takes no memory.
+    pub(crate) fn let_past_go(&mut self, reached: &[NodeId])
+        ensures { self.new ≡ all_forgot without_past reached.now self.old }
     {
-        drop_bases(&mut self.tree, reached);
+        drop_past(&mut self.tree, reached);
     }
 
     /// The arena. Each node is the one of its number and of its name.

@@ -1,15 +1,16 @@
 -- States in which the same answers are kept: what begins in the one begins in the other.
-use Rattle.std.proofs.Common.{◌≡◌, ℕ, List, [], ◌++◌, Option, length, ap, sym, subst, ◌∙◌}
+use Rattle.std.proofs.Common.{◌≡◌, ℕ, List, [], ◌++◌, Option, length, ap, refl, sym, subst, ◌∙◌, inl, inr}
 use Rattle.node_arena.specs.declared.number.NodeId.{NodeId}
 use Rattle.node_arena.specs.Plain.{Nodes}
 use Rattle.outside.specs.Told.{Adds}
 use Rattle.outside.specs.declared.event.Event.{Event}
 use Rattle.outside.specs.declared.tally.Tally.{Tally}
 use Rattle.tree_rules.specs.declared.query.Query.{Query}
+use Rattle.tree_rules.specs.KeptAnswers.{IsAbsent}
 use Rattle.placing.specs.Children.{IsOutside}
 use Rattle.placing.specs.Kept.{kept_at}
 use Rattle.placing.specs.Nodes.{bare}
-use Rattle.placing.specs.Walks.{AreFresh, Asks, IsCut, State, Stopped, Walk, WalkedBelow, entries_of, events_of, frame_of_arena, kept_with, rising, state}
+use Rattle.placing.specs.Walks.{AreFresh, Asks, IsAlike, IsCut, State, Stopped, Walk, Walked, WalkedBelow, entries_of, events_of, frame_of_arena, kept_with, rising, state}
 use Rattle.placing.specs.declared.node.Node.{Node}
 use Rattle.std.specs.Prelude.{◌⊎◌}
 
@@ -46,3 +47,59 @@ module _ (a b : Nodes Node) (bares : bare b.tree ≡ bare a.tree) (frames : fram
         within = λ m out. w.within m (subst (λ z. IsOutside z n m) (sym bares) out) ∙ kept m;
         cut = subst (λ z. (w.rest ≡ []) ⊎ IsCut z n q new w.rest) bares w.cut;
       }
+
+-- ---- arenas that are alike but for what nodes keep longer than their answers
+pub alike_same : (a : Nodes Node) → IsAlike a a
+alike_same a = record { bare = refl; frame = refl; kept = λ m. refl }
+
+pub alike_then : (a b c : Nodes Node) → IsAlike a b → IsAlike b c → IsAlike a c
+alike_then a b c x y = record { bare = y.bare ∙ x.bare; frame = y.frame ∙ x.frame; kept = λ m. y.kept m ∙ x.kept m }
+
+module _ (a c : Nodes Node) (h : IsAlike a c) (tally : Tally) (passes : ℕ) (log : Option (List Event)) where
+  -- what begins after the change begins before it
+  pub from_alike : (new : State) (n : NodeId) (q : Query) (more : ℕ) → WalkedBelow n q more (state c tally passes log) new → WalkedBelow n q more (state a tally passes log) new
+  from_alike new n q more w = below_alike a c h.bare h.frame h.kept tally passes log new n q more w
+
+  pub from_stopped_alike : (new : State) (n : NodeId) (q : Query) → Stopped n q (state c tally passes log) new → Stopped n q (state a tally passes log) new
+  from_stopped_alike new n q w = stopped_alike a c h.bare h.frame h.kept tally passes log new n q w
+
+  -- and what ends before it ends after it
+  walk_to_alike : (old : State) (May : NodeId → Query → Type 0) (more : ℕ) (rest : List Event) → Walk May more rest old (state a tally passes log) → Walk May more rest old (state c tally passes log)
+  walk_to_alike old May more rest w =
+      record {
+        added = w.added;
+        bare_same = h.bare ∙ w.bare_same;
+        frame = h.frame ∙ w.frame;
+        kept = λ m. h.kept m ∙ w.kept m;
+        fresh = w.fresh;
+        asked = w.asked;
+        ticks = w.ticks;
+        counted = w.counted;
+        measured = w.measured;
+        log = w.log;
+      }
+
+  pub then_alike : (old : State) (n : NodeId) (q : Query) (more : ℕ) → WalkedBelow n q more old (state a tally passes log) → WalkedBelow n q more old (state c tally passes log)
+  then_alike old n q more w =
+      record {
+        walk = walk_to_alike old (Asks (bare old.arena.tree) n q) more [] w.walk;
+        within = λ m out. h.kept m ∙ w.within m out;
+        own = h.kept n ∙ w.own;
+      }
+
+  pub then_walked_alike : (old : State) (n : NodeId) (q : Query) → Walked n q old (state a tally passes log) → Walked n q old (state c tally passes log)
+  then_walked_alike old n q w = record { walk = walk_to_alike old (Asks (bare old.arena.tree) n q) 0 [] w.walk; within = λ m out. h.kept m ∙ w.within m out }
+
+  pub then_stopped_alike : (old : State) (n : NodeId) (q : Query) → Stopped n q old (state a tally passes log) → Stopped n q old (state c tally passes log)
+  then_stopped_alike old n q w =
+      record {
+        more = w.more;
+        rest = w.rest;
+        walk = walk_to_alike old (Asks (bare old.arena.tree) n q) w.more w.rest w.walk;
+        within = λ m out. h.kept m ∙ w.within m out;
+        cut = cut w.cut;
+      }
+    where
+      cut : (w.rest ≡ []) ⊎ IsCut (bare old.arena.tree) n q (state a tally passes log) w.rest → (w.rest ≡ []) ⊎ IsCut (bare old.arena.tree) n q (state c tally passes log) w.rest
+      cut (inl none) = inl none
+      cut (inr k) = inr (record { node = k.node; query = k.query; left = k.left; begun = k.begun; asked = k.asked; absent = subst (IsAbsent k.query) (sym (h.kept k.node)) k.absent })

@@ -1,15 +1,16 @@
 -- A child in its area.
 use Rattle.std.proofs.Common.{◌≡◌, refl, sym, ap, ◌∙◌, subst, arith, ℕ, zero, suc, ◌+◌, ◌<◌, Bool, true, false, ◌&&◌, List, [], ◌∷◌, length, map, drop, Some, if◌then◌else◌, true≢false, add-one}
-use Rattle.std.specs.Prelude.{get_or, reverse}
+use Rattle.std.specs.Prelude.{get_or, reverse, slice_get}
 use Rattle.std.proofs.Math.Seq.{drop-cons}
 use Rattle.std.proofs.lemmas.List.{length-map}
+use Rattle.std.proofs.lemmas.Option.{slice_get-get_or, slice_get_within}
 use Rattle.lunit.specs.declared.geometry.Area.{Area}
 use Rattle.node_arena.specs.Numbers.{child_at}
 use Rattle.node_arena.specs.declared.number.NodeId.{NodeId}
 use Rattle.part_rules.specs.Lists.{zipped}
 use Rattle.part_rules.specs.Placement.{no_area}
 use Rattle.tree_rules.specs.Answers.{Kid, Pair}
-use Rattle.tree_rules.specs.Chains.{Above, Link, chain_of, has_chain, link_to}
+use Rattle.tree_rules.specs.Chains.{Above, Link, chain_of, has_chain, link_to, sibling_of}
 use Rattle.tree_rules.specs.Contexts as rules
 use Rattle.tree_rules.specs.GridSizes.{Entry, entry_of}
 use Rattle.tree_rules.specs.Labels.{Label}
@@ -23,6 +24,11 @@ use Rattle.placing.specs.Insides.{AreInside, IsInside}
 use Rattle.placing.specs.Nodes.{BareTrees, above_at, kid_at, kids_at, sight_at}
 use Rattle.placing.specs.Order.{item_of, items_of}
 use Rattle.placing.specs.Seats.{IsSeat, context_at, context_of, seat_of}
+use Rattle.tree_rules.specs.Places.{Seen}
+use Rattle.tree_rules.proofs.Lengths.{length_zipped}
+use Rattle.placing.specs.Bases.{HoldsPlaces}
+use Rattle.placing.specs.Wides.{kids_in}
+use Rattle.placing.specs.declared.wide.GridBase.{GridBase}
 use Rattle.placing.proofs.Numbers.{Differ, differ_in_order, head_is, items_in_order, of_number_at}
 use Rattle.placing.proofs.Seated.{seat_with}
 
@@ -173,3 +179,96 @@ is_entry b id p numbers areas i d whole named x y h =
 
     next : IsNext b id n e.0
     next = whole.next id e.0 n (child_there b id p i n e named at_number at_area)
+
+-- ---- the child of an entry
+
+-- It is the entry of the child of this index.
+pub record HasKid (b : BareTrees) (id : NodeId) (p : Placed) (i : ℕ) (e : Entry) : Type 0 where
+  pub child : NodeId
+  pub number : child_at b id e.number ≡ Some child
+  pub area : slice_get p.areas i ≡ Some (child, e.area)
+  pub kid : e.kid ≡ kid_at b child
+
+pub entries_counted : (b : BareTrees) (id : NodeId) (p : Placed) → HasChildren b id p → length (entries_at b id p) ≡ length p.areas
+entries_counted b id p named =
+    length_zipped entry_of (in_order (λ (k : Kid). k.label.grid.order) (kids_at b id)) (placed_of p).areas (placed ∙ sym kids) ∙ kids ∙ counts b id p named
+  where
+    kids : length (in_order (λ (k : Kid). k.label.grid.order) (kids_at b id)) ≡ length p.numbers
+    kids =
+        ap length (items_in_order (λ (k : Kid). k.label.grid.order) (kid_at b id) (kids_at b id) ∙ ap (items_of (kid_at b id) (kids_at b id)) (sym named.numbers))
+        ∙ length-map p.numbers (item_of (kid_at b id) (kids_at b id))
+
+    placed : length (placed_of p).areas ≡ length p.numbers
+    placed = length_zipped numbered_area p.numbers p.areas (sym (counts b id p named))
+
+got_there : {A : Type 0} (xs rest : List A) (i : ℕ) (x : A) → drop i xs ≡ x ∷ rest → slice_get xs i ≡ Some x
+got_there [] rest zero x e = absurd cc
+got_there [] rest (suc i) x e = absurd cc
+got_there (y ∷ xs) rest zero x e = cc
+got_there (y ∷ xs) rest (suc i) x e = got_there xs rest i x e
+
+pub entries_told : (b : BareTrees) (id : NodeId) (p : Placed) (i : ℕ) (e : Entry) → IsTree b → HasChildren b id p → slice_get (entries_at b id p) i ≡ Some e → HasKid b id p i e
+entries_told b id p i e whole named there =
+    record {
+      child = own.0;
+      number = ap (λ (x : Entry). child_at b id x.number) same ∙ found.next.number;
+      area = slice_get-get_or p.areas i d within ∙ ap (λ (x : Entry). Some (own.0, x.area)) (sym same);
+      kid = ap (λ (x : Entry). x.kid) same;
+    }
+  where
+    d : NodeId × Area
+    d = (record { slot = 0; turn = 0 }, no_area)
+
+    own : NodeId × Area
+    own = get_or p.areas i d
+
+    within : i < length p.areas
+    within = omega (arith, slice_get_within (entries_at b id p) i e there, entries_counted b id p named)
+
+    found : IsEntry b id p i (get_or p.numbers i 0) own
+    found = is_entry b id p p.numbers p.areas i d whole named refl refl within
+
+    some_same : (x y : Entry) → Some x ≡ Some y → x ≡ y
+    some_same x y h = cc
+
+    same : e ≡ record { number = get_or p.numbers i 0; kid = kid_at b own.0; area = own.1 }
+    same = some_same e (record { number = get_or p.numbers i 0; kid = kid_at b own.0; area = own.1 }) (sym there ∙ got_there (entries_at b id p) (drop (i + 1) (entries_at b id p)) i _ found.entry)
+
+-- ---- areas by the same counts
+
+areas_alike : (ms ns : List ℕ) (xs ys : List (NodeId × Area)) → length ms ≡ length xs → length ns ≡ length ys → zipped numbered_area ms xs ≡ zipped numbered_area ns ys → map child_in xs ≡ map child_in ys → xs ≡ ys
+areas_alike [] [] [] [] a b e f = refl
+areas_alike [] [] [] (y ∷ ys) a b e f = absurd (omega (arith, b))
+areas_alike [] [] (x ∷ xs) ys a b e f = absurd (omega (arith, a))
+areas_alike [] (n ∷ ns) [] [] a b e f = absurd (omega (arith, b))
+areas_alike [] (n ∷ ns) [] (y ∷ ys) a b e f = absurd cc
+areas_alike [] (n ∷ ns) (x ∷ xs) ys a b e f = absurd (omega (arith, a))
+areas_alike (m ∷ ms) ns [] ys a b e f = absurd (omega (arith, a))
+areas_alike (m ∷ ms) [] (x ∷ xs) [] a b e f = absurd cc
+areas_alike (m ∷ ms) [] (x ∷ xs) (y ∷ ys) a b e f = absurd (omega (arith, b))
+areas_alike (m ∷ ms) (n ∷ ns) (x ∷ xs) [] a b e f = absurd (omega (arith, b))
+areas_alike (m ∷ ms) (n ∷ ns) (x ∷ xs) (y ∷ ys) a b e f =
+    let first : numbered_area m x ≡ numbered_area n y = cc in
+    let area : x.1 ≡ y.1 = ap (λ (z : ℕ × Area). z.1) first in
+    let rest : zipped numbered_area ms xs ≡ zipped numbered_area ns ys = cc in
+    let child : x.0 ≡ y.0 = cc in
+    let children : map child_in xs ≡ map child_in ys = cc in
+    let others : xs ≡ ys = areas_alike ms ns xs ys (omega (arith, a)) (omega (arith, b)) rest children in
+    λ i. (child i, area i) ∷ others i
+
+numbered_count : (kids : List NodeId) (p : Placed) → map (slice_get kids) p.numbers ≡ map child_in p.areas → length p.numbers ≡ length p.areas
+numbered_count kids p e = sym (length-map p.numbers (slice_get kids)) ∙ ap length e ∙ length-map p.areas child_in
+
+-- The areas of the children of a node are the same by the same counts.
+pub places_alike : (s : Seen) (kids : List NodeId) (p q : GridBase) → HoldsPlaces s kids p → HoldsPlaces s kids q → p.pairs ≡ q.pairs → p.placed ≡ q.placed
+places_alike s kids p q a b e = λ i. record { areas = areas i; numbers = numbers i; columns = (placed i).columns; rows = (placed i).rows }
+  where
+    placed : placed_of p.placed ≡ placed_of q.placed
+    placed = a.placed.placed ∙ ap (λ pairs. rules.placed_children (context_at s pairs) s.label.grid (map (λ (k : Kid). sibling_of k.label) (kids_in s))) e ∙ sym b.placed.placed
+
+    numbers : p.placed.numbers ≡ q.placed.numbers
+    numbers = a.placed.numbers ∙ sym b.placed.numbers
+
+    areas : p.placed.areas ≡ q.placed.areas
+    areas = areas_alike p.placed.numbers q.placed.numbers p.placed.areas q.placed.areas (numbered_count kids p.placed a.placed.children) (numbered_count kids q.placed b.placed.children)
+        (ap (λ (x : rules.Placed). x.areas) placed) (sym a.placed.children ∙ ap (map (slice_get kids)) numbers ∙ b.placed.children)

@@ -62,4 +62,4 @@ pub base_pairs : (t : NodeTrees) (n : NodeId) (pairs : List Pair) (o : Option Gr
 base_pairs t n pairs o e = subst (λ z. IfSome z (λ (base : GridBase). base.pairs ≡ pairs)) (sym e) (with_those pairs (bases_at t n))
 
 pub base_holds : (t : NodeTrees) (n : NodeId) (pairs : List Pair) (o : Option GridBase) → IsRight t → o ≡ base_with pairs (bases_at t n) → IfSome o (HoldsPlaces (sight_at (bare t) n) (children_at (bare t) n))
-base_holds t n pairs o r e = subst (λ z. IfSome z (HoldsPlaces (sight_at (bare t) n) (children_at (bare t) n))) (sym e) (with_all (sight_at (bare t) n) (children_at (bare t) n) pairs (bases_at t n) (r.bases n))
+base_holds t n pairs o r e = subst (λ z. IfSome z (HoldsPlaces (sight_at (bare t) n) (children_at (bare t) n))) (sym e) (with_all (sight_at (bare t) n) (children_at (bare t) n) pairs (bases_at t n) (r.past n).bases)

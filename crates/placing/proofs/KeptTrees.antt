@@ -1,38 +1,28 @@
 -- Trees that keep answers.
-use Rattle.std.proofs.Common.{◌≡◌, Bool, true, false, List, [], ◌∷◌, Option, Some, None, cond, refl, sym, ap, ◌∙◌, subst, inl, inr}
-use Rattle.std.specs.Prelude.{◌||◌, ◌⊎◌, if◌then◌else◌, ℕ, ◌+◌, map, length, reverse}
-use Rattle.std.proofs.lemmas.Bool.{cases_Bool}
+use Rattle.std.proofs.Common.{◌≡◌, Bool, true, false, List, [], ◌∷◌, Option, Some, None, IsSome, cond, refl, sym, ap, ◌∙◌, subst, arith, inl, inr}
+use Rattle.std.specs.Prelude.{◌||◌, ◌⊎◌, if◌then◌else◌, ℕ, ◌+◌, nat_lt}
+use Rattle.std.proofs.lemmas.Bool.{cases_Bool, ltb-false}
 use Rattle.plain_tree.specs.Trees.{leafless, tree}
 use Rattle.layout_cache.specs.Kept.{answer_to}
 use Rattle.layout_cache.specs.Reach.{forgets, forgot}
 use Rattle.node_arena.specs.declared.number.NodeId.{NodeId}
 use Rattle.node_arena.specs.Numbers.{Part, either, is_among, part_at, same, value_at, value_of}
 use Rattle.node_arena.proofs.Same.{same_is, same_not, not_same}
-use Rattle.plain_tree.specs.Trees.{Trees}
-use Rattle.tree_rules.specs.Answers.{Kid}
-use Rattle.tree_rules.specs.Chains.{Above, Link, Sibling, sibling_of, siblings_of}
-use Rattle.tree_rules.specs.Contexts as rules
-use Rattle.tree_rules.specs.Labels.{GridStyle, Label}
-use Rattle.tree_rules.specs.Places.{Seen}
-use Rattle.tree_rules.specs.Whole.{kids_of}
+use Rattle.tree_rules.specs.Chains.{siblings_of}
 use Rattle.tree_rules.specs.KeptAnswers.{AreRight, EachPair}
 use Rattle.tree_rules.specs.Queries.{answer_of}
 use Rattle.tree_rules.specs.declared.query.Query.{Query}
 use Rattle.tree_rules.proofs.KeptLists.{none_right as empty_right}
 use Rattle.placing.specs.declared.node.Answer.{Answer}
 use Rattle.placing.specs.declared.node.Node.{Node}
-use Rattle.placing.specs.Bases.{AreOf, HoldsPlaces}
-use Rattle.placing.specs.Keeping.{HoldsNone, HoldsOn, HoldsSame, KeepsNone, KeepsOn, KeepsSame, without_answers, without_bases}
-use Rattle.placing.specs.Kept.{IsRight, IsOfNode, bases_at, bases_of, kept_at, kept_of, plain_answer}
-use Rattle.placing.specs.Order.{numbers_in_order}
-use Rattle.placing.specs.Seats.{context_at}
-use Rattle.placing.specs.Wides.{HoldsAreas, IsAbove, kids_in}
-use Rattle.placing.specs.declared.contexts.Placed.{Placed}
-use Rattle.placing.specs.declared.wide.GridBase.{GridBase}
-use Rattle.placing.specs.Nodes.{NodeTrees, bare, bare_of, children_at, sight_at}
+use Rattle.placing.specs.Keeping.{HasGone, HasTurn, HoldsNone, HoldsOn, HoldsSame, IsTurned, KeepsNone, KeepsOn, KeepsSame, without_answers, without_past}
+use Rattle.placing.specs.Kept.{IsRight, IsOfNode, kept_at, kept_of, past_at, past_of, plain_answer, turn_at, turn_of}
+use Rattle.placing.specs.Told.{HoldsPast, last_turn, next_turn, no_past}
+use Rattle.placing.specs.Nodes.{IsLive, NodeTrees, bare, bare_of, children_at, sight_at}
+use Rattle.placing.proofs.Bares.{value_some}
 use Rattle.placing.proofs.Mapped.{mapped_same, mapped_twice, value_by, value_mapped}
+use Rattle.placing.proofs.Pasts.{past_stays}
 use Rattle.placing.proofs.Puts.{each_found}
-use Rattle.placing.proofs.Seated.{siblings_below}
 
 pub read_value : (t : NodeTrees) (n : NodeId) (q : Query) (a : Answer) → IsRight t → answer_to q (kept_at t n) ≡ Some a → plain_answer a ≡ answer_of (sight_at (bare t) n) q
 read_value t n q a r e = (each_found _ q a (kept_at t n) (r.lists n).each e).answer
@@ -51,55 +41,24 @@ unfolding kept_at
 none_at leafless n h = refl
 none_at (tree x below after) n h = part_kept (same x.0 n) (Some (x.1, below)) (part_at below n) (part_at after n) h.0 (none_at below n h.1.0) (none_at after n h.1.1)
 
-part_held : (c : Bool) (w o p : Option (Part Node)) → bases_of (value_of w) ≡ [] → bases_of (value_of o) ≡ [] → bases_of (value_of p) ≡ [] → bases_of (value_of (cond c w (either o p))) ≡ []
+part_held : (c : Bool) (w o p : Option (Part Node)) → past_of (value_of w) ≡ no_past → past_of (value_of o) ≡ no_past → past_of (value_of p) ≡ no_past → past_of (value_of (cond c w (either o p))) ≡ no_past
 part_held true w o p e f g = e
 part_held false w None p e f g = g
 part_held false w (Some x) p e f g = f
 
-held_none : (t : NodeTrees) (n : NodeId) → HoldsNone t → bases_at t n ≡ []
-unfolding bases_at
+held_none : (t : NodeTrees) (n : NodeId) → HoldsNone t → past_at t n ≡ no_past
+unfolding past_at
 held_none leafless n h = refl
 held_none (tree x below after) n h = part_held (same x.0 n) (Some (x.1, below)) (part_at below n) (part_at after n) h.0 (held_none below n h.1.0) (held_none after n h.1.1)
 
--- ---- contexts and areas by what they depend on
-orders_below : (above : Above) (n : ℕ) (below : Trees Label) → map (λ (k : Kid). k.label.grid.order) (kids_of above n below) ≡ map (λ (s : Sibling). s.grid.order) (siblings_of below)
-orders_below above n leafless = refl
-orders_below above n (tree x below after) = ap (λ l. x.grid.order ∷ l) (orders_below above (n + 1) after)
-
-module _ (s z : Seen) (grid : z.label.grid ≡ s.label.grid) (chain : z.chain ≡ s.chain) (siblings : siblings_of z.below ≡ siblings_of s.below) where
-  kids_same : map (λ (k : Kid). sibling_of k.label) (kids_in z) ≡ map (λ (k : Kid). sibling_of k.label) (kids_in s)
-  kids_same = siblings_below _ 0 z.below ∙ siblings ∙ sym (siblings_below _ 0 s.below)
-
-  orders_same : map (λ (k : Kid). k.label.grid.order) (kids_in z) ≡ map (λ (k : Kid). k.label.grid.order) (kids_in s)
-  orders_same = orders_below _ 0 z.below ∙ ap (map (λ (x : Sibling). x.grid.order)) siblings ∙ sym (orders_below _ 0 s.below)
-
-  areas_same : (kids : List NodeId) (c : rules.Context) (p : Placed) → HoldsAreas s kids c p → HoldsAreas z kids c p
-  areas_same kids c p h = record { placed = h.placed ∙ (λ i. rules.placed_children c (sym grid i) (sym kids_same i)); numbers = h.numbers ∙ ap numbers_in_order (sym orders_same); children = h.children; inside = h.inside }
-
-  places_same : (kids : List NodeId) (base : GridBase) → HoldsPlaces s kids base → HoldsPlaces z kids base
-  places_same kids base h =
-      let context : context_at z base.pairs ≡ context_at s base.pairs = (λ i. rules.context_by (grid i) (chain i) (reverse base.pairs)) in
-      record {
-        outer = h.outer;
-        pairs = h.pairs;
-        counts = h.counts ∙ ap (λ l. length l + 1) (sym chain);
-        context = subst (λ c. IsAbove c base.above) (sym context) h.context;
-        placed = subst (λ c. HoldsAreas z kids c base.placed) (sym context) (areas_same kids (context_at s base.pairs) base.placed h.placed);
-      }
-
-  all_same : (kids : List NodeId) (bases : List GridBase) → AreOf s kids bases → AreOf z kids bases
-  all_same kids [] h = tt
-  all_same kids (base ∷ rest) h = (places_same kids base h.0, all_same kids rest h.1)
-
-pub still_right : (t u : NodeTrees) → IsRight t → ((n : NodeId) → KeepsOn t u n) → ((n : NodeId) → HoldsOn t u n) → IsRight u
-still_right t u r h g = record { lists = λ n. list n (h n); children = λ n. named n (h n); bases = λ n. held n (g n) }
+pub still_right : (t u : NodeTrees) → IsRight t → ((n : NodeId) → KeepsOn t u n) → ((n : NodeId) → HoldsOn t u n) → ((n : NodeId) → IsLive (bare u) n → IsTurned t u n) → IsRight u
+still_right t u r h g turned = record { lists = λ n. list n (h n); children = λ n. named n (h n); past = λ n. held n (g n) }
   where
-    held : (n : NodeId) → HoldsOn t u n → AreOf (sight_at (bare u) n) (children_at (bare u) n) (bases_at u n)
-    held n (inl e) = subst (AreOf (sight_at (bare u) n) (children_at (bare u) n)) (sym e) tt
+    held : (n : NodeId) → HoldsOn t u n → HoldsPast (bare u) (turn_at u) n (past_at u n)
+    held n (inl e) = subst (HoldsPast (bare u) (turn_at u) n) (sym e) (record { bases = tt; columns = tt; wide = tt })
     held n (inr k) =
-        subst (λ l. AreOf (sight_at (bare u) n) l (bases_at u n)) (sym k.children)
-        (all_same (sight_at (bare t) n) (sight_at (bare u) n) k.grid k.chain k.siblings (children_at (bare t) n) (bases_at u n)
-        (subst (AreOf (sight_at (bare t) n) (children_at (bare t) n)) (sym k.bases) (r.bases n)))
+        subst (HoldsPast (bare u) (turn_at u) n) (sym k.past)
+        (past_stays (bare t) (bare u) (turn_at t) (turn_at u) n k.grid k.chain k.siblings k.children (λ c l. (turned c l).later) (λ c l. (turned c l).same) (past_at t n) (r.past n))
 
     list : (n : NodeId) → KeepsOn t u n → AreRight (sight_at (bare u) n) plain_answer (kept_at u n)
     list n (inl e) = subst (AreRight (sight_at (bare u) n) plain_answer) (sym e) (empty_right (sight_at (bare u) n) plain_answer)
@@ -117,7 +76,7 @@ none_right t h g =
     record {
       lists = λ n. subst (AreRight (sight_at (bare t) n) plain_answer) (sym (none_at t n h)) (empty_right (sight_at (bare t) n) plain_answer);
       children = λ n. subst (EachPair (λ (q : Query) (a : Answer). IsOfNode (sight_at (bare t) n) (children_at (bare t) n) q a)) (sym (none_at t n h)) tt;
-      bases = λ n. subst (AreOf (sight_at (bare t) n) (children_at (bare t) n)) (sym (held_none t n g)) tt;
+      past = λ n. subst (HoldsPast (bare t) (turn_at t) n) (sym (held_none t n g)) (record { bases = tt; columns = tt; wide = tt });
     }
 
 -- ---- answers let go
@@ -166,22 +125,57 @@ forgets_kept (m ∷ ns) t n = forgets_kept ns (forgot without_answers m t) n ∙
     at false true = refl
     at false false = refl
 
-forgot_bases : (n m : NodeId) (t : NodeTrees) → bases_at (forgot without_answers n t) m ≡ bases_at t m
-unfolding bases_at
-forgot_bases n m t = ap bases_of (value_mapped (letting n) t m) ∙ at (same m n) (value_at t m)
+forgot_past : (n m : NodeId) (t : NodeTrees) → past_at (forgot without_answers n t) m ≡ past_at t m
+unfolding past_at
+forgot_past n m t = ap past_of (value_mapped (letting n) t m) ∙ at (same m n) (value_at t m)
   where
-    at : (c : Bool) (o : Option Node) → bases_of (value_by (λ k v. cond c (without_answers v) v) m o) ≡ bases_of o
+    at : (c : Bool) (o : Option Node) → past_of (value_by (λ k v. cond c (without_answers v) v) m o) ≡ past_of o
     at true None = refl
     at true (Some v) = refl
     at false None = refl
     at false (Some v) = refl
 
-pub forgets_bases : (ns : List NodeId) (t : NodeTrees) (n : NodeId) → bases_at (forgets without_answers ns t) n ≡ bases_at t n
-forgets_bases [] t n = refl
-forgets_bases (m ∷ ns) t n = forgets_bases ns (forgot without_answers m t) n ∙ forgot_bases m n t
+pub forgets_past : (ns : List NodeId) (t : NodeTrees) (n : NodeId) → past_at (forgets without_answers ns t) n ≡ past_at t n
+forgets_past [] t n = refl
+forgets_past (m ∷ ns) t n = forgets_past ns (forgot without_answers m t) n ∙ forgot_past m n t
+
+-- ---- turns
+pub next_gone : (n : ℕ) → HasGone n (next_turn n)
+next_gone n = at (nat_lt n last_turn) refl
+  where
+    at : (c : Bool) → nat_lt n last_turn ≡ c → HasGone n (if c then n + 1 else n)
+    at true e = record { later = omega arith; last = λ q. absurd (omega (arith, q)) }
+    at false e = record { later = omega arith; last = λ q. ltb-false n last_turn e }
+
+pub gone_twice : (x y z : ℕ) → HasGone x y → HasGone y z → HasGone x z
+gone_twice x y z g h = record { later = omega (arith, g.later, h.later); last = λ e. h.last (omega (arith, g.later, h.later, e)) }
+
+-- a turn that went on once or stayed, and once more
+pub turn_twice : (b c : Bool) (x y z : ℕ) → HasTurn b x y → HasTurn c y z → HasTurn (b || c) x z
+turn_twice true true x y z g h = gone_twice x y z g h
+turn_twice true false x y z g h = subst (HasGone x) (sym h) g
+turn_twice false true x y z g h = subst (λ k. HasGone k z) g h
+turn_twice false false x y z g h = h ∙ g
+
+forgot_turn : (n m : NodeId) (t : NodeTrees) → IsLive (bare t) m → HasTurn (same m n) (turn_at t m) (turn_at (forgot without_answers n t) m)
+unfolding turn_at
+forgot_turn n m t l = subst (λ o. HasTurn (same m n) (turn_of (value_at t m)) (turn_of o)) (sym (value_mapped (letting n) t m)) (at (same m n) (value_at t m) (value_some t m l))
+  where
+    at : (c : Bool) (o : Option Node) → IsSome o → HasTurn c (turn_of o) (turn_of (value_by (λ k v. cond c (without_answers v) v) m o))
+    at c None l = absurd cc
+    at true (Some v) l = next_gone v.turn
+    at false (Some v) l = refl
+
+-- the turns of those that are there, of which some went
+pub forgets_turn : (ns : List NodeId) (t : NodeTrees) (n : NodeId) → IsLive (bare t) n → HasTurn (is_among n ns) (turn_at t n) (turn_at (forgets without_answers ns t) n)
+forgets_turn [] t n l = refl
+forgets_turn (m ∷ ns) t n l =
+    turn_twice (same m n) (is_among n ns) (turn_at t n) (turn_at (forgot without_answers m t) n) (turn_at (forgets without_answers ns (forgot without_answers m t)) n)
+    (subst (λ b. HasTurn b (turn_at t n) (turn_at (forgot without_answers m t) n)) (same_turn n m) (forgot_turn m n t l))
+    (forgets_turn ns (forgot without_answers m t) n (subst (λ b. IsLive b n) (sym (forgot_bare m t)) l))
 
 pub forgets_right : (ns : List NodeId) (t : NodeTrees) → IsRight t → IsRight (forgets without_answers ns t)
-forgets_right ns t r = still_right t (forgets without_answers ns t) r (λ n. at n (is_among n ns) (forgets_kept ns t n)) (λ n. inr (held n))
+forgets_right ns t r = still_right t (forgets without_answers ns t) r (λ n. at n (is_among n ns) (forgets_kept ns t n)) (λ n. inr (held n)) (λ n l. turned n (live n l))
   where
     at : (n : NodeId) (b : Bool) → kept_at (forgets without_answers ns t) n ≡ cond b [] (kept_at t n) → KeepsOn t (forgets without_answers ns t) n
     at n true e = inl e
@@ -190,77 +184,101 @@ forgets_right ns t r = still_right t (forgets without_answers ns t) r (λ n. at 
     held : (n : NodeId) → HoldsSame t (forgets without_answers ns t) n
     held n =
         record {
-          bases = forgets_bases ns t n;
+          past = forgets_past ns t n;
           grid = ap (λ b. (sight_at b n).label.grid) (forgets_bare ns t);
           chain = ap (λ b. (sight_at b n).chain) (forgets_bare ns t);
           siblings = ap (λ b. siblings_of (sight_at b n).below) (forgets_bare ns t);
           children = ap (λ b. children_at b n) (forgets_bare ns t);
         }
 
+    live : (n : NodeId) → IsLive (bare (forgets without_answers ns t)) n → IsLive (bare t) n
+    live n l = subst (λ b. IsLive b n) (forgets_bare ns t) l
+
+    by : (n : NodeId) (b : Bool) → HasTurn b (turn_at t n) (turn_at (forgets without_answers ns t) n) → IsTurned t (forgets without_answers ns t) n
+    by n true g = record { later = g.later; same = λ e l. ap (λ b. sight_at b n) (forgets_bare ns t) }
+    by n false e = record { later = omega (arith, e); same = λ g l. ap (λ b. sight_at b n) (forgets_bare ns t) }
+
+    turned : (n : NodeId) → IsLive (bare t) n → IsTurned t (forgets without_answers ns t) n
+    turned n l = by n (is_among n ns) (forgets_turn ns t n l)
+
 -- ---- contexts and areas let go
 abbrev dropping : NodeId → NodeId → Node → Node
-dropping n k v = cond (same k n) (without_bases v) v
+dropping n k v = cond (same k n) (without_past v) v
 
 bare_dropping : (n k : NodeId) (v : Node) → bare_of (dropping n k v) ≡ bare_of v
 bare_dropping n k v = at (same k n)
   where
-    at : (c : Bool) → bare_of (cond c (without_bases v) v) ≡ bare_of v
+    at : (c : Bool) → bare_of (cond c (without_past v) v) ≡ bare_of v
     at true = refl
     at false = refl
 
-dropped_bare : (n : NodeId) (t : NodeTrees) → bare (forgot without_bases n t) ≡ bare t
+dropped_bare : (n : NodeId) (t : NodeTrees) → bare (forgot without_past n t) ≡ bare t
 unfolding bare
 dropped_bare n t = mapped_twice (dropping n) (λ k v. bare_of v) t ∙ mapped_same (λ k v. bare_of (dropping n k v)) (λ k v. bare_of v) t (bare_dropping n)
 
-pub drops_bare : (ns : List NodeId) (t : NodeTrees) → bare (forgets without_bases ns t) ≡ bare t
+pub drops_bare : (ns : List NodeId) (t : NodeTrees) → bare (forgets without_past ns t) ≡ bare t
 drops_bare [] t = refl
-drops_bare (n ∷ ns) t = drops_bare ns (forgot without_bases n t) ∙ dropped_bare n t
+drops_bare (n ∷ ns) t = drops_bare ns (forgot without_past n t) ∙ dropped_bare n t
 
-dropped_kept : (n m : NodeId) (t : NodeTrees) → kept_at (forgot without_bases n t) m ≡ kept_at t m
+dropped_kept : (n m : NodeId) (t : NodeTrees) → kept_at (forgot without_past n t) m ≡ kept_at t m
 unfolding kept_at
 dropped_kept n m t = ap kept_of (value_mapped (dropping n) t m) ∙ at (same m n) (value_at t m)
   where
-    at : (c : Bool) (o : Option Node) → kept_of (value_by (λ k v. cond c (without_bases v) v) m o) ≡ kept_of o
+    at : (c : Bool) (o : Option Node) → kept_of (value_by (λ k v. cond c (without_past v) v) m o) ≡ kept_of o
     at true None = refl
     at true (Some v) = refl
     at false None = refl
     at false (Some v) = refl
 
-pub drops_kept : (ns : List NodeId) (t : NodeTrees) (n : NodeId) → kept_at (forgets without_bases ns t) n ≡ kept_at t n
+pub drops_kept : (ns : List NodeId) (t : NodeTrees) (n : NodeId) → kept_at (forgets without_past ns t) n ≡ kept_at t n
 drops_kept [] t n = refl
-drops_kept (m ∷ ns) t n = drops_kept ns (forgot without_bases m t) n ∙ dropped_kept m n t
+drops_kept (m ∷ ns) t n = drops_kept ns (forgot without_past m t) n ∙ dropped_kept m n t
 
-dropped_bases : (n m : NodeId) (t : NodeTrees) → bases_at (forgot without_bases n t) m ≡ (if same m n then [] else bases_at t m)
-unfolding bases_at
-dropped_bases n m t = ap bases_of (value_mapped (dropping n) t m) ∙ at (same m n) (value_at t m)
+dropped_past : (n m : NodeId) (t : NodeTrees) → past_at (forgot without_past n t) m ≡ (if same m n then no_past else past_at t m)
+unfolding past_at
+dropped_past n m t = ap past_of (value_mapped (dropping n) t m) ∙ at (same m n) (value_at t m)
   where
-    at : (c : Bool) (o : Option Node) → bases_of (value_by (λ k v. cond c (without_bases v) v) m o) ≡ cond c [] (bases_of o)
+    at : (c : Bool) (o : Option Node) → past_of (value_by (λ k v. cond c (without_past v) v) m o) ≡ cond c no_past (past_of o)
     at true None = refl
     at true (Some v) = refl
     at false None = refl
     at false (Some v) = refl
 
-pub drops_bases : (ns : List NodeId) (t : NodeTrees) (n : NodeId) → bases_at (forgets without_bases ns t) n ≡ (if is_among n ns then [] else bases_at t n)
-drops_bases [] t n = refl
-drops_bases (m ∷ ns) t n = drops_bases ns (forgot without_bases m t) n ∙ ap (λ l. cond (is_among n ns) [] l) (dropped_bases m n t ∙ ap (λ b. cond b [] (bases_at t n)) (same_turn n m)) ∙ at (is_among n ns) (same m n)
+pub drops_past : (ns : List NodeId) (t : NodeTrees) (n : NodeId) → past_at (forgets without_past ns t) n ≡ (if is_among n ns then no_past else past_at t n)
+drops_past [] t n = refl
+drops_past (m ∷ ns) t n = drops_past ns (forgot without_past m t) n ∙ ap (λ l. cond (is_among n ns) no_past l) (dropped_past m n t ∙ ap (λ b. cond b no_past (past_at t n)) (same_turn n m)) ∙ at (is_among n ns) (same m n)
   where
-    at : (b c : Bool) → cond b [] (cond c [] (bases_at t n)) ≡ cond (c || b) [] (bases_at t n)
+    at : (b c : Bool) → cond b no_past (cond c no_past (past_at t n)) ≡ cond (c || b) no_past (past_at t n)
     at true true = refl
     at true false = refl
     at false true = refl
     at false false = refl
 
-pub drops_right : (ns : List NodeId) (t : NodeTrees) → IsRight t → IsRight (forgets without_bases ns t)
-drops_right ns t r = still_right t (forgets without_bases ns t) r (λ n. inr (kept n)) (λ n. at n (is_among n ns) (drops_bases ns t n))
+dropped_turn : (n m : NodeId) (t : NodeTrees) → turn_at (forgot without_past n t) m ≡ turn_at t m
+unfolding turn_at
+dropped_turn n m t = ap turn_of (value_mapped (dropping n) t m) ∙ at (same m n) (value_at t m)
   where
-    kept : (n : NodeId) → KeepsSame t (forgets without_bases ns t) n
+    at : (c : Bool) (o : Option Node) → turn_of (value_by (λ k v. cond c (without_past v) v) m o) ≡ turn_of o
+    at true None = refl
+    at true (Some v) = refl
+    at false None = refl
+    at false (Some v) = refl
+
+pub drops_turn : (ns : List NodeId) (t : NodeTrees) (n : NodeId) → turn_at (forgets without_past ns t) n ≡ turn_at t n
+drops_turn [] t n = refl
+drops_turn (m ∷ ns) t n = drops_turn ns (forgot without_past m t) n ∙ dropped_turn m n t
+
+pub drops_right : (ns : List NodeId) (t : NodeTrees) → IsRight t → IsRight (forgets without_past ns t)
+drops_right ns t r = still_right t (forgets without_past ns t) r (λ n. inr (kept n)) (λ n. at n (is_among n ns) (drops_past ns t n)) (λ n l. record { later = omega (arith, drops_turn ns t n); same = λ e m. ap (λ b. sight_at b n) (drops_bare ns t) })
+  where
+    kept : (n : NodeId) → KeepsSame t (forgets without_past ns t) n
     kept n = record { kept = drops_kept ns t n; sight = ap (λ b. sight_at b n) (drops_bare ns t); children = ap (λ b. children_at b n) (drops_bare ns t) }
 
-    at : (n : NodeId) (b : Bool) → bases_at (forgets without_bases ns t) n ≡ cond b [] (bases_at t n) → HoldsOn t (forgets without_bases ns t) n
+    at : (n : NodeId) (b : Bool) → past_at (forgets without_past ns t) n ≡ cond b no_past (past_at t n) → HoldsOn t (forgets without_past ns t) n
     at n true e = inl e
     at n false e =
         inr (record {
-          bases = e;
+          past = e;
           grid = ap (λ b. (sight_at b n).label.grid) (drops_bare ns t);
           chain = ap (λ b. (sight_at b n).chain) (drops_bare ns t);
           siblings = ap (λ b. siblings_of (sight_at b n).below) (drops_bare ns t);

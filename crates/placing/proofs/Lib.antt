@@ -15,6 +15,7 @@ pub mod Named
 pub mod Numbers
 pub mod Open
 pub mod Parents
+pub mod Pasts
 pub mod Puts
 pub mod Readable
 mod Seams
@@ -22,6 +23,9 @@ pub mod Seated
 pub mod Siblings
 pub mod Sights
 pub mod Spans
+pub mod Spliced
+pub mod Stale
+pub mod Tellings
 mod Tracks
 pub mod Uncut
 pub mod Walks

@@ -20,12 +20,16 @@ use Rattle.tree_rules.proofs.KeptLists.{right_put}
 use Rattle.placing.specs.declared.node.Answer.{Answer}
 use Rattle.placing.specs.declared.node.Node.{Node}
 use Rattle.placing.specs.Children.{IsOutside}
-use Rattle.placing.specs.Keeping.{Keeps, with_answer, with_base}
+use Rattle.placing.specs.Keeping.{ChangesPast, Keeps, with_answer, with_base, with_past}
 use Rattle.placing.specs.Bases.{AreOf, HoldsPlaces}
-use Rattle.placing.specs.Kept.{IsRight, IsOfNode, bases_at, bases_of, kept_at, kept_of, plain_answer}
+use Rattle.placing.specs.Kept.{IsRight, IsOfNode, kept_at, kept_of, past_at, past_of, plain_answer, turn_at, turn_of}
+use Rattle.placing.specs.Told.{HoldsColumns, HoldsPast, HoldsTold}
+use Rattle.placing.specs.declared.told.KeptColumns.{KeptColumns}
+use Rattle.placing.specs.declared.told.KeptWide.{KeptWide}
+use Rattle.placing.specs.declared.told.Past.{Past}
 use Rattle.placing.specs.declared.wide.GridBase.{GridBase}
 use Rattle.placing.specs.Nodes.{NodeTrees, bare, bare_of, children_at, sight_at}
-use Rattle.placing.specs.Walks.{Asks, Entry, State, Walk, Walked, WalkedBelow, bare_in, events_at, events_of, frame_of_arena, itself, kept_in, kept_with, rising}
+use Rattle.placing.specs.Walks.{Asks, Entry, IsAlike, State, Walk, Walked, WalkedBelow, bare_in, events_at, events_of, frame_of_arena, itself, kept_in, kept_with, rising}
 use Rattle.placing.proofs.Mapped.{value_by, value_mapped}
 use Rattle.placing.proofs.Walks.{kept_none, walk_then}
 
@@ -69,21 +73,56 @@ pub kept_there : (t : NodeTrees) (n : NodeId) (v : Node) → Some v ≡ value_at
 unfolding kept_at
 kept_there t n v e = ap kept_of e
 
-bases_swapped : (n m : NodeId) (w : Node) (o : Option Node) → same m n ≡ false → bases_of (value_by (swapped n w) m o) ≡ bases_of o
-bases_swapped n m w None e = refl
-bases_swapped n m w (Some v) e = ap (λ c. (cond c w v).bases) e
+past_swapped : (n m : NodeId) (w : Node) (o : Option Node) → same m n ≡ false → past_of (value_by (swapped n w) m o) ≡ past_of o
+past_swapped n m w None e = refl
+past_swapped n m w (Some v) e = ap (λ c. (cond c w v).past) e
 
-bases_other : (t : NodeTrees) (n m : NodeId) (w : Node) → same m n ≡ false → bases_at (replaced n w t) m ≡ bases_at t m
-unfolding bases_at
-bases_other t n m w e = ap bases_of (value_mapped (swapped n w) t m) ∙ bases_swapped n m w (value_at t m) e
+past_other : (t : NodeTrees) (n m : NodeId) (w : Node) → same m n ≡ false → past_at (replaced n w t) m ≡ past_at t m
+unfolding past_at
+past_other t n m w e = ap past_of (value_mapped (swapped n w) t m) ∙ past_swapped n m w (value_at t m) e
 
-bases_same : (t : NodeTrees) (n : NodeId) (v w : Node) → Some v ≡ value_at t n → bases_at (replaced n w t) n ≡ w.bases
-unfolding bases_at
-bases_same t n v w e = ap bases_of (value_mapped (swapped n w) t n) ∙ ap (λ o. bases_of (value_by (swapped n w) n o)) (sym e) ∙ ap (λ c. (cond c w v).bases) (same_refl n)
+past_same : (t : NodeTrees) (n : NodeId) (v w : Node) → Some v ≡ value_at t n → past_at (replaced n w t) n ≡ w.past
+unfolding past_at
+past_same t n v w e = ap past_of (value_mapped (swapped n w) t n) ∙ ap (λ o. past_of (value_by (swapped n w) n o)) (sym e) ∙ ap (λ c. (cond c w v).past) (same_refl n)
 
-pub bases_there : (t : NodeTrees) (n : NodeId) (v : Node) → Some v ≡ value_at t n → v.bases ≡ bases_at t n
-unfolding bases_at
-bases_there t n v e = ap bases_of e
+pub past_there : (t : NodeTrees) (n : NodeId) (v : Node) → Some v ≡ value_at t n → v.past ≡ past_at t n
+unfolding past_at
+past_there t n v e = ap past_of e
+
+turn_swapped : (n m : NodeId) (w : Node) (o : Option Node) → same m n ≡ false → turn_of (value_by (swapped n w) m o) ≡ turn_of o
+turn_swapped n m w None e = refl
+turn_swapped n m w (Some v) e = ap (λ c. (cond c w v).turn) e
+
+turn_other : (t : NodeTrees) (n m : NodeId) (w : Node) → same m n ≡ false → turn_at (replaced n w t) m ≡ turn_at t m
+unfolding turn_at
+turn_other t n m w e = ap turn_of (value_mapped (swapped n w) t m) ∙ turn_swapped n m w (value_at t m) e
+
+turn_same : (t : NodeTrees) (n : NodeId) (v w : Node) → Some v ≡ value_at t n → turn_at (replaced n w t) n ≡ w.turn
+unfolding turn_at
+turn_same t n v w e = ap turn_of (value_mapped (swapped n w) t n) ∙ ap (λ o. turn_of (value_by (swapped n w) n o)) (sym e) ∙ ap (λ c. (cond c w v).turn) (same_refl n)
+
+pub turn_there : (t : NodeTrees) (n : NodeId) (v : Node) → Some v ≡ value_at t n → v.turn ≡ turn_at t n
+unfolding turn_at
+turn_there t n v e = ap turn_of e
+
+pub turn_none : (t : NodeTrees) (n : NodeId) → None ≡ value_at t n → 0 ≡ turn_at t n
+unfolding turn_at
+turn_none t n e = ap turn_of e
+
+-- a value with the same turn in the place of one
+turn_kept : (t : NodeTrees) (n m : NodeId) (v w : Node) → Some v ≡ value_at t n → w.turn ≡ v.turn → turn_at (replaced n w t) m ≡ turn_at t m
+turn_kept t n m v w e l = at (cases_Bool (same m n))
+  where
+    at : (same m n ≡ true) ⊎ (same m n ≡ false) → turn_at (replaced n w t) m ≡ turn_at t m
+    at (inl s) = subst (λ k. turn_at (replaced n w t) k ≡ turn_at t k) (sym (same_is m n s)) (turn_same t n v w e ∙ l ∙ turn_there t n v e)
+    at (inr s) = turn_other t n m w s
+
+past_kept : (t : NodeTrees) (n m : NodeId) (v w : Node) → Some v ≡ value_at t n → w.past ≡ v.past → past_at (replaced n w t) m ≡ past_at t m
+past_kept t n m v w e l = at (cases_Bool (same m n))
+  where
+    at : (same m n ≡ true) ⊎ (same m n ≡ false) → past_at (replaced n w t) m ≡ past_at t m
+    at (inl s) = subst (λ k. past_at (replaced n w t) k ≡ past_at t k) (sym (same_is m n s)) (past_same t n v w e ∙ l ∙ past_there t n v e)
+    at (inr s) = past_other t n m w s
 
 newest_of : (s : Seen) (kids : List NodeId) (xs : List GridBase) → AreOf s kids xs → AreOf s kids (take 1 xs)
 newest_of s kids [] h = tt
@@ -129,11 +168,11 @@ module _ (t : NodeTrees) (n : NodeId) (v : Node) (q : Query) (a : Answer) (u : I
   pub own_put : kept_at put_tree n ≡ kept_with (kept_at t n) ((q, a) ∷ [])
   own_put = kept_same t n v (with_answer q a v) e ∙ ap (λ k. kept_with k ((q, a) ∷ [])) (kept_there t n v e)
 
-  own_bases : bases_at put_tree n ≡ bases_at t n
-  own_bases = bases_same t n v (with_answer q a v) e ∙ bases_there t n v e
+  pub past_put : (m : NodeId) → past_at put_tree m ≡ past_at t m
+  past_put m = past_kept t n m v (with_answer q a v) e refl
 
-  abbrev Held : NodeId → List GridBase → Type 0
-  Held m bases = AreOf (sight_at (bare t) m) (children_at (bare t) m) bases
+  pub turn_put : turn_at put_tree ≡ turn_at t
+  turn_put = λ i m. turn_kept t n m v (with_answer q a v) e refl i
 
   abbrev Named : NodeId → Query → Answer → Type 0
   Named m p x = IsOfNode (sight_at (bare t) m) (children_at (bare t) m) p x
@@ -143,7 +182,7 @@ module _ (t : NodeTrees) (n : NodeId) (v : Node) (q : Query) (a : Answer) (u : I
       record {
         lists = λ m. subst (λ b. AreRight (sight_at b m) plain_answer (kept_at put_tree m)) (sym bare_put) (list m (cases_Bool (same m n)));
         children = λ m. subst (λ b. EachPair (λ (p : Query) (x : Answer). IsOfNode (sight_at b m) (children_at b m) p x) (kept_at put_tree m)) (sym bare_put) (named m (cases_Bool (same m n)));
-        bases = λ m. subst (λ b. AreOf (sight_at b m) (children_at b m) (bases_at put_tree m)) (sym bare_put) (held m (cases_Bool (same m n)));
+        past = λ m. subst (λ b. HoldsPast b (turn_at put_tree) m (past_at put_tree m)) (sym bare_put) (subst (λ f. HoldsPast (bare t) f m (past_at put_tree m)) (sym turn_put) (subst (HoldsPast (bare t) (turn_at t) m) (sym (past_put m)) (r.past m)));
       }
     where
       own_list : AreRight (sight_at (bare t) n) plain_answer (kept_at put_tree n)
@@ -160,43 +199,83 @@ module _ (t : NodeTrees) (n : NodeId) (v : Node) (q : Query) (a : Answer) (u : I
       named m (inl s) = subst (λ k. EachPair (Named k) (kept_at put_tree k)) (sym (same_is m n s)) own_named
       named m (inr s) = subst (EachPair (Named m)) (sym (kept_other t n m (with_answer q a v) s)) (r.children m)
 
-      held : (m : NodeId) → (same m n ≡ true) ⊎ (same m n ≡ false) → Held m (bases_at put_tree m)
-      held m (inl s) = subst (λ k. Held k (bases_at put_tree k)) (sym (same_is m n s)) (subst (Held n) (sym own_bases) (r.bases n))
-      held m (inr s) = subst (Held m) (sym (bases_other t n m (with_answer q a v) s)) (r.bases m)
+-- ---- the past changed
+module _ (t : NodeTrees) (n : NodeId) (v : Node) (p : Past) (u : IsNumbered t) (e : Some v ≡ value_at t n) where
+  abbrev past_tree : NodeTrees
+  past_tree = replaced n (with_past p v) t
 
--- ---- a context with its areas kept
-module _ (t : NodeTrees) (n : NodeId) (v : Node) (base : GridBase) (u : IsNumbered t) (e : Some v ≡ value_at t n) where
-  abbrev held_tree : NodeTrees
-  held_tree = replaced n (with_base base v) t
+  bare_past : bare past_tree ≡ bare t
+  bare_past = bare_each t t n v (with_past p v) e refl u.each
 
-  pub bare_held : bare held_tree ≡ bare t
-  bare_held = bare_each t t n v (with_base base v) e refl u.each
-
-  pub kept_held : (m : NodeId) → kept_at held_tree m ≡ kept_at t m
-  kept_held m = at (cases_Bool (same m n))
+  kept_past : (m : NodeId) → kept_at past_tree m ≡ kept_at t m
+  kept_past m = at (cases_Bool (same m n))
     where
-      at : (same m n ≡ true) ⊎ (same m n ≡ false) → kept_at held_tree m ≡ kept_at t m
-      at (inl s) = subst (λ k. kept_at held_tree k ≡ kept_at t k) (sym (same_is m n s)) (kept_same t n v (with_base base v) e ∙ kept_there t n v e)
-      at (inr s) = kept_other t n m (with_base base v) s
+      at : (same m n ≡ true) ⊎ (same m n ≡ false) → kept_at past_tree m ≡ kept_at t m
+      at (inl s) = subst (λ k. kept_at past_tree k ≡ kept_at t k) (sym (same_is m n s)) (kept_same t n v (with_past p v) e ∙ kept_there t n v e)
+      at (inr s) = kept_other t n m (with_past p v) s
 
-  pub own_held : bases_at held_tree n ≡ base ∷ take 1 (bases_at t n)
-  own_held = bases_same t n v (with_base base v) e ∙ ap (λ l. base ∷ take 1 l) (bases_there t n v e)
+  turn_past : turn_at past_tree ≡ turn_at t
+  turn_past = λ i m. turn_kept t n m v (with_past p v) e refl i
 
-  abbrev Holds : NodeId → List GridBase → Type 0
-  Holds m bases = AreOf (sight_at (bare t) m) (children_at (bare t) m) bases
+  own_past : past_at past_tree n ≡ p
+  own_past = past_same t n v (with_past p v) e
 
-  pub right_held : IsRight t → HoldsPlaces (sight_at (bare t) n) (children_at (bare t) n) base → IsRight held_tree
-  right_held r h =
+  right_past : IsRight t → HoldsPast (bare t) (turn_at t) n p → IsRight past_tree
+  right_past r h =
       record {
-        lists = λ m. subst (λ b. AreRight (sight_at b m) plain_answer (kept_at held_tree m)) (sym bare_held) (subst (AreRight (sight_at (bare t) m) plain_answer) (sym (kept_held m)) (r.lists m));
-        children = λ m. subst (λ b. EachPair (λ (p : Query) (x : Answer). IsOfNode (sight_at b m) (children_at b m) p x) (kept_at held_tree m)) (sym bare_held)
-            (subst (EachPair (λ (p : Query) (x : Answer). IsOfNode (sight_at (bare t) m) (children_at (bare t) m) p x)) (sym (kept_held m)) (r.children m));
-        bases = λ m. subst (λ b. AreOf (sight_at b m) (children_at b m) (bases_at held_tree m)) (sym bare_held) (held m (cases_Bool (same m n)));
+        lists = λ m. subst (λ b. AreRight (sight_at b m) plain_answer (kept_at past_tree m)) (sym bare_past) (subst (AreRight (sight_at (bare t) m) plain_answer) (sym (kept_past m)) (r.lists m));
+        children = λ m. subst (λ b. EachPair (λ (q : Query) (x : Answer). IsOfNode (sight_at b m) (children_at b m) q x) (kept_at past_tree m)) (sym bare_past)
+            (subst (EachPair (λ (q : Query) (x : Answer). IsOfNode (sight_at (bare t) m) (children_at (bare t) m) q x)) (sym (kept_past m)) (r.children m));
+        past = λ m. subst (λ b. HoldsPast b (turn_at past_tree) m (past_at past_tree m)) (sym bare_past) (subst (λ f. HoldsPast (bare t) f m (past_at past_tree m)) (sym turn_past) (held m (cases_Bool (same m n))));
       }
     where
-      held : (m : NodeId) → (same m n ≡ true) ⊎ (same m n ≡ false) → Holds m (bases_at held_tree m)
-      held m (inl s) = subst (λ k. Holds k (bases_at held_tree k)) (sym (same_is m n s)) (subst (Holds n) (sym own_held) (h, newest_of (sight_at (bare t) n) (children_at (bare t) n) (bases_at t n) (r.bases n)))
-      held m (inr s) = subst (Holds m) (sym (bases_other t n m (with_base base v) s)) (r.bases m)
+      held : (m : NodeId) → (same m n ≡ true) ⊎ (same m n ≡ false) → HoldsPast (bare t) (turn_at t) m (past_at past_tree m)
+      held m (inl s) = subst (λ k. HoldsPast (bare t) (turn_at t) k (past_at past_tree k)) (sym (same_is m n s)) (subst (HoldsPast (bare t) (turn_at t) n) (sym own_past) h)
+      held m (inr s) = subst (HoldsPast (bare t) (turn_at t) m) (sym (past_other t n m (with_past p v) s)) (r.past m)
+
+-- ---- a call that changes the past of a node
+module _ (old new : Nodes Node) (n : NodeId) (p : Past) (k : ChangesPast old new n p) where
+  new_tree : replaced n (with_past p k.value) old.tree ≡ new.tree
+  new_tree = ap (λ (z : Nodes Node). z.tree) (sym k.new_is)
+
+  pub changes_bare : bare new.tree ≡ bare old.tree
+  changes_bare = ap bare (sym new_tree) ∙ bare_past old.tree n k.value p k.numbered k.there
+
+  pub changes_turn : turn_at new.tree ≡ turn_at old.tree
+  changes_turn = ap turn_at (sym new_tree) ∙ turn_past old.tree n k.value p k.numbered k.there
+
+  pub changes_own : past_at new.tree n ≡ p
+  changes_own = ap (λ z. past_at z n) (sym new_tree) ∙ own_past old.tree n k.value p k.numbered k.there
+
+  pub changes_alike : IsAlike old new
+  changes_alike = record { bare = changes_bare; frame = ap frame_of_arena k.new_is; kept = λ m. ap (λ z. kept_at z m) (sym new_tree) ∙ kept_past old.tree n k.value p k.numbered k.there m }
+
+  pub changes_right : IsRight old.tree → HoldsPast (bare old.tree) (turn_at old.tree) n p → IsRight new.tree
+  changes_right r h = subst IsRight new_tree (right_past old.tree n k.value p k.numbered k.there r h)
+
+-- the node keeps one context with its areas more
+pub base_more : (t : NodeTrees) (n : NodeId) (base : GridBase) (p : Past) → IsRight t → HoldsPlaces (sight_at (bare t) n) (children_at (bare t) n) base → p ≡ past_at t n → HoldsPast (bare t) (turn_at t) n (with_base base p)
+base_more t n base p r h e =
+    let held : HoldsPast (bare t) (turn_at t) n p = subst (HoldsPast (bare t) (turn_at t) n) (sym e) (r.past n) in
+    record { bases = (h, newest_of (sight_at (bare t) n) (children_at (bare t) n) p.bases held.bases); columns = held.columns; wide = held.wide }
+
+pub base_put : (old : Nodes Node) (n : NodeId) (v : Node) (base : GridBase) (bases : List GridBase) → Some v ≡ value_at old.tree n → IsNumbered old.tree → bases ≡ base ∷ take 1 v.past.bases
+    → ChangesPast old (with_value n (record v { past = record v.past { bases = bases } }) old) n (with_base base v.past)
+base_put old n v base bases e u h = record { value = v; there = e; numbered = u; new_is = ap (λ bs. with_value n (record v { past = record v.past { bases = bs } }) old) h }
+
+-- it lets go what its children told
+pub no_columns : (t : NodeTrees) (n : NodeId) → IsRight t → HoldsPast (bare t) (turn_at t) n (record (past_at t n) { columns = None })
+no_columns t n r = let held : HoldsPast (bare t) (turn_at t) n (past_at t n) = r.past n in record { bases = held.bases; columns = tt; wide = held.wide }
+
+pub no_wide : (t : NodeTrees) (n : NodeId) → IsRight t → HoldsPast (bare t) (turn_at t) n (record (past_at t n) { wide = None })
+no_wide t n r = let held : HoldsPast (bare t) (turn_at t) n (past_at t n) = r.past n in record { bases = held.bases; columns = held.columns; wide = tt }
+
+-- or keeps it
+pub new_columns : (t : NodeTrees) (n : NodeId) (w : KeptColumns) → IsRight t → HoldsColumns (bare t) (turn_at t) n w → HoldsPast (bare t) (turn_at t) n (record (past_at t n) { columns = Some w })
+new_columns t n w r h = let held : HoldsPast (bare t) (turn_at t) n (past_at t n) = r.past n in record { bases = held.bases; columns = h; wide = held.wide }
+
+pub new_wide : (t : NodeTrees) (n : NodeId) (w : KeptWide) → IsRight t → HoldsTold (bare t) (turn_at t) n w → HoldsPast (bare t) (turn_at t) n (record (past_at t n) { wide = Some w })
+new_wide t n w r h = let held : HoldsPast (bare t) (turn_at t) n (past_at t n) = r.past n in record { bases = held.bases; columns = held.columns; wide = h }
 
 -- ---- a call that keeps an answer
 module _ (s w : State) (n : NodeId) (q : Query) (a : Answer) (k : Keeps s.arena w.arena n q a) (r : IsRight s.arena.tree) where

@@ -1,5 +1,5 @@
 -- What a call that keeps one answer does, and one that measures a leaf (own rule).
-use Rattle.std.specs.Prelude.{◌≡◌, Bool, true, false, List, [], ◌∷◌, ◌++◌, ◌⊎◌, Option, Some, length, take}
+use Rattle.std.specs.Prelude.{◌≡◌, ◌≤◌, ◌<◌, ℕ, Bool, true, false, List, [], ◌∷◌, ◌++◌, ◌⊎◌, Option, Some, length, take}
 use Rattle.node_arena.specs.declared.number.NodeId.{NodeId}
 use Rattle.node_arena.specs.Numbers.{EachNode, IsNumbered, value_at}
 use Rattle.node_arena.specs.Plain.{Nodes, with_value}
@@ -12,7 +12,9 @@ use Rattle.tree_rules.specs.declared.query.Query.{Query}
 use Rattle.placing.specs.declared.node.Answer.{Answer}
 use Rattle.placing.specs.declared.node.Node.{Node}
 use Rattle.placing.specs.declared.wide.GridBase.{GridBase}
-use Rattle.placing.specs.Kept.{bases_at, kept_at}
+use Rattle.placing.specs.Kept.{kept_at, past_at, turn_at}
+use Rattle.placing.specs.Told.{last_turn, next_turn, no_past}
+use Rattle.placing.specs.declared.told.Past.{Past}
 use Rattle.placing.specs.Nodes.{NodeTrees, bare, children_at, sight_at}
 use Rattle.placing.specs.Walks.{kept_with, rising}
 use Rattle.tree_rules.specs.Chains.{siblings_of}
@@ -34,9 +36,20 @@ pub record Keeps (old new : Nodes Node) (n : NodeId) (q : Query) (a : Answer) : 
   pub numbered : IsNumbered old.tree
   pub new_is : new ≡ with_value n (with_answer q a value) old
 
--- a node that keeps one context with its areas more, and of the others the newest
-abbrev pub with_base : GridBase → Node → Node
-with_base base v = record v { bases = base ∷ take 1 v.bases }
+-- what a node keeps longer than its answers, with one context and its areas more, and of the others the newest
+abbrev pub with_base : GridBase → Past → Past
+with_base base p = record p { bases = base ∷ take 1 p.bases }
+
+-- a node that keeps this longer than its answers
+abbrev pub with_past : Past → Node → Node
+with_past p v = record v { past = p }
+
+-- a node keeps this longer than its answers, and nothing else changed
+pub record ChangesPast (old new : Nodes Node) (n : NodeId) (p : Past) : Type 0 where
+  pub value : Node
+  pub there : Some value ≡ value_at old.tree n
+  pub numbered : IsNumbered old.tree
+  pub new_is : new ≡ with_value n (with_past p value) old
 
 -- these events were measured, counted and logged
 pub record Counts (old new : Tally) (before after : Option (List Event)) (events : List Event) : Type 0 where
@@ -53,17 +66,17 @@ pub record CountsSome (old new : Tally) (before after : Option (List Event)) (ev
 
 -- ---- laws
 
--- a node that keeps nothing
+-- a node whose answers went
 abbrev pub without_answers : Node → Node
-without_answers v = record v { kept = [] }
+without_answers v = record v { kept = []; turn = next_turn v.turn }
 
--- a node that keeps no contexts and areas
-abbrev pub without_bases : Node → Node
-without_bases v = record v { bases = [] }
+-- a node that keeps nothing longer than its answers
+abbrev pub without_past : Node → Node
+without_past v = record v { past = no_past }
 
--- no node keeps contexts and areas
+-- no node keeps anything longer than its answers
 abbrev pub HoldsNone : NodeTrees → Type 0
-HoldsNone t = EachNode (λ x. x.1.bases ≡ []) t
+HoldsNone t = EachNode (λ x. x.1.past ≡ no_past) t
 
 -- no node keeps an answer
 abbrev pub KeepsNone : NodeTrees → Type 0
@@ -79,15 +92,30 @@ pub record KeepsSame (old new : NodeTrees) (n : NodeId) : Type 0 where
 abbrev pub KeepsOn : NodeTrees → NodeTrees → NodeId → Type 0
 KeepsOn old new n = (kept_at new n ≡ []) ⊎ KeepsSame old new n
 
--- A node of the new tree keeps the contexts and areas that it kept in the old one, in which its lines, its chain and its children were the same, and what
+-- A node of the new tree keeps longer than its answers what it so kept in the old one, in which its lines, its chain and its children were the same, and what
 -- areas depend on of these.
 pub record HoldsSame (old new : NodeTrees) (n : NodeId) : Type 0 where
-  pub bases : bases_at new n ≡ bases_at old n
+  pub past : past_at new n ≡ past_at old n
   pub grid : (sight_at (bare new) n).label.grid ≡ (sight_at (bare old) n).label.grid
   pub chain : (sight_at (bare new) n).chain ≡ (sight_at (bare old) n).chain
   pub siblings : siblings_of (sight_at (bare new) n).below ≡ siblings_of (sight_at (bare old) n).below
   pub children : children_at (bare new) n ≡ children_at (bare old) n
 
--- it does, or it keeps none
+-- it does, or it so keeps nothing
 abbrev pub HoldsOn : NodeTrees → NodeTrees → NodeId → Type 0
-HoldsOn old new n = (bases_at new n ≡ []) ⊎ HoldsSame old new n
+HoldsOn old new n = (past_at new n ≡ no_past) ⊎ HoldsSame old new n
+
+-- A node has no earlier turn in the new tree than in the old one, and where it has the same, which is not the last one, the rules see the same of it.
+pub record IsTurned (old new : NodeTrees) (n : NodeId) : Type 0 where
+  pub later : turn_at old n ≤ turn_at new n
+  pub same : turn_at new n ≡ turn_at old n → turn_at new n < last_turn → sight_at (bare new) n ≡ sight_at (bare old) n
+
+-- A turn that came later than another, or is the last one.
+pub record HasGone (before after : ℕ) : Type 0 where
+  pub later : before ≤ after
+  pub last : after ≡ before → last_turn ≤ after
+
+-- The turn of a node after the answers of some nodes went, and its own where it is one of them.
+abbrev pub HasTurn : Bool → ℕ → ℕ → Type 0
+HasTurn false before after = after ≡ before
+HasTurn true before after = HasGone before after

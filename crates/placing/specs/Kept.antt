@@ -1,5 +1,5 @@
 -- The answers that the nodes of an arena keep, and when they are right (own rule).
-use Rattle.std.specs.Prelude.{◌≡◌, List, [], map, Option, Some, None}
+use Rattle.std.specs.Prelude.{◌≡◌, ℕ, List, [], map, Option, Some, None}
 use Rattle.node_arena.specs.declared.number.NodeId.{NodeId}
 use Rattle.node_arena.specs.Numbers.{value_at}
 use Rattle.tree_rules.specs.declared.query.Query.{Query}
@@ -13,7 +13,8 @@ use Rattle.placing.specs.declared.node.Frame.{Frame}
 use Rattle.placing.specs.declared.node.Node.{Node}
 use Rattle.placing.specs.Nodes.{NodeTrees, bare, children_at, sight_at}
 use Rattle.placing.specs.Wides.{HoldsWide}
-use Rattle.placing.specs.Bases.{AreOf}
+use Rattle.placing.specs.Told.{HoldsPast, no_past}
+use Rattle.placing.specs.declared.told.Past.{Past}
 use Rattle.placing.specs.declared.wide.GridBase.{GridBase}
 
 -- a frame without the number of its child
@@ -45,17 +46,29 @@ kept_of (Some v) = v.kept
 unfoldable pub kept_at : NodeTrees → NodeId → List (Query × Answer)
 kept_at t n = kept_of (value_at t n)
 
-abbrev pub bases_of : Option Node → List GridBase
-bases_of None = []
-bases_of (Some v) = v.bases
+abbrev pub past_of : Option Node → Past
+past_of None = no_past
+past_of (Some v) = v.past
 
--- the contexts with the areas of its children that the node of a number keeps, the newest first
-unfoldable pub bases_at : NodeTrees → NodeId → List GridBase
-bases_at t n = bases_of (value_at t n)
+-- what the node of a number keeps longer than its answers
+unfoldable pub past_at : NodeTrees → NodeId → Past
+past_at t n = past_of (value_at t n)
+
+-- the contexts with the areas of its children that it keeps, the newest first
+abbrev pub bases_at : NodeTrees → NodeId → List GridBase
+bases_at t n = (past_at t n).bases
+
+abbrev pub turn_of : Option Node → ℕ
+turn_of None = 0
+turn_of (Some v) = v.turn
+
+-- the turn of the node of a number, 0 where there is none
+unfoldable pub turn_at : NodeTrees → NodeId → ℕ
+turn_at t n = turn_of (value_at t n)
 
 -- Every kept answer is right: no list has a question twice, each question fits its node, each answer is the defined one, and what it holds
--- besides is of its node, as is each kept context with its areas.
+-- besides is of its node, as is all that is kept longer.
 pub record IsRight (t : NodeTrees) : Type 0 where
   pub lists : (n : NodeId) → AreRight (sight_at (bare t) n) plain_answer (kept_at t n)
   pub children : (n : NodeId) → EachPair (IsOfNode (sight_at (bare t) n) (children_at (bare t) n)) (kept_at t n)
-  pub bases : (n : NodeId) → AreOf (sight_at (bare t) n) (children_at (bare t) n) (bases_at t n)
+  pub past : (n : NodeId) → HoldsPast (bare t) (turn_at t) n (past_at t n)

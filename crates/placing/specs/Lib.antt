@@ -14,6 +14,7 @@ pub mod Order
 pub mod Ranges
 pub mod Seats
 pub mod Spread
+pub mod Told
 pub mod Walks
 pub mod Wides
 pub mod Wishes
@@ -25,7 +26,7 @@ pub use Rattle.line_names.specs.Tables as LineTables
 pub use Rattle.node_arena.specs.Numbers as ArenaNumbers
 pub use Rattle.node_arena.specs.Plain as ArenaNodes
 pub use Rattle.outside.specs.Logging as Logging
-pub use Rattle.outside.specs.Told as Told
+pub use Rattle.outside.specs.Told as OutsideTold
 pub use Rattle.part_rules.specs.Repetition as TrackRepetition
 pub use Rattle.style_types.specs.Briefs as StyleBriefs
 pub use Rattle.style_types.specs.Styles as Styles

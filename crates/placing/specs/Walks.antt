@@ -109,6 +109,12 @@ kept_in s n = kept_at s.arena.tree n
 abbrev pub frame_of_arena : Nodes Node → Nodes Node
 frame_of_arena a = record a { tree = leafless }
 
+-- Two arenas are alike but for what nodes keep longer than their answers.
+pub record IsAlike (old new : Nodes Node) : Type 0 where
+  pub bare : bare new.tree ≡ bare old.tree
+  pub frame : frame_of_arena new ≡ frame_of_arena old
+  pub kept : (m : NodeId) → kept_at new.tree m ≡ kept_at old.tree m
+
 -- Answers to questions that may be asked were kept, each new where it was put, in at most four passes and with its events; so many passes and these events
 -- come on top; and nothing else changed.
 pub record Walk (May : NodeId → Query → Type 0) (more : ℕ) (rest : List Event) (old new : State) : Type 0 where

@@ -1,6 +1,6 @@
 //! The children of a grid in their areas, and whether a node is a subgrid.
 
-ghost use Rattle.std.specs.Prelude.{◌≡◌, ◌<◌, ◌+◌, ◌∷◌, ◌||◌, ◌&&◌, [], List, drop, length, Some, true, false};
+ghost use Rattle.std.specs.Prelude.{◌≡◌, ◌<◌, ◌+◌, ◌∷◌, ◌||◌, ◌&&◌, [], List, drop, length, slice_get, Some, true, false};
 ghost use Rattle.node_arena.specs.Numbers.{child_at};
 ghost use Rattle.tree_rules.specs.Answers.{Pair};
 ghost use Rattle.tree_rules.specs.Chains.{has_chain, has_subgrid, is_grid_kind};
@@ -55,6 +55,7 @@ pub fn entry(tree: &Arena<Node>, id: NodeId, placed: &Placed, index: usize) -> C
     requires index { index < length placed.now.areas }
     ensures live { IsLive (bare tree.now.tree) result.child }
     ensures child { child_at (bare tree.now.tree) id result.number ≡ Some result.child }
+    ensures told { slice_get placed.now.areas index ≡ Some (result.child, result.area) }
     ensures next { drop index (entries_at (bare tree.now.tree) id placed.now) ≡ entry_by (bare tree.now.tree) result ∷ drop (index + 1) (entries_at (bare tree.now.tree) id placed.now) }
     ensures inside { (c : rules.Context) → IsPlaced (bare tree.now.tree) id c placed.now → IsInside c result.area }
     ensures seat { (c : Context) (reps : List Pair) → context_of c ≡ context_at (sight_at (bare tree.now.tree) id) reps → IsPlaced (bare tree.now.tree) id (context_of c) placed.now → has_chain (sight_at (bare tree.now.tree) result.child).chain ≡ true → IsSeat (sight_at (bare tree.now.tree) result.child) reps (above.Grid c) result.area }

@@ -18,7 +18,7 @@ ghost use Rattle.outside.specs.declared.tally.Tally.{Tally as Told};
 ghost use Rattle.placing.specs.Bases.{base_with, HoldsPlaces};
 ghost use Rattle.placing.specs.Kept.{bases_at, kept_at, plain_answer, IsRight, IsOfNode};
 ghost use Rattle.placing.specs.declared.node.Answer.TheVariants as answer;
-ghost use Rattle.placing.specs.Keeping.{without_bases, Counts, CountsSome, is_leaf, Keeps};
+ghost use Rattle.placing.specs.Keeping.{without_past, Counts, CountsSome, is_leaf, Keeps};
 ghost use Rattle.placing.specs.Nodes.{bare, children_at, sight_at, IsLive};
 ghost use Rattle.placing.specs.Ranges.{IsKind};
 ghost use Rattle.placing.specs.Walks.{events_at, kept_with, state, State, Stopped, Walked, WalkedBelow};
@@ -121,7 +121,7 @@ pub fn find_base<'a>(
     ensures pairs { IfSome (option_copied result) (λ base. base.pairs ≡ pairs.now) }
     ensures holds { IfSome (option_copied result) (HoldsPlaces (sight_at (bare tree.now.tree) id) (children_at (bare tree.now.tree) id)) }
 {
-    node_at(tree, id).bases.find(pairs)
+    node_at(tree, id).past.bases.find(pairs)
 }
 
 /// Keeps a context with the areas of its children in a node, and nothing else, so that a walk begins after it as before it. Takes no
@@ -138,26 +138,27 @@ pub fn keep_base(tree: &mut Arena<Node>, id: NodeId, base: SharedBase)
     ensures stopped { (q : Query) (passes : ℕ) (tally : Told) (log : Option (List Event)) (new : State) → Stopped id q (state tree.new tally passes log) new → Stopped id q (state tree.old tally passes log) new }
 {
     let node = tree.get_mut(id).unwrap();
-    node.bases.put(base);
+    node.past.bases.put(base);
 }
 
-/// Lets the contexts and areas of a node go.
-fn forget_bases(node: &mut Node)
-    ensures { node.new ≡ without_bases node.old }
+/// Lets go what a node keeps longer than its answers.
+fn forget_past(node: &mut Node)
+    ensures { node.new ≡ without_past node.old }
 {
-    node.bases.clear();
+    node.past.clear();
 }
 
 #[tactic(auto, using(layout_cache::proofs::Forgets::forget_laws))]
-/// Lets the contexts and areas of these nodes go, and of no others. It passes over a number that names no node. Takes no memory.
-pub fn drop_bases(tree: &mut Arena<Node>, ids: &[NodeId])
-    ensures { tree.new ≡ all_forgot without_bases ids.now tree.old }
+/// Lets go what these nodes keep longer than their answers, and of no others. It passes over a number that names no node. Takes no
+/// memory.
+pub fn drop_past(tree: &mut Arena<Node>, ids: &[NodeId])
+    ensures { tree.new ≡ all_forgot without_past ids.now tree.old }
 {
     for id in ids {
         let Some(node) = tree.get_mut(*id) else {
             continue;
         };
-        forget_bases(node);
+        forget_past(node);
     }
 }
 
@@ -234,7 +235,7 @@ pub fn leaf_sizes<R: Ruler>(
     let NodeKind::Leaf(content) = &leaf.kind else {
         return Err(NoMemory);
     };
-    let (low, high) = measure_widths(&leaf.name, content, ruler, tally)?;
+    let (low, high) = measure_widths(&leaf.name, content.content(), ruler, tally)?;
     keep(tree, id, query, Answer::Sizes(low, high))?;
     tally.count_added();
     Ok((low, high))
@@ -267,7 +268,13 @@ pub fn leaf_height<R: Ruler>(
     let NodeKind::Leaf(content) = &leaf.kind else {
         return Err(NoMemory);
     };
-    let height = measure_height(&leaf.name, content, size_of(&query.inline), ruler, tally)?;
+    let height = measure_height(
+        &leaf.name,
+        content.content(),
+        size_of(&query.inline),
+        ruler,
+        tally,
+    )?;
     keep(tree, id, query, Answer::Block(height))?;
     tally.count_added();
     Ok(height)

@@ -8,10 +8,11 @@ ghost use Rattle.node_arena.specs.Numbers.{is_among, EachNode, IsNarrow};
 ghost use Rattle.tree_rules.specs.Queries.{answer_of};
 ghost use Rattle.tree_rules.specs.declared.query.Query.{Query};
 ghost use Rattle.placing.specs.declared.node.Answer.{Answer};
-ghost use Rattle.placing.specs.Kept.{bases_at, kept_at, plain_answer, IsRight, IsOfNode};
-ghost use Rattle.placing.specs.Keeping.{without_answers, without_bases, HoldsNone, HoldsOn, KeepsOn, KeepsNone};
-ghost use Rattle.placing.specs.Nodes.{bare, children_at, label_of_bare, sight_at, BareTrees, NodeTrees};
+ghost use Rattle.placing.specs.Kept.{kept_at, past_at, plain_answer, turn_at, IsRight, IsOfNode};
+ghost use Rattle.placing.specs.Keeping.{without_answers, without_past, HasTurn, HoldsNone, HoldsOn, IsTurned, KeepsOn, KeepsNone};
+ghost use Rattle.placing.specs.Nodes.{bare, children_at, label_of_bare, sight_at, BareTrees, IsLive, NodeTrees};
 ghost use Rattle.placing.specs.Ranges.{AreReadable, IsReadable};
+ghost use Rattle.placing.specs.Told.{no_past};
 
 #[tactic(auto, using(crate::proofs::KeptTrees::read_value, crate::proofs::KeptTrees::read_children))]
 /// A kept answer is the one of the definitions, and its frames are those of the node's children, in document order.
@@ -22,29 +23,31 @@ pub fn kept_answers_are_defined()
 
 #[tactic(auto, using(crate::proofs::KeptTrees::none_right, crate::proofs::KeptTrees::still_right))]
 /// Where nothing is kept all is right. A tree is right where each node keeps no answer, or keeps what it kept in a right tree in which the rules saw the same
-/// of it and it had the same children; and keeps no contexts and areas, or those that it kept there, where it stood and its children stood in the same
-/// lines.
+/// of it and it had the same children; keeps nothing longer than its answers, or what it so kept there, where it stood and its children stood in the same
+/// lines; and has a later turn than there or the last one, or the same one, where the rules see the same of it.
 pub fn right_where_seen_the_same()
     ensures none { (t : NodeTrees) → KeepsNone t → HoldsNone t → IsRight t }
-    ensures same { (t u : NodeTrees) → IsRight t → ((n : NodeId) → KeepsOn t u n) → ((n : NodeId) → HoldsOn t u n) → IsRight u }
+    ensures same { (t u : NodeTrees) → IsRight t → ((n : NodeId) → KeepsOn t u n) → ((n : NodeId) → HoldsOn t u n) → ((n : NodeId) → IsLive (bare u) n → IsTurned t u n) → IsRight u }
 {}
 
-#[tactic(auto, using(crate::proofs::KeptTrees::forgets_bare, crate::proofs::KeptTrees::forgets_kept, crate::proofs::KeptTrees::forgets_bases, crate::proofs::KeptTrees::forgets_right))]
-/// Letting answers go changes nothing but the lists of these nodes, and what is right stays right.
+#[tactic(auto, using(crate::proofs::KeptTrees::forgets_bare, crate::proofs::KeptTrees::forgets_kept, crate::proofs::KeptTrees::forgets_past, crate::proofs::KeptTrees::forgets_turn, crate::proofs::KeptTrees::forgets_right))]
+/// Letting answers go changes nothing but the lists of these nodes and their turns, and what is right stays right.
 pub fn forgetting_keeps_the_rest()
     ensures same { (ns : List NodeId) (t : NodeTrees) → bare (forgets without_answers ns t) ≡ bare t }
     ensures kept { (ns : List NodeId) (t : NodeTrees) (n : NodeId) → kept_at (forgets without_answers ns t) n ≡ (if is_among n ns then [] else kept_at t n) }
-    ensures bases { (ns : List NodeId) (t : NodeTrees) (n : NodeId) → bases_at (forgets without_answers ns t) n ≡ bases_at t n }
+    ensures past { (ns : List NodeId) (t : NodeTrees) (n : NodeId) → past_at (forgets without_answers ns t) n ≡ past_at t n }
+    ensures turn { (ns : List NodeId) (t : NodeTrees) (n : NodeId) → IsLive (bare t) n → HasTurn (is_among n ns) (turn_at t n) (turn_at (forgets without_answers ns t) n) }
     ensures right { (ns : List NodeId) (t : NodeTrees) → IsRight t → IsRight (forgets without_answers ns t) }
 {}
 
-#[tactic(auto, using(crate::proofs::KeptTrees::drops_bare, crate::proofs::KeptTrees::drops_kept, crate::proofs::KeptTrees::drops_bases, crate::proofs::KeptTrees::drops_right))]
-/// Letting contexts and areas go changes nothing but the lists of these nodes, and what is right stays right.
+#[tactic(auto, using(crate::proofs::KeptTrees::drops_bare, crate::proofs::KeptTrees::drops_kept, crate::proofs::KeptTrees::drops_past, crate::proofs::KeptTrees::drops_turn, crate::proofs::KeptTrees::drops_right))]
+/// Letting go what nodes keep longer than their answers changes nothing else, and what is right stays right.
 pub fn dropping_keeps_the_rest()
-    ensures same { (ns : List NodeId) (t : NodeTrees) → bare (forgets without_bases ns t) ≡ bare t }
-    ensures kept { (ns : List NodeId) (t : NodeTrees) (n : NodeId) → kept_at (forgets without_bases ns t) n ≡ kept_at t n }
-    ensures bases { (ns : List NodeId) (t : NodeTrees) (n : NodeId) → bases_at (forgets without_bases ns t) n ≡ (if is_among n ns then [] else bases_at t n) }
-    ensures right { (ns : List NodeId) (t : NodeTrees) → IsRight t → IsRight (forgets without_bases ns t) }
+    ensures same { (ns : List NodeId) (t : NodeTrees) → bare (forgets without_past ns t) ≡ bare t }
+    ensures kept { (ns : List NodeId) (t : NodeTrees) (n : NodeId) → kept_at (forgets without_past ns t) n ≡ kept_at t n }
+    ensures past { (ns : List NodeId) (t : NodeTrees) (n : NodeId) → past_at (forgets without_past ns t) n ≡ (if is_among n ns then no_past else past_at t n) }
+    ensures turn { (ns : List NodeId) (t : NodeTrees) (n : NodeId) → turn_at (forgets without_past ns t) n ≡ turn_at t n }
+    ensures right { (ns : List NodeId) (t : NodeTrees) → IsRight t → IsRight (forgets without_past ns t) }
 {}
 
 #[tactic(auto, using(crate::proofs::Readable::by_nodes))]

@@ -23,7 +23,9 @@ mod seats;
 mod shared;
 mod sight;
 pub mod style;
+mod telling;
 pub mod template;
+mod told;
 mod wide;
 mod wishes;
 
@@ -31,7 +33,7 @@ pub use bases::Bases;
 pub use contexts::{Above, AxisContext, Context, Placed};
 pub use grids::context_in;
 pub use items::{ChildArea, entry, has_subgrid};
-pub use keeping::{drop_bases, find, find_base, find_by, keep_base, leaf_height, leaf_sizes, put};
+pub use keeping::{drop_past, find, find_base, find_by, keep_base, leaf_height, leaf_sizes, put};
 pub use laws::{
     dropping_keeps_the_rest, forgetting_keeps_the_rest, kept_answers_are_defined,
     readable_node_by_node, right_where_seen_the_same,
@@ -41,5 +43,10 @@ pub use placement::{areas_in, ordered};
 pub use seats::{areas, context, seat};
 pub use shared::{SharedBase, SharedFrames, SharedWide};
 pub use sight::{child, count, node_at, parent, root};
+pub use telling::{MANY, keep_columns, keep_wide, put_items, take_columns, take_wide, turn_of};
+pub use told::{
+    KeptColumns, KeptWide, Past, PastColumns, PastRows, PastWide, SharedColumns, SharedTold,
+    ToldColumns, ToldRows,
+};
 pub use tree_rules::NodeKind;
 pub use wide::{GridBase, GridParts, GridWide, RowsAt, WideChild};

@@ -29,10 +29,11 @@ impl Linked for Node {
     ghost use Rattle.std.specs.Prelude.{◌&&◌, []};
     ghost use Rattle.tree_rules.specs.Chains.{has_subgrid, is_grid_kind};
     ghost use Rattle.tree_rules.specs.Labels.{grid_of};
+    ghost use Rattle.placing.specs.Told.{next_turn};
 
     ghost subgrid = { λ v. is_grid_kind v.kind && has_subgrid (grid_of v.style) };
 
-    ghost forgotten = { λ v. record v { kept = [] } };
+    ghost forgotten = { λ v. record v { kept = []; turn = next_turn v.turn } };
 
     fn is_subgrid(&self) -> bool {
         is_grid(&self.kind) && has_subgrid(&self.style)
@@ -40,5 +41,6 @@ impl Linked for Node {
 
     fn forget(&mut self) {
         self.kept.clear();
+        self.turn = self.turn.saturating_add(1);
     }
 }

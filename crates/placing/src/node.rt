@@ -1,5 +1,5 @@
-use crate::bases::Bases;
 use crate::shared::{SharedFrames, SharedWide};
+use crate::told::Past;
 use layout_cache::Kept;
 use lunit::{Item, Lu, Name, Rect, Sequence};
 use node_arena::NodeId;
@@ -9,16 +9,18 @@ use tree_rules::{Given, NodeKind};
 /// What the arena holds of a node.
 #[derive(Drop)]
 pub struct Node {
-    /// The name, of at most 58 bytes.
-    pub name: Name,
     /// A grid, a flex container, or a leaf with its content.
     pub kind: NodeKind,
+    /// The name, of at most 58 bytes.
+    pub name: Name,
     /// The answers that it keeps.
     pub kept: Kept<Answer>,
+    /// How often its answers went, and one; it stands still at 2^64 - 1.
+    pub turn: u64,
     /// The computed values (CSS Values 4, section 6.1).
     pub style: Style,
-    /// A grid's contexts and the areas of its children, which it keeps longer than its answers.
-    pub bases: Bases,
+    /// What a grid keeps longer than its answers.
+    pub past: Past,
     /// The values as they are declared. They stand last, since no layout reads them.
     pub declared: Declared,
 }

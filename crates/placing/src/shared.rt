@@ -1,6 +1,6 @@
 //! What a node keeps and all who read it share: a list of frames, a grid before its children are asked, a grid in its columns.
 
-ghost use Rattle.std.specs.Prelude.{◌≡◌, IfOk};
+ghost use Rattle.std.specs.Prelude.{◌≡◌, IfOk, IfSome};
 
 use crate::node::Frame;
 use crate::wide::{GridBase, GridWide};
@@ -133,6 +133,14 @@ impl SharedWide {
         Ok(SharedWide {
             wide: self.wide.clone()?,
         })
+    }
+
+    /// The grid itself; `None` only where others share it.
+    pub(crate) fn into_inner(self) -> Option<GridWide>
+        ensures { IfSome result (λ wide. wide ≡ self) }
+    {
+        let SharedWide { wide } = self;
+        Rc::into_inner(wide)
     }
 
     /// The grid.

@@ -5,7 +5,7 @@ ghost use Rattle.node_arena.specs.Numbers.{top_numbers, value_at, IsNarrow};
 ghost use Rattle.node_arena.specs.Plain.{IsSound};
 ghost use Rattle.tree_rules.specs.Labels.{content_of, grid_of};
 ghost use Rattle.placing.specs.Children.{IsNext, IsParent, IsTree};
-ghost use Rattle.placing.specs.Kept.{bases_at, kept_at};
+ghost use Rattle.placing.specs.Kept.{kept_at, past_at};
 ghost use Rattle.placing.specs.Nodes.{bare, bare_of, children_at, kids_at, label_of_bare, sight_at, IsLive};
 ghost use Rattle.placing.specs.Walks.{IsStep, StepsDown};
 
@@ -43,7 +43,7 @@ pub fn node_at(tree: &Arena<Node>, id: NodeId) -> &Node
     ensures grid { grid_of result.now.style ≡ (sight_at (bare tree.now.tree) id).label.grid }
     ensures content { content_of result.now.style ≡ (sight_at (bare tree.now.tree) id).label.content }
     ensures kept { result.now.kept ≡ kept_at tree.now.tree id }
-    ensures bases { result.now.bases ≡ bases_at tree.now.tree id }
+    ensures past { result.now.past ≡ past_at tree.now.tree id }
 {
     tree.get(id).unwrap()
 }

@@ -1,5 +1,5 @@
 -- What is not reached is seen as before, so that its kept answers stay right.
-use Rattle.std.proofs.Common.{◌≡◌, ℕ, zero, suc, ◌≤◌, Bool, true, false, ◌&&◌, List, [], ◌∷◌, Option, Some, None, IsSome, is_some, refl, sym, ap, ◌∙◌, arith, inl, inr}
+use Rattle.std.proofs.Common.{◌≡◌, ℕ, zero, suc, ◌<◌, ◌≤◌, Bool, true, false, ◌&&◌, List, [], ◌∷◌, Option, Some, None, IsSome, is_some, refl, sym, ap, ◌∙◌, arith, inl, inr}
 use Rattle.std.specs.Prelude.{◌⊎◌, slice_get}
 use Rattle.std.proofs.lemmas.Bool.{and_parts}
 use Rattle.plain_tree.specs.Trees.{height_of}
@@ -16,8 +16,9 @@ use Rattle.tree_rules.specs.Chains.{Sibling, has_subgrid, is_grid_kind, siblings
 use Rattle.tree_rules.specs.Labels.{grid_of}
 use Rattle.tree_rules.specs.Places.{Seen}
 use Rattle.placing.specs.declared.node.Node.{Node}
-use Rattle.placing.specs.Keeping.{HoldsOn, HoldsSame, KeepsOn}
-use Rattle.placing.specs.Kept.{IsRight, bases_at, bases_of, kept_at, kept_of}
+use Rattle.placing.specs.Keeping.{HasGone, HoldsOn, HoldsSame, IsTurned, KeepsOn}
+use Rattle.placing.specs.Kept.{IsRight, kept_at, kept_of, past_at, past_of, turn_at}
+use Rattle.placing.specs.Told.{last_turn, no_past}
 use Rattle.placing.specs.Nodes.{BareTrees, NodeTrees, bare, bare_of, children_at, label_of_bare, level_at, sight_at}
 use Rattle.placing.proofs.Bares.{bare_there, child_bare, distinct_bare, height_bare, live_bare, tops_bare}
 use Rattle.placing.proofs.KeptTrees.{still_right}
@@ -146,14 +147,14 @@ module _ (t u : NodeTrees) (dt : IsDistinct t) (du : IsDistinct u) (root : NodeI
       )
 
   -- where subgrids do not feel the change, the lines, the chain and the children of every node are the same, and what its areas depend on of these
-  same_lines : grid ≡ false → (n : NodeId) → IsSome (part_at u n) → bases_at u n ≡ bases_at t n → HoldsSame t u n
+  same_lines : grid ≡ false → (n : NodeId) → IsSome (part_at u n) → past_at u n ≡ past_at t n → HoldsSame t u n
   same_lines calm n new same =
       let rb = rooted root (bare t) (distinct_bare t dt) (omega (arith, low_t, height_bare t)) (tops_bare t ∙ tops_t) in
       let ru = rooted root (bare u) (distinct_bare u du) (omega (arith, low_u, height_bare u)) (tops_bare u ∙ tops_u) in
       let live = live_bare u n ∙ new in
       let shows = local.shows n live (marked n) in
       record {
-        bases = same;
+        past = same;
         grid = ap (λ (s : Sibling). s.grid) shows.own;
         chain = same_chain root (bare t) (bare u) rb ru (λ m. is_among m ts) grid local (level_at (bare u) n) n (omega arith) live (marked n) (λ k. none_felt (λ m. grid && is_among m ts) (bare u) marked k n);
         siblings = shows.siblings;
@@ -164,11 +165,11 @@ module _ (t u : NodeTrees) (dt : IsDistinct t) (du : IsDistinct u) (root : NodeI
       marked m = ap (λ g. g && is_among m ts) calm
 
   -- so where a node is not reached
-  same_seen : (n : NodeId) → IsSome (part_at t n) → IsSome (part_at u n) → is_among n (reached_by node_sub t ts grid) ≡ false → bases_at u n ≡ bases_at t n → HoldsSame t u n
+  same_seen : (n : NodeId) → IsSome (part_at t n) → IsSome (part_at u n) → is_among n (reached_by node_sub t ts grid) ≡ false → past_at u n ≡ past_at t n → HoldsSame t u n
   same_seen n old new e same =
       let s = same_sight n old new e in
       record {
-        bases = same;
+        past = same;
         grid = ap (λ (v : Seen). v.label.grid) s.0;
         chain = ap (λ (v : Seen). v.chain) s.0;
         siblings = ap (λ (v : Seen). siblings_of v.below) s.0;
@@ -179,13 +180,17 @@ module _ (t u : NodeTrees) (dt : IsDistinct t) (du : IsDistinct u) (root : NodeI
   abbrev pub KeepsOrNot : NodeId → Type 0
   KeepsOrNot n = (kept_at u n ≡ []) ⊎ ((IsSome (part_at t n) × (is_among n (reached_by node_sub t ts grid) ≡ false)) × (kept_at u n ≡ kept_at t n))
 
-  -- it keeps no contexts and areas, or subgrids do not feel the change or it is not reached, and it keeps those that it kept
+  -- it keeps nothing longer than its answers, or subgrids do not feel the change or it is not reached, and it so keeps what it kept
   abbrev pub HoldsOrNot : NodeId → Type 0
-  HoldsOrNot n = (bases_at u n ≡ []) ⊎ ((IsSome (part_at t n) × ((grid ≡ false) ⊎ (is_among n (reached_by node_sub t ts grid) ≡ false))) × (bases_at u n ≡ bases_at t n))
+  HoldsOrNot n = (past_at u n ≡ no_past) ⊎ ((IsSome (part_at t n) × ((grid ≡ false) ⊎ (is_among n (reached_by node_sub t ts grid) ≡ false))) × (past_at u n ≡ past_at t n))
 
-  pub right_after : IsRight t → ((n : NodeId) → IsSome (part_at u n) → KeepsOrNot n) → ((n : NodeId) → IsSome (part_at u n) → HoldsOrNot n) → IsRight u
-  unfolding kept_at bases_at
-  right_after r h g = still_right t u r keeps holds
+  -- its turn has gone, or it is not reached and has its turn still
+  abbrev pub TurnsOrNot : NodeId → Type 0
+  TurnsOrNot n = HasGone (turn_at t n) (turn_at u n) ⊎ ((IsSome (part_at t n) × (is_among n (reached_by node_sub t ts grid) ≡ false)) × (turn_at u n ≡ turn_at t n))
+
+  pub right_after : IsRight t → ((n : NodeId) → IsSome (part_at u n) → KeepsOrNot n) → ((n : NodeId) → IsSome (part_at u n) → HoldsOrNot n) → ((n : NodeId) → IsSome (part_at u n) → TurnsOrNot n) → IsRight u
+  unfolding kept_at past_at
+  right_after r h g f = still_right t u r keeps holds (λ n live. let new = sym (live_bare u n) ∙ live in turned n new (f n new))
     where
       keeps : (n : NodeId) → KeepsOn t u n
       keeps n = at (part_at u n) refl
@@ -201,7 +206,7 @@ module _ (t u : NodeTrees) (dt : IsDistinct t) (du : IsDistinct u) (root : NodeI
       holds : (n : NodeId) → HoldsOn t u n
       holds n = at (part_at u n) refl
         where
-          kept : IsSome (part_at u n) → IsSome (part_at t n) → (grid ≡ false) ⊎ (is_among n (reached_by node_sub t ts grid) ≡ false) → bases_at u n ≡ bases_at t n → HoldsOn t u n
+          kept : IsSome (part_at u n) → IsSome (part_at t n) → (grid ≡ false) ⊎ (is_among n (reached_by node_sub t ts grid) ≡ false) → past_at u n ≡ past_at t n → HoldsOn t u n
           kept new old (inl calm) same = inr (same_lines calm n new same)
           kept new old (inr e) same = inr (same_seen n old new e same)
 
@@ -210,5 +215,12 @@ module _ (t u : NodeTrees) (dt : IsDistinct t) (du : IsDistinct u) (root : NodeI
           by new (inr k) = kept new k.0.0 k.0.1 k.1
 
           at : (o : Option (Part Node)) → part_at u n ≡ o → HoldsOn t u n
-          at None e = inl (ap (λ o. bases_of (value_of o)) e)
+          at None e = inl (ap (λ o. past_of (value_of o)) e)
           at (Some q) e = by (ap is_some e) (g n (ap is_some e))
+
+      turned : (n : NodeId) → IsSome (part_at u n) → TurnsOrNot n → IsTurned t u n
+      turned n new (inl gone) = record { later = gone.later; same = λ e less. absurd (not_past (gone.last e) less) }
+        where
+          not_past : last_turn ≤ turn_at u n → turn_at u n < last_turn → ⊥
+          not_past a b = omega (arith, a, b)
+      turned n new (inr k) = record { later = omega (arith, k.1); same = λ e less. (same_sight n k.0.0 new k.0.1).0 }

@@ -1,16 +1,16 @@
+use crate::SharedContent;
 use lunit::{Copied, NoMemory};
-use part_rules::Content;
 use std::alloc::Global;
 
 /// What a node is (CSS Grid 2, section 5; CSS Flexbox 1, section 3; leaves are this project's own).
-#[derive(Debug, Drop, PartialEq, Eq)]
+#[derive(Drop)]
 pub enum NodeKind {
     /// A grid container, or a subgrid where its template says so.
     Grid,
     /// A flex container.
     Flex,
     /// A leaf with this content.
-    Leaf(Content),
+    Leaf(SharedContent),
 }
 
 impl Copied for NodeKind {

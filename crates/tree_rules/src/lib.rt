@@ -8,6 +8,7 @@ mod counts;
 mod kind;
 mod laws;
 mod query;
+mod shared_content;
 mod shared_tracks;
 
 pub use counts::Counts;
@@ -17,4 +18,5 @@ pub use laws::{
     right_answers_stay_right, stable_sorts_are_the_order,
 };
 pub use query::{Ask, Given, Query};
+pub use shared_content::SharedContent;
 pub use shared_tracks::SharedTracks;

@@ -19,6 +19,7 @@ use Rattle.placing.specs.Keeping.{is_leaf}
 use Rattle.placing.specs.Kept.{IsRight}
 use Rattle.placing.specs.Nodes.{IsLive, bare, bare_of, label_of_bare, sight_at}
 use Rattle.placing.specs.Ranges.{IsKind}
+use Rattle.placing.specs.Told.{no_past}
 use Rattle.placing.proofs.Bares.{bare_there, live_from, tops_bare}
 use Rattle.placing.proofs.KeptTrees.{none_right}
 use Rattle.placing.proofs.Parents.{top_live}
@@ -54,7 +55,7 @@ pub leaf_is : (a : Nodes Node) (id : NodeId) → IsLeafTree a id → is_leaf (si
 leaf_is a id h = ap is_leaf h.kind
 
 -- the tree as it is made
-pub made_tree : (a : Nodes Node) (id : NodeId) (v : Node) (nodes children : ℕ) → a ≡ first_node id v nodes children → v.kept ≡ [] → v.bases ≡ [] → v.kind ≡ kind.Leaf its_content → IsLeafTree a id
+pub made_tree : (a : Nodes Node) (id : NodeId) (v : Node) (nodes children : ℕ) → a ≡ first_node id v nodes children → v.kept ≡ [] → v.past ≡ no_past → v.kind ≡ kind.Leaf its_content → IsLeafTree a id
 unfolding label_of_bare
 made_tree a id v nodes children e k h l = subst (λ z. IsLeafTree z id) (sym e) made
   where

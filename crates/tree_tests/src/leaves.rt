@@ -7,10 +7,11 @@ use lunit::{Lu, Name, NoMemory};
 use node_arena::{Arena, NodeId};
 use outside::{Event, LogRuler, Tally, Width};
 use part_rules::Content;
-use placing::{Answer, Bases, Node, NodeKind, find, leaf_height, leaf_sizes};
+use placing::{Answer, Node, NodeKind, Past, find, leaf_height, leaf_sizes};
 use std::alloc::Global;
 use std::test::Fail;
 use style_types::{Declared, Style};
+use tree_rules::SharedContent;
 
 /// A leaf of 40 by 20 units, alone in a tree, which keeps nothing.
 fn one_leaf(alloc: Global, name: Name) -> Result<(Arena<Node>, NodeId), NoMemory>
@@ -18,14 +19,18 @@ fn one_leaf(alloc: Global, name: Name) -> Result<(Arena<Node>, NodeId), NoMemory
 {
     let node = Node {
         name,
-        kind: NodeKind::Leaf(Content::Fixed {
-            width: Lu::of(40),
-            height: Lu::of(20),
-        }),
+        kind: NodeKind::Leaf(SharedContent::new(
+            alloc,
+            Content::Fixed {
+                width: Lu::of(40),
+                height: Lu::of(20),
+            },
+        )?),
         declared: Declared::new(alloc),
         style: Style::new(alloc),
         kept: Kept::new(alloc)?,
-        bases: Bases::new(),
+        turn: 1,
+        past: Past::new(),
     };
     Ok(Arena::new(alloc, node, 1, 1)?)
 }

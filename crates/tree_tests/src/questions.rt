@@ -1,7 +1,7 @@
 use lunit::{Copied, Lu, Sequence};
 use part_rules::Content;
 use std::test::Fail;
-use tree_rules::{Ask, Counts, Given, NodeKind, Query, SharedTracks};
+use tree_rules::{Ask, Counts, Given, NodeKind, Query, SharedContent, SharedTracks};
 
 #[test]
 fn a_copy_of_a_question_has_its_tracks_and_counts(rt: HostRuntime) -> Result<(), Fail> {
@@ -21,14 +21,19 @@ fn a_copy_of_a_question_has_its_tracks_and_counts(rt: HostRuntime) -> Result<(),
 #[test]
 fn a_copy_of_a_kind_has_its_content(rt: HostRuntime) -> Result<(), Fail> {
     let words = Sequence::from_slice(rt.alloc(), &[Lu::of(40), Lu::of(7)])?;
-    let leaf = NodeKind::Leaf(Content::Words {
+    let content = Content::Words {
         line: Lu::of(20),
         space: Lu::of(4),
         words,
-    });
-    let copy = leaf.copy(rt.alloc())?;
-    assert_eq!(rt; &copy, &leaf);
-    let flex = NodeKind::Flex.copy(rt.alloc())?;
-    assert_eq!(rt; &flex, &NodeKind::Flex);
+    };
+    let wanted = content.copy(rt.alloc())?;
+    let leaf = NodeKind::Leaf(SharedContent::new(rt.alloc(), content)?);
+    let NodeKind::Leaf(copy) = leaf.copy(rt.alloc())? else {
+        return Err(Fail::new("the copy is no leaf"));
+    };
+    assert_eq!(rt; copy.content(), &wanted);
+    let NodeKind::Flex = NodeKind::Flex.copy(rt.alloc())? else {
+        return Err(Fail::new("the copy is no flex container"));
+    };
     Ok(())
 }

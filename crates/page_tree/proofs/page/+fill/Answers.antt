@@ -41,5 +41,5 @@ loop-index-preserved t c =
       nodes = step.next (trees_in c.add.new.self) (trees_in c.fill.new.page) (c.in_ok-add.ensures.nodes) c.in_ok-fill.ensures.nodes;
       around = around_on c.args.page.now c.loop-index.page c.fill.new.page c.loop-index.invariant.around (around_on c.loop-index.page c.add.new.self c.fill.new.page c.in_ok-add.ensures.around c.in_ok-fill.ensures.around);
       kept = λ k. c.in_ok-fill.ensures.kept (c.in_ok-add.ensures.kept (c.loop-index.invariant.kept k));
-      bases = λ k. c.in_ok-fill.ensures.bases (c.in_ok-add.ensures.bases (c.loop-index.invariant.bases k));
+      past = λ k. c.in_ok-fill.ensures.past (c.in_ok-add.ensures.past (c.loop-index.invariant.past k));
     }

@@ -15,5 +15,5 @@ invariant-loop-index l =
       nodes : trees_in l.page ≡ filled l.node.name (trees_of (take l.index l.children)) (trees_in l.fn.page);
       around : IsAround l.fn.page l.page;
       kept : KeepsNone l.fn.page.nodes.tree → KeepsNone l.page.nodes.tree;
-      bases : HoldsNone l.fn.page.nodes.tree → HoldsNone l.page.nodes.tree;
+      past : HoldsNone l.fn.page.nodes.tree → HoldsNone l.page.nodes.tree;
     }

@@ -1,5 +1,6 @@
-use Rattle.std.proofs.Common.{pos}
-use Rattle.std.specs.Prelude.{get_or}
+use Rattle.std.proofs.Common.{◌∙◌, ap, arith, length, pos, sym}
+use Rattle.std.specs.Prelude.{get_or, slice_get}
+use Rattle.std.proofs.lemmas.Option.{slice_get-get_or}
 use Rattle.lunit.specs.declared.geometry.Area.{Area}
 use Rattle.node_arena.specs.declared.number.NodeId.{NodeId}
 use Rattle.placing.specs.Nodes.{bare}
@@ -14,6 +15,9 @@ returns-clause-live c = (is_entry (bare c.args.tree.now.tree) c.args.id c.args.p
 
 pub returns-clause-child : goal.returns-clause-child
 returns-clause-child c = (is_entry (bare c.args.tree.now.tree) c.args.id c.args.placed.now c.as_slice.result.now c.as_slice-2.result.now c.args.index no_child c.root.ensures.tree c.requires.children c.as_slice.ensures c.as_slice-2.ensures c.requires.index).next.number
+
+pub returns-clause-told : goal.returns-clause-told
+returns-clause-told c = ap (λ l. slice_get l c.args.index) (sym c.as_slice-2.ensures) ∙ slice_get-get_or c.as_slice-2.result.now c.args.index no_child (omega (arith, c.requires.index, ap length c.as_slice-2.ensures))
 
 pub returns-clause-next : goal.returns-clause-next
 returns-clause-next c = (is_entry (bare c.args.tree.now.tree) c.args.id c.args.placed.now c.as_slice.result.now c.as_slice-2.result.now c.args.index no_child c.root.ensures.tree c.requires.children c.as_slice.ensures c.as_slice-2.ensures c.requires.index).entry

@@ -1,14 +1,11 @@
-use Rattle.std.proofs.Common.{◌∙◌, ap, is_some, subst, sym}
+use Rattle.std.proofs.Common.{◌∷◌, ◌∙◌, ap, is_some, sym}
+use Rattle.std.specs.Prelude.{take}
 use Rattle.std.specs.Option.{option_copied_mut}
-use Rattle.node_arena.specs.Plain.{Nodes, with_value}
-use Rattle.placing.specs.declared.node.Node.{Node}
-use Rattle.placing.specs.Kept.{IsRight, bases_at, kept_at}
-use Rattle.placing.specs.Nodes.{bare}
-use Rattle.placing.specs.Walks.{frame_of_arena}
-use Rattle.placing.proofs.Alike.{below_alike, stopped_alike}
+use Rattle.placing.specs.declared.told.Past.{Past}
+use Rattle.placing.proofs.Alike.{from_alike, from_stopped_alike}
 use Rattle.placing.proofs.Bares.{value_some}
 use Rattle.placing.proofs.Loans.{mut_some}
-use Rattle.placing.proofs.Puts.{bare_held, kept_held, own_held, right_held}
+use Rattle.placing.proofs.Puts.{base_more, base_put, changes_alike, changes_own, changes_right, past_there}
 use Rattle.placing.proofs.keeping.keep_base.Goals as goal
 
 pub unwrap-node-requires : goal.unwrap-node-requires
@@ -16,32 +13,30 @@ unwrap-node-requires c = mut_some c.get_mut.result (ap is_some c.get_mut.ensures
 
 pub returns-clause-right : goal.returns-clause-right
 returns-clause-right c =
-    let is = ap (λ bs. with_value c.args.id (record c.unwrap-node.result.now { bases = bs }) c.args.tree.now) c.put.ensures in
-    subst (λ (z : Nodes Node). IsRight z.tree) (sym is) (right_held c.args.tree.now.tree c.args.id c.unwrap-node.result.now c.args.base c.get_mut.ensures.numbered (ap option_copied_mut (sym c.unwrap-node.ensures) ∙ c.get_mut.ensures.value) c.requires.right c.requires.holds)
+    let k = base_put c.args.tree.now c.args.id c.unwrap-node.result.now c.args.base c.put.new.self (ap option_copied_mut (sym c.unwrap-node.ensures) ∙ c.get_mut.ensures.value) c.get_mut.ensures.numbered c.put.ensures in
+    changes_right _ _ _ _ k c.requires.right (base_more c.args.tree.now.tree c.args.id c.args.base c.unwrap-node.result.now.past c.requires.right c.requires.holds (past_there c.args.tree.now.tree c.args.id c.unwrap-node.result.now (ap option_copied_mut (sym c.unwrap-node.ensures) ∙ c.get_mut.ensures.value)))
 
 pub returns-clause-same : goal.returns-clause-same
 returns-clause-same c =
-    let is = ap (λ bs. with_value c.args.id (record c.unwrap-node.result.now { bases = bs }) c.args.tree.now) c.put.ensures in
-    ap (λ (z : Nodes Node). bare z.tree) is ∙ bare_held c.args.tree.now.tree c.args.id c.unwrap-node.result.now c.args.base c.get_mut.ensures.numbered (ap option_copied_mut (sym c.unwrap-node.ensures) ∙ c.get_mut.ensures.value)
+    let k = base_put c.args.tree.now c.args.id c.unwrap-node.result.now c.args.base c.put.new.self (ap option_copied_mut (sym c.unwrap-node.ensures) ∙ c.get_mut.ensures.value) c.get_mut.ensures.numbered c.put.ensures in
+    (changes_alike _ _ _ _ k).bare
 
 pub returns-clause-kept : goal.returns-clause-kept
-returns-clause-kept c = λ m.
-    let is = ap (λ bs. with_value c.args.id (record c.unwrap-node.result.now { bases = bs }) c.args.tree.now) c.put.ensures in
-    ap (λ (z : Nodes Node). kept_at z.tree m) is ∙ kept_held c.args.tree.now.tree c.args.id c.unwrap-node.result.now c.args.base c.get_mut.ensures.numbered (ap option_copied_mut (sym c.unwrap-node.ensures) ∙ c.get_mut.ensures.value) m
+returns-clause-kept c =
+    let k = base_put c.args.tree.now c.args.id c.unwrap-node.result.now c.args.base c.put.new.self (ap option_copied_mut (sym c.unwrap-node.ensures) ∙ c.get_mut.ensures.value) c.get_mut.ensures.numbered c.put.ensures in
+    (changes_alike _ _ _ _ k).kept
 
 pub returns-clause-own : goal.returns-clause-own
 returns-clause-own c =
-    let is = ap (λ bs. with_value c.args.id (record c.unwrap-node.result.now { bases = bs }) c.args.tree.now) c.put.ensures in
-    ap (λ (z : Nodes Node). bases_at z.tree c.args.id) is ∙ own_held c.args.tree.now.tree c.args.id c.unwrap-node.result.now c.args.base c.get_mut.ensures.numbered (ap option_copied_mut (sym c.unwrap-node.ensures) ∙ c.get_mut.ensures.value)
+    let k = base_put c.args.tree.now c.args.id c.unwrap-node.result.now c.args.base c.put.new.self (ap option_copied_mut (sym c.unwrap-node.ensures) ∙ c.get_mut.ensures.value) c.get_mut.ensures.numbered c.put.ensures in
+    ap (λ (p : Past). p.bases) (changes_own _ _ _ _ k) ∙ ap (λ (p : Past). c.args.base ∷ take 1 p.bases) (past_there c.args.tree.now.tree c.args.id c.unwrap-node.result.now (ap option_copied_mut (sym c.unwrap-node.ensures) ∙ c.get_mut.ensures.value))
 
 pub returns-clause-below : goal.returns-clause-below
 returns-clause-below c = λ q more passes tally log new below.
-    let is = ap (λ bs. with_value c.args.id (record c.unwrap-node.result.now { bases = bs }) c.args.tree.now) c.put.ensures in
-    below_alike c.args.tree.now (with_value c.args.id (record c.unwrap-node.result.now { bases = c.put.new.self }) c.args.tree.now) (ap (λ (z : Nodes Node). bare z.tree) is ∙ bare_held c.args.tree.now.tree c.args.id c.unwrap-node.result.now c.args.base c.get_mut.ensures.numbered (ap option_copied_mut (sym c.unwrap-node.ensures) ∙ c.get_mut.ensures.value)) (ap frame_of_arena is) (λ m. ap (λ (z : Nodes Node). kept_at z.tree m) is ∙ kept_held c.args.tree.now.tree c.args.id c.unwrap-node.result.now c.args.base c.get_mut.ensures.numbered (ap option_copied_mut (sym c.unwrap-node.ensures) ∙ c.get_mut.ensures.value) m)
-    tally passes log new c.args.id q more below
+    let k = base_put c.args.tree.now c.args.id c.unwrap-node.result.now c.args.base c.put.new.self (ap option_copied_mut (sym c.unwrap-node.ensures) ∙ c.get_mut.ensures.value) c.get_mut.ensures.numbered c.put.ensures in
+    from_alike _ _ (changes_alike _ _ _ _ k) tally passes log new c.args.id q more below
 
 pub returns-clause-stopped : goal.returns-clause-stopped
 returns-clause-stopped c = λ q passes tally log new stopped.
-    let is = ap (λ bs. with_value c.args.id (record c.unwrap-node.result.now { bases = bs }) c.args.tree.now) c.put.ensures in
-    stopped_alike c.args.tree.now (with_value c.args.id (record c.unwrap-node.result.now { bases = c.put.new.self }) c.args.tree.now) (ap (λ (z : Nodes Node). bare z.tree) is ∙ bare_held c.args.tree.now.tree c.args.id c.unwrap-node.result.now c.args.base c.get_mut.ensures.numbered (ap option_copied_mut (sym c.unwrap-node.ensures) ∙ c.get_mut.ensures.value)) (ap frame_of_arena is) (λ m. ap (λ (z : Nodes Node). kept_at z.tree m) is ∙ kept_held c.args.tree.now.tree c.args.id c.unwrap-node.result.now c.args.base c.get_mut.ensures.numbered (ap option_copied_mut (sym c.unwrap-node.ensures) ∙ c.get_mut.ensures.value) m)
-    tally passes log new c.args.id q stopped
+    let k = base_put c.args.tree.now c.args.id c.unwrap-node.result.now c.args.base c.put.new.self (ap option_copied_mut (sym c.unwrap-node.ensures) ∙ c.get_mut.ensures.value) c.get_mut.ensures.numbered c.put.ensures in
+    from_stopped_alike _ _ (changes_alike _ _ _ _ k) tally passes log new c.args.id q stopped

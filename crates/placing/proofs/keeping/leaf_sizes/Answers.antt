@@ -1,4 +1,4 @@
-use Rattle.std.proofs.Common.{None, ◌∙◌, subst, sym}
+use Rattle.std.proofs.Common.{None, ◌∙◌, ap, subst, sym}
 use Rattle.node_arena.specs.Plain.{Nodes}
 use Rattle.placing.proofs.Leaves.{leaf_stopped, leaf_unkept, leaf_walked, on_err, sizes_answer, sizes_events}
 use Rattle.placing.specs.declared.node.Node.{Node}
@@ -6,12 +6,13 @@ use Rattle.placing.specs.Kept.{IsRight}
 use Rattle.placing.specs.Nodes.{bare, sight_at}
 use Rattle.placing.specs.Walks.{state}
 use Rattle.placing.proofs.Puts.{keeps_own, keeps_right}
+use Rattle.tree_rules.specs.declared.kind.NodeKind.TheVariants as kind
 use Rattle.placing.proofs.keeping.leaf_sizes.Goals as goal
 
 pub returns-in_err-low-clause-stopped : goal.returns-in_err-low-clause-stopped
 returns-in_err-low-clause-stopped g c =
     on_err _ _ (leaf_stopped c.args.tree.now _ _ _ _ c.args.id c.args.query _ c.requires.right c.requires.absent
-    (sizes_events (sight_at (bare c.args.tree.now.tree) c.args.id) c.in-Leaf.content c.node_at-leaf.result.now.name c.args.query (sym c.in-Leaf.is ∙ c.node_at-leaf.ensures.kind) c.node_at-leaf.ensures.name c.requires.ask)
+    (sizes_events (sight_at (bare c.args.tree.now.tree) c.args.id) c.content.result.now c.node_at-leaf.result.now.name c.args.query (ap kind.Leaf c.content.ensures ∙ sym c.in-Leaf.is ∙ c.node_at-leaf.ensures.kind) c.node_at-leaf.ensures.name c.requires.ask)
     c.in_err-low.ensures.some)
 
 pub returns-in_err-keep-clause-right : goal.returns-in_err-keep-clause-right
@@ -20,19 +21,19 @@ returns-in_err-keep-clause-right g c = subst (λ (z : Nodes Node). IsRight z.tre
 pub returns-in_err-keep-clause-stopped : goal.returns-in_err-keep-clause-stopped
 returns-in_err-keep-clause-stopped g c =
     on_err _ _ (leaf_unkept c.args.tree.now _ _ _ _ _ c.args.id c.args.query _ c.in_err-keep.ensures.err c.requires.right c.requires.absent
-    (sizes_events (sight_at (bare c.args.tree.now.tree) c.args.id) c.in-Leaf.content c.node_at-leaf.result.now.name c.args.query (sym c.in-Leaf.is ∙ c.node_at-leaf.ensures.kind) c.node_at-leaf.ensures.name c.requires.ask)
+    (sizes_events (sight_at (bare c.args.tree.now.tree) c.args.id) c.content.result.now c.node_at-leaf.result.now.name c.args.query (ap kind.Leaf c.content.ensures ∙ sym c.in-Leaf.is ∙ c.node_at-leaf.ensures.kind) c.node_at-leaf.ensures.name c.requires.ask)
     c.in_ok-low.ensures.counts)
 
 pub returns-clause-right : goal.returns-clause-right
 returns-clause-right g c =
     keeps_right (state c.args.tree.now c.args.tally.now 0 None) (state c.keep.new.tree c.args.tally.now 0 None) c.args.id c.args.query _ c.in_ok-keep.ensures.ok c.requires.right c.requires.absent c.requires.fits
-    (sizes_answer (sight_at (bare c.args.tree.now.tree) c.args.id) c.in-Leaf.content c.node_at-leaf.result.now.name c.args.query (sym c.in-Leaf.is ∙ c.node_at-leaf.ensures.kind) c.requires.ask _ _ c.in_ok-low.ensures.value)
+    (sizes_answer (sight_at (bare c.args.tree.now.tree) c.args.id) c.content.result.now c.node_at-leaf.result.now.name c.args.query (ap kind.Leaf c.content.ensures ∙ sym c.in-Leaf.is ∙ c.node_at-leaf.ensures.kind) c.requires.ask _ _ c.in_ok-low.ensures.value)
     tt
 
 pub returns-clause-walked : goal.returns-clause-walked
 returns-clause-walked g c =
     leaf_walked c.args.tree.now c.keep.new.tree _ _ _ _ _ c.args.id c.args.query _ _ c.in_ok-keep.ensures.ok c.requires.right c.requires.absent
-    (sizes_events (sight_at (bare c.args.tree.now.tree) c.args.id) c.in-Leaf.content c.node_at-leaf.result.now.name c.args.query (sym c.in-Leaf.is ∙ c.node_at-leaf.ensures.kind) c.node_at-leaf.ensures.name c.requires.ask)
+    (sizes_events (sight_at (bare c.args.tree.now.tree) c.args.id) c.content.result.now c.node_at-leaf.result.now.name c.args.query (ap kind.Leaf c.content.ensures ∙ sym c.in-Leaf.is ∙ c.node_at-leaf.ensures.kind) c.node_at-leaf.ensures.name c.requires.ask)
     c.in_ok-low.ensures.counts c.count_added.ensures
 
 pub returns-clause-own : goal.returns-clause-own

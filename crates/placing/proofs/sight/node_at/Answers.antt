@@ -4,7 +4,7 @@ use Rattle.tree_rules.specs.Labels.{Label}
 use Rattle.placing.specs.Nodes.{bare, bare_of, label_of_bare}
 use Rattle.placing.proofs.Bares.{bare_there, value_some}
 use Rattle.placing.proofs.Loans.{loan_some}
-use Rattle.placing.proofs.Puts.{bases_there, kept_there}
+use Rattle.placing.proofs.Puts.{kept_there, past_there}
 use Rattle.placing.proofs.Sights.{sight_label}
 use Rattle.placing.proofs.sight.node_at.Goals as goal
 
@@ -43,5 +43,5 @@ returns-clause-content c =
 pub returns-clause-kept : goal.returns-clause-kept
 returns-clause-kept c = kept_there c.args.tree.now.tree c.args.id c.unwrap.result.now (ap option_copied (sym c.unwrap.ensures) ∙ c.get.ensures)
 
-pub returns-clause-bases : goal.returns-clause-bases
-returns-clause-bases c = bases_there c.args.tree.now.tree c.args.id c.unwrap.result.now (ap option_copied (sym c.unwrap.ensures) ∙ c.get.ensures)
+pub returns-clause-past : goal.returns-clause-past
+returns-clause-past c = past_there c.args.tree.now.tree c.args.id c.unwrap.result.now (ap option_copied (sym c.unwrap.ensures) ∙ c.get.ensures)

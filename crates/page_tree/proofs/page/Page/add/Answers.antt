@@ -15,7 +15,7 @@ use Rattle.style_types.specs.Computed.{font_of}
 use Rattle.page_tree.specs.Fonts.{HasFont, HasStyle, root_font_of}
 use Rattle.page_tree.specs.Pages.{Held, IsPage, trees_in}
 use Rattle.page_tree.specs.Registers.{Finds}
-use Rattle.page_tree.proofs.Changes.{grafted_bases, grafted_count, grafted_kept, inserted_nowhere, plain_grafted}
+use Rattle.page_tree.proofs.Changes.{grafted_past, grafted_count, grafted_kept, inserted_nowhere, plain_grafted}
 use Rattle.page_tree.proofs.Fonts.{grafted_styled}
 use Rattle.page_tree.proofs.page.Page.add.Goals as goal
 
@@ -51,12 +51,12 @@ returns-clause-kept c k =
     subst (λ (n : Nodes Node). KeepsNone n.tree) (sym c.in_ok-insert.ensures.ok)
     (grafted_kept c.in-Some.id c.args.index new t (c.in_ok-node.ensures.kept, (tt, tt)) (subst (λ (h : Held). KeepsNone h.nodes.tree) (sym c.self.view_is) k))
 
-pub returns-clause-bases : goal.returns-clause-bases
-returns-clause-bases c k =
+pub returns-clause-past : goal.returns-clause-past
+returns-clause-past c k =
     let t = c.self.inside.nodes.tree in
     let new = tree (c.in_ok-insert.field-0, c.in_ok-node.node) leafless leafless in
     subst (λ (n : Nodes Node). HoldsNone n.tree) (sym c.in_ok-insert.ensures.ok)
-    (grafted_bases c.in-Some.id c.args.index new t (c.in_ok-node.ensures.bases, (tt, tt)) (subst (λ (h : Held). HoldsNone h.nodes.tree) (sym c.self.view_is) k))
+    (grafted_past c.in-Some.id c.args.index new t (c.in_ok-node.ensures.past, (tt, tt)) (subst (λ (h : Held). HoldsNone h.nodes.tree) (sym c.self.view_is) k))
 
 pub returns-in-None-clause-changes : goal.returns-in-None-clause-changes
 returns-in-None-clause-changes c there = absurd (not_both (holds (plain_trees c.args.self.now.nodes.tree) c.args.parent.now) there (let none = c.in-None.ensures.there in rw (← c.self.view_is) (sym none)))
@@ -71,7 +71,8 @@ returns-clause-changes c there =
       value = c.in_ok-node.node;
       named = ap (λ (l : Label). l.name) c.in_ok-node.ensures.label;
       kept = c.in_ok-node.ensures.kept;
-      bases = c.in_ok-node.ensures.bases;
+      past = c.in_ok-node.ensures.past;
+      turn = c.in_ok-node.ensures.turn;
       index = c.args.index;
       is = ap (λ (n : Nodes Node). n.tree) c.in_ok-insert.ensures.ok ∙ ap (λ (h : Held). grafted c.in-Some.id c.args.index (tree (c.in_ok-insert.field-0, c.in_ok-node.node) leafless leafless) h.nodes.tree) c.self.view_is;
     }

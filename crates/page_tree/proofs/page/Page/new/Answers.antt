@@ -20,4 +20,4 @@ pub returns-clause-document : goal.returns-clause-document
 returns-clause-document c = whole_document c.args.doc.now c.in_ok-page.page c.fill.new.page c.in_ok-page.ensures c.in_ok-fill.ensures.around c.in_ok-fill.ensures.nodes
 
 pub returns-clause-right : goal.returns-clause-right
-returns-clause-right c = none_right c.fill.new.page.nodes.tree (c.in_ok-fill.ensures.kept c.in_ok-page.ensures.kept) (c.in_ok-fill.ensures.bases c.in_ok-page.ensures.bases)
+returns-clause-right c = none_right c.fill.new.page.nodes.tree (c.in_ok-fill.ensures.kept c.in_ok-page.ensures.kept) (c.in_ok-fill.ensures.past c.in_ok-page.ensures.past)

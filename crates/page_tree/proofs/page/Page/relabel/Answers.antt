@@ -3,6 +3,7 @@ use Rattle.node_arena.specs.Numbers.{IsDistinct, below_at, part_at, replaced}
 use Rattle.node_arena.specs.Plain.{Nodes}
 use Rattle.style_types.specs.Computed.{computed_style}
 use Rattle.placing.specs.declared.node.Node.{Node}
+use Rattle.placing.specs.Kept.{turn_at}
 use Rattle.page_tree.specs.Documents.{label_of, plain_trees}
 use Rattle.page_tree.specs.Pages.{Held, IsPage}
 use Rattle.page_tree.specs.Registers.{HasName}
@@ -52,7 +53,8 @@ returns-clause-changes c change becomes =
       found = c.requires;
       value = v;
       kept = c.in_ok-node.ensures.kept;
-      bases = c.in_ok-node.ensures.bases;
+      past = c.in_ok-node.ensures.past;
+      turn = c.in_ok-node.ensures.turn ∙ c.turn_of-turn.ensures ∙ ap (λ (n : Nodes Node). turn_at n.tree c.args.id) c.tree-tree.ensures ∙ ap (λ (h : Held). turn_at h.nodes.tree c.args.id) c.self.view_is;
       label = becomes_made c.args.id change _ (label_of v) t label becomes;
       styles = c.in_ok-styles.styles;
       is = ap (λ (n : Nodes Node). n.tree) (c.restyle.ensures ∙ ap (with_styles c.in_ok-styles.styles) c.put.ensures) ∙ ap (λ (h : Held). restyled c.in_ok-styles.styles (replaced c.args.id v h.nodes.tree)) c.self.view_is;

@@ -1,0 +1,84 @@
+//! The children of a grid along its columns: whether a child is a subgrid in them, which item another child is, and what the children
+//! told, kept.
+
+ghost use Rattle.std.specs.Prelude.{◌≡◌, ◌&&◌};
+ghost use Rattle.placing.specs.Bases.{HoldsPlaces};
+ghost use Rattle.placing.specs.Kept.{IsRight};
+ghost use Rattle.placing.specs.Nodes.{bare, children_at, kid_at, sight_at, IsLive};
+ghost use Rattle.placing.specs.Ranges.{AreReadable};
+ghost use Rattle.placing.specs.Told.{AreColumns, Each};
+ghost use Rattle.placing.specs.Walks.{IsAlike};
+ghost use Rattle.tree_rules.specs.Chains.{is_grid_kind, is_subgrid};
+ghost use Rattle.tree_rules.specs.LentItems.{child_item};
+ghost use Rattle.inline_sizes.specs.Grids.{column_levels, has_subgrid_kind};
+ghost use Rattle.inline_sizes.specs.Lifted.{IsLifted};
+
+use crate::grid::column_levels;
+use crate::sized::child_item;
+use lunit::{Item, Lu, NoMemory};
+use node_arena::{Arena, NodeId};
+use placing::style::is_subgrid;
+use placing::{ChildArea, GridBase, MANY, Node, NodeKind, ToldColumns, keep_columns, node_at};
+use std::alloc::Global;
+
+/// Whether a node is a grid.
+pub(crate) fn is_grid(kind: &NodeKind) -> bool
+    ensures { result ≡ is_grid_kind kind.now }
+{
+    match kind {
+        NodeKind::Grid => true,
+        _ => false,
+    }
+}
+
+/// Whether a child of a grid is a subgrid in the columns.
+pub(crate) fn shares_columns(tree: &Arena<Node>, id: NodeId) -> bool
+    requires { IsLive (bare tree.now.tree) id }
+    ensures { result ≡ (has_subgrid_kind (sight_at (bare tree.now.tree) id).label && is_subgrid (sight_at (bare tree.now.tree) id).label.grid.columns.template) }
+{
+    let node = node_at(tree, id);
+    is_grid(&node.kind) && is_subgrid::<0>(&node.style)
+}
+
+/// A child of a grid that is no subgrid in the columns as an item along the columns, by its two inline sizes.
+pub(crate) fn own_item(
+    tree: &Arena<Node>,
+    base: &GridBase,
+    entry: ChildArea,
+    low: Lu,
+    high: Lu,
+) -> Item
+    requires live { IsLive (bare tree.now.tree) entry.child }
+    requires readable { AreReadable (bare tree.now.tree) }
+    requires lifted { IsLifted (column_levels base.now.above) entry.area.columns }
+    ensures { result ≡ child_item (column_levels base.now.above) (kid_at (bare tree.now.tree) entry.child).label.content.border_box (kid_at (bare tree.now.tree) entry.child).label.content.scrolls (kid_at (bare tree.now.tree) entry.child).label.grid.columns (kid_at (bare tree.now.tree) entry.child).label.content.inline entry.area.columns (low, high) }
+{
+    let style = &node_at(tree, entry.child).style;
+    child_item::<0>(
+        column_levels(&base.above),
+        style,
+        entry.area.columns,
+        (low, high),
+    )
+}
+
+/// Keeps what the children of a grid told for its inline sizes, where they are many. A walk goes on after it as before it. `NoMemory`
+/// where memory is wanting; nothing has changed then.
+pub(crate) fn keep_told(
+    alloc: Global,
+    tree: &mut Arena<Node>,
+    id: NodeId,
+    told: ToldColumns,
+) -> Result<(), NoMemory>
+    requires live { IsLive (bare tree.old.tree) id }
+    requires right { IsRight tree.old.tree }
+    requires places { HoldsPlaces (sight_at (bare tree.old.tree) id) (children_at (bare tree.old.tree) id) told.parts.base }
+    requires told { AreColumns (sight_at (bare tree.old.tree) id) (kid_at (bare tree.old.tree)) Each told }
+    ensures right { IsRight tree.new.tree }
+    ensures alike { IsAlike tree.old tree.new }
+{
+    if told.ends.len() < MANY {
+        return Ok(());
+    }
+    keep_columns(alloc, tree, id, told)
+}

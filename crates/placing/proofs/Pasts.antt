@@ -1,0 +1,243 @@
+-- What nodes keep longer than their answers, in a tree that changed.
+use Rattle.std.proofs.Common.{◌≡◌, ℕ, zero, suc, ◌+◌, ◌<◌, ◌≤◌, Bool, true, false, List, [], ◌∷◌, Option, Some, None, cond, refl, sym, ap, ◌∙◌, arith, length, map, subst}
+use Rattle.std.specs.Prelude.{◌==◌, ℤ, ◌&&◌, IfSome, nat_lt, reverse, slice_get}
+use Rattle.std.proofs.lemmas.Bool.{and_parts, eq-eqb, eqb-true, ltb-true}
+use Rattle.lunit.specs.declared.geometry.Area.{Area}
+use Rattle.lunit.specs.declared.item.Item.{Item}
+use Rattle.node_arena.specs.declared.number.NodeId.{NodeId}
+use Rattle.node_arena.specs.Numbers.{Part, below_of, either, one, part_at, same, times, top_numbers}
+use Rattle.node_arena.proofs.Same.{one_yes, part_some, same_from}
+use Rattle.node_arena.proofs.Standing.{some_is}
+use Rattle.plain_tree.specs.Trees.{Trees, leafless, tree}
+use Rattle.tree_rules.specs.Answers.{Kid, Pair}
+use Rattle.tree_rules.specs.Chains.{Above, Sibling, sibling_of, siblings_of}
+use Rattle.tree_rules.specs.Contexts as rules
+use Rattle.tree_rules.specs.GridSizes.{column_items_of, inline_of_entry, row_items_of}
+use Rattle.tree_rules.specs.Labels.{Label}
+use Rattle.tree_rules.specs.Places.{Seen, answers_of}
+use Rattle.tree_rules.specs.Whole.{kids_of}
+use Rattle.placing.specs.Areas.{child_in}
+use Rattle.placing.specs.Bases.{AreOf, HoldsPlaces}
+use Rattle.placing.specs.Nodes.{BareTrees, IsLive, children_at, kid_at, sight_at}
+use Rattle.placing.specs.Order.{numbers_in_order}
+use Rattle.placing.specs.Seats.{context_at}
+use Rattle.placing.specs.Told.{AreColumns, AreRows, AreTurns, Fresh, HoldsColumns, HoldsPast, HoldsTold, TellsColumns, TellsRows, columns_in, entry_with, is_fresh, last_turn, rows_in, wide_told}
+use Rattle.placing.specs.Wides.{HoldsAreas, IsAbove, child_of, kids_in}
+use Rattle.placing.specs.declared.contexts.Placed.{Placed}
+use Rattle.placing.specs.declared.told.KeptColumns.{KeptColumns}
+use Rattle.placing.specs.declared.told.KeptWide.{KeptWide}
+use Rattle.placing.specs.declared.told.Past.{Past}
+use Rattle.placing.specs.declared.told.ToldColumns.{ToldColumns}
+use Rattle.placing.specs.declared.told.ToldRows.{ToldRows}
+use Rattle.placing.specs.declared.wide.GridBase.{GridBase}
+use Rattle.placing.specs.declared.wide.WideChild.{WideChild}
+use Rattle.placing.proofs.Seated.{siblings_below}
+use Rattle.placing.proofs.Tellings.{told_fewer}
+
+-- ---- contexts and areas by what they depend on
+orders_below : (above : Above) (n : ℕ) (below : Trees Label) → map (λ (k : Kid). k.label.grid.order) (kids_of above n below) ≡ map (λ (s : Sibling). s.grid.order) (siblings_of below)
+orders_below above n leafless = refl
+orders_below above n (tree x below after) = ap (λ l. x.grid.order ∷ l) (orders_below above (n + 1) after)
+
+module _ (s z : Seen) (grid : z.label.grid ≡ s.label.grid) (chain : z.chain ≡ s.chain) (siblings : siblings_of z.below ≡ siblings_of s.below) where
+  kids_same : map (λ (k : Kid). sibling_of k.label) (kids_in z) ≡ map (λ (k : Kid). sibling_of k.label) (kids_in s)
+  kids_same = siblings_below _ 0 z.below ∙ siblings ∙ sym (siblings_below _ 0 s.below)
+
+  orders_same : map (λ (k : Kid). k.label.grid.order) (kids_in z) ≡ map (λ (k : Kid). k.label.grid.order) (kids_in s)
+  orders_same = orders_below _ 0 z.below ∙ ap (map (λ (x : Sibling). x.grid.order)) siblings ∙ sym (orders_below _ 0 s.below)
+
+  areas_same : (kids : List NodeId) (c : rules.Context) (p : Placed) → HoldsAreas s kids c p → HoldsAreas z kids c p
+  areas_same kids c p h = record { placed = h.placed ∙ (λ i. rules.placed_children c (sym grid i) (sym kids_same i)); numbers = h.numbers ∙ ap numbers_in_order (sym orders_same); children = h.children; inside = h.inside }
+
+  context_same : (pairs : List Pair) → context_at z pairs ≡ context_at s pairs
+  context_same pairs = (λ i. rules.context_by (grid i) (chain i) (reverse pairs))
+
+  pub places_same : (kids : List NodeId) (base : GridBase) → HoldsPlaces s kids base → HoldsPlaces z kids base
+  places_same kids base h =
+      let context : context_at z base.pairs ≡ context_at s base.pairs = context_same base.pairs in
+      record {
+        outer = h.outer;
+        pairs = h.pairs;
+        counts = h.counts ∙ ap (λ l. length l + 1) (sym chain);
+        context = subst (λ c. IsAbove c base.above) (sym context) h.context;
+        placed = subst (λ c. HoldsAreas z kids c base.placed) (sym context) (areas_same kids (context_at s base.pairs) base.placed h.placed);
+      }
+
+  pub all_same : (kids : List NodeId) (bases : List GridBase) → AreOf s kids bases → AreOf z kids bases
+  all_same kids [] h = tt
+  all_same kids (base ∷ rest) h = (places_same kids base h.0, all_same kids rest h.1)
+
+-- ---- children are live
+module _ {A : Type 0} where
+  times_of : (t : Trees (NodeId × A)) (n c : NodeId) (p : Part A) → part_at t n ≡ Some p → times c p.1 ≤ times c t
+  times_of leafless n c p e = absurd cc
+  times_of (tree x below after) n c p e = at (same x.0 n) (part_at below n) refl e (times_of below n c p) (times_of after n c p)
+    where
+      at : (b : Bool) (o : Option (Part A)) → part_at below n ≡ o → cond b (Some (x.1, below)) (either o (part_at after n)) ≡ Some p → (part_at below n ≡ Some p → times c p.1 ≤ times c below)
+          → (part_at after n ≡ Some p → times c p.1 ≤ times c after) → times c p.1 ≤ one (same x.0 c) + times c below + times c after
+      at true o f h under later = let is : (x.1, below) ≡ p = some_is (x.1, below) p h in subst (λ (z : Part A). times c z.1 ≤ one (same x.0 c) + times c below + times c after) is (omega arith)
+      at false None f h under later = omega (arith, later h)
+      at false (Some y) f h under later = omega (arith, under (f ∙ h))
+
+  top_times : (t : Trees (NodeId × A)) (m : ℕ) (c : NodeId) → slice_get (top_numbers t) m ≡ Some c → 1 ≤ times c t
+  top_times leafless m c e = absurd cc
+  top_times (tree x below after) zero c e = omega (arith, one_yes (same x.0 c) (same_from x.0 c (some_is x.0 c e)))
+  top_times (tree x below after) (suc m) c e = omega (arith, top_times after m c e)
+
+pub children_live : (b : BareTrees) (n : NodeId) (m : ℕ) (c : NodeId) → slice_get (children_at b n) m ≡ Some c → IsLive b c
+children_live b n m c e = at (part_at b n) refl e
+  where
+    at : (o : Option (Part _)) → part_at b n ≡ o → slice_get (top_numbers (below_of o)) m ≡ Some c → IsLive b c
+    at None f h = absurd cc
+    at (Some p) f h = part_some b c (omega (arith, times_of b n c p f, top_times p.1 m c h))
+
+pub record IsOneOf (kids : List NodeId) (c : NodeId) : Type 0 where
+  pub index : ℕ
+  pub there : slice_get kids index ≡ Some c
+
+pub is_named : (kids : List NodeId) (numbers : List ℕ) (areas : List (NodeId × Area)) (k : ℕ) (c : NodeId) (a : Area) → map (slice_get kids) numbers ≡ map child_in areas → slice_get areas k ≡ Some (c, a) → IsOneOf kids c
+is_named kids [] [] k c a e h = absurd cc
+is_named kids [] (x ∷ areas) k c a e h = absurd cc
+is_named kids (m ∷ ms) [] k c a e h = absurd cc
+is_named kids (m ∷ ms) (x ∷ areas) zero c a e h =
+    let first : slice_get kids m ≡ Some x.0 = cc in
+    record { index = m; there = first ∙ ap (λ (z : NodeId × Area). Some z.0) (some_is x (c, a) h) }
+is_named kids (m ∷ ms) (x ∷ areas) (suc k) c a e h =
+    let rest : map (slice_get kids) ms ≡ map child_in areas = cc in
+    is_named kids ms areas k c a rest h
+
+-- ---- turns
+-- no child of these areas has a later turn than another time
+abbrev pub AreLater : (NodeId → ℕ) → (NodeId → ℕ) → List (NodeId × Area) → Type 0
+AreLater turn late areas = (k : ℕ) (c : NodeId) (a : Area) → slice_get areas k ≡ Some (c, a) → turn c ≤ late c
+
+pub turns_later : (turn late : NodeId → ℕ) (areas : List (NodeId × Area)) (turns : List ℕ) → AreLater turn late areas → AreTurns turn areas turns → AreTurns late areas turns
+turns_later turn late [] [] l h = tt
+turns_later turn late [] (s ∷ turns) l h = absurd h
+turns_later turn late (e ∷ areas) [] l h = absurd h
+turns_later turn late (e ∷ areas) (s ∷ turns) l h = (omega (arith, h.0, l 0 e.0 e.1 refl), turns_later turn late areas turns (λ k. l (suc k)) h.1)
+
+pub record StandsStill (turn late : NodeId → ℕ) (c : NodeId) : Type 0 where
+  pub same : late c ≡ turn c
+  pub few : late c < last_turn
+
+still_there : (turn late : NodeId → ℕ) (areas : List (NodeId × Area)) (turns : List ℕ) (k : ℕ) (c : NodeId) (a : Area) → AreLater turn late areas → AreTurns turn areas turns → is_fresh late areas turns k ≡ true
+    → slice_get areas k ≡ Some (c, a) → StandsStill turn late c
+still_there turn late [] turns k c a l h f e = absurd cc
+still_there turn late (x ∷ areas) [] k c a l h f e = absurd h
+still_there turn late (x ∷ areas) (s ∷ turns) zero c a l h f e =
+    let both = and_parts (s == late x.0) (nat_lt s last_turn) f in
+    let turned : s ≡ late x.0 = eqb-true s (late x.0) both.0 in
+    let low : s < last_turn = ltb-true s last_turn both.1 in
+    let later : turn x.0 ≤ late x.0 = l 0 x.0 x.1 refl in
+    subst (λ (z : NodeId × Area). StandsStill turn late z.0) (some_is x (c, a) e) (record { same = omega (arith, turned, later, h.0); few = omega (arith, turned, low) })
+still_there turn late (x ∷ areas) (s ∷ turns) (suc k) c a l h f e = still_there turn late areas turns k c a (λ j. l (suc j)) h.1 f e
+
+fresh_before : (turn late : NodeId → ℕ) (areas : List (NodeId × Area)) (turns : List ℕ) (k : ℕ) → AreLater turn late areas → AreTurns turn areas turns → is_fresh late areas turns k ≡ true → is_fresh turn areas turns k ≡ true
+fresh_before turn late [] turns k l h f = f
+fresh_before turn late (x ∷ areas) [] k l h f = f
+fresh_before turn late (x ∷ areas) (s ∷ turns) zero l h f =
+    let both = and_parts (s == late x.0) (nat_lt s last_turn) f in
+    let turned : s ≡ late x.0 = eqb-true s (late x.0) both.0 in
+    let later : turn x.0 ≤ late x.0 = l 0 x.0 x.1 refl in
+    let own : (s == turn x.0) ≡ true = eq-eqb s (turn x.0) (omega (arith, turned, later, h.0)) in
+    (λ i. own i && both.1 i)
+fresh_before turn late (x ∷ areas) (s ∷ turns) (suc k) l h f = fresh_before turn late areas turns k (λ j. l (suc j)) h.1 f
+
+-- ---- what was told holds on
+kid_same : (b d : BareTrees) (c : NodeId) → sight_at d c ≡ sight_at b c → kid_at b c ≡ kid_at d c
+kid_same b d c e = ap (λ (s : Seen). record { label = s.label; chain = s.chain; answers = answers_of s }) (sym e)
+
+module _ (b d : BareTrees) (turn late : NodeId → ℕ) (n : NodeId)
+    (grid : (sight_at d n).label.grid ≡ (sight_at b n).label.grid) (chain : (sight_at d n).chain ≡ (sight_at b n).chain)
+    (siblings : siblings_of (sight_at d n).below ≡ siblings_of (sight_at b n).below) (kids : children_at d n ≡ children_at b n)
+    (later : (c : NodeId) → IsLive d c → turn c ≤ late c)
+    (stands : (c : NodeId) → IsLive d c → late c ≡ turn c → late c < last_turn → sight_at d c ≡ sight_at b c) where
+  context_stays : (base : GridBase) → context_at (sight_at b n) base.pairs ≡ context_at (sight_at d n) base.pairs
+  context_stays base = sym (context_same (sight_at b n) (sight_at d n) grid chain siblings base.pairs)
+
+  child_live : (base : GridBase) → HoldsPlaces (sight_at b n) (children_at b n) base → (k : ℕ) (c : NodeId) (a : Area) → slice_get base.placed.areas k ≡ Some (c, a) → IsLive d c
+  child_live base h k c a e =
+      let one_of : IsOneOf (children_at b n) c = is_named (children_at b n) base.placed.numbers base.placed.areas k c a h.placed.children e in
+      children_live d n one_of.index c (ap (λ l. slice_get l one_of.index) kids ∙ one_of.there)
+
+  are_later : (base : GridBase) → HoldsPlaces (sight_at b n) (children_at b n) base → AreLater turn late base.placed.areas
+  are_later base h k c a e = later c (child_live base h k c a e)
+
+  kid_stays : (base : GridBase) (turns : List ℕ) → HoldsPlaces (sight_at b n) (children_at b n) base → AreTurns turn base.placed.areas turns
+      → (k : ℕ) (c : NodeId) (a : Area) → is_fresh late base.placed.areas turns k ≡ true → slice_get base.placed.areas k ≡ Some (c, a) → kid_at b c ≡ kid_at d c
+  kid_stays base turns h t k c a f e =
+      let still : StandsStill turn late c = still_there turn late base.placed.areas turns k c a (are_later base h) t f e in
+      kid_same b d c (stands c (child_live base h k c a e) still.same still.few)
+
+  places_stay : (base : GridBase) → HoldsPlaces (sight_at b n) (children_at b n) base → HoldsPlaces (sight_at d n) (children_at d n) base
+  places_stay base h = subst (λ l. HoldsPlaces (sight_at d n) l base) (sym kids) (places_same (sight_at b n) (sight_at d n) grid chain siblings (children_at b n) base h)
+
+  columns_stay : (t : ToldColumns) (turns : List ℕ) → HoldsPlaces (sight_at b n) (children_at b n) t.parts.base → AreTurns turn t.parts.base.placed.areas turns
+      → AreColumns (sight_at b n) (kid_at b) (Fresh turn t.parts.base.placed.areas turns) t → AreColumns (sight_at d n) (kid_at d) (Fresh late t.parts.base.placed.areas turns) t
+  columns_stay t turns h s w =
+      record {
+        counted = w.counted;
+        told = told_fewer (Fresh turn t.parts.base.placed.areas turns) (Fresh late t.parts.base.placed.areas turns) (TellsColumns (sight_at b n) (kid_at b) t.parts.base) (TellsColumns (sight_at d n) (kid_at d) t.parts.base) t.parts.inlines t.parts.items t.ends w.told
+            (λ k x p within f. fresh_before turn late t.parts.base.placed.areas turns k (are_later t.parts.base h) s f) (λ k x p within f. tells k x p f);
+      }
+    where
+      tells : (k : ℕ) (x : ℤ × ℤ) (p : List Item) → is_fresh late t.parts.base.placed.areas turns k ≡ true → TellsColumns (sight_at b n) (kid_at b) t.parts.base k x p → TellsColumns (sight_at d n) (kid_at d) t.parts.base k x p
+      tells k x p f y =
+          record {
+            sizes = λ c a e. y.sizes c a e ∙ ap (λ (kid : Kid). inline_of_entry t.parts.base.pairs (entry_with kid a)) (kid_stays t.parts.base turns h s k c a f e);
+            items = λ c a e. y.items c a e ∙ items c a (kid_stays t.parts.base turns h s k c a f e);
+          }
+        where
+          items : (c : NodeId) (a : Area) → kid_at b c ≡ kid_at d c
+              → column_items_of (context_at (sight_at b n) t.parts.base.pairs).columns t.parts.base.pairs (entry_with (kid_at b c) a) (inline_of_entry t.parts.base.pairs (entry_with (kid_at b c) a))
+              ≡ column_items_of (context_at (sight_at d n) t.parts.base.pairs).columns t.parts.base.pairs (entry_with (kid_at d c) a) (inline_of_entry t.parts.base.pairs (entry_with (kid_at d c) a))
+          items c a kid = λ i. column_items_of (context_stays t.parts.base i).columns t.parts.base.pairs (entry_with (kid i) a) (inline_of_entry t.parts.base.pairs (entry_with (kid i) a))
+
+  rows_stay : (base : GridBase) (t : ToldRows) (turns : List ℕ) → HoldsPlaces (sight_at b n) (children_at b n) base → AreTurns turn base.placed.areas turns
+      → AreRows (sight_at b n) (kid_at b) base (Fresh turn base.placed.areas turns) t → AreRows (sight_at d n) (kid_at d) base (Fresh late base.placed.areas turns) t
+  rows_stay base t turns h s w =
+      record {
+        counted = w.counted;
+        told = told_fewer (Fresh turn base.placed.areas turns) (Fresh late base.placed.areas turns) (TellsRows (sight_at b n) (kid_at b) base t.columns t.align) (TellsRows (sight_at d n) (kid_at d) base t.columns t.align) t.children t.items t.ends w.told
+            (λ k x p within f. fresh_before turn late base.placed.areas turns k (are_later base h) s f) (λ k x p within f. tells k x p f);
+      }
+    where
+      tells : (k : ℕ) (x : WideChild) (p : List Item) → is_fresh late base.placed.areas turns k ≡ true → TellsRows (sight_at b n) (kid_at b) base t.columns t.align k x p → TellsRows (sight_at d n) (kid_at d) base t.columns t.align k x p
+      tells k x p f y =
+          record {
+            child = λ c a e. y.child c a e ∙ ap (λ (kid : Kid). child_of (wide_told kid a base t.columns t.align)) (kid_stays base turns h s k c a f e);
+            items = λ c a e. y.items c a e ∙ items c a (kid_stays base turns h s k c a f e);
+          }
+        where
+          items : (c : NodeId) (a : Area) → kid_at b c ≡ kid_at d c
+              → row_items_of (context_at (sight_at b n) base.pairs).rows (entry_with (kid_at b c) a) (wide_told (kid_at b c) a base t.columns t.align).down
+              ≡ row_items_of (context_at (sight_at d n) base.pairs).rows (entry_with (kid_at d c) a) (wide_told (kid_at d c) a base t.columns t.align).down
+          items c a kid = λ i. row_items_of (context_stays base i).rows (entry_with (kid i) a) (wide_told (kid i) a base t.columns t.align).down
+
+  pub past_stays : (p : Past) → HoldsPast b turn n p → HoldsPast d late n p
+  past_stays p h =
+      record {
+        bases = subst (λ l. AreOf (sight_at d n) l p.bases) (sym kids) (all_same (sight_at b n) (sight_at d n) grid chain siblings (children_at b n) p.bases h.bases);
+        columns = columns p.columns h.columns;
+        wide = wide p.wide h.wide;
+      }
+    where
+      columns : (o : Option KeptColumns) → IfSome o (HoldsColumns b turn n) → IfSome o (HoldsColumns d late n)
+      columns None w = tt
+      columns (Some k) w =
+          record {
+            places = places_stay k.told.parts.base w.places;
+            turns = turns_later turn late k.told.parts.base.placed.areas k.turns (are_later k.told.parts.base w.places) w.turns;
+            told = columns_stay k.told k.turns w.places w.turns w.told;
+          }
+
+      wide : (o : Option KeptWide) → IfSome o (HoldsTold b turn n) → IfSome o (HoldsTold d late n)
+      wide None w = tt
+      wide (Some k) w =
+          record {
+            places = places_stay k.wide.parts.base w.places;
+            turns = turns_later turn late k.wide.parts.base.placed.areas k.turns (are_later k.wide.parts.base w.places) w.turns;
+            columns = columns_stay (columns_in k) k.turns w.places w.turns w.columns;
+            rows = rows_stay k.wide.parts.base (rows_in k) k.turns w.places w.turns w.rows;
+          }

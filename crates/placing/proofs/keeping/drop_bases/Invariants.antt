@@ -1,7 +1,0 @@
-use Rattle.std.proofs.Common.{◌≡◌, drop}
-use Rattle.layout_cache.specs.Reach.{all_forgot}
-use Rattle.placing.specs.Keeping.{without_bases}
-use Rattle.placing.proofs.keeping.drop_bases.Given as goal
-
-abbrev pub invariant-loop-id : goal.invariant-loop-id
-invariant-loop-id l = all_forgot without_bases (drop l.id-index l.ids) l.tree ≡ all_forgot without_bases l.ids l.fn.tree

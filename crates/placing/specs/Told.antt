@@ -1,0 +1,203 @@
+-- What the children of a grid told, as the grid keeps it longer than its answers, so that only those are asked again whose answers went since (own rule).
+use Rattle.std.specs.Prelude.{◌≡◌, ◌==◌, ◌&&◌, ◌||◌, ◌+◌, ◌-◌, ◌^◌, ◌≤◌, ◌<◌, ℕ, zero, suc, ℤ, Bool, true, false, List, [], ◌∷◌, Some, None, length, nat_lt, slice_get, if◌then◌else◌, IfSome}
+use Rattle.std.specs.List.{All}
+use Rattle.lunit.specs.declared.geometry.Area.{Area}
+use Rattle.lunit.specs.declared.geometry.Span.{Span}
+use Rattle.lunit.specs.declared.item.Item.{Item}
+use Rattle.node_arena.specs.declared.number.NodeId.{NodeId}
+use Rattle.part_rules.specs.Lists.{joined}
+use Rattle.part_rules.specs.Views.{area_size, tracks_over}
+use Rattle.part_rules.specs.declared.view.View.{View}
+use Rattle.style_types.specs.declared.value.Align.{Align}
+use Rattle.tree_rules.specs.Answers.{Kid}
+use Rattle.tree_rules.specs.Distribution.{given_view, subgrid_box, view_in}
+use Rattle.tree_rules.specs.Frames.{given_box}
+use Rattle.tree_rules.specs.GridSizes.{Entry, Wide, column_items_of, from_first, inline_of_entry, pairs_for, row_items_of, shares_columns}
+use Rattle.tree_rules.specs.Labels.{Label}
+use Rattle.tree_rules.specs.NodeSizes.{bounds_of, inline_used, is_stretched, margins, self_align}
+use Rattle.tree_rules.specs.Places.{Seen}
+use Rattle.tree_rules.specs.declared.query.Given.{Given}
+use Rattle.placing.specs.Bases.{AreOf, HoldsPlaces}
+use Rattle.placing.specs.Nodes.{BareTrees, children_at, kid_at, sight_at}
+use Rattle.placing.specs.Seats.{context_at}
+use Rattle.placing.specs.Wides.{child_of}
+use Rattle.placing.specs.declared.told.KeptColumns.{KeptColumns}
+use Rattle.placing.specs.declared.told.KeptWide.{KeptWide}
+use Rattle.placing.specs.declared.told.Past.{Past}
+use Rattle.placing.specs.declared.told.PastColumns.{PastColumns}
+use Rattle.placing.specs.declared.told.PastRows.{PastRows}
+use Rattle.placing.specs.declared.told.PastWide.{PastWide}
+use Rattle.placing.specs.declared.told.ToldColumns.{ToldColumns}
+use Rattle.placing.specs.declared.told.ToldRows.{ToldRows}
+use Rattle.placing.specs.declared.wide.GridBase.{GridBase}
+use Rattle.placing.specs.declared.wide.WideChild.{WideChild}
+
+-- ---- lists that were told child by child
+
+-- where the items of each child end, after so many others
+abbrev pub ends_from : ℕ → List (List Item) → List ℕ
+ends_from n [] = []
+ends_from n (p ∷ ps) = (n + length p) ∷ ends_from (n + length p) ps
+
+-- One entry for each child, and the items of all in order, which end there: each child that counts told its entry and its items.
+pub record AreTold {X : Type 0} (Counts : ℕ → Type 0) (Tells : ℕ → X → List Item → Type 0) (told : List X) (items : List Item) (ends : List ℕ) : Type 0 where
+  pub parts : List (List Item)
+  pub joined : items ≡ joined parts
+  pub ended : ends ≡ ends_from 0 parts
+  pub counted : length parts ≡ length told
+  pub each : (k : ℕ) (x : X) (p : List Item) → slice_get told k ≡ Some x → slice_get parts k ≡ Some p → Counts k → Tells k x p
+
+-- such items, each with its end
+pub record HasParts (items : List Item) (ends : List ℕ) : Type 0 where
+  pub parts : List (List Item)
+  pub joined : items ≡ joined parts
+  pub ended : ends ≡ ends_from 0 parts
+
+-- none of these ends is less than so much, and each fits the code with so much more
+abbrev pub AreMovable : List ℕ → ℕ → ℕ → Type 0
+AreMovable [] less more = Unit {0}
+AreMovable (end ∷ ends) less more = ((less ≤ end) × (end - less + more < 2 ^ 64)) × AreMovable ends less more
+
+-- ---- what a child tells
+
+-- a child in its area, whatever its number in document order
+abbrev pub entry_with : Kid → Area → Entry
+entry_with k a = record { number = 0; kid = k; area = a }
+
+-- The border box of a child over these columns, and what it is given there, where the container aligns its items so (CSS Grid 2, 6.2).
+abbrev pub inline_told : Align → View 0 → Span → Label → Bool → ℤ × ℤ → ℤ × Given
+inline_told align columns span x shares sizes =
+    let room = area_size (tracks_over columns.edges span) in
+    let b = bounds_of (Some room) x.content.border_box x.grid.columns x.content.inline in
+    let size = inline_used b (is_stretched (self_align x.content.inline.own align) x.grid.columns x.content.inline) (margins x.grid.columns) room sizes in
+    let own : ℤ × Given = (size, given_box x.grid.columns size) in
+    let shared : ℤ × Given = (subgrid_box x.grid.columns room, given_view (view_in columns span x.grid.columns)) in
+    if shares then shared else own
+
+-- the child in these columns
+abbrev pub wide_told : Kid → Area → GridBase → View 0 → Align → Wide
+wide_told k a base columns align =
+    let inline : ℤ × Given = inline_told align columns (from_first base.placed.columns a.columns) k.label (shares_columns k) (inline_of_entry base.pairs (entry_with k a)) in
+    record { entry = entry_with k a; box = inline.0; inline = inline.1; down = k.answers.down (pairs_for k base.pairs) inline.1 }
+
+-- These are the inline sizes of the child of this index, and its items along the columns.
+pub record TellsColumns (s : Seen) (kid : NodeId → Kid) (base : GridBase) (k : ℕ) (low_high : ℤ × ℤ) (made : List Item) : Type 0 where
+  pub sizes : (c : NodeId) (a : Area) → slice_get base.placed.areas k ≡ Some (c, a) → low_high ≡ inline_of_entry base.pairs (entry_with (kid c) a)
+  pub items : (c : NodeId) (a : Area) → slice_get base.placed.areas k ≡ Some (c, a) → made ≡ column_items_of (context_at s base.pairs).columns base.pairs (entry_with (kid c) a) (inline_of_entry base.pairs (entry_with (kid c) a))
+
+-- This is the child of this index in these columns, and its items along the rows.
+pub record TellsRows (s : Seen) (kid : NodeId → Kid) (base : GridBase) (columns : View 0) (align : Align) (k : ℕ) (wide : WideChild) (made : List Item) : Type 0 where
+  pub child : (c : NodeId) (a : Area) → slice_get base.placed.areas k ≡ Some (c, a) → wide ≡ child_of (wide_told (kid c) a base columns align)
+  pub items : (c : NodeId) (a : Area) → slice_get base.placed.areas k ≡ Some (c, a) → made ≡ row_items_of (context_at s base.pairs).rows (entry_with (kid c) a) (wide_told (kid c) a base columns align).down
+
+-- ---- which of it lasts
+
+-- the last turn of a node, at which it stands still
+abbrev pub last_turn : ℕ
+last_turn = 2 ^ 64 - 1
+
+-- the turn after it
+abbrev pub next_turn : ℕ → ℕ
+next_turn n = if nat_lt n last_turn then n + 1 else n
+
+-- the child of an index has the turn that it had when it was asked, which is not the last one
+abbrev pub is_fresh : (NodeId → ℕ) → List (NodeId × Area) → List ℕ → ℕ → Bool
+is_fresh turn [] turns k = false
+is_fresh turn (e ∷ areas) [] k = false
+is_fresh turn (e ∷ areas) (s ∷ turns) zero = (s == turn e.0) && nat_lt s last_turn
+is_fresh turn (e ∷ areas) (s ∷ turns) (suc k) = is_fresh turn areas turns k
+
+-- one turn for each child, which is none to come
+abbrev pub AreTurns : (NodeId → ℕ) → List (NodeId × Area) → List ℕ → Type 0
+AreTurns turn [] [] = Unit {0}
+AreTurns turn [] (s ∷ turns) = ⊥
+AreTurns turn (e ∷ areas) [] = ⊥
+AreTurns turn (e ∷ areas) (s ∷ turns) = (s ≤ turn e.0) × AreTurns turn areas turns
+
+-- an index is one of these
+abbrev pub is_listed : ℕ → List ℕ → Bool
+is_listed k [] = false
+is_listed k (x ∷ xs) = (x == k) || is_listed k xs
+
+-- what the children told for the columns, of which those at these indices do not count
+pub record AreColumns (s : Seen) (kid : NodeId → Kid) (Counts : ℕ → Type 0) (t : ToldColumns) : Type 0 where
+  pub counted : length t.parts.inlines ≡ length t.parts.base.placed.areas
+  pub told : AreTold Counts (TellsColumns s kid t.parts.base) t.parts.inlines t.parts.items t.ends
+
+-- and for the rows, by this grid before its children are asked
+pub record AreRows (s : Seen) (kid : NodeId → Kid) (base : GridBase) (Counts : ℕ → Type 0) (t : ToldRows) : Type 0 where
+  pub counted : length t.children ≡ length base.placed.areas
+  pub told : AreTold Counts (TellsRows s kid base t.columns t.align) t.children t.items t.ends
+
+-- all children count
+abbrev pub Each : ℕ → Type 0
+Each k = Unit {0}
+
+-- those count that are not listed
+abbrev pub AllBut : List ℕ → ℕ → Type 0
+AllBut stale k = is_listed k stale ≡ false
+
+-- those count that are fresh
+abbrev pub Fresh : (NodeId → ℕ) → List (NodeId × Area) → List ℕ → ℕ → Type 0
+Fresh turn areas turns k = is_fresh turn areas turns k ≡ true
+
+-- ---- what a node keeps
+
+-- what it keeps of its columns
+abbrev pub columns_in : KeptWide → ToldColumns
+columns_in w = record { parts = w.wide.parts; ends = w.column_ends }
+
+-- and of its rows
+abbrev pub rows_in : KeptWide → ToldRows
+rows_in w = record { columns = w.wide.columns; align = w.align; children = w.wide.children; items = w.wide.items; ends = w.row_ends }
+
+-- What a node keeps of what its children told for the columns: those count whose answers did not go since.
+pub record HoldsColumns (b : BareTrees) (turn : NodeId → ℕ) (n : NodeId) (w : KeptColumns) : Type 0 where
+  pub places : HoldsPlaces (sight_at b n) (children_at b n) w.told.parts.base
+  pub turns : AreTurns turn w.told.parts.base.placed.areas w.turns
+  pub told : AreColumns (sight_at b n) (kid_at b) (Fresh turn w.told.parts.base.placed.areas w.turns) w.told
+
+-- and for the rows too
+pub record HoldsTold (b : BareTrees) (turn : NodeId → ℕ) (n : NodeId) (w : KeptWide) : Type 0 where
+  pub places : HoldsPlaces (sight_at b n) (children_at b n) w.wide.parts.base
+  pub turns : AreTurns turn w.wide.parts.base.placed.areas w.turns
+  pub columns : AreColumns (sight_at b n) (kid_at b) (Fresh turn w.wide.parts.base.placed.areas w.turns) (columns_in w)
+  pub rows : AreRows (sight_at b n) (kid_at b) w.wide.parts.base (Fresh turn w.wide.parts.base.placed.areas w.turns) (rows_in w)
+
+-- All that a node keeps longer than its answers is of it.
+pub record HoldsPast (b : BareTrees) (turn : NodeId → ℕ) (n : NodeId) (p : Past) : Type 0 where
+  pub bases : AreOf (sight_at b n) (children_at b n) p.bases
+  pub columns : IfSome p.columns (HoldsColumns b turn n)
+  pub wide : IfSome p.wide (HoldsTold b turn n)
+
+-- nothing
+abbrev pub no_past : Past
+no_past = record { bases = []; columns = None; wide = None }
+
+-- ---- what is taken
+
+-- what the children told for the columns, without those that must be asked again
+pub record IsPastColumns (b : BareTrees) (n : NodeId) (p : PastColumns) : Type 0 where
+  pub places : HoldsPlaces (sight_at b n) (children_at b n) p.told.parts.base
+  pub stale : All (λ k. k < length p.told.parts.base.placed.areas) p.stale
+  pub told : AreColumns (sight_at b n) (kid_at b) (AllBut p.stale) p.told
+
+-- and for the rows
+pub record IsPastRows (b : BareTrees) (n : NodeId) (p : PastRows) : Type 0 where
+  pub places : HoldsPlaces (sight_at b n) (children_at b n) p.base
+  pub stale : All (λ k. k < length p.base.placed.areas) p.stale
+  pub told : AreRows (sight_at b n) (kid_at b) p.base (AllBut p.stale) p.told
+
+-- both
+pub record IsPastWide (b : BareTrees) (n : NodeId) (p : PastWide) : Type 0 where
+  pub columns : IsPastColumns b n p.columns
+  pub rows : IsPastRows b n p.rows
+
+-- It is what was kept, where those are listed that are not fresh.
+pub record IsPastOf (turn : NodeId → ℕ) (w : KeptWide) (p : PastWide) : Type 0 where
+  pub columns : p.columns.told ≡ columns_in w
+  pub rows : p.rows.told ≡ rows_in w
+  pub base : p.rows.base ≡ w.wide.parts.base
+  pub again : p.rows.stale ≡ p.columns.stale
+  pub fresh : (k : ℕ) → k < length w.wide.parts.base.placed.areas → is_listed k p.columns.stale ≡ false → is_fresh turn w.wide.parts.base.placed.areas w.turns k ≡ true
+  pub within : All (λ k. k < length w.wide.parts.base.placed.areas) p.columns.stale

@@ -1,0 +1,197 @@
+//! What the children of a grid told, as the grid keeps it longer than its answers (own rule): after an edit only those children
+//! are asked again whose answers went.
+
+ghost use Rattle.std.specs.Prelude.{◌≡◌, [], None, IfOk, IfSome};
+ghost use Rattle.placing.specs.Told.{no_past};
+
+use crate::bases::Bases;
+use crate::shared::{SharedBase, SharedWide};
+use crate::wide::{GridParts, WideChild};
+use lunit::{Item, NoMemory, Sequence};
+use part_rules::View;
+use std::alloc::Global;
+use std::marker::Model;
+use std::rc::Rc;
+use style_types::Align;
+
+/// What the children of a grid told for its columns.
+#[derive(Drop)]
+pub struct ToldColumns {
+    /// The grid with what they told.
+    pub parts: GridParts,
+    /// How many items stand up to the last one of each child, in the order of the areas.
+    pub ends: Sequence<usize>,
+}
+
+/// What the children of a grid told for its rows.
+#[derive(Drop)]
+pub struct ToldRows {
+    /// Where the columns lay.
+    pub columns: View<0>,
+    /// How the grid aligned its children in them (`justify-items`).
+    pub align: Align,
+    /// The children in them, in the order of the areas.
+    pub children: Sequence<WideChild>,
+    /// The items that size the rows.
+    pub items: Sequence<Item>,
+    /// How many items stand up to the last one of each child, in the order of the areas.
+    pub ends: Sequence<usize>,
+}
+
+/// What a grid keeps of what its children told for its columns.
+#[derive(Drop)]
+pub struct KeptColumns {
+    /// What they told.
+    pub told: ToldColumns,
+    /// The turn of each child then, in the order of the areas.
+    pub turns: Sequence<u64>,
+}
+
+/// What a grid keeps of what its children told for its columns and its rows.
+#[derive(Drop)]
+pub struct KeptWide {
+    /// What they told, with the grid in its columns.
+    pub wide: SharedWide,
+    /// How the grid aligned its children in them (`justify-items`).
+    pub align: Align,
+    /// How many items along the columns stand up to the last one of each child, in the order of the areas.
+    pub column_ends: Sequence<usize>,
+    /// How many items along the rows stand up to the last one of each child.
+    pub row_ends: Sequence<usize>,
+    /// The turn of each child then.
+    pub turns: Sequence<u64>,
+}
+
+/// What the children of a grid told for its columns, some of which must be asked again.
+#[derive(Drop)]
+pub struct PastColumns {
+    /// What they told.
+    pub told: ToldColumns,
+    /// The indices of those that must be asked again, in the order of the areas.
+    pub stale: Sequence<usize>,
+}
+
+/// What the children of a grid told for its rows, some of which must be asked again.
+#[derive(Drop)]
+pub struct PastRows {
+    /// The grid before they were asked.
+    pub base: SharedBase,
+    /// What they told.
+    pub told: ToldRows,
+    /// The indices of those that must be asked again, in the order of the areas.
+    pub stale: Sequence<usize>,
+}
+
+/// Both.
+#[derive(Drop)]
+pub struct PastWide {
+    /// What they told for the columns.
+    pub columns: PastColumns,
+    /// What they told for the rows.
+    pub rows: PastRows,
+}
+
+/// What a grid keeps of what its children told for its columns. It is made once, and left whole.
+#[derive(Drop)]
+pub struct SharedColumns {
+    kept: Rc<KeptColumns>,
+}
+
+impl Model for SharedColumns {
+    ghost use Rattle.placing.specs.declared.told.KeptColumns.{KeptColumns};
+    ghost use Rattle.placing.specs.contracts.told.KeptColumns as kept_columns;
+
+    ghost Value = { KeptColumns };
+
+    ghost coded = { kept_columns.the_row.coded };
+
+    ghost view = { λ a. a.kept.value };
+}
+
+impl SharedColumns {
+    /// This; `NoMemory` where memory is wanting.
+    pub(crate) fn new(alloc: Global, kept: KeptColumns) -> Result<SharedColumns, NoMemory>
+        ensures { IfOk result (λ made. made ≡ kept) }
+    {
+        Ok(SharedColumns {
+            kept: Rc::new(alloc, kept)?,
+        })
+    }
+
+    /// What it holds; `None` only where it is shared.
+    pub(crate) fn into_inner(self) -> Option<KeptColumns>
+        ensures { IfSome result (λ kept. kept ≡ self) }
+    {
+        let SharedColumns { kept } = self;
+        Rc::into_inner(kept)
+    }
+}
+
+/// What a grid keeps of what its children told for its columns and its rows.
+#[derive(Drop)]
+pub struct SharedTold {
+    kept: Rc<KeptWide>,
+}
+
+impl Model for SharedTold {
+    ghost use Rattle.placing.specs.declared.told.KeptWide.{KeptWide};
+    ghost use Rattle.placing.specs.contracts.told.KeptWide as kept_wide;
+
+    ghost Value = { KeptWide };
+
+    ghost coded = { kept_wide.the_row.coded };
+
+    ghost view = { λ a. a.kept.value };
+}
+
+impl SharedTold {
+    /// This; `NoMemory` where memory is wanting.
+    pub(crate) fn new(alloc: Global, kept: KeptWide) -> Result<SharedTold, NoMemory>
+        ensures { IfOk result (λ made. made ≡ kept) }
+    {
+        Ok(SharedTold {
+            kept: Rc::new(alloc, kept)?,
+        })
+    }
+
+    /// What it holds; `None` only where it is shared.
+    pub(crate) fn into_inner(self) -> Option<KeptWide>
+        ensures { IfSome result (λ kept. kept ≡ self) }
+    {
+        let SharedTold { kept } = self;
+        Rc::into_inner(kept)
+    }
+}
+
+/// What a grid keeps longer than its answers.
+#[derive(Drop)]
+pub struct Past {
+    /// Its contexts and the areas of its children.
+    pub bases: Bases,
+    /// What its children told last for its inline sizes.
+    pub columns: Option<SharedColumns>,
+    /// What its children told last for its block size.
+    pub wide: Option<SharedTold>,
+}
+
+impl Past {
+    /// Nothing. It takes no memory.
+    pub fn new() -> Past
+        ensures { result ≡ no_past }
+    {
+        Past {
+            bases: Bases::new(),
+            columns: None,
+            wide: None,
+        }
+    }
+
+    /// Lets all go.
+    pub(crate) fn clear(&mut self)
+        ensures { self.new ≡ no_past }
+    {
+        self.bases.clear();
+        self.columns = None;
+        self.wide = None;
+    }
+}
