@@ -5,6 +5,8 @@ mod Fitting
 pub mod FlexLeading
 mod FlexMade
 mod Joined
+mod KeptGrids
+mod KnownRows
 mod Laid
 pub mod Leading
 pub mod Mains
@@ -22,5 +24,6 @@ mod SeenAlike
 pub mod Settled
 mod SharedTracks
 mod ToldRows
+mod Turns
 mod Widths
 pub mod HeldWide

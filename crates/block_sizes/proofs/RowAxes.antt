@@ -1,5 +1,5 @@
 -- The axis of the rows of a grid, as the code holds it.
-use Rattle.std.proofs.Common.{arith, ap, subst, sym, ◌∙◌, ◌≡◌, refl, ℕ, ◌+◌, ◌^◌, ℤ, Bool, false, if◌then◌else◌, pos, List, [], ◌∷◌, Some, length, map}
+use Rattle.std.proofs.Common.{ap, subst, sym, ◌∙◌, ◌≡◌, ◌+◌, ◌^◌, ℤ, Bool, false, if◌then◌else◌, pos, List, [], Some, length, map}
 use Rattle.std.specs.Prelude.{◌≤ℤ◌, ◌≤◌}
 use Rattle.lunit.specs.declared.geometry.Area.{Area}
 use Rattle.lunit.specs.declared.geometry.Span.{Span}
@@ -8,9 +8,6 @@ use Rattle.node_arena.specs.declared.number.NodeId.{NodeId}
 use Rattle.part_rules.specs.declared.track.Space.{Space}
 use Rattle.part_rules.specs.declared.track.Space.TheVariants.{Definite, MaxContent}
 use Rattle.part_rules.specs.declared.view.View.{View}
-use Rattle.part_rules.specs.Lists.{zipped}
-use Rattle.placing.proofs.Entries.{counts}
-use Rattle.placing.specs.Areas.{numbered_area, placed_of}
 use Rattle.placing.specs.Covered.{IsNear}
 use Rattle.placing.specs.Nodes.{BareTrees, IsLive, sight_at}
 use Rattle.placing.specs.Ranges.{AreReadable, IsGridAxis}
@@ -36,14 +33,9 @@ use Rattle.inline_sizes.specs.GridsSeen.{HasItemsInTracks, grid_seen}
 use Rattle.inline_sizes.specs.Styled.{content_at}
 use Rattle.inline_sizes.specs.TrackAxes.{CanSize, IsCounted, sized_of, track_axis, track_count}
 use Rattle.inline_sizes.specs.declared.tracks.SizedTracks.{SizedTracks}
+use Rattle.block_sizes.proofs.KnownRows.{spans_are, tracks_are}
 use Rattle.block_sizes.specs.Wides.{IsWide, columns_seen, row_levels, rows_seen, wides_seen}
 use Rattle.placing.specs.declared.wide.GridWide.{GridWide}
-
-spans_zipped : (numbers : List ℕ) (areas : List (NodeId × Area)) → length numbers ≡ length areas → map (λ (a : ℕ × Area). a.1.rows) (zipped numbered_area numbers areas) ≡ map (λ (e : NodeId × Area). e.1.rows) areas
-spans_zipped [] [] h = refl
-spans_zipped [] (e ∷ es) h = absurd (omega (arith, h))
-spans_zipped (n ∷ ns) [] h = absurd (omega (arith, h))
-spans_zipped (n ∷ ns) (e ∷ es) h = ap (λ (l : List Span). e.1.rows ∷ l) (spans_zipped ns es (omega (arith, h)))
 
 -- the levels of the rows of a grid with this context
 pub levels_of : (c : rules.Context) (made : Above) → IsAbove c made → row_levels made ≡ c.rows.levels
@@ -51,16 +43,6 @@ levels_of c above.Nothing h = absurd h
 levels_of c (above.Grid made) h = ap (λ (d : rules.Context). d.rows.levels) h
 
 module _ (b : BareTrees) (n : NodeId) (outer : List Pair) (width : Given) (w : GridWide) (wide : IsWide b n outer width w) where
-  placed_is : placed_of w.parts.base.placed ≡ (grid_seen b n outer width).placed
-  unfolding grid_seen
-  placed_is = wide.grid.placed.placed
-
-  tracks_are : w.parts.base.placed.rows ≡ (grid_seen b n outer width).placed.rows
-  tracks_are = ap (λ (p : rules.Placed). p.rows) placed_is
-
-  spans_are : map (λ (e : NodeId × Area). e.1.rows) w.parts.base.placed.areas ≡ map (λ (a : ℕ × Area). a.1.rows) (grid_seen b n outer width).placed.areas
-  spans_are = sym (spans_zipped w.parts.base.placed.numbers w.parts.base.placed.areas (counts b n w.parts.base.placed wide.grid.placed.children)) ∙ ap (λ (p : rules.Placed). map (λ (a : ℕ × Area). a.1.rows) p.areas) placed_is
-
   -- the counts of its repetitions, which in the rows depend on no width
   count_is : (style : StyleMap) (pair : Pair) → grid_of style ≡ (sight_at b n).label.grid → content_of style ≡ (sight_at b n).label.content → pair ≡ own_pair (record { name = []; kind = kind.Grid; grid = grid_of style; content = content_of style }) given.None → pair.1 ≡ (own_pair (sight_at b n).label given.None).1
   count_is style pair g c p = ap (λ (q : Pair). q.1) p ∙ (λ i. (own_pair (record { name = []; kind = kind.Grid; grid = g i; content = c i }) given.None).1)
@@ -74,8 +56,8 @@ module _ (b : BareTrees) (n : NodeId) (outer : List Pair) (width : Given) (w : G
         grid = (g i).rows;
         content = (c i).block;
         written = written (g i).rows.template (count_is style pair g c p i);
-        spans = (s ∙ spans_are) i;
-        tracks = tracks_are i;
+        spans = (s ∙ spans_are b n outer width w.parts wide.grid) i;
+        tracks = tracks_are b n outer width w.parts wide.grid i;
         items = wide.items i;
       }
 
@@ -85,9 +67,9 @@ module _ (b : BareTrees) (n : NodeId) (outer : List Pair) (width : Given) (w : G
   rows_can_size style readable live g own h =
       record {
         grid = subst (λ (x : GridStyle). IsGridAxis x.rows) (sym g) (readable.nodes n live).grid.rows;
-        near = subst IsNear (sym tracks_are) h.inside.near_rows;
+        near = subst IsNear (sym (tracks_are b n outer width w.parts wide.grid)) h.inside.near_rows;
         inside = subst (λ (items : List Item). AreIn w.parts.base.placed.rows.start (track_count w.parts.base.placed.rows) items) (sym wide.items)
-            (subst (λ (s : Span). AreIn s.start (track_count s) (rows_seen b n outer width).items) (sym tracks_are) (h.inside.rows (columns_seen b n outer width) (h.rows ∙ own)));
+            (subst (λ (s : Span). AreIn s.start (track_count s) (rows_seen b n outer width).items) (sym (tracks_are b n outer width w.parts wide.grid)) (h.inside.rows (columns_seen b n outer width) (h.rows ∙ own)));
       }
 
   -- and their total is the block size of the grid
@@ -104,7 +86,7 @@ module _ (b : BareTrees) (n : NodeId) (outer : List Pair) (width : Given) (w : G
       ∙ ap (λ (t : Bool). if t then pos 0 else all (rows_seen b n outer width)) (sym (h.rows ∙ own))
 
   pub few_rows : HasItemsInTracks (sight_at b n) (grid_seen b n outer width) → track_count w.parts.base.placed.rows ≤ 131072
-  few_rows h = subst (λ (s : Span). track_count s ≤ 131072) (sym tracks_are) h.inside.few_rows
+  few_rows h = subst (λ (s : Span). track_count s ≤ 131072) (sym (tracks_are b n outer width w.parts wide.grid)) h.inside.few_rows
 
   -- rows that last lie so in a content box of their total
   pub rows_hold : (style : StyleMap) (pair : Pair) (spans : List Span) (items : List Item) (made : SizedTracks) (total : ℤ) (r : RowsAt) → grid_of style ≡ (sight_at b n).label.grid → content_of style ≡ (sight_at b n).label.content → pair ≡ own_pair (record { name = []; kind = kind.Grid; grid = grid_of style; content = content_of style }) given.None

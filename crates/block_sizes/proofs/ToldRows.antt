@@ -1,6 +1,6 @@
 -- What the children of a grid tell in its columns: one after the other, and once all of them told it.
-use Rattle.std.proofs.Common.{arith, length-append, ◌≡◌, ◌∙◌, ℕ, zero, suc, ◌+◌, ◌<◌, ◌∷◌, ◌++◌, [], List, Some, None, ℤ, drop, length, map, refl, sym, ap, subst, ◌≤◌, ◌^◌}
-use Rattle.std.specs.Prelude.{◌&&◌, ◌==◌, get_or, slice_get, slice_set, true}
+use Rattle.std.proofs.Common.{arith, length-append, ◌≡◌, ◌∙◌, ℕ, zero, suc, ◌+◌, ◌<◌, ◌∷◌, ◌++◌, [], List, Option, Some, ℤ, drop, length, map, refl, sym, ap, subst, ◌≤◌, ◌^◌}
+use Rattle.std.specs.Prelude.{◌&&◌, ◌==◌, IfSome, get_or, slice_get, slice_set, true}
 use Rattle.std.specs.List.{All}
 use Rattle.std.proofs.lemmas.List.{drop_all, drop_more}
 use Rattle.std.proofs.lemmas.List.Elements.{All-get_or}
@@ -20,7 +20,7 @@ use Rattle.placing.specs.Children.{IsTree}
 use Rattle.placing.specs.Nodes.{BareTrees, children_at, kid_at, sight_at}
 use Rattle.placing.specs.Seats.{context_at}
 use Rattle.placing.specs.Spread.{AreSpread, IsSpread}
-use Rattle.placing.specs.Told.{AllBut, AreColumns, AreRows, AreTold, Each, IsPastRows, TellsRows, ends_from, entry_with, inline_told, wide_told}
+use Rattle.placing.specs.Told.{AllBut, AreColumns, AreRows, AreRowsFor, AreTold, Each, IsPastRows, TellsRows, ends_from, entry_with, inline_told, wide_told}
 use Rattle.placing.specs.Wides.{child_of}
 use Rattle.placing.specs.declared.contexts.Placed.{Placed}
 use Rattle.placing.specs.declared.items.ChildArea.{ChildArea}
@@ -28,6 +28,7 @@ use Rattle.placing.specs.declared.told.PastRows.{PastRows}
 use Rattle.placing.specs.declared.told.ToldRows.{ToldRows}
 use Rattle.placing.specs.declared.wide.GridBase.{GridBase}
 use Rattle.placing.specs.declared.wide.GridParts.{GridParts}
+use Rattle.placing.specs.declared.wide.RowsAt.{RowsAt}
 use Rattle.placing.specs.declared.wide.WideChild.{WideChild}
 use Rattle.style_types.specs.declared.value.Align.{Align}
 use Rattle.tree_rules.specs.Answers.{Kid, Pair}
@@ -38,6 +39,7 @@ use Rattle.tree_rules.specs.declared.query.Given.{Given}
 use Rattle.inline_sizes.proofs.Held.{places_held}
 use Rattle.inline_sizes.specs.Grids.{IsGrid}
 use Rattle.inline_sizes.specs.GridsSeen.{grid_seen}
+use Rattle.block_sizes.proofs.KnownRows.{rows_by, rows_held}
 use Rattle.block_sizes.proofs.Leading.{map_drop}
 use Rattle.block_sizes.proofs.Widths.{columns_are, context_is, rows_items}
 use Rattle.block_sizes.specs.Told.{AreIn, AreLaid, ArePastIn, IsToldWide}
@@ -166,10 +168,10 @@ module _ (b : BareTrees) (n : NodeId) (outer : List Pair) (width : Given) (parts
         }
 
   -- the grid with them
-  pub told_made : IsTree b → (columns : View 0) (rows : ToldRows) (ends : List ℕ) → AreColumns (sight_at b n) (kid_at b) Each (record { parts = parts; ends = ends }) → AreLaid b n outer width parts.base columns →
-      ((by : ℕ) → 2 ^ 51 ≤ by → IsSpread by width → AreSpread by columns.edges) → AreIn b n parts.base columns Each rows →
-      IsToldWide b n outer width (record { wide = record { parts = parts; columns = rows.columns; children = rows.children; items = rows.items; rows = None }; column_ends = ends; row_ends = rows.ends })
-  told_made whole columns rows ends told laid far h =
+  pub told_made : IsTree b → (columns : View 0) (rows : ToldRows) (known : Option RowsAt) (ends : List ℕ) → AreColumns (sight_at b n) (kid_at b) Each (record { parts = parts; ends = ends }) → AreLaid b n outer width parts.base columns →
+      ((by : ℕ) → 2 ^ 51 ≤ by → IsSpread by width → AreSpread by columns.edges) → AreIn b n parts.base columns Each rows → IfSome known (AreRowsFor (sight_at b n) parts.base rows.items) →
+      IsToldWide b n outer width (record { wide = record { parts = parts; columns = rows.columns; children = rows.children; items = rows.items; rows = known }; column_ends = ends; row_ends = rows.ends })
+  told_made whole columns rows known ends told laid far h lasting =
       let here : AreLaid b n outer width parts.base rows.columns = subst (AreLaid b n outer width parts.base) (sym h.over) laid in
       let made : AreWide b n outer width rows.children rows.items = wide_from whole columns laid.seen rows h in
       record {
@@ -183,10 +185,11 @@ module _ (b : BareTrees) (n : NodeId) (outer : List Pair) (width : Given) (parts
           range = here.range;
           spread = here.spread;
           far = subst (λ (z : View 0). (by : ℕ) → 2 ^ 51 ≤ by → IsSpread by width → AreSpread by z.edges) (sym h.over) far;
-          rows = tt;
+          rows = rows_held b n outer width parts grid rows.items (made.items ∙ rows_items b n outer width) known lasting;
         };
         columns = told;
         rows = subst (λ (z : Align). AreRows (sight_at b n) (kid_at b) parts.base Each (record rows { align = z })) h.aligned h.told;
+        laid = lasting;
       }
 
 -- ---- what they told last
@@ -206,6 +209,7 @@ past_in b n outer width parts columns p grid past pairs v w =
               (tells_as (sight_at b n) (kid_at b) p.base parts.base pairs placed p.told.columns p.told.columns refl p.told.align p.told.align refl);
         };
       };
+      laid = rows_by (sight_at b n) p.base parts.base placed p.told.items p.rows past.laid;
     }
 
 -- the lists of them, by the columns and the alignment of the grid

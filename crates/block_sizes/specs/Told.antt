@@ -1,12 +1,12 @@
 -- What the children of a grid told in its columns, and which of them must be asked again (own rule).
-use Rattle.std.specs.Prelude.{◌≡◌, ◌<◌, ◌≤ℤ◌, ◌-ℤ◌, ℕ, List, length, pos}
+use Rattle.std.specs.Prelude.{◌≡◌, ◌<◌, ◌≤ℤ◌, ◌-ℤ◌, ℕ, List, length, pos, IfSome}
 use Rattle.std.specs.List.{All}
 use Rattle.lunit.specs.Units.{IsUnits}
 use Rattle.node_arena.specs.declared.number.NodeId.{NodeId}
 use Rattle.part_rules.specs.declared.view.View.{View}
 use Rattle.placing.specs.Nodes.{BareTrees, kid_at, level_at, sight_at}
 use Rattle.placing.specs.Spread.{AreSpread}
-use Rattle.placing.specs.Told.{AllBut, AreColumns, AreRows, Each}
+use Rattle.placing.specs.Told.{AllBut, AreColumns, AreRows, AreRowsFor, Each}
 use Rattle.placing.specs.declared.told.PastRows.{PastRows}
 use Rattle.placing.specs.declared.told.ToldRows.{ToldRows}
 use Rattle.placing.specs.declared.wide.GridBase.{GridBase}
@@ -33,9 +33,11 @@ pub record AreIn (b : BareTrees) (n : NodeId) (base : GridBase) (columns : View 
 pub record ArePastIn (b : BareTrees) (n : NodeId) (base : GridBase) (columns : View 0) (p : PastRows) : Type 0 where
   pub stale : All (λ k. k < length base.placed.areas) p.stale
   pub told : AreIn b n base columns (AllBut p.stale) p.told
+  pub laid : IfSome p.rows (AreRowsFor (sight_at b n) base p.told.items)
 
--- A grid in its columns with its children in them, and where the items of each end.
+-- A grid in its columns with its children in them, where the items of each end, and its rows in a content box as great as its content, if they are known.
 pub record IsToldWide (b : BareTrees) (n : NodeId) (outer : List Pair) (width : Given) (t : ToldWide) : Type 0 where
   pub wide : IsWide b n outer width t.wide
   pub columns : AreColumns (sight_at b n) (kid_at b) Each (record { parts = t.wide.parts; ends = t.column_ends })
   pub rows : AreRows (sight_at b n) (kid_at b) t.wide.parts.base Each (record { columns = t.wide.columns; align = (sight_at b n).label.content.inline.items; children = t.wide.children; items = t.wide.items; ends = t.row_ends })
+  pub laid : IfSome t.wide.rows (AreRowsFor (sight_at b n) t.wide.parts.base t.wide.items)

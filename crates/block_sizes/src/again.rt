@@ -5,7 +5,7 @@ ghost use Rattle.std.specs.Ordering.{int_eq};
 ghost use Rattle.placing.specs.Bases.{HoldsPlaces};
 ghost use Rattle.placing.specs.Kept.{IsRight};
 ghost use Rattle.placing.specs.Nodes.{bare, children_at, kid_at, sight_at, IsLive};
-ghost use Rattle.placing.specs.Told.{AreColumns, AreRows, Each, IsPastColumns, IsPastRows};
+ghost use Rattle.placing.specs.Told.{AreColumns, AreRows, AreRowsFor, Each, IsPastColumns, IsPastRows};
 ghost use Rattle.placing.specs.Walks.{IsAlike};
 ghost use Rattle.tree_rules.specs.Queries.{same_items};
 ghost use Rattle.inline_sizes.specs.Grids.{IsGrid};
@@ -158,6 +158,7 @@ pub(crate) fn keep_told(
     requires places { HoldsPlaces (sight_at (bare tree.old.tree) id) (children_at (bare tree.old.tree) id) held.now.parts.base }
     requires columns { AreColumns (sight_at (bare tree.old.tree) id) (kid_at (bare tree.old.tree)) Each (record { parts = held.now.parts; ends = column_ends }) }
     requires rows { AreRows (sight_at (bare tree.old.tree) id) (kid_at (bare tree.old.tree)) held.now.parts.base Each (record { columns = held.now.columns; align = (sight_at (bare tree.old.tree) id).label.content.inline.items; children = held.now.children; items = held.now.items; ends = row_ends }) }
+    requires laid { IfSome held.now.rows (AreRowsFor (sight_at (bare tree.old.tree) id) held.now.parts.base held.now.items) }
     ensures right { IsRight tree.new.tree }
     ensures alike { IsAlike tree.old tree.new }
 {

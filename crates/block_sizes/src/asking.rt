@@ -7,7 +7,7 @@ ghost use Rattle.placing.specs.Kept.{IsRight};
 ghost use Rattle.placing.specs.Nodes.{bare, kid_at, level_at, sight_at, IsLive};
 ghost use Rattle.placing.specs.Ranges.{AreReadable};
 ghost use Rattle.placing.specs.Seats.{IsSeat};
-ghost use Rattle.placing.specs.Told.{Each, IsPastColumns, IsPastRows};
+ghost use Rattle.placing.specs.Told.{AreRowsFor, Each, IsPastColumns, IsPastRows};
 ghost use Rattle.placing.specs.Walks.{state, Stopped, Walked, WalkedBelow};
 ghost use Rattle.tree_rules.specs.AskedQueries.{block_query};
 ghost use Rattle.tree_rules.specs.GridSizes.{shares_rows};
@@ -34,8 +34,8 @@ use outside::{Ruler, Tally};
 use part_rules::View;
 use placing::style::items;
 use placing::{
-    Above, ChildArea, GridBase, GridParts, GridWide, Node, PastColumns, PastRows, ToldColumns,
-    ToldRows, WideChild, has_subgrid, node_at, put_items, root,
+    Above, ChildArea, GridBase, GridParts, GridWide, Node, PastColumns, PastRows, RowsAt,
+    ToldColumns, ToldRows, WideChild, has_subgrid, node_at, put_items, root,
 };
 use std::alloc::Global;
 use std::sync::ledger::Ledger;
@@ -275,7 +275,8 @@ fn ask_children<R: Ruler, L: Ledger>(
 }
 
 #[cycle(walk)]
-/// The children of a grid in its columns as they told it, where those are asked again whose answers went.
+/// The children of a grid in its columns as they told it, where those are asked again whose answers went, and its rows, where these
+/// are known still: they are where none of those lends other items than before.
 fn ask_stale<R: Ruler, L: Ledger>(
     alloc: Global,
     tree: &mut Arena<Node>,
@@ -288,7 +289,7 @@ fn ask_stale<R: Ruler, L: Ledger>(
     ruler: &mut R,
     tally: &mut Tally,
     passes: &mut Steps<L>,
-) -> Result<ToldRows, NoMemory>
+) -> Result<(ToldRows, Option<RowsAt>), NoMemory>
     requires live { IsLive (bare tree.old.tree) id }
     requires right { IsRight tree.old.tree }
     requires readable { AreReadable (bare tree.old.tree) }
@@ -296,7 +297,8 @@ fn ask_stale<R: Ruler, L: Ledger>(
     requires grid { IsGrid (bare tree.old.tree) id reps.now width.now parts.now }
     requires columns { AreLaid (bare tree.old.tree) id reps.now width.now parts.now.base columns.now }
     requires past { ArePastIn (bare tree.old.tree) id parts.now.base columns.now past }
-    ensures told { IfOk result (AreIn (bare tree.old.tree) id parts.now.base columns.now Each) }
+    ensures told { IfOk result (λ told. AreIn (bare tree.old.tree) id parts.now.base columns.now Each told.0) }
+    ensures rows { IfOk result (λ told. IfSome told.1 (AreRowsFor (sight_at (bare tree.old.tree) id) parts.now.base told.0.items)) }
     ensures right { IsRight tree.new.tree }
     ensures below { OnOk result ((q : Query) → LeadsDown (bare tree.old.tree) id reps.now width.now q → WalkedBelow id q 0 (state tree.old tally.old passes.old (R.log ruler.old)) (state tree.new tally.new passes.new (R.log ruler.new))) }
     ensures stopped { OnErr result ((q : Query) → LeadsDown (bare tree.old.tree) id reps.now width.now q → Stopped id q (state tree.old tally.old passes.old (R.log ruler.old)) (state tree.new tally.new passes.new (R.log ruler.new))) }
@@ -306,8 +308,10 @@ fn ask_stale<R: Ruler, L: Ledger>(
     let PastRows {
         base: _,
         told,
+        rows,
         stale,
     } = past;
+    let mut rows = rows;
     let ToldRows {
         columns: same,
         align,
@@ -322,21 +326,24 @@ fn ask_stale<R: Ruler, L: Ledger>(
         let child = ask_child(
             alloc, tree, id, base, columns, entry, sizes, &mut own, ruler, tally, passes,
         )?;
-        put_items(alloc, &mut items, &mut ends, *index, own.as_slice())?;
+        if put_items(alloc, &mut items, &mut ends, *index, own.as_slice())? {
+            rows = None;
+        }
         children.set(*index, child);
     }
-    Ok(ToldRows {
+    let told = ToldRows {
         columns: same,
         align,
         children,
         items,
         ends,
-    })
+    };
+    Ok((told, rows))
 }
 
 #[cycle(walk)]
 /// The children of a grid in its columns: those are asked whose answers went since they told it last, or all of them where it is
-/// not known what they told in these columns.
+/// not known what they told in these columns. Its rows come with them, where they are known still.
 fn told_rows<R: Ruler, L: Ledger>(
     alloc: Global,
     tree: &mut Arena<Node>,
@@ -349,7 +356,7 @@ fn told_rows<R: Ruler, L: Ledger>(
     ruler: &mut R,
     tally: &mut Tally,
     passes: &mut Steps<L>,
-) -> Result<ToldRows, NoMemory>
+) -> Result<(ToldRows, Option<RowsAt>), NoMemory>
     requires live { IsLive (bare tree.old.tree) id }
     requires right { IsRight tree.old.tree }
     requires readable { AreReadable (bare tree.old.tree) }
@@ -357,7 +364,8 @@ fn told_rows<R: Ruler, L: Ledger>(
     requires grid { IsGrid (bare tree.old.tree) id reps.now width.now parts.now }
     requires columns { AreLaid (bare tree.old.tree) id reps.now width.now parts.now.base columns }
     requires past { IfSome past (IsPastRows (bare tree.old.tree) id) }
-    ensures told { IfOk result (AreIn (bare tree.old.tree) id parts.now.base columns Each) }
+    ensures told { IfOk result (λ told. AreIn (bare tree.old.tree) id parts.now.base columns Each told.0) }
+    ensures rows { IfOk result (λ told. IfSome told.1 (AreRowsFor (sight_at (bare tree.old.tree) id) parts.now.base told.0.items)) }
     ensures right { IsRight tree.new.tree }
     ensures below { OnOk result ((q : Query) → LeadsDown (bare tree.old.tree) id reps.now width.now q → WalkedBelow id q 0 (state tree.old tally.old passes.old (R.log ruler.old)) (state tree.new tally.new passes.new (R.log ruler.new))) }
     ensures stopped { OnErr result ((q : Query) → LeadsDown (bare tree.old.tree) id reps.now width.now q → Stopped id q (state tree.old tally.old passes.old (R.log ruler.old)) (state tree.new tally.new passes.new (R.log ruler.new))) }
@@ -367,9 +375,10 @@ fn told_rows<R: Ruler, L: Ledger>(
             alloc, tree, id, reps, width, parts, &columns, past, ruler, tally, passes,
         );
     }
-    ask_children(
+    let told = ask_children(
         alloc, tree, id, reps, width, parts, columns, ruler, tally, passes,
-    )
+    )?;
+    Ok((told, None))
 }
 
 #[cycle(walk)]
@@ -420,7 +429,7 @@ fn told_wide_by<R: Ruler, L: Ledger>(
     )?;
     let ToldColumns { parts, ends } = told;
     let columns = columns_of(alloc, tree, id, reps, width, &parts, passes)?;
-    let rows = told_rows(
+    let (asked, rows) = told_rows(
         alloc, tree, id, reps, width, &parts, columns, past_rows, ruler, tally, passes,
     )?;
     let ToldRows {
@@ -429,13 +438,13 @@ fn told_wide_by<R: Ruler, L: Ledger>(
         children,
         items,
         ends: row_ends,
-    } = rows;
+    } = asked;
     let wide = GridWide {
         parts,
         columns,
         children,
         items,
-        rows: None,
+        rows,
     };
     Ok(ToldWide {
         wide,

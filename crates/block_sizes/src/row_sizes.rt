@@ -3,16 +3,20 @@
 ghost use Rattle.std.specs.Prelude.{◌≡◌, ◌+◌, ◌^◌, ◌≤◌, false, length, IfOk, IfSome};
 ghost use Rattle.placing.specs.Nodes.{bare, sight_at, IsLive};
 ghost use Rattle.placing.specs.Ranges.{AreReadable};
+ghost use Rattle.part_rules.specs.declared.track.Space.TheVariants.{MaxContent};
 ghost use Rattle.placing.specs.Spread.{AreSpread};
+ghost use Rattle.placing.specs.Told.{AreRowsFor, row_axis};
 ghost use Rattle.placing.specs.Wides.{HoldsRows};
 ghost use Rattle.tree_rules.specs.Distribution.{edges_in};
-ghost use Rattle.tree_rules.specs.GridSizes.{grid_block};
+ghost use Rattle.tree_rules.specs.GridSizes.{grid_block, total_for};
+ghost use Rattle.tree_rules.specs.Places.{Seen};
 ghost use Rattle.tree_rules.specs.Queries.{sees_rows};
 ghost use Rattle.tree_rules.specs.declared.kind.NodeKind.TheVariants as kind;
 ghost use Rattle.inline_sizes.specs.GridsSeen.{grid_seen};
 ghost use Rattle.inline_sizes.specs.Styled.{content_at};
 ghost use Rattle.inline_sizes.specs.TrackAxes.{sized_of};
 ghost use Rattle.block_sizes.specs.Wides.{IsWide, rows_seen};
+ghost use Rattle.placing.specs.declared.wide.GridBase.{GridBase};
 
 use crate::edges::edges_in;
 use crate::wide::row_spans;
@@ -72,6 +76,7 @@ fn rows_total<L: Ledger>(
     requires wide { IsWide (bare tree.now.tree) id reps.now width.now wide.now }
     ensures value { IfOk result (λ laid. laid.0 ≡ grid_block (grid_seen (bare tree.now.tree) id reps.now width.now) (rows_seen (bare tree.now.tree) id reps.now width.now)) }
     ensures rows { IfOk result (λ laid. IfSome laid.1 (HoldsRows (rows_seen (bare tree.now.tree) id reps.now width.now) wide.now.parts.base.placed.rows)) }
+    ensures size { IfOk result (λ laid. IfSome laid.1 (λ rows. rows.size ≡ laid.0)) }
     ensures ticks { passes.new ≤ passes.old + 1 }
 {
     items_lie_in_their_tracks(tree, id);
@@ -94,7 +99,17 @@ fn rows_total<L: Ledger>(
     Ok((made.total, Some(rows)))
 }
 
-/// The same with the grid, which holds its rows if they are known at once.
+/// The block size of the content of a grid that sizes its rows, by the rows that it holds for a content box as great as its content.
+fn size_of_rows(wide: &GridWide) -> Option<Lu>
+    ensures { IfSome result (λ size. (base : GridBase) → (s : Seen) → IfSome wide.now.rows (AreRowsFor s base wide.now.items) → size ≡ total_for {axis = 1} (row_axis s base wide.now.items) MaxContent) }
+{
+    match &wide.rows {
+        Some(rows) => Some(rows.size),
+        None => None,
+    }
+}
+
+/// The same with the grid, which holds its rows if they are known at once. Where it holds them already, nothing is done.
 pub(crate) fn laid_rows<L: Ledger>(
     alloc: Global,
     tree: &Arena<Node>,
@@ -109,11 +124,17 @@ pub(crate) fn laid_rows<L: Ledger>(
     requires kind { (sight_at (bare tree.now.tree) id).label.kind ≡ kind.Grid }
     requires own { sees_rows (sight_at (bare tree.now.tree) id) ≡ false }
     requires wide { IsWide (bare tree.now.tree) id reps.now width.now wide }
+    requires laid { IfSome wide.rows (AreRowsFor (sight_at (bare tree.now.tree) id) wide.parts.base wide.items) }
     ensures value { IfOk result (λ laid. laid.0 ≡ grid_block (grid_seen (bare tree.now.tree) id reps.now width.now) (rows_seen (bare tree.now.tree) id reps.now width.now)) }
     ensures wide { IfOk result (λ laid. IsWide (bare tree.now.tree) id reps.now width.now laid.1) }
     ensures same { IfOk result (λ laid. laid.1 ≡ record wide { rows = laid.1.rows }) }
+    ensures laid { IfOk result (λ laid. IfSome laid.1.rows (AreRowsFor (sight_at (bare tree.now.tree) id) wide.parts.base wide.items)) }
     ensures ticks { passes.new ≤ passes.old + 1 }
 {
+    items_lie_in_their_tracks(tree, id);
+    if let Some(size) = size_of_rows(&wide) {
+        return Ok((size, wide));
+    }
     let (size, rows) = rows_total(alloc, tree, id, reps, width, &wide, passes)?;
     let mut laid = wide;
     laid.rows = rows;

@@ -40,10 +40,24 @@ height_fits : clamp (pos 3200) ≡ pos 3200
 unfolding clamp
 height_fits = refl
 
+more_read : size_of_word (codes "60") ≡ Some (pos 3840)
+unfolding size_of_word
+more_read = refl
+
+more_fits : clamp (pos 3840) ≡ pos 3840
+unfolding clamp
+more_fits = refl
+
 pub larger_told : (width height : ℤ) → width ≡ clamp (pos 5760) → height ≡ clamp (pos 3200) → IsTold width × IsTold height
 larger_told width height w h = (
   subst IsTold (sym (w ∙ width_fits)) (record { word = codes "90"; told = width_read }),
   subst IsTold (sym (h ∙ height_fits)) (record { word = codes "50"; told = height_read }),
+)
+
+pub higher_told : (width height : ℤ) → width ≡ clamp (pos 5760) → height ≡ clamp (pos 3840) → IsTold width × IsTold height
+higher_told width height w h = (
+  subst IsTold (sym (w ∙ width_fits)) (record { word = codes "90"; told = width_read }),
+  subst IsTold (sym (h ∙ more_fits)) (record { word = codes "60"; told = more_read }),
 )
 
 -- ---- the edited document

@@ -65,6 +65,17 @@ fn larger(name: Name) -> Edit
     Edit::Content(Named { name, at }, Kind::Leaf(content))
 }
 
+/// The node of this name has a content of 90 by 60 px.
+fn higher(name: Name) -> Edit
+    ensures { GivesContent result }
+{
+    let at = Place { line: 1, column: 1 };
+    let width = Lu::of(5760);
+    let height = Lu::of(3840);
+    let content = Content::Fixed { width, height };
+    Edit::Content(Named { name, at }, Kind::Leaf(content))
+}
+
 /// Gives a leaf another content.
 fn change(page: &mut Page, edit: Edit) -> Result<(), Fail>
     requires ready { IsReady page.old }
@@ -114,6 +125,50 @@ fn are_told_again<L: Ledger>(rt: &impl Abort, alloc: Global, blank: Blank) -> Re
     assert!(rt; !are_same(before.as_slice(), wanted.as_slice()));
     assert!(rt; are_same(after.as_slice(), wanted.as_slice()));
     Ok(())
+}
+
+/// Whether the page lies, after this edit, as the one whose seventh card has this line.
+fn lies_as<L: Ledger>(
+    alloc: Global,
+    page: &mut Page,
+    edit: Edit,
+    seventh: &[u8],
+    passes: &mut Steps<L>,
+) -> Result<bool, Fail>
+    requires ready { IsReady page.old }
+    requires content { GivesContent edit }
+    ensures { OnOk result (IsReady page.new) }
+{
+    let ruler = &mut WordRuler::new();
+    let tally = &mut Tally::new();
+    let mut afresh = page_with(alloc, seventh)?;
+    let wanted = laid_out(&mut afresh, ruler, tally, passes)?;
+    change(page, edit)?;
+    let found = laid_out(page, ruler, tally, passes)?;
+    Ok(are_same(found.as_slice(), wanted.as_slice()))
+}
+
+fn are_sized_again<L: Ledger>(rt: &impl Abort, alloc: Global, blank: Blank) -> Result<(), Fail>
+    requires name { blank.name ≡ L.name }
+    requires parts { blank.parts ≡ L.parts }
+    requires some { 0 < blank.parts }
+{
+    let mut passes: Steps<L> = Steps::new(blank);
+    let low: &[u8] = b"    c07 leaf 90 50";
+    let high: &[u8] = b"    c07 leaf 90 60";
+    let mut page = page_with(alloc, b"    c07 leaf 40 20")?;
+    let edit = larger(Name::read(b"c07")?);
+    assert!(rt; lies_as(alloc, &mut page, edit, low, &mut passes)?);
+    let edit = larger(Name::read(b"c07")?);
+    assert!(rt; lies_as(alloc, &mut page, edit, low, &mut passes)?);
+    let edit = higher(Name::read(b"c07")?);
+    assert!(rt; lies_as(alloc, &mut page, edit, high, &mut passes)?);
+    Ok(())
+}
+
+#[test]
+fn rows_are_sized_again_for_other_items(rt: HostRuntime) -> Result<(), Fail> {
+    are_sized_again::<Brand>(&rt, rt.alloc(), Blank::new(1))
 }
 
 #[test]

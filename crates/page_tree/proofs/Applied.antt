@@ -165,7 +165,7 @@ module _ (t u : NodeTrees) (st : Stands t) (su : Stands u) where
         local = subst (λ s. IsLocal (λ n. is_among n r.numbers) false (bare t) (bare s)) (sym h) (still_local (λ n. is_among n r.numbers) (bare t));
         before = r.marked;
         after = subst (EachNode (λ x. is_among x.0 r.numbers ≡ false)) (sym h) r.marked;
-        nodes = subst (EachNode (IsFrom r.numbers t)) (sym h) (own_nodes r.numbers t st.distinct);
+        nodes = subst (EachNode (IsFrom r.numbers false t)) (sym h) (own_nodes r.numbers false t st.distinct);
       }) r.is
 
 -- of a page

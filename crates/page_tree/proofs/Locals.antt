@@ -94,8 +94,8 @@ unfolding turn_at
 no_turn t id fresh = ap (λ o. turn_of (value_of o)) fresh
 
 -- the numbers of a tree are those that they were
-pub own_nodes : (ts : List NodeId) (t : NodeTrees) → IsDistinct t → EachNode (IsFrom ts t) t
-own_nodes ts t d = each_weaker (λ x. value_at t x.0 ≡ Some x.1) (IsFrom ts t) t (λ x e. inr (x.1, (e, (refl, (refl, (refl, (refl, refl))))))) (numbered t d).each
+pub own_nodes : (ts : List NodeId) (grid : Bool) (t : NodeTrees) → IsDistinct t → EachNode (IsFrom ts grid t) t
+own_nodes ts grid t d = each_weaker (λ x. value_at t x.0 ≡ Some x.1) (IsFrom ts grid t) t (λ x e. inr (x.1, (e, (refl, (refl, (refl, (refl, (refl, λ g. refl)))))))) (numbered t d).each
 
 module _ (t u : NodeTrees) (d : IsDistinct t) (parent name : Word) (ts : List NodeId) (h : Inserts parent name t u) (before : EachNode (λ x. is_among x.0 ts ≡ (bytes_eq x.1.name parent || bytes_eq x.1.name name)) t) where
   abbrev marks : Word → Bool
@@ -124,7 +124,7 @@ module _ (t u : NodeTrees) (d : IsDistinct t) (parent name : Word) (ts : List No
             (λ k calm. omega (arith, one_no (same h.id k) (or_parts (same h.id k) (is_among k ts) calm).0)));
         before = before_all;
         after = subst (EachNode (λ x. is_among x.0 all ≡ marks x.1.name)) (sym h.is) (added (λ x. is_among x.0 all ≡ marks x.1.name) new_marked before_all);
-        nodes = subst (EachNode (IsFrom all t)) (sym h.is) (added (IsFrom all t) (inl (ap (λ b. b || is_among h.id ts) (same_refl h.id), (h.kept, (h.past, inl first_turn)))) (own_nodes all t d));
+        nodes = subst (EachNode (IsFrom all true t)) (sym h.is) (added (IsFrom all true t) (inl (ap (λ b. b || is_among h.id ts) (same_refl h.id), (h.kept, (h.past, inl first_turn)))) (own_nodes all true t d));
       }
     where
       first_turn : HasGone (turn_at t h.id) h.value.turn
@@ -148,7 +148,7 @@ module _ (t u : NodeTrees) (d : IsDistinct t) (name : Word) (ts : List NodeId) (
             (touched_parent t name h.id ts gone_marks before h.found.tells (λ w e. or_right (bytes_eq w name) _ e)));
         before = before;
         after = subst (EachNode (λ x. is_among x.0 ts ≡ gone_marks x.1.name)) (sym h.is) (left (λ x. is_among x.0 ts ≡ gone_marks x.1.name) before);
-        nodes = subst (EachNode (IsFrom ts t)) (sym h.is) (left (IsFrom ts t) (own_nodes ts t d));
+        nodes = subst (EachNode (IsFrom ts true t)) (sym h.is) (left (IsFrom ts true t) (own_nodes ts true t d));
       }
     where
       left : (P : NodeId × Node → Type 0) → EachNode P t → EachNode P (removed h.id t)

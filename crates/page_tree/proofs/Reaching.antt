@@ -20,16 +20,18 @@ use Rattle.placing.specs.declared.node.Node.{Node}
 use Rattle.placing.specs.declared.told.Past.{Past}
 use Rattle.placing.specs.Keeping.{HasGone, HasTurn, without_answers, without_past}
 use Rattle.placing.specs.Kept.{IsRight, kept_at, kept_of, past_at, past_of, turn_at, turn_of}
-use Rattle.placing.specs.Nodes.{IsLive, NodeTrees, bare, bare_of}
+use Rattle.placing.specs.Nodes.{BareTrees, IsLive, NodeTrees, bare, bare_of, sight_at}
 use Rattle.placing.specs.Told.{no_past}
-use Rattle.placing.proofs.Bares.{height_bare, live_from, tops_bare}
+use Rattle.placing.proofs.Bares.{bare_there, height_bare, live_from, tops_bare}
 use Rattle.placing.proofs.KeptTrees.{drops_bare, drops_kept, drops_past, drops_turn, forgets_bare, forgets_kept, forgets_past, forgets_turn, turn_twice}
+use Rattle.placing.proofs.Sights.{sight_label}
 use Rattle.reach_frame.specs.Local.{IsLocal}
 use Rattle.reach_frame.specs.Marks.{has_mark, is_reached}
 use Rattle.reach_frame.proofs.Calm.{not_later}
 use Rattle.reach_frame.proofs.Frame.{not_both}
 use Rattle.reach_frame.proofs.Marked.{all_found}
 use Rattle.reach_frame.proofs.Unreached.{node_sub, right_after}
+use Rattle.reach_frame.proofs.Values.{label_at}
 use Rattle.page_tree.specs.Documents.{label_of, plain_trees}
 use Rattle.page_tree.specs.Left.{left_in}
 use Rattle.page_tree.specs.Reach.{KeepsOn, is_subgrid_node}
@@ -159,17 +161,17 @@ own_kept t d = each_weaker (λ x. value_at t x.0 ≡ Some x.1) (λ x. x.1.kept �
 
 -- ---- a changed tree
 -- A node of it is touched and keeps nothing, and its turn is later than in the old one or the same as there; or it stood in the old one and has its turn and
--- keeps what it kept there.
-abbrev pub IsFrom : List NodeId → NodeTrees → NodeId × Node → Type 0
-IsFrom ts t x =
+-- keeps what it kept there, and its values too where subgrids do not feel the change.
+abbrev pub IsFrom : List NodeId → Bool → NodeTrees → NodeId × Node → Type 0
+IsFrom ts grid t x =
     ((is_among x.0 ts ≡ true) × ((x.1.kept ≡ []) × ((x.1.past ≡ no_past) × (HasGone (turn_at t x.0) x.1.turn ⊎ (IsSome (part_at t x.0) × (x.1.turn ≡ turn_at t x.0))))))
-    ⊎ ((v : Node) × ((value_at t x.0 ≡ Some v) × ((v.name ≡ x.1.name) × ((v.kind ≡ x.1.kind) × ((x.1.kept ≡ v.kept) × ((x.1.past ≡ v.past) × (x.1.turn ≡ v.turn)))))))
+    ⊎ ((v : Node) × ((value_at t x.0 ≡ Some v) × ((v.name ≡ x.1.name) × ((v.kind ≡ x.1.kind) × ((x.1.kept ≡ v.kept) × ((x.1.past ≡ v.past) × ((x.1.turn ≡ v.turn) × (grid ≡ false → label_at x.1 ≡ label_at v))))))))
 
 pub record IsChange (ts : List NodeId) (grid : Bool) (marks : Word → Bool) (t u : NodeTrees) : Type 0 where
   pub local : IsLocal (λ n. is_among n ts) grid (bare t) (bare u)
   pub before : EachNode (λ x. is_among x.0 ts ≡ marks x.1.name) t
   pub after : EachNode (λ x. is_among x.0 ts ≡ marks x.1.name) u
-  pub nodes : EachNode (IsFrom ts t) u
+  pub nodes : EachNode (IsFrom ts grid t) u
 
 -- what is needed of both trees
 pub record IsWhole (root : NodeId) (t : NodeTrees) : Type 0 where
@@ -234,7 +236,7 @@ module _ (ts : List NodeId) (grid : Bool) (marks : Word → Bool) (root : NodeId
   not_both_ways : {P : Type 0} (b : Bool) → b ≡ true → b ≡ false → P
   not_both_ways b e f = absurd (not_both b e f)
 
-  keeps : (x : NodeId × Node) → value_at u x.0 ≡ Some x.1 → is_among x.0 ts ≡ marks x.1.name → IsFrom ts t x → (ks : List (Query × Answer)) (p : Past) (n : ℕ) → ks ≡ kept_at left x.0 → KeepsOn (touches x.1.name) t (x.0, record x.1 { kept = ks; past = p; turn = n })
+  keeps : (x : NodeId × Node) → value_at u x.0 ≡ Some x.1 → is_among x.0 ts ≡ marks x.1.name → IsFrom ts grid t x → (ks : List (Query × Answer)) (p : Past) (n : ℕ) → ks ≡ kept_at left x.0 → KeepsOn (touches x.1.name) t (x.0, record x.1 { kept = ks; past = p; turn = n })
   keeps x e m (inl new) ks p n k =
       let touched = new_touched x e m new.0 in
       record {
@@ -269,12 +271,22 @@ module _ (ts : List NodeId) (grid : Bool) (marks : Word → Bool) (root : NodeId
       each_with (λ x. x.1.kept ≡ kept_at left x.0) (λ x. x.1.kept ≡ kept_at left x.0 → KeepsOn (touches x.1.name) t x) (λ x. KeepsOn (touches x.1.name) t x) left (λ x p f. f p)
       (own_kept left (λ n. omega (arith, times_left grid found u n, wu.distinct n)))
       (each_left (λ x. x.1.kept ≡ kept_at left x.0 → KeepsOn (touches x.1.name) t x) grid found u
-      (each_with (λ x. (value_at u x.0 ≡ Some x.1) × (is_among x.0 ts ≡ marks x.1.name)) (IsFrom ts t) (Whatever (λ x. x.1.kept ≡ kept_at left x.0 → KeepsOn (touches x.1.name) t x)) u (λ x q f. keeps x q.0 q.1 f)
+      (each_with (λ x. (value_at u x.0 ≡ Some x.1) × (is_among x.0 ts ≡ marks x.1.name)) (IsFrom ts grid t) (Whatever (λ x. x.1.kept ≡ kept_at left x.0 → KeepsOn (touches x.1.name) t x)) u (λ x q f. keeps x q.0 q.1 f)
       (each_with (λ x. value_at u x.0 ≡ Some x.1) (λ x. is_among x.0 ts ≡ marks x.1.name) (λ x. (value_at u x.0 ≡ Some x.1) × (is_among x.0 ts ≡ marks x.1.name)) u (λ x p q. (p, q)) (numbered u wu.distinct).each c.after) c.nodes))
 
   -- the turn of a node went, or it is not reached and has its turn still
   abbrev TurnsOn : NodeId → Type 0
   TurnsOn n = HasGone (turn_at t n) (turn_at left n) ⊎ ((IsSome (part_at t n) × (is_among n found ≡ false)) × (turn_at left n ≡ turn_at t n))
+
+  value_label : (s : NodeTrees) (k : NodeId) (v : Node) → value_at s k ≡ Some v → label_at v ≡ (sight_at (bare s) k).label
+  value_label s k v e = sight_label (bare s) k (bare_of v) (bare_there s k v (sym e))
+
+  -- the values of a node are the same
+  abbrev SameValues : NodeId → Type 0
+  SameValues k = (sight_at (bare left) k).label ≡ (sight_at (bare t) k).label
+
+  same_values : (k : NodeId) (v w : Node) → value_at t k ≡ Some v → value_at u k ≡ Some w → label_at w ≡ label_at v → SameValues k
+  same_values k v w old new same = ap (λ (b : BareTrees). (sight_at b k).label) (bare_left grid found u) ∙ sym (value_label u k w new) ∙ same ∙ value_label t k v old
 
   pub right_left : IsRight t → IsRight left
   right_left r =
@@ -288,7 +300,7 @@ module _ (ts : List NodeId) (grid : Bool) (marks : Word → Bool) (root : NodeId
           by None f = let none : 1 ≤ times n u = omega (arith, part_there left n l, times_left grid found u n) in let some = part_some u n none in absurd cc
           by (Some q) f = ap (λ o. is_some (value_of o)) f
 
-      or_not : (x : NodeId × Node) → value_at u x.0 ≡ Some x.1 → IsFrom ts t x → (b : Bool) → is_among x.0 found ≡ b →
+      or_not : (x : NodeId × Node) → value_at u x.0 ≡ Some x.1 → IsFrom ts grid t x → (b : Bool) → is_among x.0 found ≡ b →
           (kept_at left x.0 ≡ []) ⊎ ((IsSome (part_at t x.0) × (is_among x.0 found ≡ false)) × (kept_at left x.0 ≡ kept_at t x.0))
       or_not x e f true g = inl (kept_left x.0 true g)
       or_not x e (inl new) false g = inl (kept_left x.0 false g ∙ own_at u x.0 x.1 e ∙ new.1.0)
@@ -296,38 +308,38 @@ module _ (ts : List NodeId) (grid : Bool) (marks : Word → Bool) (root : NodeId
 
       at : (n : NodeId) (o : Option Node) → value_at u n ≡ o → IsSome o → (kept_at left n ≡ []) ⊎ ((IsSome (part_at t n) × (is_among n found ≡ false)) × (kept_at left n ≡ kept_at t n))
       at n None e l = absurd cc
-      at n (Some v) e l = or_not (n, v) e (each_at (IsFrom ts t) u n v c.nodes e) (is_among n found) refl
+      at n (Some v) e l = or_not (n, v) e (each_at (IsFrom ts grid t) u n v c.nodes e) (is_among n found) refl
 
       calm_past : (k : NodeId) (b : Bool) → (grid && is_among k found) ≡ b → past_at left k ≡ (if b then no_past else past_at u k)
       calm_past k b e = past_left grid found u k ∙ ap (λ z. cond z no_past (past_at u k)) e
 
-      one_not : (b c : Bool) → (b && c) ≡ false → (b ≡ false) ⊎ (c ≡ false)
-      one_not true c e = inr e
-      one_not false c e = inl refl
+      one_not : {P : Type 0} (b c : Bool) → (b ≡ false → P) → (b && c) ≡ false → ((b ≡ false) × P) ⊎ (c ≡ false)
+      one_not true c f e = inr e
+      one_not false c f e = inl (refl, f refl)
 
-      holds_or : (x : NodeId × Node) → value_at u x.0 ≡ Some x.1 → IsFrom ts t x → (b : Bool) → (grid && is_among x.0 found) ≡ b →
-          (past_at left x.0 ≡ no_past) ⊎ ((IsSome (part_at t x.0) × ((grid ≡ false) ⊎ (is_among x.0 found ≡ false))) × (past_at left x.0 ≡ past_at t x.0))
+      holds_or : (x : NodeId × Node) → value_at u x.0 ≡ Some x.1 → IsFrom ts grid t x → (b : Bool) → (grid && is_among x.0 found) ≡ b →
+          (past_at left x.0 ≡ no_past) ⊎ ((IsSome (part_at t x.0) × (((grid ≡ false) × SameValues x.0) ⊎ (is_among x.0 found ≡ false))) × (past_at left x.0 ≡ past_at t x.0))
       holds_or x e f true g = inl (calm_past x.0 true g)
       holds_or x e (inl new) false g = inl (calm_past x.0 false g ∙ own_past u x.0 x.1 e ∙ new.1.1.0)
       holds_or x e (inr old) false g =
-          inr ((there_in t x.0 old.0 old.1.0, one_not grid (is_among x.0 found) g), calm_past x.0 false g ∙ own_past u x.0 x.1 e ∙ old.1.1.1.1.1.0 ∙ sym (own_past t x.0 old.0 old.1.0))
+          inr ((there_in t x.0 old.0 old.1.0, one_not {P = SameValues x.0} grid (is_among x.0 found) (λ h. same_values x.0 old.0 x.1 old.1.0 e (old.1.1.1.1.1.1.1 h)) g), calm_past x.0 false g ∙ own_past u x.0 x.1 e ∙ old.1.1.1.1.1.0 ∙ sym (own_past t x.0 old.0 old.1.0))
 
-      held : (n : NodeId) (o : Option Node) → value_at u n ≡ o → IsSome o → (past_at left n ≡ no_past) ⊎ ((IsSome (part_at t n) × ((grid ≡ false) ⊎ (is_among n found ≡ false))) × (past_at left n ≡ past_at t n))
+      held : (n : NodeId) (o : Option Node) → value_at u n ≡ o → IsSome o → (past_at left n ≡ no_past) ⊎ ((IsSome (part_at t n) × (((grid ≡ false) × SameValues n) ⊎ (is_among n found ≡ false))) × (past_at left n ≡ past_at t n))
       held n None e l = absurd cc
-      held n (Some v) e l = holds_or (n, v) e (each_at (IsFrom ts t) u n v c.nodes e) (grid && is_among n found) refl
+      held n (Some v) e l = holds_or (n, v) e (each_at (IsFrom ts grid t) u n v c.nodes e) (grid && is_among n found) refl
 
       stayed : (n : NodeId) → IsSome (part_at t n) → turn_at u n ≡ turn_at t n → (b : Bool) → is_among n found ≡ b → HasTurn b (turn_at u n) (turn_at left n) → TurnsOn n
       stayed n old same true e h = inl (subst (λ k. HasGone k (turn_at left n)) same h)
       stayed n old same false e h = inr ((old, e), h ∙ same)
 
-      turns_or : (x : NodeId × Node) → value_at u x.0 ≡ Some x.1 → IsFrom ts t x → HasTurn (is_among x.0 found) (turn_at u x.0) (turn_at left x.0) → TurnsOn x.0
+      turns_or : (x : NodeId × Node) → value_at u x.0 ≡ Some x.1 → IsFrom ts grid t x → HasTurn (is_among x.0 found) (turn_at u x.0) (turn_at left x.0) → TurnsOn x.0
       turns_or x e (inl new) h = by new.1.1.1
         where
           by : HasGone (turn_at t x.0) x.1.turn ⊎ (IsSome (part_at t x.0) × (x.1.turn ≡ turn_at t x.0)) → TurnsOn x.0
           by (inl gone) = inl (turn_twice true (is_among x.0 found) (turn_at t x.0) (turn_at u x.0) (turn_at left x.0) (subst (HasGone (turn_at t x.0)) (sym (own_turn u x.0 x.1 e)) gone) h)
           by (inr old) = stayed x.0 old.0 (own_turn u x.0 x.1 e ∙ old.1) (is_among x.0 found) refl h
-      turns_or x e (inr old) h = stayed x.0 (there_in t x.0 old.0 old.1.0) (own_turn u x.0 x.1 e ∙ old.1.1.1.1.1.1 ∙ sym (own_turn t x.0 old.0 old.1.0)) (is_among x.0 found) refl h
+      turns_or x e (inr old) h = stayed x.0 (there_in t x.0 old.0 old.1.0) (own_turn u x.0 x.1 e ∙ old.1.1.1.1.1.1.0 ∙ sym (own_turn t x.0 old.0 old.1.0)) (is_among x.0 found) refl h
 
       turned : (n : NodeId) (o : Option Node) → value_at u n ≡ o → IsSome o → TurnsOn n
       turned n None e l = absurd cc
-      turned n (Some v) e l = turns_or (n, v) e (each_at (IsFrom ts t) u n v c.nodes e) (turns_left grid found u n (live_from u n (there_in u n v e)))
+      turned n (Some v) e l = turns_or (n, v) e (each_at (IsFrom ts grid t) u n v c.nodes e) (turns_left grid found u n (live_from u n (there_in u n v e)))

@@ -1,9 +1,9 @@
 -- Another value of one node, and the computed styles that follow, as a change of the numbered tree.
-use Rattle.std.proofs.Common.{◌≡◌, ℕ, ℤ, suc, ◌≤◌, Bool, true, false, ◌&&◌, List, ◌∷◌, Some, cond, refl, sym, ap, subst, ◌∙◌, arith, inl, inr}
+use Rattle.std.proofs.Common.{◌≡◌, ℕ, ℤ, suc, ◌≤◌, Bool, true, false, ◌&&◌, List, ◌∷◌, Option, Some, None, cond, refl, sym, ap, subst, ◌∙◌, arith, inl, inr}
 use Rattle.std.specs.Prelude.{◌⊎◌, slice_get}
 use Rattle.plain_tree.specs.Trees.{leafless, tree, count_of}
 use Rattle.node_arena.specs.declared.number.NodeId.{NodeId}
-use Rattle.node_arena.specs.Numbers.{EachNode, IsDistinct, below_at, below_of, child_at, is_among, mapped, number_of, part_at, same, times, tops, value_at, value_of}
+use Rattle.node_arena.specs.Numbers.{EachNode, IsDistinct, Part, below_at, below_of, child_at, is_among, mapped, number_of, part_at, same, times, tops, value_at, value_of}
 use Rattle.node_arena.proofs.Parts.{each_weaker, numbered}
 use Rattle.node_arena.proofs.Same.{cond_no, cond_yes, one_yes, same_is, same_refl}
 use Rattle.style_types.specs.Computed.{computed_style, font_of}
@@ -19,7 +19,7 @@ use Rattle.placing.proofs.Mapped.{mapped_twice}
 use Rattle.reach_frame.specs.Local.{IsLocal}
 use Rattle.reach_frame.proofs.Forests.{AreParts, own_parts}
 use Rattle.reach_frame.proofs.Frame.{not_both}
-use Rattle.reach_frame.proofs.Values.{StaysApart, faces, label_at, values_local}
+use Rattle.reach_frame.proofs.Values.{StaysApart, at_node, faces, label_at, values_local}
 use Rattle.page_tree.specs.Documents.{label_of}
 use Rattle.page_tree.specs.Fonts.{AreStyled, HasStyle, IsStyled, root_font}
 use Rattle.page_tree.specs.Restyled.{Styles, styled_from}
@@ -203,17 +203,31 @@ module _ (t u : NodeTrees) (d : IsDistinct t) (one : count_of t ≡ 1) (old : Is
       at true e = ap (λ (w : Node). w.name) (cond_yes (same x.0 h.id) h.value x.1 e) ∙ sym (ap (λ (l : Label). l.name) (b e)) ∙ names (label_of x.1)
       at false e = ap (λ (w : Node). w.name) (cond_no (same x.0 h.id) h.value x.1 e)
 
-  from : (x : NodeId × Node) → value_at t x.0 ≡ Some x.1 → IsFrom ts t (x.0, made x.0 x.1)
-  from x there = at (same x.0 h.id) refl
+  -- nothing else than the edited node has other values
+  abbrev Alone : Type 0
+  Alone = StaysApart (λ k. same k h.id) grid made t
+
+  other_values : Alone → (x : NodeId × Node) → value_at t x.0 ≡ Some x.1 → same x.0 h.id ≡ false → label_at (made x.0 x.1) ≡ label_at x.1
+  other_values alone x there e = at (part_at t x.0) refl there
     where
-      at : (c : Bool) → same x.0 h.id ≡ c → IsFrom ts t (x.0, made x.0 x.1)
+      some_node : (a b : Node) → Some a ≡ Some b → a ≡ b
+      some_node a b q = cc
+
+      at : (o : Option (Part Node)) → part_at t x.0 ≡ o → value_of o ≡ Some x.1 → label_at (made x.0 x.1) ≡ label_at x.1
+      at None f g = absurd cc
+      at (Some q) f g = subst (λ (v : Node). label_at (made x.0 v) ≡ label_at v) (some_node q.0 x.1 g) ((at_node (λ k. same k h.id) grid made t x.0 q alone f).0 e)
+
+  from : (grid ≡ false → Alone) → (x : NodeId × Node) → value_at t x.0 ≡ Some x.1 → IsFrom ts grid t (x.0, made x.0 x.1)
+  from alone x there = at (same x.0 h.id) refl
+    where
+      at : (c : Bool) → same x.0 h.id ≡ c → IsFrom ts grid t (x.0, made x.0 x.1)
       at true e =
           let q = cond_yes (same x.0 h.id) h.value x.1 e in
           let turn = ap (λ (w : Node). w.turn) q ∙ h.turn ∙ ap (turn_at t) (sym (same_is x.0 h.id e)) in
           inl (ap touched (same_is x.0 h.id e) ∙ own_touched, (ap (λ (w : Node). w.kept) q ∙ h.kept, (ap (λ (w : Node). w.past) q ∙ h.past, inr (there_in t x.0 x.1 there, turn))))
       at false e =
           let q = cond_no (same x.0 h.id) h.value x.1 e in
-          inr (x.1, (there, (ap (λ (w : Node). w.name) (sym q), (ap (λ (w : Node). w.kind) (sym q), (ap (λ (w : Node). w.kept) q, (ap (λ (w : Node). w.past) q, ap (λ (w : Node). w.turn) q))))))
+          inr (x.1, (there, (ap (λ (w : Node). w.name) (sym q), (ap (λ (w : Node). w.kind) (sym q), (ap (λ (w : Node). w.kept) q, (ap (λ (w : Node). w.past) q, (ap (λ (w : Node). w.turn) q, λ g. other_values (alone g) x there e)))))))
 
   pub relabel_change : (grid ≡ true → (k : NodeId) (j : ℕ) → child_at t k j ≡ Some h.id → touched k ≡ true) → (grid ≡ false → SameFace touched grid h.id h.value h.styles t d) → SameFonts touched grid h.id h.value h.styles t d ⊎ AllBelow touched grid h.id h.value h.styles t d →
       IsChange ts grid marks t u
@@ -225,5 +239,11 @@ module _ (t u : NodeTrees) (d : IsDistinct t) (one : count_of t ≡ 1) (old : Is
         after = subst (EachNode (λ x. touched x.0 ≡ marks x.1.name)) (sym is_made)
             (each_mapped (λ x. touched x.0 ≡ marks x.1.name) made t
             (each_with (λ x. touched x.0 ≡ marks x.1.name) (λ x. same x.0 h.id ≡ true → change (label_of x.1) ≡ label_of h.value) (λ x. touched x.0 ≡ marks (made x.0 x.1).name) t (λ x m b. m ∙ ap marks (sym (name_same x b))) before h.label));
-        nodes = subst (EachNode (IsFrom ts t)) (sym is_made) (each_mapped (IsFrom ts t) made t (each_weaker (λ x. value_at t x.0 ≡ Some x.1) (λ x. IsFrom ts t (x.0, made x.0 x.1)) t from (numbered t d).each));
+        nodes = subst (EachNode (IsFrom ts grid t)) (sym is_made) (each_mapped (IsFrom ts grid t) made t (each_weaker (λ x. value_at t x.0 ≡ Some x.1) (λ x. IsFrom ts grid t (x.0, made x.0 x.1)) t (from alone) (numbered t d).each));
       }
+    where
+      -- the font size is the same where subgrids do not feel the edit
+      alone : grid ≡ false → Alone
+      alone g =
+          apart_root (λ k. same k h.id) grid h.id h.value h.styles t d (same_refl h.id) (λ f. absurd (not_both grid f g)) face
+          (inl (kept_fonts touched grid h.id h.value h.styles t d own_touched parent face fonts g)) one old (subst IsStyled is_made new)

@@ -1,5 +1,5 @@
 -- A move, as a change of the numbered tree.
-use Rattle.std.proofs.Common.{◌≡◌, ℕ, ℤ, zero, suc, ◌+◌, ◌≤◌, Bool, true, false, not, ◌&&◌, List, ◌∷◌, Option, Some, None, IsSome, is_some, refl, sym, ap, subst, ◌∙◌, arith}
+use Rattle.std.proofs.Common.{◌≡◌, ℕ, ℤ, zero, suc, ◌+◌, ◌≤◌, Bool, true, false, not, ◌&&◌, List, ◌∷◌, Option, Some, None, IsSome, is_some, refl, sym, ap, subst, ◌∙◌, arith, inl, inr}
 use Rattle.std.specs.Prelude.{◌||◌, slice_get}
 use Rattle.std.specs.Ordering.{int_eq}
 use Rattle.std.specs.Str.{bytes_eq}
@@ -249,6 +249,11 @@ each_moved P id to i t h =
     each_edited P to (graft i (tree_at id t)) (removed id t) (λ x below p b. (p, (each_put P i (tree_at id t) below (each_tree id P t h) b, tt)))
     (each_edited P id nothing t (λ x below p b. tt) h)
 
+-- subgrids feel a move, so that nothing is asked of the values of a node that stood there
+from_styled : (ts : List NodeId) (t : NodeTrees) (x : NodeId × Node) (z : StyleMap) → IsFrom ts true t x → IsFrom ts true t (x.0, record x.1 { style = z })
+from_styled ts t x z (inl new) = inl new
+from_styled ts t x z (inr old) = inr (old.0, (old.1.0, (old.1.1.0, (old.1.1.1.0, (old.1.1.1.1.0, (old.1.1.1.1.1.0, (old.1.1.1.1.1.1.0, λ f. absurd (not_both true refl f))))))))
+
 left_faces : (styles : Styles) (s : NodeTrees) → ((j : ℕ) (top : NodeId × Part Node) → slice_get (tops s) j ≡ Some top → (z : StyleMap) → styled_from styles top.0 z ≡ z) → faces (restyled styles s) ≡ faces s
 left_faces styles leafless h = refl
 left_faces styles (tree x below after) h =
@@ -371,7 +376,7 @@ module _ (t u : NodeTrees) (d : IsDistinct t) (one : count_of t ≡ 1) (old : Is
               (composed move_touched true (bare t) (bare new_styles) (bare (moved h.id h.to h.index new_styles)) first then_ stays);
           before = before;
           after = subst (EachNode (λ x. is_among x.0 ts ≡ move_marks x.1.name)) (sym h.is) (each_styled (λ x. is_among x.0 ts ≡ move_marks x.1.name) h.styles (moved h.id h.to h.index t) (λ x z p. p) (each_moved (λ x. is_among x.0 ts ≡ move_marks x.1.name) h.id h.to h.index t before));
-          nodes = subst (EachNode (IsFrom ts t)) (sym h.is) (each_styled (IsFrom ts t) h.styles (moved h.id h.to h.index t) (λ x z p. p) (each_moved (IsFrom ts t) h.id h.to h.index t (own_nodes ts t d)));
+          nodes = subst (EachNode (IsFrom ts true t)) (sym h.is) (each_styled (IsFrom ts true t) h.styles (moved h.id h.to h.index t) (from_styled ts t) (each_moved (IsFrom ts true t) h.id h.to h.index t (own_nodes ts true t d)));
         }
 
   pub move_change : EachNode (λ x. is_among x.0 ts ≡ move_marks x.1.name) t → IsChange ts true move_marks t u

@@ -58,7 +58,7 @@ still_right t u r h g turned = record { lists = λ n. list n (h n); children = �
     held n (inl e) = subst (HoldsPast (bare u) (turn_at u) n) (sym e) (record { bases = tt; columns = tt; wide = tt })
     held n (inr k) =
         subst (HoldsPast (bare u) (turn_at u) n) (sym k.past)
-        (past_stays (bare t) (bare u) (turn_at t) (turn_at u) n k.grid k.chain k.siblings k.children (λ c l. (turned c l).later) (λ c l. (turned c l).same) (past_at t n) (r.past n))
+        (past_stays (bare t) (bare u) (turn_at t) (turn_at u) n k.label k.chain k.siblings k.children (λ c l. (turned c l).later) (λ c l. (turned c l).same) (past_at t n) (r.past n))
 
     list : (n : NodeId) → KeepsOn t u n → AreRight (sight_at (bare u) n) plain_answer (kept_at u n)
     list n (inl e) = subst (AreRight (sight_at (bare u) n) plain_answer) (sym e) (empty_right (sight_at (bare u) n) plain_answer)
@@ -185,7 +185,7 @@ forgets_right ns t r = still_right t (forgets without_answers ns t) r (λ n. at 
     held n =
         record {
           past = forgets_past ns t n;
-          grid = ap (λ b. (sight_at b n).label.grid) (forgets_bare ns t);
+          label = ap (λ b. (sight_at b n).label) (forgets_bare ns t);
           chain = ap (λ b. (sight_at b n).chain) (forgets_bare ns t);
           siblings = ap (λ b. siblings_of (sight_at b n).below) (forgets_bare ns t);
           children = ap (λ b. children_at b n) (forgets_bare ns t);
@@ -279,7 +279,7 @@ drops_right ns t r = still_right t (forgets without_past ns t) r (λ n. inr (kep
     at n false e =
         inr (record {
           past = e;
-          grid = ap (λ b. (sight_at b n).label.grid) (drops_bare ns t);
+          label = ap (λ b. (sight_at b n).label) (drops_bare ns t);
           chain = ap (λ b. (sight_at b n).chain) (drops_bare ns t);
           siblings = ap (λ b. siblings_of (sight_at b n).below) (drops_bare ns t);
           children = ap (λ b. children_at b n) (drops_bare ns t);

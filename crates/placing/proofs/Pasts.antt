@@ -12,7 +12,8 @@ use Rattle.plain_tree.specs.Trees.{Trees, leafless, tree}
 use Rattle.tree_rules.specs.Answers.{Kid, Pair}
 use Rattle.tree_rules.specs.Chains.{Above, Sibling, sibling_of, siblings_of}
 use Rattle.tree_rules.specs.Contexts as rules
-use Rattle.tree_rules.specs.GridSizes.{column_items_of, inline_of_entry, row_items_of}
+use Rattle.part_rules.specs.declared.track.Space.TheVariants.{MaxContent}
+use Rattle.tree_rules.specs.GridSizes.{TrackAxis, column_items_of, inline_of_entry, row_items_of, total_for}
 use Rattle.tree_rules.specs.Labels.{Label}
 use Rattle.tree_rules.specs.Places.{Seen, answers_of}
 use Rattle.tree_rules.specs.Whole.{kids_of}
@@ -21,8 +22,8 @@ use Rattle.placing.specs.Bases.{AreOf, HoldsPlaces}
 use Rattle.placing.specs.Nodes.{BareTrees, IsLive, children_at, kid_at, sight_at}
 use Rattle.placing.specs.Order.{numbers_in_order}
 use Rattle.placing.specs.Seats.{context_at}
-use Rattle.placing.specs.Told.{AreColumns, AreRows, AreTurns, Fresh, HoldsColumns, HoldsPast, HoldsTold, TellsColumns, TellsRows, columns_in, entry_with, is_fresh, last_turn, rows_in, wide_told}
-use Rattle.placing.specs.Wides.{HoldsAreas, IsAbove, child_of, kids_in}
+use Rattle.placing.specs.Told.{AreColumns, AreRows, AreRowsFor, AreTurns, Fresh, HoldsColumns, HoldsPast, HoldsTold, TellsColumns, TellsRows, columns_in, entry_with, is_fresh, last_turn, row_axis, rows_in, wide_told}
+use Rattle.placing.specs.Wides.{HoldsAreas, HoldsRows, IsAbove, child_of, kids_in}
 use Rattle.placing.specs.declared.contexts.Placed.{Placed}
 use Rattle.placing.specs.declared.told.KeptColumns.{KeptColumns}
 use Rattle.placing.specs.declared.told.KeptWide.{KeptWide}
@@ -30,6 +31,7 @@ use Rattle.placing.specs.declared.told.Past.{Past}
 use Rattle.placing.specs.declared.told.ToldColumns.{ToldColumns}
 use Rattle.placing.specs.declared.told.ToldRows.{ToldRows}
 use Rattle.placing.specs.declared.wide.GridBase.{GridBase}
+use Rattle.placing.specs.declared.wide.RowsAt.{RowsAt}
 use Rattle.placing.specs.declared.wide.WideChild.{WideChild}
 use Rattle.placing.proofs.Seated.{siblings_below}
 use Rattle.placing.proofs.Tellings.{told_fewer}
@@ -149,10 +151,13 @@ kid_same : (b d : BareTrees) (c : NodeId) → sight_at d c ≡ sight_at b c → 
 kid_same b d c e = ap (λ (s : Seen). record { label = s.label; chain = s.chain; answers = answers_of s }) (sym e)
 
 module _ (b d : BareTrees) (turn late : NodeId → ℕ) (n : NodeId)
-    (grid : (sight_at d n).label.grid ≡ (sight_at b n).label.grid) (chain : (sight_at d n).chain ≡ (sight_at b n).chain)
+    (label : (sight_at d n).label ≡ (sight_at b n).label) (chain : (sight_at d n).chain ≡ (sight_at b n).chain)
     (siblings : siblings_of (sight_at d n).below ≡ siblings_of (sight_at b n).below) (kids : children_at d n ≡ children_at b n)
     (later : (c : NodeId) → IsLive d c → turn c ≤ late c)
     (stands : (c : NodeId) → IsLive d c → late c ≡ turn c → late c < last_turn → sight_at d c ≡ sight_at b c) where
+  grid : (sight_at d n).label.grid ≡ (sight_at b n).label.grid
+  grid = ap (λ (x : Label). x.grid) label
+
   context_stays : (base : GridBase) → context_at (sight_at b n) base.pairs ≡ context_at (sight_at d n) base.pairs
   context_stays base = sym (context_same (sight_at b n) (sight_at d n) grid chain siblings base.pairs)
 
@@ -215,6 +220,19 @@ module _ (b d : BareTrees) (turn late : NodeId → ℕ) (n : NodeId)
               ≡ row_items_of (context_at (sight_at d n) base.pairs).rows (entry_with (kid_at d c) a) (wide_told (kid_at d c) a base t.columns t.align).down
           items c a kid = λ i. row_items_of (context_stays base i).rows (entry_with (kid i) a) (wide_told (kid i) a base t.columns t.align).down
 
+  -- the axis of the rows depends on the values of the grid, and on what stands in its base and its items
+  axis_stays : (base : GridBase) (items : List Item) → row_axis (sight_at d n) base items ≡ row_axis (sight_at b n) base items
+  unfolding row_axis
+  axis_stays base items = ap (λ (x : Label). row_axis (record { label = x; chain = []; below = leafless }) base items) label
+
+  laid_stay : (base : GridBase) (items : List Item) (o : Option RowsAt) → IfSome o (AreRowsFor (sight_at b n) base items) → IfSome o (AreRowsFor (sight_at d n) base items)
+  laid_stay base items None h = tt
+  laid_stay base items (Some r) h =
+      record {
+        size = h.size ∙ ap (λ (a : TrackAxis). total_for {axis = 1} a MaxContent) (sym (axis_stays base items));
+        laid = subst (λ (a : TrackAxis). HoldsRows a base.placed.rows r) (sym (axis_stays base items)) h.laid;
+      }
+
   pub past_stays : (p : Past) → HoldsPast b turn n p → HoldsPast d late n p
   past_stays p h =
       record {
@@ -240,4 +258,5 @@ module _ (b d : BareTrees) (turn late : NodeId → ℕ) (n : NodeId)
             turns = turns_later turn late k.wide.parts.base.placed.areas k.turns (are_later k.wide.parts.base w.places) w.turns;
             columns = columns_stay (columns_in k) k.turns w.places w.turns w.columns;
             rows = rows_stay k.wide.parts.base (rows_in k) k.turns w.places w.turns w.rows;
+            laid = laid_stay k.wide.parts.base k.wide.items k.wide.rows w.laid;
           }

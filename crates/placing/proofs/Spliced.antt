@@ -1,5 +1,5 @@
 -- The items of one child in the place of others, and where the items of each child end after that.
-use Rattle.std.proofs.Common.{◌≡◌, ℕ, zero, suc, ◌+◌, ◌-◌, ◌^◌, ◌<◌, ◌≤◌, List, [], ◌∷◌, ◌++◌, Some, None, refl, sym, ap, ◌∙◌, arith, length, length-append, length-take, length-drop, map, subst, append-nil, add-one}
+use Rattle.std.proofs.Common.{◌≡◌, ℕ, zero, suc, ◌+◌, ◌-◌, ◌^◌, ◌<◌, ◌≤◌, Bool, true, false, List, [], ◌∷◌, ◌++◌, Some, None, refl, sym, ap, ◌∙◌, arith, length, length-append, length-take, length-drop, map, subst, append-nil, add-one}
 use Rattle.std.specs.Prelude.{drop, get_or, slice_get, slice_set, take}
 use Rattle.lunit.specs.declared.item.Item.{Item}
 use Rattle.part_rules.specs.Lists.{joined}
@@ -34,6 +34,21 @@ length_set [] k x = refl
 length_set (y ∷ xs) zero x = refl
 length_set (y ∷ xs) (suc k) x = ap suc (length_set xs k x)
 
+-- and where none of these is another one than before, nothing has changed
+pub record IsRewritten {A : Type 0} (old own : List A) (start at : ℕ) (other : Bool) (now : List A) : Type 0 where
+  pub written : IsWritten old own start at now
+  pub same : other ≡ false → now ≡ old
+
+set_there : {A : Type 0} (xs : List A) (n : ℕ) (d : A) → n < length xs → slice_set xs n (get_or xs n d) ≡ xs
+set_there [] n d h = refl
+set_there (x ∷ xs) zero d h = refl
+set_there (x ∷ xs) (suc n) d h = ap (λ l. x ∷ l) (set_there xs n d (omega (arith, h)))
+
+get_as : {A : Type 0} (xs : List A) (n : ℕ) (d e : A) → n < length xs → get_or xs n d ≡ get_or xs n e
+get_as [] n d e h = absurd (omega (arith, h))
+get_as (x ∷ xs) zero d e h = refl
+get_as (x ∷ xs) (suc n) d e h = get_as xs n d e (omega (arith, h))
+
 pub written_none : {A : Type 0} (old own : List A) (start : ℕ) → IsWritten old own start 0 old
 written_none old own start = let same : start ≡ start + 0 = omega arith in record { is = sym (seam start old) ∙ (λ i. sym (append-nil (take start old)) i ++ drop (same i) old); long = refl }
 
@@ -53,6 +68,24 @@ take_all (suc n) (x ∷ xs) h = ap (λ l. x ∷ l) (take_all n xs (omega (arith,
 
 pub written_all : {A : Type 0} (old own now : List A) (start at : ℕ) → IsWritten old own start at now → at ≡ length own → now ≡ take start old ++ own ++ drop (start + length own) old
 written_all old own now start at w e = w.is ∙ (λ i. take start old ++ take (e i) own ++ drop (start + e i) old) ∙ ap (λ l. take start old ++ l ++ drop (start + length own) old) (take_all (length own) own (omega arith))
+
+pub rewritten_none : {A : Type 0} (old own : List A) (start : ℕ) → IsRewritten old own start 0 false old
+rewritten_none old own start = record { written = written_none old own start; same = λ e. refl }
+
+pub rewritten_other : {A : Type 0} (old own now new : List A) (start at : ℕ) (d : A) (before : Bool) → IsRewritten old own start at before now → start + length own ≤ length old → at < length own
+    → new ≡ slice_set now (start + at) (get_or own at d) → IsRewritten old own start (at + 1) true new
+rewritten_other old own now new start at d before w f g e = record { written = written_more old own now new start at d w.written f g e; same = λ x. absurd cc }
+
+pub rewritten_same : {A : Type 0} (old own now new : List A) (start at : ℕ) (d z v : A) (before : Bool) → IsRewritten old own start at before now → start + length own ≤ length old → at < length own
+    → get_or now (start + at) z ≡ get_or own at v → new ≡ slice_set now (start + at) (get_or own at d) → IsRewritten old own start (at + 1) before new
+rewritten_same old own now new start at d z v before w f g same e =
+    record {
+      written = written_more old own now new start at d w.written f g e;
+      same = λ x. e ∙ ap (slice_set now (start + at)) (sym (same ∙ get_as own at v d g)) ∙ set_there now (start + at) z (omega (arith, f, g, w.written.long)) ∙ w.same x;
+    }
+
+pub rewritten_all : {A : Type 0} (old own now : List A) (start at : ℕ) (other : Bool) → IsRewritten old own start at other now → at ≡ length own → now ≡ take start old ++ own ++ drop (start + length own) old
+rewritten_all old own now start at other w e = written_all old own now start at w.written e
 
 -- ---- ends moved
 abbrev pub moved : ℕ → ℕ → ℕ → ℕ

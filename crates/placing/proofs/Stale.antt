@@ -10,13 +10,14 @@ use Rattle.tree_rules.specs.Answers.{Kid}
 use Rattle.tree_rules.specs.Places.{Seen}
 use Rattle.placing.specs.Bases.{HoldsPlaces}
 use Rattle.placing.specs.Nodes.{BareTrees, children_at, kid_at, sight_at}
-use Rattle.placing.specs.Told.{AllBut, AreColumns, AreRows, AreTurns, Each, Fresh, HoldsColumns, HoldsTold, IsPastColumns, IsPastOf, IsPastRows, IsPastWide, TellsColumns, TellsRows, columns_in, is_fresh, is_listed, last_turn, rows_in}
+use Rattle.placing.specs.Told.{AllBut, AreColumns, AreRows, AreRowsFor, AreTurns, Each, Fresh, HoldsColumns, HoldsTold, IsPastColumns, IsPastOf, IsPastRows, IsPastWide, TellsColumns, TellsRows, columns_in, is_fresh, is_listed, last_turn, rows_in}
 use Rattle.placing.specs.declared.told.KeptColumns.{KeptColumns}
 use Rattle.placing.specs.declared.told.KeptWide.{KeptWide}
 use Rattle.placing.specs.declared.told.PastWide.{PastWide}
 use Rattle.placing.specs.declared.told.ToldColumns.{ToldColumns}
 use Rattle.placing.specs.declared.told.ToldRows.{ToldRows}
 use Rattle.placing.specs.declared.wide.GridBase.{GridBase}
+use Rattle.placing.specs.declared.wide.RowsAt.{RowsAt}
 use Rattle.placing.proofs.Tellings.{told_fewer}
 
 -- those of the first so many that are not listed are fresh
@@ -109,9 +110,10 @@ pub wide_past : (b : BareTrees) (turn : NodeId → ℕ) (n : NodeId) (w : KeptWi
 wide_past b turn n w p h o =
     record {
       columns = subst (λ (t : ToldColumns). IsPastColumns b n (record { told = t; stale = p.columns.stale })) (sym o.columns) columns;
-      rows = subst (λ (z : GridBase). IsPastRows b n (record { base = z; told = p.rows.told; stale = p.rows.stale })) (sym o.base)
-          (subst (λ (t : ToldRows). IsPastRows b n (record { base = w.wide.parts.base; told = t; stale = p.rows.stale })) (sym o.rows)
-          (subst (λ (l : List ℕ). IsPastRows b n (record { base = w.wide.parts.base; told = rows_in w; stale = l })) (sym o.again) rows));
+      rows = subst (λ (z : GridBase). IsPastRows b n (record { base = z; told = p.rows.told; rows = p.rows.rows; stale = p.rows.stale })) (sym o.base)
+          (subst (λ (t : ToldRows). IsPastRows b n (record { base = w.wide.parts.base; told = t; rows = p.rows.rows; stale = p.rows.stale })) (sym o.rows)
+          (subst (λ (l : List ℕ). IsPastRows b n (record { base = w.wide.parts.base; told = rows_in w; rows = p.rows.rows; stale = l })) (sym o.again)
+          (subst (λ (r : Option RowsAt). IsPastRows b n (record { base = w.wide.parts.base; told = rows_in w; rows = r; stale = p.columns.stale })) (sym o.laid) rows)));
     }
   where
     columns : IsPastColumns b n (record { told = columns_in w; stale = p.columns.stale })
@@ -122,10 +124,11 @@ wide_past b turn n w p h o =
           told = columns_fewer (sight_at b n) (kid_at b) (Fresh turn w.wide.parts.base.placed.areas w.turns) (AllBut p.columns.stale) (columns_in w) h.columns o.fresh;
         }
 
-    rows : IsPastRows b n (record { base = w.wide.parts.base; told = rows_in w; stale = p.columns.stale })
+    rows : IsPastRows b n (record { base = w.wide.parts.base; told = rows_in w; rows = w.wide.rows; stale = p.columns.stale })
     rows =
         record {
           places = h.places;
+          laid = h.laid;
           stale = o.within;
           told = rows_fewer (sight_at b n) (kid_at b) w.wide.parts.base (Fresh turn w.wide.parts.base.placed.areas w.turns) (AllBut p.columns.stale) (rows_in w) h.rows o.fresh;
         }
@@ -143,13 +146,15 @@ columns_kept b turn n w e places told =
     }
 
 pub wide_kept : (b : BareTrees) (turn : NodeId → ℕ) (n : NodeId) (w : KeptWide) → w.turns ≡ map (λ (e : NodeId × Area). turn e.0) w.wide.parts.base.placed.areas → HoldsPlaces (sight_at b n) (children_at b n) w.wide.parts.base
-    → AreColumns (sight_at b n) (kid_at b) Each (columns_in w) → AreRows (sight_at b n) (kid_at b) w.wide.parts.base Each (rows_in w) → HoldsTold b turn n w
-wide_kept b turn n w e places columns rows =
+    → AreColumns (sight_at b n) (kid_at b) Each (columns_in w) → AreRows (sight_at b n) (kid_at b) w.wide.parts.base Each (rows_in w)
+    → IfSome w.wide.rows (AreRowsFor (sight_at b n) w.wide.parts.base w.wide.items) → HoldsTold b turn n w
+wide_kept b turn n w e places columns rows laid =
     record {
       places = places;
       turns = turns_are turn w.wide.parts.base.placed.areas w.turns e;
       columns = columns_fewer (sight_at b n) (kid_at b) Each (Fresh turn w.wide.parts.base.placed.areas w.turns) (columns_in w) columns (λ k l d. tt);
       rows = rows_fewer (sight_at b n) (kid_at b) w.wide.parts.base Each (Fresh turn w.wide.parts.base.placed.areas w.turns) (rows_in w) rows (λ k l d. tt);
+      laid = laid;
     }
 
 -- ---- the same by equal lists

@@ -92,11 +92,11 @@ pub record KeepsSame (old new : NodeTrees) (n : NodeId) : Type 0 where
 abbrev pub KeepsOn : NodeTrees → NodeTrees → NodeId → Type 0
 KeepsOn old new n = (kept_at new n ≡ []) ⊎ KeepsSame old new n
 
--- A node of the new tree keeps longer than its answers what it so kept in the old one, in which its lines, its chain and its children were the same, and what
+-- A node of the new tree keeps longer than its answers what it so kept in the old one, in which its values, its chain and its children were the same, and what
 -- areas depend on of these.
 pub record HoldsSame (old new : NodeTrees) (n : NodeId) : Type 0 where
   pub past : past_at new n ≡ past_at old n
-  pub grid : (sight_at (bare new) n).label.grid ≡ (sight_at (bare old) n).label.grid
+  pub label : (sight_at (bare new) n).label ≡ (sight_at (bare old) n).label
   pub chain : (sight_at (bare new) n).chain ≡ (sight_at (bare old) n).chain
   pub siblings : siblings_of (sight_at (bare new) n).below ≡ siblings_of (sight_at (bare old) n).below
   pub children : children_at (bare new) n ≡ children_at (bare old) n

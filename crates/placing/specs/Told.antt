@@ -1,5 +1,5 @@
 -- What the children of a grid told, as the grid keeps it longer than its answers, so that only those are asked again whose answers went since (own rule).
-use Rattle.std.specs.Prelude.{◌≡◌, ◌==◌, ◌&&◌, ◌||◌, ◌+◌, ◌-◌, ◌^◌, ◌≤◌, ◌<◌, ℕ, zero, suc, ℤ, Bool, true, false, List, [], ◌∷◌, Some, None, length, nat_lt, slice_get, if◌then◌else◌, IfSome}
+use Rattle.std.specs.Prelude.{◌≡◌, ◌==◌, ◌&&◌, ◌||◌, ◌+◌, ◌-◌, ◌^◌, ◌≤◌, ◌<◌, ℕ, zero, suc, ℤ, Bool, true, false, List, [], ◌∷◌, Some, None, length, map, nat_lt, slice_get, if◌then◌else◌, IfSome}
 use Rattle.std.specs.List.{All}
 use Rattle.lunit.specs.declared.geometry.Area.{Area}
 use Rattle.lunit.specs.declared.geometry.Span.{Span}
@@ -7,20 +7,24 @@ use Rattle.lunit.specs.declared.item.Item.{Item}
 use Rattle.node_arena.specs.declared.number.NodeId.{NodeId}
 use Rattle.part_rules.specs.Lists.{joined}
 use Rattle.part_rules.specs.Views.{area_size, tracks_over}
+use Rattle.part_rules.specs.declared.track.Space.TheVariants.{MaxContent}
 use Rattle.part_rules.specs.declared.view.View.{View}
 use Rattle.style_types.specs.declared.value.Align.{Align}
 use Rattle.tree_rules.specs.Answers.{Kid}
 use Rattle.tree_rules.specs.Distribution.{given_view, subgrid_box, view_in}
 use Rattle.tree_rules.specs.Frames.{given_box}
-use Rattle.tree_rules.specs.GridSizes.{Entry, Wide, column_items_of, from_first, inline_of_entry, pairs_for, row_items_of, shares_columns}
+use Rattle.tree_rules.specs.GridSizes.{Entry, TrackAxis, Wide, column_items_of, from_first, inline_of_entry, pairs_for, row_items_of, shares_columns, total_for}
 use Rattle.tree_rules.specs.Labels.{Label}
 use Rattle.tree_rules.specs.NodeSizes.{bounds_of, inline_used, is_stretched, margins, self_align}
 use Rattle.tree_rules.specs.Places.{Seen}
+use Rattle.tree_rules.specs.Repetitions.{own_pair}
+use Rattle.tree_rules.specs.Templates.{written}
 use Rattle.tree_rules.specs.declared.query.Given.{Given}
+use Rattle.tree_rules.specs.declared.query.Given.TheVariants as given
 use Rattle.placing.specs.Bases.{AreOf, HoldsPlaces}
 use Rattle.placing.specs.Nodes.{BareTrees, children_at, kid_at, sight_at}
 use Rattle.placing.specs.Seats.{context_at}
-use Rattle.placing.specs.Wides.{child_of}
+use Rattle.placing.specs.Wides.{HoldsRows, child_of}
 use Rattle.placing.specs.declared.told.KeptColumns.{KeptColumns}
 use Rattle.placing.specs.declared.told.KeptWide.{KeptWide}
 use Rattle.placing.specs.declared.told.Past.{Past}
@@ -30,6 +34,7 @@ use Rattle.placing.specs.declared.told.PastWide.{PastWide}
 use Rattle.placing.specs.declared.told.ToldColumns.{ToldColumns}
 use Rattle.placing.specs.declared.told.ToldRows.{ToldRows}
 use Rattle.placing.specs.declared.wide.GridBase.{GridBase}
+use Rattle.placing.specs.declared.wide.RowsAt.{RowsAt}
 use Rattle.placing.specs.declared.wide.WideChild.{WideChild}
 
 -- ---- lists that were told child by child
@@ -89,6 +94,19 @@ pub record TellsColumns (s : Seen) (kid : NodeId → Kid) (base : GridBase) (k :
 pub record TellsRows (s : Seen) (kid : NodeId → Kid) (base : GridBase) (columns : View 0) (align : Align) (k : ℕ) (wide : WideChild) (made : List Item) : Type 0 where
   pub child : (c : NodeId) (a : Area) → slice_get base.placed.areas k ≡ Some (c, a) → wide ≡ child_of (wide_told (kid c) a base columns align)
   pub items : (c : NodeId) (a : Area) → slice_get base.placed.areas k ≡ Some (c, a) → made ≡ row_items_of (context_at s base.pairs).rows (entry_with (kid c) a) (wide_told (kid c) a base columns align).down
+
+-- ---- the rows by what was told
+
+-- The axis of the rows of a grid with these items along them (CSS Grid 2, section 12).
+unfoldable pub row_axis : Seen → GridBase → List Item → TrackAxis
+row_axis s base items =
+    let x = s.label in
+    record { border_box = x.content.border_box; grid = x.grid.rows; content = x.content.block; written = written x.grid.rows.template (own_pair x given.None).1; spans = map (λ (e : NodeId × Area). e.1.rows) base.placed.areas; tracks = base.placed.rows; items = items }
+
+-- The rows lie so in a content box that is as great as these items make it: their total under a max-content space (CSS Grid 2, 5.2).
+pub record AreRowsFor (s : Seen) (base : GridBase) (items : List Item) (r : RowsAt) : Type 0 where
+  pub size : r.size ≡ total_for {axis = 1} (row_axis s base items) MaxContent
+  pub laid : HoldsRows (row_axis s base items) base.placed.rows r
 
 -- ---- which of it lasts
 
@@ -163,6 +181,8 @@ pub record HoldsTold (b : BareTrees) (turn : NodeId → ℕ) (n : NodeId) (w : K
   pub turns : AreTurns turn w.wide.parts.base.placed.areas w.turns
   pub columns : AreColumns (sight_at b n) (kid_at b) (Fresh turn w.wide.parts.base.placed.areas w.turns) (columns_in w)
   pub rows : AreRows (sight_at b n) (kid_at b) w.wide.parts.base (Fresh turn w.wide.parts.base.placed.areas w.turns) (rows_in w)
+  -- the rows are those of all items, whether the children count that told them or not
+  pub laid : IfSome w.wide.rows (AreRowsFor (sight_at b n) w.wide.parts.base w.wide.items)
 
 -- All that a node keeps longer than its answers is of it.
 pub record HoldsPast (b : BareTrees) (turn : NodeId → ℕ) (n : NodeId) (p : Past) : Type 0 where
@@ -187,6 +207,7 @@ pub record IsPastRows (b : BareTrees) (n : NodeId) (p : PastRows) : Type 0 where
   pub places : HoldsPlaces (sight_at b n) (children_at b n) p.base
   pub stale : All (λ k. k < length p.base.placed.areas) p.stale
   pub told : AreRows (sight_at b n) (kid_at b) p.base (AllBut p.stale) p.told
+  pub laid : IfSome p.rows (AreRowsFor (sight_at b n) p.base p.told.items)
 
 -- both
 pub record IsPastWide (b : BareTrees) (n : NodeId) (p : PastWide) : Type 0 where
@@ -199,5 +220,6 @@ pub record IsPastOf (turn : NodeId → ℕ) (w : KeptWide) (p : PastWide) : Type
   pub rows : p.rows.told ≡ rows_in w
   pub base : p.rows.base ≡ w.wide.parts.base
   pub again : p.rows.stale ≡ p.columns.stale
+  pub laid : p.rows.rows ≡ w.wide.rows
   pub fresh : (k : ℕ) → k < length w.wide.parts.base.placed.areas → is_listed k p.columns.stale ≡ false → is_fresh turn w.wide.parts.base.placed.areas w.turns k ≡ true
   pub within : All (λ k. k < length w.wide.parts.base.placed.areas) p.columns.stale

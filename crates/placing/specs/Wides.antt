@@ -1,6 +1,6 @@
 -- A grid in its columns, as its answer for the block size holds it: what the rules say of the node alone, whatever stands around it (CSS Grid
 -- 2, 12.1).
-use Rattle.std.specs.Prelude.{◌≡◌, ◌≤◌, ◌+◌, ◌^◌, ◌++◌, ◌∷◌, ℕ, ℤ, pos, ◌-ℤ◌, ◌≤ℤ◌, List, [], length, map, slice_get, if◌then◌else◌, IfSome}
+use Rattle.std.specs.Prelude.{◌≡◌, ◌≤◌, ◌+◌, ◌^◌, ◌++◌, ◌∷◌, ℕ, pos, ◌-ℤ◌, ◌≤ℤ◌, List, [], length, map, slice_get, if◌then◌else◌, IfSome}
 use Rattle.lunit.specs.Units.{IsUnits}
 use Rattle.lunit.specs.declared.geometry.Area.{Area}
 use Rattle.lunit.specs.declared.geometry.Span.{Span}
@@ -10,7 +10,7 @@ use Rattle.part_rules.specs.declared.view.View.{View}
 use Rattle.tree_rules.specs.Answers.{Kid, Pair}
 use Rattle.tree_rules.specs.Chains.{above_of, sibling_of}
 use Rattle.tree_rules.specs.Contexts as rules
-use Rattle.tree_rules.specs.GridSizes.{Entry, Grid, TrackAxis, Wide, entry_of, grid_by, row_items_of, rows_of_grid, shares_rows, view_by, view_for, wide_children}
+use Rattle.tree_rules.specs.GridSizes.{Grid, TrackAxis, Wide, entry_of, grid_by, row_items_of, rows_of_grid, shares_rows, view_by, view_for, wide_children}
 use Rattle.tree_rules.specs.Orders.{in_order}
 use Rattle.tree_rules.specs.Places.{Seen}
 use Rattle.tree_rules.specs.Repetitions.{own_pair}

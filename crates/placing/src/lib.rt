@@ -19,6 +19,7 @@ mod node;
 mod order;
 mod placement;
 pub mod rules;
+mod same;
 mod seats;
 mod shared;
 mod sight;

@@ -9,12 +9,12 @@ use tree_rules::{Given, NodeKind};
 /// What the arena holds of a node.
 #[derive(Drop)]
 pub struct Node {
+    /// The answers that it keeps.
+    pub kept: Kept<Answer>,
     /// A grid, a flex container, or a leaf with its content.
     pub kind: NodeKind,
     /// The name, of at most 58 bytes.
     pub name: Name,
-    /// The answers that it keeps.
-    pub kept: Kept<Answer>,
     /// How often its answers went, and one; it stands still at 2^64 - 1.
     pub turn: u64,
     /// The computed values (CSS Values 4, section 6.1).

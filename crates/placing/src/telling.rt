@@ -10,10 +10,11 @@ ghost use Rattle.placing.specs.Bases.{HoldsPlaces};
 ghost use Rattle.placing.specs.Keeping.{ChangesPast};
 ghost use Rattle.placing.specs.Kept.{past_at, turn_at, IsRight};
 ghost use Rattle.placing.specs.Nodes.{bare, children_at, kid_at, sight_at, IsLive};
-ghost use Rattle.placing.specs.Told.{ends_from, is_fresh, is_listed, AreColumns, AreRows, AreMovable, AreTurns, Each, HasParts, IsPastColumns, IsPastOf, IsPastWide};
+ghost use Rattle.placing.specs.Told.{ends_from, is_fresh, is_listed, AreColumns, AreRows, AreMovable, AreRowsFor, AreTurns, Each, HasParts, IsPastColumns, IsPastOf, IsPastWide};
 ghost use Rattle.placing.specs.Walks.{IsAlike};
 
 use crate::node::Node;
+use crate::same::same_item;
 use crate::shared::SharedWide;
 use crate::told::{
     KeptColumns, KeptWide, PastColumns, PastRows, PastWide, SharedColumns, SharedTold, ToldColumns,
@@ -206,7 +207,7 @@ fn past_of(alloc: Global, tree: &Arena<Node>, kept: KeptWide) -> Result<Option<P
         columns,
         children,
         items,
-        rows: _,
+        rows,
     } = wide;
     Ok(Some(PastWide {
         columns: PastColumns {
@@ -225,6 +226,7 @@ fn past_of(alloc: Global, tree: &Arena<Node>, kept: KeptWide) -> Result<Option<P
                 items,
                 ends: row_ends,
             },
+            rows,
             stale: again,
         },
     }))
@@ -246,6 +248,7 @@ pub fn keep_wide(
     requires places { HoldsPlaces (sight_at (bare tree.old.tree) id) (children_at (bare tree.old.tree) id) wide.parts.base }
     requires columns { AreColumns (sight_at (bare tree.old.tree) id) (kid_at (bare tree.old.tree)) Each (record { parts = wide.parts; ends = column_ends }) }
     requires rows { AreRows (sight_at (bare tree.old.tree) id) (kid_at (bare tree.old.tree)) wide.parts.base Each (record { columns = wide.columns; align = align; children = wide.children; items = wide.items; ends = row_ends }) }
+    requires laid { IfSome wide.rows (AreRowsFor (sight_at (bare tree.old.tree) id) wide.parts.base wide.items) }
     ensures right { IsRight tree.new.tree }
     ensures alike { IsAlike tree.old tree.new }
 {
@@ -271,15 +274,21 @@ fn start_of(ends: &[usize], index: usize) -> usize
     if index == 0 { 0 } else { ends[index - 1] }
 }
 
-/// Puts other items in the place of as many from an index on.
-fn write_items(items: &mut Sequence<Item>, start: usize, own: &[Item])
+/// Puts other items in the place of as many from an index on, and tells whether any is another one than that before.
+fn write_items(items: &mut Sequence<Item>, start: usize, own: &[Item]) -> bool
     requires within { start + length own.now ≤ length items.old }
     requires room { start + length own.now < 2 ^ 64 }
-    ensures { items.new ≡ take start items.old ++ own.now ++ drop (start + length own.now) items.old }
+    ensures items { items.new ≡ take start items.old ++ own.now ++ drop (start + length own.now) items.old }
+    ensures same { result ≡ false → items.new ≡ items.old }
 {
+    let mut other = false;
     for at in 0..own.len() {
+        if !same_item(&items.as_slice()[start + at], &own[at]) {
+            other = true;
+        }
         items.set(start + at, own[at]);
     }
+    other
 }
 
 /// Puts other items in the place of those between two indices. `NoMemory` where memory is wanting.
@@ -315,26 +324,27 @@ fn move_ends(ends: &mut Sequence<usize>, index: usize, less: usize, more: usize)
     }
 }
 
-/// Puts other items in the place of those of the child of this index. `NoMemory` where memory is wanting.
+/// Puts other items in the place of those of the child of this index, and tells whether any is another one than before. `NoMemory`
+/// where memory is wanting.
 pub fn put_items(
     alloc: Global,
     items: &mut Sequence<Item>,
     ends: &mut Sequence<usize>,
     index: usize,
     own: &[Item],
-) -> Result<(), NoMemory>
+) -> Result<bool, NoMemory>
     requires parts { HasParts items.old ends.old }
     requires index { index < length ends.old }
     ensures items { OnOk result ((parts : List (List Item)) → items.old ≡ joined parts → ends.old ≡ ends_from 0 parts → items.new ≡ joined (slice_set parts index own.now)) }
     ensures ends { OnOk result ((parts : List (List Item)) → items.old ≡ joined parts → ends.old ≡ ends_from 0 parts → ends.new ≡ ends_from 0 (slice_set parts index own.now)) }
+    ensures same { IfOk result (λ other. other ≡ false → items.new ≡ items.old) }
 {
     let start = start_of(ends.as_slice(), index);
     let end = ends.as_slice()[index];
     if end - start == own.len() {
-        write_items(items, start, own);
-        return Ok(());
+        return Ok(write_items(items, start, own));
     }
     splice_items(alloc, items, start, end, own)?;
     move_ends(ends, index, end - start, own.len());
-    Ok(())
+    Ok(true)
 }

@@ -6,7 +6,7 @@ ghost use Rattle.placing.specs.Told.{no_past};
 
 use crate::bases::Bases;
 use crate::shared::{SharedBase, SharedWide};
-use crate::wide::{GridParts, WideChild};
+use crate::wide::{GridParts, RowsAt, WideChild};
 use lunit::{Item, NoMemory, Sequence};
 use part_rules::View;
 use std::alloc::Global;
@@ -78,6 +78,8 @@ pub struct PastRows {
     pub base: SharedBase,
     /// What they told.
     pub told: ToldRows,
+    /// Where the rows lie that are as great as all that makes them, if that is known.
+    pub rows: Option<RowsAt>,
     /// The indices of those that must be asked again, in the order of the areas.
     pub stale: Sequence<usize>,
 }

@@ -12,7 +12,7 @@ use Rattle.node_arena.proofs.Same.{part_there, same_refl}
 use Rattle.node_arena.proofs.Standing.{some_is}
 use Rattle.node_arena.proofs.Ways.{within_way}
 use Rattle.layout_cache.specs.Reach.{is_above, reached, reached_by}
-use Rattle.tree_rules.specs.Chains.{Sibling, has_subgrid, is_grid_kind, siblings_of}
+use Rattle.tree_rules.specs.Chains.{has_subgrid, is_grid_kind, siblings_of}
 use Rattle.tree_rules.specs.Labels.{grid_of}
 use Rattle.tree_rules.specs.Places.{Seen}
 use Rattle.placing.specs.declared.node.Node.{Node}
@@ -146,16 +146,16 @@ module _ (t u : NodeTrees) (dt : IsDistinct t) (du : IsDistinct u) (root : NodeI
         children_stay root (bare t) (bare u) rb ru (λ m. is_among m ts) grid local n live calm.own,
       )
 
-  -- where subgrids do not feel the change, the lines, the chain and the children of every node are the same, and what its areas depend on of these
-  same_lines : grid ≡ false → (n : NodeId) → IsSome (part_at u n) → past_at u n ≡ past_at t n → HoldsSame t u n
-  same_lines calm n new same =
+  -- where subgrids do not feel the change, the chain and the children of every node are the same, and what its areas depend on of these
+  same_lines : grid ≡ false → (n : NodeId) → IsSome (part_at u n) → (sight_at (bare u) n).label ≡ (sight_at (bare t) n).label → past_at u n ≡ past_at t n → HoldsSame t u n
+  same_lines calm n new values same =
       let rb = rooted root (bare t) (distinct_bare t dt) (omega (arith, low_t, height_bare t)) (tops_bare t ∙ tops_t) in
       let ru = rooted root (bare u) (distinct_bare u du) (omega (arith, low_u, height_bare u)) (tops_bare u ∙ tops_u) in
       let live = live_bare u n ∙ new in
       let shows = local.shows n live (marked n) in
       record {
         past = same;
-        grid = ap (λ (s : Sibling). s.grid) shows.own;
+        label = values;
         chain = same_chain root (bare t) (bare u) rb ru (λ m. is_among m ts) grid local (level_at (bare u) n) n (omega arith) live (marked n) (λ k. none_felt (λ m. grid && is_among m ts) (bare u) marked k n);
         siblings = shows.siblings;
         children = shows.children;
@@ -170,7 +170,7 @@ module _ (t u : NodeTrees) (dt : IsDistinct t) (du : IsDistinct u) (root : NodeI
       let s = same_sight n old new e in
       record {
         past = same;
-        grid = ap (λ (v : Seen). v.label.grid) s.0;
+        label = ap (λ (v : Seen). v.label) s.0;
         chain = ap (λ (v : Seen). v.chain) s.0;
         siblings = ap (λ (v : Seen). siblings_of v.below) s.0;
         children = s.1;
@@ -180,9 +180,13 @@ module _ (t u : NodeTrees) (dt : IsDistinct t) (du : IsDistinct u) (root : NodeI
   abbrev pub KeepsOrNot : NodeId → Type 0
   KeepsOrNot n = (kept_at u n ≡ []) ⊎ ((IsSome (part_at t n) × (is_among n (reached_by node_sub t ts grid) ≡ false)) × (kept_at u n ≡ kept_at t n))
 
-  -- it keeps nothing longer than its answers, or subgrids do not feel the change or it is not reached, and it so keeps what it kept
+  -- subgrids do not feel the change and the values of a node are the same, or it is not reached
+  abbrev pub ReadsSame : NodeId → Type 0
+  ReadsSame n = ((grid ≡ false) × ((sight_at (bare u) n).label ≡ (sight_at (bare t) n).label)) ⊎ (is_among n (reached_by node_sub t ts grid) ≡ false)
+
+  -- it keeps nothing longer than its answers, or it reads the same and so keeps what it kept
   abbrev pub HoldsOrNot : NodeId → Type 0
-  HoldsOrNot n = (past_at u n ≡ no_past) ⊎ ((IsSome (part_at t n) × ((grid ≡ false) ⊎ (is_among n (reached_by node_sub t ts grid) ≡ false))) × (past_at u n ≡ past_at t n))
+  HoldsOrNot n = (past_at u n ≡ no_past) ⊎ ((IsSome (part_at t n) × ReadsSame n) × (past_at u n ≡ past_at t n))
 
   -- its turn has gone, or it is not reached and has its turn still
   abbrev pub TurnsOrNot : NodeId → Type 0
@@ -206,8 +210,8 @@ module _ (t u : NodeTrees) (dt : IsDistinct t) (du : IsDistinct u) (root : NodeI
       holds : (n : NodeId) → HoldsOn t u n
       holds n = at (part_at u n) refl
         where
-          kept : IsSome (part_at u n) → IsSome (part_at t n) → (grid ≡ false) ⊎ (is_among n (reached_by node_sub t ts grid) ≡ false) → past_at u n ≡ past_at t n → HoldsOn t u n
-          kept new old (inl calm) same = inr (same_lines calm n new same)
+          kept : IsSome (part_at u n) → IsSome (part_at t n) → ReadsSame n → past_at u n ≡ past_at t n → HoldsOn t u n
+          kept new old (inl calm) same = inr (same_lines calm.0 n new calm.1 same)
           kept new old (inr e) same = inr (same_seen n old new e same)
 
           by : IsSome (part_at u n) → HoldsOrNot n → HoldsOn t u n

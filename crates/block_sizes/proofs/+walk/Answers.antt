@@ -1,8 +1,7 @@
 use Rattle.std.proofs.Common.{rules, arith, drop, refl, sym, ap, subst, ◌≡◌, ◌∙◌, ◌+◌, ◌*◌, ◌<◌, ◌∷◌, ◌++◌, [], List, ℕ, ℤ, true, false, length, map, pos, ◌≤◌, ◌&&◌, Bool}
-use Rattle.std.specs.Prelude.{Contains}
 use Rattle.lunit.specs.declared.item.Item.{Item}
 use Rattle.placing.specs.Counted.{IsGivenSize}
-use Rattle.placing.specs.Nodes.{BareTrees, IsLive, bare, kid_at, level_at, sight_at, size_at, uses_at}
+use Rattle.placing.specs.Nodes.{BareTrees, IsLive, bare, kid_at, level_at, sight_at, size_at}
 use Rattle.placing.specs.Ranges.{AreReadable}
 use Rattle.placing.specs.Seats.{IsSeat}
 use Rattle.placing.specs.Walks.{Stopped, Walked, kept_with, state}
@@ -23,15 +22,18 @@ use Rattle.tree_rules.specs.declared.query.Given.{Given}
 use Rattle.tree_rules.specs.declared.query.Query.{Query}
 use Rattle.inline_sizes.proofs.Asked.{walked_stopped}
 use Rattle.inline_sizes.specs.Grids.{IsGrid, pairs_seen}
-use Rattle.block_sizes.proofs.Answered.{column_answer, flex_quiet, grid_answer, grid_quiet, items_are, lent_answer, row_answer, size_is}
+use Rattle.block_sizes.proofs.Answered.{column_answer, flex_quiet, grid_quiet, items_are, lent_answer, row_answer, size_is}
 use Rattle.block_sizes.proofs.Fitting.{given_some, asked_as, block_fit, block_own, lent_fit, pairs_all, rows_told, shared_chain}
 use Rattle.block_sizes.proofs.HeldWide.{grows_by_block, on_ok_by, some_or_none, wide_held}
 use Rattle.placing.specs.Kept.{kept_at}
 use Rattle.placing.specs.Nodes.{children_at}
 use Rattle.placing.specs.Wides.{HoldsWide}
+use Rattle.block_sizes.proofs.KnownRows.{rows_last, rows_lost}
+use Rattle.block_sizes.proofs.KeptGrids.{keepable, laid_answer, IsKeepable}
+use Rattle.block_sizes.proofs.Turns.{member_below, member_ends, member_stops, stops_at_once, turn_below, turn_ends, turn_stops}
 use Rattle.block_sizes.proofs.Joined.{joined_below, joined_stopped}
 use Rattle.block_sizes.proofs.Leading.{leads_down}
-use Rattle.block_sizes.proofs.Widths.{all_there, below_then, sizes_there, stops_then, turn_read, IsTurn}
+use Rattle.block_sizes.proofs.Widths.{all_there, sizes_there}
 use Rattle.placing.specs.Spread.{AreSpread, IsSpread}
 use Rattle.block_sizes.specs.Wides.{IsWide, LeadsDown, asked_of, block_seen, farthest, items_seen, wide_in}
 use Rattle.placing.specs.declared.wide.GridBase.{GridBase}
@@ -40,11 +42,8 @@ use Rattle.std.specs.Prelude.{IfSome, Some, get_or, ◌-ℤ◌, ◌≤ℤ◌}
 use Rattle.lunit.specs.Units.{IsUnits}
 use Rattle.placing.proofs.Alike.{from_alike, from_stopped_alike, then_alike, then_stopped_alike}
 use Rattle.placing.proofs.Tellings.{ends_length, has_parts}
-use Rattle.placing.specs.Bases.{HoldsPlaces}
-use Rattle.placing.specs.Told.{AllBut, AreColumns, AreRows, AreTold, Each, HasParts, IsPastColumns, IsPastRows, TellsRows}
-use Rattle.placing.specs.declared.wide.GridWide.{GridWide}
+use Rattle.placing.specs.Told.{AllBut, AreRowsFor, AreTold, Each, HasParts, IsPastColumns, IsPastRows, TellsRows}
 use Rattle.tree_rules.specs.Labels.{ContentStyle}
-use Rattle.inline_sizes.proofs.Held.{places_held}
 use Rattle.block_sizes.proofs.ToldRows.{length_more, length_set, rows_from, rows_in, stale_within, tells_now, told_again, told_end, told_made, told_more, told_start}
 use Rattle.block_sizes.specs.Told.{AreIn, AreLaid, IsToldWide}
 use Rattle.part_rules.specs.declared.flex.FlexItem.{FlexItem}
@@ -55,7 +54,7 @@ use Rattle.tree_rules.specs.AskedQueries.{inline_query}
 use Rattle.tree_rules.specs.FlexSizes as rules
 use Rattle.tree_rules.specs.FlexSizes.{settled_at}
 use Rattle.tree_rules.specs.Frames.{given_size}
-use Rattle.tree_rules.specs.GridSizes.{grid_block, grid_lends_rows}
+use Rattle.tree_rules.specs.GridSizes.{grid_lends_rows}
 use Rattle.tree_rules.specs.Labels.{grid_of}
 use Rattle.tree_rules.specs.NodeSizes.{inner}
 use Rattle.inline_sizes.proofs.Asked.{on_ok}
@@ -66,9 +65,10 @@ use Rattle.block_sizes.proofs.FlexLeading.{column_leads, row_leads}
 use Rattle.block_sizes.proofs.FlexMade.{items_few, lines_made}
 use Rattle.block_sizes.proofs.Settled.{covering_roomy, map_length, seen_length, settled_length}
 use Rattle.block_sizes.specs.Flexes.{AreCovering, HaveInner}
-use Rattle.block_sizes.specs.Settling.{AreRoomy, IsColumn, IsRow, LeadsTo, block_of, column_boxes_seen, settled_seen}
+use Rattle.block_sizes.specs.Settling.{AreRoomy, IsColumn, IsRow, block_of, column_boxes_seen, settled_seen}
 use Rattle.block_sizes.specs.Wides.{rows_seen}
 use Rattle.block_sizes.proofs.+walk.Goals as goal
+use Rattle.block_sizes.proofs.+walk.Goals.{asking::ask_stale-then-branch, asking::ask_stale-else-branch}
 
 abbrev has_kind : NodeKind → GridStyle → Bool
 has_kind k s = is_grid_kind k && has_subgrid s
@@ -185,22 +185,13 @@ asking::ask_children-loop-index-init g t c =
     }
 
 pub asking::ask_children-returns-in_err-children-clause-stopped : goal.asking::ask_children-returns-in_err-children-clause-stopped
-asking::ask_children-returns-in_err-children-clause-stopped g t c =
-    let all : (q : Query) → LeadsDown (bare c.args.tree.now.tree) c.args.id c.args.reps.now c.args.width.now q → Stopped c.args.id q (state c.args.tree.now c.args.tally.now c.args.passes.now (g.R.Ruler.log c.args.ruler.now)) (state c.args.tree.now c.args.tally.now c.args.passes.now (g.R.Ruler.log c.args.ruler.now)) =
-    λ q leads. stopped c.args.id q 0 _ _ (walked_none c.args.id q (state c.args.tree.now c.args.tally.now c.args.passes.now (g.R.Ruler.log c.args.ruler.now)) c.requires.right) in
-    on_err _ _ all
+asking::ask_children-returns-in_err-children-clause-stopped g t c = on_err _ _ (stops_at_once c.args.id (state c.args.tree.now c.args.tally.now c.args.passes.now (g.R.Ruler.log c.args.ruler.now)) (LeadsDown (bare c.args.tree.now.tree) c.args.id c.args.reps.now c.args.width.now) c.requires.right)
 
 pub asking::ask_children-returns-in_err-items-clause-stopped : goal.asking::ask_children-returns-in_err-items-clause-stopped
-asking::ask_children-returns-in_err-items-clause-stopped g t c =
-    let all : (q : Query) → LeadsDown (bare c.args.tree.now.tree) c.args.id c.args.reps.now c.args.width.now q → Stopped c.args.id q (state c.args.tree.now c.args.tally.now c.args.passes.now (g.R.Ruler.log c.args.ruler.now)) (state c.args.tree.now c.args.tally.now c.args.passes.now (g.R.Ruler.log c.args.ruler.now)) =
-    λ q leads. stopped c.args.id q 0 _ _ (walked_none c.args.id q (state c.args.tree.now c.args.tally.now c.args.passes.now (g.R.Ruler.log c.args.ruler.now)) c.requires.right) in
-    on_err _ _ all
+asking::ask_children-returns-in_err-items-clause-stopped g t c = on_err _ _ (stops_at_once c.args.id (state c.args.tree.now c.args.tally.now c.args.passes.now (g.R.Ruler.log c.args.ruler.now)) (LeadsDown (bare c.args.tree.now.tree) c.args.id c.args.reps.now c.args.width.now) c.requires.right)
 
 pub asking::ask_children-returns-in_err-ends-clause-stopped : goal.asking::ask_children-returns-in_err-ends-clause-stopped
-asking::ask_children-returns-in_err-ends-clause-stopped g t c =
-    let all : (q : Query) → LeadsDown (bare c.args.tree.now.tree) c.args.id c.args.reps.now c.args.width.now q → Stopped c.args.id q (state c.args.tree.now c.args.tally.now c.args.passes.now (g.R.Ruler.log c.args.ruler.now)) (state c.args.tree.now c.args.tally.now c.args.passes.now (g.R.Ruler.log c.args.ruler.now)) =
-    λ q leads. stopped c.args.id q 0 _ _ (walked_none c.args.id q (state c.args.tree.now c.args.tally.now c.args.passes.now (g.R.Ruler.log c.args.ruler.now)) c.requires.right) in
-    on_err _ _ all
+asking::ask_children-returns-in_err-ends-clause-stopped g t c = on_err _ _ (stops_at_once c.args.id (state c.args.tree.now c.args.tally.now c.args.passes.now (g.R.Ruler.log c.args.ruler.now)) (LeadsDown (bare c.args.tree.now.tree) c.args.id c.args.reps.now c.args.width.now) c.requires.right)
 
 pub asking::ask_children-child_in-entry-requires : goal.asking::ask_children-child_in-entry-requires
 asking::ask_children-child_in-entry-requires g t c =
@@ -231,38 +222,24 @@ asking::ask_children-sizes_at-sizes-requires g t c =
 
 pub asking::ask_children-returns-in_err-child-clause-stopped : goal.asking::ask_children-returns-in_err-child-clause-stopped
 asking::ask_children-returns-in_err-child-clause-stopped g t c =
-    let turn_now : IsTurn (bare c.args.tree.now.tree) (bare c.loop-index.tree.tree) c.args.id c.args.reps.now c.args.width.now c.grid-base.result.now c.args.columns c.child_in-entry.result c.sizes_at-sizes.result c.loop-index.index =
-    turn_read (bare c.args.tree.now.tree) (bare c.loop-index.tree.tree) c.loop-index.invariant.same c.args.id c.args.reps.now c.args.width.now c.args.parts.now c.grid-base.result.now c.grid-base.ensures c.args.columns c.child_in-entry.result c.sizes_at-sizes.result c.loop-index.index c.requires.grid c.requires.columns.seen c.child_in-entry.ensures.next c.sizes_at-sizes.ensures c.child_in-entry.ensures.child.entry.number in
-    let all : (q : Query) → LeadsDown (bare c.args.tree.now.tree) c.args.id c.args.reps.now c.args.width.now q → Stopped c.args.id q (state c.args.tree.now c.args.tally.now c.args.passes.now (g.R.Ruler.log c.args.ruler.now)) (state c.ask_child.new.tree c.ask_child.new.tally c.ask_child.new.passes (g.R.Ruler.log c.ask_child.new.ruler)) =
-    λ q leads. stops_then (bare c.args.tree.now.tree) (bare c.loop-index.tree.tree) c.loop-index.invariant.same c.args.id c.args.reps.now c.args.width.now turn_now.wide c.child_in-entry.result.child _ c.loop-index.index turn_now.next turn_now.asked c.root.ensures.steps turn_now.number q leads _ _ _ refl (c.loop-index.invariant.walked q leads) c.in_err-child.ensures.stopped in
-    on_err _ _ all
+    on_err _ _ (turn_stops (bare c.args.tree.now.tree) (bare c.loop-index.tree.tree) c.loop-index.invariant.same c.args.id c.args.reps.now c.args.width.now c.args.parts.now c.requires.grid c.root.ensures.steps c.grid-base.result.now c.grid-base.ensures c.args.columns c.requires.columns.seen c.child_in-entry.result c.sizes_at-sizes.result c.loop-index.index c.child_in-entry.ensures.next c.sizes_at-sizes.ensures c.child_in-entry.ensures.child.entry.number _ _ _ refl c.loop-index.invariant.walked c.in_err-child.ensures.stopped)
 
 pub asking::ask_children-returns-in_err-push-clause-stopped : goal.asking::ask_children-returns-in_err-push-clause-stopped
 asking::ask_children-returns-in_err-push-clause-stopped g t c =
-    let turn_now : IsTurn (bare c.args.tree.now.tree) (bare c.loop-index.tree.tree) c.args.id c.args.reps.now c.args.width.now c.grid-base.result.now c.args.columns c.child_in-entry.result c.sizes_at-sizes.result c.loop-index.index =
-    turn_read (bare c.args.tree.now.tree) (bare c.loop-index.tree.tree) c.loop-index.invariant.same c.args.id c.args.reps.now c.args.width.now c.args.parts.now c.grid-base.result.now c.grid-base.ensures c.args.columns c.child_in-entry.result c.sizes_at-sizes.result c.loop-index.index c.requires.grid c.requires.columns.seen c.child_in-entry.ensures.next c.sizes_at-sizes.ensures c.child_in-entry.ensures.child.entry.number in
-    let all : (q : Query) → LeadsDown (bare c.args.tree.now.tree) c.args.id c.args.reps.now c.args.width.now q → Stopped c.args.id q (state c.args.tree.now c.args.tally.now c.args.passes.now (g.R.Ruler.log c.args.ruler.now)) (state c.ask_child.new.tree c.ask_child.new.tally c.ask_child.new.passes (g.R.Ruler.log c.ask_child.new.ruler)) =
-    λ q leads. stopped c.args.id q 0 _ _ (below_then (bare c.args.tree.now.tree) (bare c.loop-index.tree.tree) c.loop-index.invariant.same c.args.id c.args.reps.now c.args.width.now turn_now.wide c.child_in-entry.result.child _ c.loop-index.index turn_now.next turn_now.asked c.root.ensures.steps turn_now.number q leads _ _ _ refl (c.loop-index.invariant.walked q leads) c.in_ok-child.ensures.walked) in
-    on_err _ _ all
+    on_err _ _ (turn_ends (bare c.args.tree.now.tree) (bare c.loop-index.tree.tree) c.loop-index.invariant.same c.args.id c.args.reps.now c.args.width.now c.args.parts.now c.requires.grid c.root.ensures.steps c.grid-base.result.now c.grid-base.ensures c.args.columns c.requires.columns.seen c.child_in-entry.result c.sizes_at-sizes.result c.loop-index.index c.child_in-entry.ensures.next c.sizes_at-sizes.ensures c.child_in-entry.ensures.child.entry.number _ _ _ refl c.loop-index.invariant.walked c.in_ok-child.ensures.walked)
 
 pub asking::ask_children-returns-in_err-push-2-clause-stopped : goal.asking::ask_children-returns-in_err-push-2-clause-stopped
 asking::ask_children-returns-in_err-push-2-clause-stopped g t c =
-    let turn_now : IsTurn (bare c.args.tree.now.tree) (bare c.loop-index.tree.tree) c.args.id c.args.reps.now c.args.width.now c.grid-base.result.now c.args.columns c.child_in-entry.result c.sizes_at-sizes.result c.loop-index.index =
-    turn_read (bare c.args.tree.now.tree) (bare c.loop-index.tree.tree) c.loop-index.invariant.same c.args.id c.args.reps.now c.args.width.now c.args.parts.now c.grid-base.result.now c.grid-base.ensures c.args.columns c.child_in-entry.result c.sizes_at-sizes.result c.loop-index.index c.requires.grid c.requires.columns.seen c.child_in-entry.ensures.next c.sizes_at-sizes.ensures c.child_in-entry.ensures.child.entry.number in
-    let all : (q : Query) → LeadsDown (bare c.args.tree.now.tree) c.args.id c.args.reps.now c.args.width.now q → Stopped c.args.id q (state c.args.tree.now c.args.tally.now c.args.passes.now (g.R.Ruler.log c.args.ruler.now)) (state c.ask_child.new.tree c.ask_child.new.tally c.ask_child.new.passes (g.R.Ruler.log c.ask_child.new.ruler)) =
-    λ q leads. stopped c.args.id q 0 _ _ (below_then (bare c.args.tree.now.tree) (bare c.loop-index.tree.tree) c.loop-index.invariant.same c.args.id c.args.reps.now c.args.width.now turn_now.wide c.child_in-entry.result.child _ c.loop-index.index turn_now.next turn_now.asked c.root.ensures.steps turn_now.number q leads _ _ _ refl (c.loop-index.invariant.walked q leads) c.in_ok-child.ensures.walked) in
-    on_err _ _ all
+    on_err _ _ (turn_ends (bare c.args.tree.now.tree) (bare c.loop-index.tree.tree) c.loop-index.invariant.same c.args.id c.args.reps.now c.args.width.now c.args.parts.now c.requires.grid c.root.ensures.steps c.grid-base.result.now c.grid-base.ensures c.args.columns c.requires.columns.seen c.child_in-entry.result c.sizes_at-sizes.result c.loop-index.index c.child_in-entry.ensures.next c.sizes_at-sizes.ensures c.child_in-entry.ensures.child.entry.number _ _ _ refl c.loop-index.invariant.walked c.in_ok-child.ensures.walked)
 
 pub asking::ask_children-loop-index-preserved : goal.asking::ask_children-loop-index-preserved
 asking::ask_children-loop-index-preserved g t c =
-    let turn_now : IsTurn (bare c.args.tree.now.tree) (bare c.loop-index.tree.tree) c.args.id c.args.reps.now c.args.width.now c.grid-base.result.now c.args.columns c.child_in-entry.result c.sizes_at-sizes.result c.loop-index.index =
-    turn_read (bare c.args.tree.now.tree) (bare c.loop-index.tree.tree) c.loop-index.invariant.same c.args.id c.args.reps.now c.args.width.now c.args.parts.now c.grid-base.result.now c.grid-base.ensures c.args.columns c.child_in-entry.result c.sizes_at-sizes.result c.loop-index.index c.requires.grid c.requires.columns.seen c.child_in-entry.ensures.next c.sizes_at-sizes.ensures c.child_in-entry.ensures.child.entry.number in
     let own : TellsRows (sight_at (bare c.args.tree.now.tree) c.args.id) (kid_at (bare c.args.tree.now.tree)) c.args.parts.now.base c.args.columns (sight_at (bare c.args.tree.now.tree) c.args.id).label.content.inline.items c.loop-index.index c.in_ok-child.child (items_seen (bare c.loop-index.tree.tree) c.args.id c.grid-base.result.now c.child_in-entry.result (wide_in (bare c.loop-index.tree.tree) c.args.id c.grid-base.result.now c.args.columns c.child_in-entry.result c.sizes_at-sizes.result).inline) =
     tells_now (bare c.args.tree.now.tree) (bare c.loop-index.tree.tree) c.loop-index.invariant.same c.args.id c.args.reps.now c.args.width.now c.args.parts.now c.grid-base.result.now c.grid-base.ensures c.args.columns c.child_in-entry.result c.sizes_at-sizes.result c.loop-index.index c.in_ok-child.child (items_seen (bare c.loop-index.tree.tree) c.args.id c.grid-base.result.now c.child_in-entry.result (wide_in (bare c.loop-index.tree.tree) c.args.id c.grid-base.result.now c.args.columns c.child_in-entry.result c.sizes_at-sizes.result).inline) c.requires.grid c.child_in-entry.ensures.told c.child_in-entry.ensures.next c.sizes_at-sizes.ensures c.in_ok-child.ensures.value refl in
     record {
       right = c.ask_child.ensures.right;
       same = c.in_ok-child.ensures.walked.walk.bare_same ∙ c.loop-index.invariant.same;
-      walked = λ q leads. below_then (bare c.args.tree.now.tree) (bare c.loop-index.tree.tree) c.loop-index.invariant.same c.args.id c.args.reps.now c.args.width.now turn_now.wide c.child_in-entry.result.child _ c.loop-index.index turn_now.next turn_now.asked c.root.ensures.steps turn_now.number q leads _ _ _ refl (c.loop-index.invariant.walked q leads) c.in_ok-child.ensures.walked;
+      walked = turn_below (bare c.args.tree.now.tree) (bare c.loop-index.tree.tree) c.loop-index.invariant.same c.args.id c.args.reps.now c.args.width.now c.args.parts.now c.requires.grid c.root.ensures.steps c.grid-base.result.now c.grid-base.ensures c.args.columns c.requires.columns.seen c.child_in-entry.result c.sizes_at-sizes.result c.loop-index.index c.child_in-entry.ensures.next c.sizes_at-sizes.ensures c.child_in-entry.ensures.child.entry.number _ _ _ refl c.loop-index.invariant.walked c.in_ok-child.ensures.walked;
       counted = ap length c.in_ok-push.ensures.ok ∙ length_more c.loop-index.children c.in_ok-child.child c.loop-index.index c.loop-index.invariant.counted;
       told = told_more (TellsRows (sight_at (bare c.args.tree.now.tree) c.args.id) (kid_at (bare c.args.tree.now.tree)) c.args.parts.now.base c.args.columns (sight_at (bare c.args.tree.now.tree) c.args.id).label.content.inline.items) c.loop-index.children c.loop-index.items c.loop-index.ends c.loop-index.index c.in_ok-child.child (items_seen (bare c.loop-index.tree.tree) c.args.id c.grid-base.result.now c.child_in-entry.result (wide_in (bare c.loop-index.tree.tree) c.args.id c.grid-base.result.now c.args.columns c.child_in-entry.result c.sizes_at-sizes.result).inline) _ _ _ c.len.result c.loop-index.invariant.counted c.in_ok-push.ensures.ok c.in_ok-child.ensures.items c.len.ensures c.in_ok-push-2.ensures.ok c.loop-index.invariant.told own;
     }
@@ -286,6 +263,7 @@ asking::ask_stale-loop-index-init g t c =
       walked = λ q leads. walked_none c.args.id q (state c.args.tree.now c.args.tally.now c.args.passes.now (g.R.Ruler.log c.args.ruler.now)) c.requires.right;
       counted = c.requires.past.told.told.counted;
       told = subst (λ (l : List ℕ). AreTold (AllBut l) (TellsRows (sight_at (bare c.args.tree.now.tree) c.args.id) (kid_at (bare c.args.tree.now.tree)) c.args.parts.now.base c.args.columns.now (sight_at (bare c.args.tree.now.tree) c.args.id).label.content.inline.items) c.args.past.told.children c.args.past.told.items c.args.past.told.ends) (sym c.as_slice-index-items.ensures) (rows_from (bare c.args.tree.now.tree) c.args.id c.args.parts.now.base c.args.columns.now (AllBut c.args.past.stale) c.args.past.told c.requires.past.told);
+      rows = c.requires.past.laid;
     }
 
 pub asking::ask_stale-child_in-entry-requires : goal.asking::ask_stale-child_in-entry-requires
@@ -317,19 +295,11 @@ asking::ask_stale-sizes_at-sizes-requires g t c =
 
 pub asking::ask_stale-returns-in_err-child-clause-stopped : goal.asking::ask_stale-returns-in_err-child-clause-stopped
 asking::ask_stale-returns-in_err-child-clause-stopped g t c =
-    let turn_now : IsTurn (bare c.args.tree.now.tree) (bare c.loop-index.tree.tree) c.args.id c.args.reps.now c.args.width.now c.grid-base.result.now c.args.columns.now c.child_in-entry.result c.sizes_at-sizes.result (get_or c.as_slice-index-items.result.now c.loop-index.index-index 0) =
-    turn_read (bare c.args.tree.now.tree) (bare c.loop-index.tree.tree) c.loop-index.invariant.same c.args.id c.args.reps.now c.args.width.now c.args.parts.now c.grid-base.result.now c.grid-base.ensures c.args.columns.now c.child_in-entry.result c.sizes_at-sizes.result (get_or c.as_slice-index-items.result.now c.loop-index.index-index 0) c.requires.grid c.requires.columns.seen c.child_in-entry.ensures.next c.sizes_at-sizes.ensures c.child_in-entry.ensures.child.entry.number in
-    let all : (q : Query) → LeadsDown (bare c.args.tree.now.tree) c.args.id c.args.reps.now c.args.width.now q → Stopped c.args.id q (state c.args.tree.now c.args.tally.now c.args.passes.now (g.R.Ruler.log c.args.ruler.now)) (state c.ask_child.new.tree c.ask_child.new.tally c.ask_child.new.passes (g.R.Ruler.log c.ask_child.new.ruler)) =
-    λ q leads. stops_then (bare c.args.tree.now.tree) (bare c.loop-index.tree.tree) c.loop-index.invariant.same c.args.id c.args.reps.now c.args.width.now turn_now.wide c.child_in-entry.result.child _ (get_or c.as_slice-index-items.result.now c.loop-index.index-index 0) turn_now.next turn_now.asked c.root.ensures.steps turn_now.number q leads _ _ _ refl (c.loop-index.invariant.walked q leads) c.in_err-child.ensures.stopped in
-    on_err _ _ all
+    on_err _ _ (turn_stops (bare c.args.tree.now.tree) (bare c.loop-index.tree.tree) c.loop-index.invariant.same c.args.id c.args.reps.now c.args.width.now c.args.parts.now c.requires.grid c.root.ensures.steps c.grid-base.result.now c.grid-base.ensures c.args.columns.now c.requires.columns.seen c.child_in-entry.result c.sizes_at-sizes.result (get_or c.as_slice-index-items.result.now c.loop-index.index-index 0) c.child_in-entry.ensures.next c.sizes_at-sizes.ensures c.child_in-entry.ensures.child.entry.number _ _ _ refl c.loop-index.invariant.walked c.in_err-child.ensures.stopped)
 
 pub asking::ask_stale-returns-in_err-put_items-clause-stopped : goal.asking::ask_stale-returns-in_err-put_items-clause-stopped
 asking::ask_stale-returns-in_err-put_items-clause-stopped g t c =
-    let turn_now : IsTurn (bare c.args.tree.now.tree) (bare c.loop-index.tree.tree) c.args.id c.args.reps.now c.args.width.now c.grid-base.result.now c.args.columns.now c.child_in-entry.result c.sizes_at-sizes.result (get_or c.as_slice-index-items.result.now c.loop-index.index-index 0) =
-    turn_read (bare c.args.tree.now.tree) (bare c.loop-index.tree.tree) c.loop-index.invariant.same c.args.id c.args.reps.now c.args.width.now c.args.parts.now c.grid-base.result.now c.grid-base.ensures c.args.columns.now c.child_in-entry.result c.sizes_at-sizes.result (get_or c.as_slice-index-items.result.now c.loop-index.index-index 0) c.requires.grid c.requires.columns.seen c.child_in-entry.ensures.next c.sizes_at-sizes.ensures c.child_in-entry.ensures.child.entry.number in
-    let all : (q : Query) → LeadsDown (bare c.args.tree.now.tree) c.args.id c.args.reps.now c.args.width.now q → Stopped c.args.id q (state c.args.tree.now c.args.tally.now c.args.passes.now (g.R.Ruler.log c.args.ruler.now)) (state c.ask_child.new.tree c.ask_child.new.tally c.ask_child.new.passes (g.R.Ruler.log c.ask_child.new.ruler)) =
-    λ q leads. stopped c.args.id q 0 _ _ (below_then (bare c.args.tree.now.tree) (bare c.loop-index.tree.tree) c.loop-index.invariant.same c.args.id c.args.reps.now c.args.width.now turn_now.wide c.child_in-entry.result.child _ (get_or c.as_slice-index-items.result.now c.loop-index.index-index 0) turn_now.next turn_now.asked c.root.ensures.steps turn_now.number q leads _ _ _ refl (c.loop-index.invariant.walked q leads) c.in_ok-child.ensures.walked) in
-    on_err _ _ all
+    on_err _ _ (turn_ends (bare c.args.tree.now.tree) (bare c.loop-index.tree.tree) c.loop-index.invariant.same c.args.id c.args.reps.now c.args.width.now c.args.parts.now c.requires.grid c.root.ensures.steps c.grid-base.result.now c.grid-base.ensures c.args.columns.now c.requires.columns.seen c.child_in-entry.result c.sizes_at-sizes.result (get_or c.as_slice-index-items.result.now c.loop-index.index-index 0) c.child_in-entry.ensures.next c.sizes_at-sizes.ensures c.child_in-entry.ensures.child.entry.number _ _ _ refl c.loop-index.invariant.walked c.in_ok-child.ensures.walked)
 
 pub asking::ask_stale-put_items-requires : goal.asking::ask_stale-put_items-requires
 asking::ask_stale-put_items-requires g t c =
@@ -342,17 +312,19 @@ asking::ask_stale-set-requires g t c = omega (arith, stale_within (length c.args
 
 pub asking::ask_stale-loop-index-preserved : goal.asking::ask_stale-loop-index-preserved
 asking::ask_stale-loop-index-preserved g t c =
-    let turn_now : IsTurn (bare c.args.tree.now.tree) (bare c.loop-index.tree.tree) c.args.id c.args.reps.now c.args.width.now c.grid-base.result.now c.args.columns.now c.child_in-entry.result c.sizes_at-sizes.result (get_or c.as_slice-index-items.result.now c.loop-index.index-index 0) =
-    turn_read (bare c.args.tree.now.tree) (bare c.loop-index.tree.tree) c.loop-index.invariant.same c.args.id c.args.reps.now c.args.width.now c.args.parts.now c.grid-base.result.now c.grid-base.ensures c.args.columns.now c.child_in-entry.result c.sizes_at-sizes.result (get_or c.as_slice-index-items.result.now c.loop-index.index-index 0) c.requires.grid c.requires.columns.seen c.child_in-entry.ensures.next c.sizes_at-sizes.ensures c.child_in-entry.ensures.child.entry.number in
     let own : TellsRows (sight_at (bare c.args.tree.now.tree) c.args.id) (kid_at (bare c.args.tree.now.tree)) c.args.parts.now.base c.args.columns.now (sight_at (bare c.args.tree.now.tree) c.args.id).label.content.inline.items (get_or c.as_slice-index-items.result.now c.loop-index.index-index 0) c.in_ok-child.child (c.as_slice.result.now) =
     tells_now (bare c.args.tree.now.tree) (bare c.loop-index.tree.tree) c.loop-index.invariant.same c.args.id c.args.reps.now c.args.width.now c.args.parts.now c.grid-base.result.now c.grid-base.ensures c.args.columns.now c.child_in-entry.result c.sizes_at-sizes.result (get_or c.as_slice-index-items.result.now c.loop-index.index-index 0) c.in_ok-child.child (c.as_slice.result.now) c.requires.grid c.child_in-entry.ensures.told c.child_in-entry.ensures.next c.sizes_at-sizes.ensures c.in_ok-child.ensures.value (c.as_slice.ensures ∙ c.in_ok-child.ensures.items ∙ ap (λ (l : List Item). l ++ items_seen (bare c.loop-index.tree.tree) c.args.id c.grid-base.result.now c.child_in-entry.result (wide_in (bare c.loop-index.tree.tree) c.args.id c.grid-base.result.now c.args.columns.now c.child_in-entry.result c.sizes_at-sizes.result).inline) c.new-own.ensures) in
     let within : (get_or c.as_slice-index-items.result.now c.loop-index.index-index 0) < length c.loop-index.children = omega (arith, stale_within (length c.args.parts.now.base.placed.areas) c.args.past.stale c.as_slice-index-items.result.now c.loop-index.index-index c.as_slice-index-items.ensures c.requires.past.stale (omega arith), c.loop-index.invariant.counted) in
     record {
       right = c.ask_child.ensures.right;
       same = c.in_ok-child.ensures.walked.walk.bare_same ∙ c.loop-index.invariant.same;
-      walked = λ q leads. below_then (bare c.args.tree.now.tree) (bare c.loop-index.tree.tree) c.loop-index.invariant.same c.args.id c.args.reps.now c.args.width.now turn_now.wide c.child_in-entry.result.child _ (get_or c.as_slice-index-items.result.now c.loop-index.index-index 0) turn_now.next turn_now.asked c.root.ensures.steps turn_now.number q leads _ _ _ refl (c.loop-index.invariant.walked q leads) c.in_ok-child.ensures.walked;
+      walked = turn_below (bare c.args.tree.now.tree) (bare c.loop-index.tree.tree) c.loop-index.invariant.same c.args.id c.args.reps.now c.args.width.now c.args.parts.now c.requires.grid c.root.ensures.steps c.grid-base.result.now c.grid-base.ensures c.args.columns.now c.requires.columns.seen c.child_in-entry.result c.sizes_at-sizes.result (get_or c.as_slice-index-items.result.now c.loop-index.index-index 0) c.child_in-entry.ensures.next c.sizes_at-sizes.ensures c.child_in-entry.ensures.child.entry.number _ _ _ refl c.loop-index.invariant.walked c.in_ok-child.ensures.walked;
       counted = ap length c.set.ensures ∙ length_set c.loop-index.children (get_or c.as_slice-index-items.result.now c.loop-index.index-index 0) c.in_ok-child.child ∙ c.loop-index.invariant.counted;
       told = told_again (TellsRows (sight_at (bare c.args.tree.now.tree) c.args.id) (kid_at (bare c.args.tree.now.tree)) c.args.parts.now.base c.args.columns.now (sight_at (bare c.args.tree.now.tree) c.args.id).label.content.inline.items) c.loop-index.children c.loop-index.items c.loop-index.ends c.as_slice-index-items.result.now c.loop-index.index-index c.in_ok-child.child c.as_slice.result.now _ _ _ (omega arith) within c.set.ensures c.in_ok-put_items.ensures.items c.in_ok-put_items.ensures.ends c.loop-index.invariant.told own;
+      rows = elim c.if-branch.branch [
+        | asking::ask_stale-then-branch w ↦ rows_lost (sight_at (bare c.args.tree.now.tree) c.args.id) c.args.parts.now.base c.loop-index.items c.put_items.new.items c.loop-index.rows c.if-branch.rows w.rows-is
+        | asking::ask_stale-else-branch w ↦ rows_last (sight_at (bare c.args.tree.now.tree) c.args.id) c.args.parts.now.base c.loop-index.items c.put_items.new.items c.loop-index.rows c.if-branch.rows w.rows-is (c.in_ok-put_items.ensures.same w.if-branch.false) c.loop-index.invariant.rows
+      ];
     }
 
 pub asking::ask_stale-returns-clause-told : goal.asking::ask_stale-returns-clause-told
@@ -405,22 +377,23 @@ asking::told_wide_by-returns-in_err-columns-clause-stopped g t c =
     let all : (q : Query) → q.reps ≡ c.args.reps.now → q.inline ≡ c.args.width.now → needs_inline q.ask ≡ true → Stopped c.args.id q (state c.args.tree.now c.args.tally.now c.args.passes.now (g.R.Ruler.log c.args.ruler.now)) (state c.grid_at.new.tree c.grid_at.new.tally c.columns_of.new.passes (g.R.Ruler.log c.grid_at.new.ruler)) = λ q r w needs. stopped c.args.id q 1 _ _ (ticked c.args.id q 0 1 _ _ c.columns_of.new.passes c.columns_of.ensures.ticks (c.in_ok-told.ensures.below q r w)) in
     on_err _ _ all
 
-pub asking::told_wide_by-returns-in_err-rows-clause-stopped : goal.asking::told_wide_by-returns-in_err-rows-clause-stopped
-asking::told_wide_by-returns-in_err-rows-clause-stopped g t c =
+pub asking::told_wide_by-returns-in_err-asked-clause-stopped : goal.asking::told_wide_by-returns-in_err-asked-clause-stopped
+asking::told_wide_by-returns-in_err-asked-clause-stopped g t c =
     let all : (q : Query) → q.reps ≡ c.args.reps.now → q.inline ≡ c.args.width.now → needs_inline q.ask ≡ true → Stopped c.args.id q (state c.args.tree.now c.args.tally.now c.args.passes.now (g.R.Ruler.log c.args.ruler.now)) (state c.told_rows.new.tree c.told_rows.new.tally c.told_rows.new.passes (g.R.Ruler.log c.told_rows.new.ruler)) =
-    λ q r w needs. joined_stopped c.args.id q 1 (state c.args.tree.now c.args.tally.now c.args.passes.now (g.R.Ruler.log c.args.ruler.now)) (state c.grid_at.new.tree c.grid_at.new.tally c.columns_of.new.passes (g.R.Ruler.log c.grid_at.new.ruler)) _ (ticked c.args.id q 0 1 _ _ c.columns_of.new.passes c.columns_of.ensures.ticks (c.in_ok-told.ensures.below q r w)) (c.in_err-rows.ensures.stopped q (leads_down (bare c.grid_at.new.tree.tree) c.args.id c.args.reps.now c.args.width.now q (subst (λ (z : BareTrees). (sight_at z c.args.id).label.kind ≡ kind.Grid) (sym (c.in_ok-told.ensures.below (block_query false c.args.reps.now c.args.width.now) refl refl).walk.bare_same) c.requires.grid) r w needs)) in
+    λ q r w needs. joined_stopped c.args.id q 1 (state c.args.tree.now c.args.tally.now c.args.passes.now (g.R.Ruler.log c.args.ruler.now)) (state c.grid_at.new.tree c.grid_at.new.tally c.columns_of.new.passes (g.R.Ruler.log c.grid_at.new.ruler)) _ (ticked c.args.id q 0 1 _ _ c.columns_of.new.passes c.columns_of.ensures.ticks (c.in_ok-told.ensures.below q r w)) (c.in_err-asked.ensures.stopped q (leads_down (bare c.grid_at.new.tree.tree) c.args.id c.args.reps.now c.args.width.now q (subst (λ (z : BareTrees). (sight_at z c.args.id).label.kind ≡ kind.Grid) (sym (c.in_ok-told.ensures.below (block_query false c.args.reps.now c.args.width.now) refl refl).walk.bare_same) c.requires.grid) r w needs)) in
     on_err _ _ all
 
 pub asking::told_wide_by-returns-clause-below : goal.asking::told_wide_by-returns-clause-below
 asking::told_wide_by-returns-clause-below g t c =
-    λ q r w needs. joined_below c.args.id q 1 (state c.args.tree.now c.args.tally.now c.args.passes.now (g.R.Ruler.log c.args.ruler.now)) (state c.grid_at.new.tree c.grid_at.new.tally c.columns_of.new.passes (g.R.Ruler.log c.grid_at.new.ruler)) _ (ticked c.args.id q 0 1 _ _ c.columns_of.new.passes c.columns_of.ensures.ticks (c.in_ok-told.ensures.below q r w)) (c.in_ok-rows.ensures.below q (leads_down (bare c.grid_at.new.tree.tree) c.args.id c.args.reps.now c.args.width.now q (subst (λ (z : BareTrees). (sight_at z c.args.id).label.kind ≡ kind.Grid) (sym (c.in_ok-told.ensures.below (block_query false c.args.reps.now c.args.width.now) refl refl).walk.bare_same) c.requires.grid) r w needs))
+    λ q r w needs. joined_below c.args.id q 1 (state c.args.tree.now c.args.tally.now c.args.passes.now (g.R.Ruler.log c.args.ruler.now)) (state c.grid_at.new.tree c.grid_at.new.tally c.columns_of.new.passes (g.R.Ruler.log c.grid_at.new.ruler)) _ (ticked c.args.id q 0 1 _ _ c.columns_of.new.passes c.columns_of.ensures.ticks (c.in_ok-told.ensures.below q r w)) (c.in_ok-asked.ensures.below q (leads_down (bare c.grid_at.new.tree.tree) c.args.id c.args.reps.now c.args.width.now q (subst (λ (z : BareTrees). (sight_at z c.args.id).label.kind ≡ kind.Grid) (sym (c.in_ok-told.ensures.below (block_query false c.args.reps.now c.args.width.now) refl refl).walk.bare_same) c.requires.grid) r w needs))
 
 pub asking::told_wide_by-returns-clause-value : goal.asking::told_wide_by-returns-clause-value
 asking::told_wide_by-returns-clause-value g t c =
     let same = (c.in_ok-told.ensures.below (block_query false c.args.reps.now c.args.width.now) refl refl).walk.bare_same in
     let laid : AreLaid (bare c.args.tree.now.tree) c.args.id c.args.reps.now c.args.width.now c.in_ok-told.told.parts.base c.in_ok-columns.columns = subst (λ (z : BareTrees). AreLaid z c.args.id c.args.reps.now c.args.width.now c.in_ok-told.told.parts.base c.in_ok-columns.columns) same (record { seen = c.in_ok-columns.ensures.value; counted = c.in_ok-columns.ensures.counted; gap = c.in_ok-columns.ensures.gap; range = c.in_ok-columns.ensures.range; spread = c.in_ok-columns.ensures.spread }) in
-    told_made (bare c.args.tree.now.tree) c.args.id c.args.reps.now c.args.width.now c.in_ok-told.told.parts c.in_ok-told.ensures.value c.root.ensures.tree c.in_ok-columns.columns c.in_ok-rows.rows c.in_ok-told.told.ends c.in_ok-told.ensures.told laid c.in_ok-columns.ensures.far
-    (subst (λ (z : BareTrees). AreIn z c.args.id c.in_ok-told.told.parts.base c.in_ok-columns.columns Each c.in_ok-rows.rows) same c.in_ok-rows.ensures.told)
+    told_made (bare c.args.tree.now.tree) c.args.id c.args.reps.now c.args.width.now c.in_ok-told.told.parts c.in_ok-told.ensures.value c.root.ensures.tree c.in_ok-columns.columns c.in_ok-asked.asked c.in_ok-asked.rows c.in_ok-told.told.ends c.in_ok-told.ensures.told laid c.in_ok-columns.ensures.far
+    (subst (λ (z : BareTrees). AreIn z c.args.id c.in_ok-told.told.parts.base c.in_ok-columns.columns Each c.in_ok-asked.asked) same c.in_ok-asked.ensures.told)
+    (subst (λ (z : BareTrees). IfSome c.in_ok-asked.rows (AreRowsFor (sight_at z c.args.id) c.in_ok-told.told.parts.base c.in_ok-asked.asked.items)) same c.in_ok-asked.ensures.rows)
 
 pub asking::told_wide_at-told_wide_by-requires : goal.asking::told_wide_at-told_wide_by-requires
 asking::told_wide_at-told_wide_by-requires g t c =
@@ -468,78 +441,47 @@ walk::grid_anew-told_wide_at-requires g t c =
     let small : 16 * size_at (bare c.args.tree.now.tree) c.args.id + 3 < 16 * size_at (bare c.args.tree.now.tree) c.args.id + 4 = omega arith in
     search rules
 
-pub walk::grid_anew-laid_rows-requires-clause-live : goal.walk::grid_anew-laid_rows-requires-clause-live
-walk::grid_anew-laid_rows-requires-clause-live g t c =
-    subst (λ (z : BareTrees). IsLive z c.args.id) (sym (c.in_ok-told.ensures.below c.args.query (sym c.as_slice-reps.ensures) refl (ap (λ (q : Query). needs_inline q.ask) c.requires.query)).walk.bare_same) c.requires.live
+pub walk::grid_anew-laid_rows-requires : goal.walk::grid_anew-laid_rows-requires
+walk::grid_anew-laid_rows-requires g t c =
+    let back = sym (c.in_ok-told.ensures.below c.args.query (sym c.as_slice-reps.ensures) refl (ap (λ (q : Query). needs_inline q.ask) c.requires.query)).walk.bare_same in
+    let told : IsToldWide (bare c.told_wide_at.new.tree.tree) c.args.id c.as_slice-reps.result.now c.args.query.inline c.in_ok-told.told = subst (λ (z : BareTrees). IsToldWide z c.args.id c.as_slice-reps.result.now c.args.query.inline c.in_ok-told.told) back c.in_ok-told.ensures.value in
+    record {
+      live = subst (λ (z : BareTrees). IsLive z c.args.id) back c.requires.live;
+      readable = subst AreReadable back c.requires.readable;
+      kind = subst (λ (z : BareTrees). (sight_at z c.args.id).label.kind ≡ kind.Grid) back c.requires.grid;
+      own = subst (λ (z : BareTrees). sees_rows (sight_at z c.args.id) ≡ false) back (block_fit (sight_at (bare c.args.tree.now.tree) c.args.id) c.args.query (ap (λ (q : Query). q.ask) c.requires.query) c.requires.fits);
+      wide = told.wide;
+      laid = told.laid;
+    }
 
-pub walk::grid_anew-laid_rows-requires-clause-readable : goal.walk::grid_anew-laid_rows-requires-clause-readable
-walk::grid_anew-laid_rows-requires-clause-readable g t c =
-    subst AreReadable (sym (c.in_ok-told.ensures.below c.args.query (sym c.as_slice-reps.ensures) refl (ap (λ (q : Query). needs_inline q.ask) c.requires.query)).walk.bare_same) c.requires.readable
+pub walk::grid_anew-keep_told-requires : goal.walk::grid_anew-keep_told-requires
+walk::grid_anew-keep_told-requires g t c =
+    let back = sym (c.in_ok-told.ensures.below c.args.query (sym c.as_slice-reps.ensures) refl (ap (λ (q : Query). needs_inline q.ask) c.requires.query)).walk.bare_same in
+    let told : IsToldWide (bare c.told_wide_at.new.tree.tree) c.args.id c.as_slice-reps.result.now c.args.query.inline c.in_ok-told.told = subst (λ (z : BareTrees). IsToldWide z c.args.id c.as_slice-reps.result.now c.args.query.inline c.in_ok-told.told) back c.in_ok-told.ensures.value in
+    let kept : IsKeepable (bare c.told_wide_at.new.tree.tree) c.args.id c.in_ok-held.held c.in_ok-told.told.column_ends c.in_ok-told.told.row_ends =
+    keepable (bare c.told_wide_at.new.tree.tree) c.args.id c.as_slice-reps.result.now c.args.query.inline c.in_ok-told.told c.in_ok-size.laid c.in_ok-held.held told c.in_ok-held.ensures c.in_ok-size.ensures.same c.in_ok-size.ensures.laid in
+    record { live = subst (λ (z : BareTrees). IsLive z c.args.id) back c.requires.live; right = c.told_wide_at.ensures.right; places = kept.places; columns = kept.columns; rows = kept.rows; laid = kept.laid }
 
-pub walk::grid_anew-laid_rows-requires-clause-kind : goal.walk::grid_anew-laid_rows-requires-clause-kind
-walk::grid_anew-laid_rows-requires-clause-kind g t c =
-    subst (λ (z : BareTrees). (sight_at z c.args.id).label.kind ≡ kind.Grid) (sym (c.in_ok-told.ensures.below c.args.query (sym c.as_slice-reps.ensures) refl (ap (λ (q : Query). needs_inline q.ask) c.requires.query)).walk.bare_same) c.requires.grid
-
-pub walk::grid_anew-laid_rows-requires-clause-own : goal.walk::grid_anew-laid_rows-requires-clause-own
-walk::grid_anew-laid_rows-requires-clause-own g t c =
-    subst (λ (z : BareTrees). sees_rows (sight_at z c.args.id) ≡ false) (sym (c.in_ok-told.ensures.below c.args.query (sym c.as_slice-reps.ensures) refl (ap (λ (q : Query). needs_inline q.ask) c.requires.query)).walk.bare_same) (block_fit (sight_at (bare c.args.tree.now.tree) c.args.id) c.args.query (ap (λ (q : Query). q.ask) c.requires.query) c.requires.fits)
-
-pub walk::grid_anew-laid_rows-requires-clause-wide : goal.walk::grid_anew-laid_rows-requires-clause-wide
-walk::grid_anew-laid_rows-requires-clause-wide g t c =
-    subst (λ (z : BareTrees). IsWide z c.args.id c.as_slice-reps.result.now c.args.query.inline c.in_ok-told.told.wide) (sym (c.in_ok-told.ensures.below c.args.query (sym c.as_slice-reps.ensures) refl (ap (λ (q : Query). needs_inline q.ask) c.requires.query)).walk.bare_same) c.in_ok-told.ensures.value.wide
-
-pub walk::grid_anew-keep_told-requires-clause-live : goal.walk::grid_anew-keep_told-requires-clause-live
-walk::grid_anew-keep_told-requires-clause-live g t c =
-    subst (λ (z : BareTrees). IsLive z c.args.id) (sym (c.in_ok-told.ensures.below c.args.query (sym c.as_slice-reps.ensures) refl (ap (λ (q : Query). needs_inline q.ask) c.requires.query)).walk.bare_same) c.requires.live
-
-pub walk::grid_anew-keep_told-requires-clause-places : goal.walk::grid_anew-keep_told-requires-clause-places
-walk::grid_anew-keep_told-requires-clause-places g t c =
-    let same = (c.in_ok-told.ensures.below c.args.query (sym c.as_slice-reps.ensures) refl (ap (λ (q : Query). needs_inline q.ask) c.requires.query)).walk.bare_same in
-    let told : IsToldWide (bare c.told_wide_at.new.tree.tree) c.args.id c.as_slice-reps.result.now c.args.query.inline c.in_ok-told.told = subst (λ (z : BareTrees). IsToldWide z c.args.id c.as_slice-reps.result.now c.args.query.inline c.in_ok-told.told) (sym same) c.in_ok-told.ensures.value in
-    let held : c.in_ok-held.held ≡ record c.in_ok-told.told.wide { rows = c.in_ok-size.laid.rows } = c.in_ok-held.ensures ∙ c.in_ok-size.ensures.same in
-    subst (λ (w : GridWide). HoldsPlaces (sight_at (bare c.told_wide_at.new.tree.tree) c.args.id) (children_at (bare c.told_wide_at.new.tree.tree) c.args.id) w.parts.base) (sym held) (places_held (bare c.told_wide_at.new.tree.tree) c.args.id c.as_slice-reps.result.now c.args.query.inline c.in_ok-told.told.wide.parts.base told.wide.grid.base)
-
-pub walk::grid_anew-keep_told-requires-clause-columns : goal.walk::grid_anew-keep_told-requires-clause-columns
-walk::grid_anew-keep_told-requires-clause-columns g t c =
-    let same = (c.in_ok-told.ensures.below c.args.query (sym c.as_slice-reps.ensures) refl (ap (λ (q : Query). needs_inline q.ask) c.requires.query)).walk.bare_same in
-    let told : IsToldWide (bare c.told_wide_at.new.tree.tree) c.args.id c.as_slice-reps.result.now c.args.query.inline c.in_ok-told.told = subst (λ (z : BareTrees). IsToldWide z c.args.id c.as_slice-reps.result.now c.args.query.inline c.in_ok-told.told) (sym same) c.in_ok-told.ensures.value in
-    let held : c.in_ok-held.held ≡ record c.in_ok-told.told.wide { rows = c.in_ok-size.laid.rows } = c.in_ok-held.ensures ∙ c.in_ok-size.ensures.same in
-    subst (λ (w : GridWide). AreColumns (sight_at (bare c.told_wide_at.new.tree.tree) c.args.id) (kid_at (bare c.told_wide_at.new.tree.tree)) Each (record { parts = w.parts; ends = c.in_ok-told.told.column_ends })) (sym held) told.columns
-
-pub walk::grid_anew-keep_told-requires-clause-rows : goal.walk::grid_anew-keep_told-requires-clause-rows
-walk::grid_anew-keep_told-requires-clause-rows g t c =
-    let same = (c.in_ok-told.ensures.below c.args.query (sym c.as_slice-reps.ensures) refl (ap (λ (q : Query). needs_inline q.ask) c.requires.query)).walk.bare_same in
-    let told : IsToldWide (bare c.told_wide_at.new.tree.tree) c.args.id c.as_slice-reps.result.now c.args.query.inline c.in_ok-told.told = subst (λ (z : BareTrees). IsToldWide z c.args.id c.as_slice-reps.result.now c.args.query.inline c.in_ok-told.told) (sym same) c.in_ok-told.ensures.value in
-    let held : c.in_ok-held.held ≡ record c.in_ok-told.told.wide { rows = c.in_ok-size.laid.rows } = c.in_ok-held.ensures ∙ c.in_ok-size.ensures.same in
-    subst (λ (w : GridWide). AreRows (sight_at (bare c.told_wide_at.new.tree.tree) c.args.id) (kid_at (bare c.told_wide_at.new.tree.tree)) w.parts.base Each (record { columns = w.columns; align = (sight_at (bare c.told_wide_at.new.tree.tree) c.args.id).label.content.inline.items; children = w.children; items = w.items; ends = c.in_ok-told.told.row_ends })) (sym held) told.rows
-
-pub walk::grid_anew-put-requires-clause-quiet : goal.walk::grid_anew-put-requires-clause-quiet
-walk::grid_anew-put-requires-clause-quiet g t c =
-    grid_quiet (bare c.keep_told.new.tree.tree) c.args.id c.args.query (subst (λ (z : BareTrees). (sight_at z c.args.id).label.kind ≡ kind.Grid) (sym (c.keep_told.ensures.alike.bare ∙ (c.in_ok-told.ensures.below c.args.query (sym c.as_slice-reps.ensures) refl (ap (λ (q : Query). needs_inline q.ask) c.requires.query)).walk.bare_same)) c.requires.grid)
-
-pub walk::grid_anew-put-requires-clause-live : goal.walk::grid_anew-put-requires-clause-live
-walk::grid_anew-put-requires-clause-live g t c =
-    subst (λ (z : BareTrees). IsLive z c.args.id) (sym (c.keep_told.ensures.alike.bare ∙ (c.in_ok-told.ensures.below c.args.query (sym c.as_slice-reps.ensures) refl (ap (λ (q : Query). needs_inline q.ask) c.requires.query)).walk.bare_same)) c.requires.live
-
-pub walk::grid_anew-put-requires-clause-absent : goal.walk::grid_anew-put-requires-clause-absent
-walk::grid_anew-put-requires-clause-absent g t c =
-    subst (IsAbsent c.args.query) (sym (c.keep_told.ensures.alike.kept c.args.id ∙ (c.in_ok-told.ensures.below c.args.query (sym c.as_slice-reps.ensures) refl (ap (λ (q : Query). needs_inline q.ask) c.requires.query)).own)) c.requires.absent
-
-pub walk::grid_anew-put-requires-clause-fits : goal.walk::grid_anew-put-requires-clause-fits
-walk::grid_anew-put-requires-clause-fits g t c =
-    subst (λ (z : BareTrees). Fits (sight_at z c.args.id) c.args.query) (sym (c.keep_told.ensures.alike.bare ∙ (c.in_ok-told.ensures.below c.args.query (sym c.as_slice-reps.ensures) refl (ap (λ (q : Query). needs_inline q.ask) c.requires.query)).walk.bare_same)) c.requires.fits
-
-pub walk::grid_anew-put-requires-clause-value : goal.walk::grid_anew-put-requires-clause-value
-walk::grid_anew-put-requires-clause-value g t c =
-    ap block_size (c.in_ok-size.ensures.value ∙ ap (λ (r : List Pair). grid_block (grid_seen (bare c.told_wide_at.new.tree.tree) c.args.id r c.args.query.inline) (rows_seen (bare c.told_wide_at.new.tree.tree) c.args.id r c.args.query.inline)) c.as_slice-reps.ensures)
-    ∙ grid_answer (bare c.told_wide_at.new.tree.tree) c.args.id c.args.query (subst (λ (z : BareTrees). (sight_at z c.args.id).label.kind ≡ kind.Grid) (sym (c.in_ok-told.ensures.below c.args.query (sym c.as_slice-reps.ensures) refl (ap (λ (q : Query). needs_inline q.ask) c.requires.query)).walk.bare_same) c.requires.grid) (ap (λ (q : Query). q.ask) c.requires.query)
-    ∙ ap (λ (z : BareTrees). answer_of (sight_at z c.args.id) c.args.query) (sym c.keep_told.ensures.alike.bare)
+pub walk::grid_anew-put-requires : goal.walk::grid_anew-put-requires
+walk::grid_anew-put-requires g t c =
+    let walked = c.in_ok-told.ensures.below c.args.query (sym c.as_slice-reps.ensures) refl (ap (λ (q : Query). needs_inline q.ask) c.requires.query) in
+    let back = sym (c.keep_told.ensures.alike.bare ∙ walked.walk.bare_same) in
+    let laid : IsWide (bare c.args.tree.now.tree) c.args.id c.as_slice-reps.result.now c.args.query.inline c.in_ok-size.laid = subst (λ (z : BareTrees). IsWide z c.args.id c.as_slice-reps.result.now c.args.query.inline c.in_ok-size.laid) walked.walk.bare_same c.in_ok-size.ensures.wide in
+    let held : IsWide (bare c.args.tree.now.tree) c.args.id c.args.query.reps c.args.query.inline c.in_ok-held.held = subst (IsWide (bare c.args.tree.now.tree) c.args.id c.args.query.reps c.args.query.inline) (sym c.in_ok-held.ensures) (subst (λ (r : List Pair). IsWide (bare c.args.tree.now.tree) c.args.id r c.args.query.inline c.in_ok-size.laid) c.as_slice-reps.ensures laid) in
+    record {
+      live = subst (λ (z : BareTrees). IsLive z c.args.id) back c.requires.live;
+      right = c.keep_told.ensures.right;
+      absent = subst (IsAbsent c.args.query) (sym (c.keep_told.ensures.alike.kept c.args.id ∙ walked.own)) c.requires.absent;
+      fits = subst (λ (z : BareTrees). Fits (sight_at z c.args.id) c.args.query) back c.requires.fits;
+      value = subst (λ (z : BareTrees). block_size c.in_ok-size.size ≡ answer_of (sight_at z c.args.id) c.args.query) back
+          (laid_answer (bare c.args.tree.now.tree) (bare c.told_wide_at.new.tree.tree) walked.walk.bare_same c.args.id c.args.query c.as_slice-reps.result.now c.in_ok-size.size c.as_slice-reps.ensures c.requires.grid (ap (λ (q : Query). q.ask) c.requires.query) c.in_ok-size.ensures.value);
+      children = subst (λ (z : BareTrees). HoldsWide (sight_at z c.args.id) (children_at z c.args.id) c.args.query.reps c.args.query.inline c.in_ok-held.held) back (wide_held (bare c.args.tree.now.tree) c.args.id c.args.query.reps c.args.query.inline c.in_ok-held.held held);
+      quiet = grid_quiet (bare c.keep_told.new.tree.tree) c.args.id c.args.query (subst (λ (z : BareTrees). (sight_at z c.args.id).label.kind ≡ kind.Grid) back c.requires.grid);
+    }
 
 pub walk::grid_anew-returns-clause-value : goal.walk::grid_anew-returns-clause-value
 walk::grid_anew-returns-clause-value g t c =
-    ap block_size (c.in_ok-size.ensures.value ∙ ap (λ (r : List Pair). grid_block (grid_seen (bare c.told_wide_at.new.tree.tree) c.args.id r c.args.query.inline) (rows_seen (bare c.told_wide_at.new.tree.tree) c.args.id r c.args.query.inline)) c.as_slice-reps.ensures)
-    ∙ grid_answer (bare c.told_wide_at.new.tree.tree) c.args.id c.args.query (subst (λ (z : BareTrees). (sight_at z c.args.id).label.kind ≡ kind.Grid) (sym (c.in_ok-told.ensures.below c.args.query (sym c.as_slice-reps.ensures) refl (ap (λ (q : Query). needs_inline q.ask) c.requires.query)).walk.bare_same) c.requires.grid) (ap (λ (q : Query). q.ask) c.requires.query)
-    ∙ ap (λ (z : BareTrees). answer_of (sight_at z c.args.id) c.args.query) (c.in_ok-told.ensures.below c.args.query (sym c.as_slice-reps.ensures) refl (ap (λ (q : Query). needs_inline q.ask) c.requires.query)).walk.bare_same
+    laid_answer (bare c.args.tree.now.tree) (bare c.told_wide_at.new.tree.tree) (c.in_ok-told.ensures.below c.args.query (sym c.as_slice-reps.ensures) refl (ap (λ (q : Query). needs_inline q.ask) c.requires.query)).walk.bare_same c.args.id c.args.query c.as_slice-reps.result.now c.in_ok-size.size c.as_slice-reps.ensures c.requires.grid (ap (λ (q : Query). q.ask) c.requires.query) c.in_ok-size.ensures.value
 
 pub walk::grid_anew-returns-in_err-told-clause-stopped : goal.walk::grid_anew-returns-in_err-told-clause-stopped
 walk::grid_anew-returns-in_err-told-clause-stopped g t c = on_err _ _ (c.in_err-told.ensures.stopped c.args.query (sym c.as_slice-reps.ensures) refl (ap (λ (q : Query). needs_inline q.ask) c.requires.query))
@@ -558,13 +500,6 @@ walk::grid_anew-returns-in_err-put-clause-stopped g t c = on_err _ _ (c.in_err-p
 
 pub walk::grid_anew-returns-clause-walked : goal.walk::grid_anew-returns-clause-walked
 walk::grid_anew-returns-clause-walked g t c = c.in_ok-put.ensures.joins _ 2 _ _ (omega arith) (then_alike c.told_wide_at.new.tree c.keep_told.new.tree c.keep_told.ensures.alike c.told_wide_at.new.tally c.laid_rows.new.passes (g.R.Ruler.log c.told_wide_at.new.ruler) (state c.args.tree.now c.args.tally.now c.args.passes.now (g.R.Ruler.log c.args.ruler.now)) c.args.id c.args.query 2 (ticked c.args.id c.args.query 1 1 _ _ c.laid_rows.new.passes c.laid_rows.ensures.ticks (c.in_ok-told.ensures.below c.args.query (sym c.as_slice-reps.ensures) refl (ap (λ (q : Query). needs_inline q.ask) c.requires.query))))
-
-pub walk::grid_anew-put-requires-clause-children : goal.walk::grid_anew-put-requires-clause-children
-walk::grid_anew-put-requires-clause-children g t c =
-    let laid : IsWide (bare c.args.tree.now.tree) c.args.id c.as_slice-reps.result.now c.args.query.inline c.in_ok-size.laid = subst (λ (z : BareTrees). IsWide z c.args.id c.as_slice-reps.result.now c.args.query.inline c.in_ok-size.laid) (c.in_ok-told.ensures.below c.args.query (sym c.as_slice-reps.ensures) refl (ap (λ (q : Query). needs_inline q.ask) c.requires.query)).walk.bare_same c.in_ok-size.ensures.wide in
-    let by_query : IsWide (bare c.args.tree.now.tree) c.args.id c.args.query.reps c.args.query.inline c.in_ok-size.laid = subst (λ (r : List Pair). IsWide (bare c.args.tree.now.tree) c.args.id r c.args.query.inline c.in_ok-size.laid) c.as_slice-reps.ensures laid in
-    let held : IsWide (bare c.args.tree.now.tree) c.args.id c.args.query.reps c.args.query.inline c.in_ok-held.held = subst (IsWide (bare c.args.tree.now.tree) c.args.id c.args.query.reps c.args.query.inline) (sym c.in_ok-held.ensures) by_query in
-    subst (λ (z : BareTrees). HoldsWide (sight_at z c.args.id) (children_at z c.args.id) c.args.query.reps c.args.query.inline c.in_ok-held.held) (sym (c.keep_told.ensures.alike.bare ∙ (c.in_ok-told.ensures.below c.args.query (sym c.as_slice-reps.ensures) refl (ap (λ (q : Query). needs_inline q.ask) c.requires.query)).walk.bare_same)) (wide_held (bare c.args.tree.now.tree) c.args.id c.args.query.reps c.args.query.inline c.in_ok-held.held held)
 
 pub walk::grid_anew-returns-clause-own : goal.walk::grid_anew-returns-clause-own
 walk::grid_anew-returns-clause-own g t c = (answer.Laid c.in_ok-size.size c.in_ok-held.held, (refl, c.in_ok-put.ensures.own ∙ ap (λ l. kept_with l ((c.args.query, answer.Laid c.in_ok-size.size c.in_ok-held.held) ∷ [])) (c.keep_told.ensures.alike.kept c.args.id ∙ (c.in_ok-told.ensures.below c.args.query (sym c.as_slice-reps.ensures) refl (ap (λ (q : Query). needs_inline q.ask) c.requires.query)).own)))
@@ -906,25 +841,13 @@ pub walk::ask_members-returns-in_err-block-clause-stopped : goal.walk::ask_membe
 walk::ask_members-returns-in_err-block-clause-stopped g t c =
     let turn_now : IsAsked (bare c.args.tree.now.tree) (bare c.loop-index.tree.tree) c.args.id c.args.boxes.now c.loop-index.index c.member_at-member.result c.box_at.result =
     asked_turn (bare c.args.tree.now.tree) (bare c.loop-index.tree.tree) c.args.id c.args.members.now c.args.boxes.now c.loop-index.index c.member_at-member.result c.box_at.result c.loop-index.invariant.same c.root.ensures.tree c.requires.members c.requires.roomy c.requires.flex (omega (arith, c.loop-index-test.true)) c.member_at-member.ensures c.box_at.ensures in
-    let width_now : c.given_box-width.result ≡ (settled_at (member_of (bare c.args.tree.now.tree) c.member_at-member.result) c.box_at.result).inline =
-    width_is (bare c.args.tree.now.tree) (bare c.loop-index.tree.tree) c.member_at-member.result c.box_at.result (grid_of c.node_at.result.now.style) c.given_box-width.result c.loop-index.invariant.same c.node_at.ensures.grid c.given_box-width.ensures.value in
-    let all : (q : Query) → LeadsTo (bare c.args.tree.now.tree) c.args.id c.args.boxes.now q → Stopped c.args.id q (state c.args.tree.now c.args.tally.now c.args.passes.now (g.R.Ruler.log c.args.ruler.now)) (state c.block_at.new.tree c.block_at.new.tally c.block_at.new.passes (g.R.Ruler.log c.block_at.new.ruler)) =
-    λ q leads. (c.root.ensures.steps c.args.id c.member_at-member.result.child c.member_at-member.result.number turn_now.number).stops q (block_query false [] c.given_box-width.result) 0 _ _ _
-    (subst (λ (w : Given). Contains (uses_at (bare c.args.tree.now.tree) c.args.id q) (c.member_at-member.result.number, block_query false [] w)) (sym width_now) (leads c.loop-index.index (settled_at (member_of (bare c.args.tree.now.tree) c.member_at-member.result) c.box_at.result) turn_now.next))
-    c.loop-index.invariant.same (c.loop-index.invariant.walked q leads) c.in_err-block.ensures.stopped in
-    on_err _ _ all
+    on_err _ _ (member_stops (bare c.args.tree.now.tree) (bare c.loop-index.tree.tree) c.loop-index.invariant.same c.args.id c.args.boxes.now c.loop-index.index c.member_at-member.result c.box_at.result turn_now c.root.ensures.steps (grid_of c.node_at.result.now.style) c.given_box-width.result c.node_at.ensures.grid c.given_box-width.ensures.value _ _ _ refl c.loop-index.invariant.walked c.in_err-block.ensures.stopped)
 
 pub walk::ask_members-returns-in_err-push-clause-stopped : goal.walk::ask_members-returns-in_err-push-clause-stopped
 walk::ask_members-returns-in_err-push-clause-stopped g t c =
     let turn_now : IsAsked (bare c.args.tree.now.tree) (bare c.loop-index.tree.tree) c.args.id c.args.boxes.now c.loop-index.index c.member_at-member.result c.box_at.result =
     asked_turn (bare c.args.tree.now.tree) (bare c.loop-index.tree.tree) c.args.id c.args.members.now c.args.boxes.now c.loop-index.index c.member_at-member.result c.box_at.result c.loop-index.invariant.same c.root.ensures.tree c.requires.members c.requires.roomy c.requires.flex (omega (arith, c.loop-index-test.true)) c.member_at-member.ensures c.box_at.ensures in
-    let width_now : c.given_box-width.result ≡ (settled_at (member_of (bare c.args.tree.now.tree) c.member_at-member.result) c.box_at.result).inline =
-    width_is (bare c.args.tree.now.tree) (bare c.loop-index.tree.tree) c.member_at-member.result c.box_at.result (grid_of c.node_at.result.now.style) c.given_box-width.result c.loop-index.invariant.same c.node_at.ensures.grid c.given_box-width.ensures.value in
-    let all : (q : Query) → LeadsTo (bare c.args.tree.now.tree) c.args.id c.args.boxes.now q → Stopped c.args.id q (state c.args.tree.now c.args.tally.now c.args.passes.now (g.R.Ruler.log c.args.ruler.now)) (state c.block_at.new.tree c.block_at.new.tally c.block_at.new.passes (g.R.Ruler.log c.block_at.new.ruler)) =
-    λ q leads. stopped c.args.id q 0 _ _ ((c.root.ensures.steps c.args.id c.member_at-member.result.child c.member_at-member.result.number turn_now.number).below q (block_query false [] c.given_box-width.result) 0 _ _ _
-    (subst (λ (w : Given). Contains (uses_at (bare c.args.tree.now.tree) c.args.id q) (c.member_at-member.result.number, block_query false [] w)) (sym width_now) (leads c.loop-index.index (settled_at (member_of (bare c.args.tree.now.tree) c.member_at-member.result) c.box_at.result) turn_now.next))
-    c.loop-index.invariant.same (c.loop-index.invariant.walked q leads) c.in_ok-block.ensures.walked) in
-    on_err _ _ all
+    on_err _ _ (member_ends (bare c.args.tree.now.tree) (bare c.loop-index.tree.tree) c.loop-index.invariant.same c.args.id c.args.boxes.now c.loop-index.index c.member_at-member.result c.box_at.result turn_now c.root.ensures.steps (grid_of c.node_at.result.now.style) c.given_box-width.result c.node_at.ensures.grid c.given_box-width.ensures.value _ _ _ refl c.loop-index.invariant.walked c.in_ok-block.ensures.walked)
 
 pub walk::ask_members-loop-index-preserved : goal.walk::ask_members-loop-index-preserved
 walk::ask_members-loop-index-preserved g t c =
@@ -935,9 +858,7 @@ walk::ask_members-loop-index-preserved g t c =
     record {
       right = c.block_at.ensures.right;
       same = c.in_ok-block.ensures.walked.walk.bare_same ∙ c.loop-index.invariant.same;
-      walked = λ q leads. (c.root.ensures.steps c.args.id c.member_at-member.result.child c.member_at-member.result.number turn_now.number).below q (block_query false [] c.given_box-width.result) 0 _ _ _
-          (subst (λ (w : Given). Contains (uses_at (bare c.args.tree.now.tree) c.args.id q) (c.member_at-member.result.number, block_query false [] w)) (sym width_now) (leads c.loop-index.index (settled_at (member_of (bare c.args.tree.now.tree) c.member_at-member.result) c.box_at.result) turn_now.next))
-          c.loop-index.invariant.same (c.loop-index.invariant.walked q leads) c.in_ok-block.ensures.walked;
+      walked = member_below (bare c.args.tree.now.tree) (bare c.loop-index.tree.tree) c.loop-index.invariant.same c.args.id c.args.boxes.now c.loop-index.index c.member_at-member.result c.box_at.result turn_now c.root.ensures.steps (grid_of c.node_at.result.now.style) c.given_box-width.result c.node_at.ensures.grid c.given_box-width.ensures.value _ _ _ refl c.loop-index.invariant.walked c.in_ok-block.ensures.walked;
       blocks = blocks_more (settled_seen (bare c.args.tree.now.tree) c.args.id c.args.boxes.now) c.loop-index.index (settled_at (member_of (bare c.args.tree.now.tree) c.member_at-member.result) c.box_at.result) c.loop-index.blocks _ _ c.in_ok-block.block turn_now.next c.in_ok-push.ensures.ok
           (block_is (bare c.args.tree.now.tree) (bare c.loop-index.tree.tree) c.member_at-member.result c.box_at.result c.in_ok-block.block c.given_box-width.result c.loop-index.invariant.same width_now (size_is _ _ c.in_ok-block.ensures.value)) c.loop-index.invariant.blocks;
     }

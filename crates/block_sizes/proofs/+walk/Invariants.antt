@@ -1,9 +1,10 @@
 -- The measures of the walk, and what holds in its loops. The measure of a function is sixteen times the size of its node and a number below 16: those that go down to
 -- a child take the child's node.
 use Rattle.std.proofs.Common.{◌≡◌, ◌+◌, ◌*◌, ◌++◌, drop, length, map}
+use Rattle.std.specs.Prelude.{IfSome}
 use Rattle.placing.specs.Kept.{IsRight}
 use Rattle.placing.specs.Nodes.{bare, kid_at, sight_at, size_at}
-use Rattle.placing.specs.Told.{AllBut, AreTold, Each, TellsRows}
+use Rattle.placing.specs.Told.{AllBut, AreRowsFor, AreTold, Each, TellsRows}
 use Rattle.placing.specs.Walks.{state, WalkedBelow}
 use Rattle.tree_rules.specs.declared.query.Query.{Query}
 use Rattle.block_sizes.specs.Settling.{LeadsTo, block_of, settled_seen}
@@ -88,6 +89,7 @@ invariant-asking::ask_stale-loop-index g l =
       walked : (q : Query) → LeadsDown (bare l.fn.tree.tree) l.id l.reps l.width q → WalkedBelow l.id q 0 (state l.fn.tree l.fn.tally l.fn.passes (g.R.Ruler.log l.fn.ruler)) (state l.tree l.tally l.passes (g.R.Ruler.log l.ruler));
       counted : length l.children ≡ length l.parts.base.placed.areas;
       told : AreTold (AllBut (drop l.index-index l.index-items)) (TellsRows (sight_at (bare l.fn.tree.tree) l.id) (kid_at (bare l.fn.tree.tree)) l.parts.base l.columns (sight_at (bare l.fn.tree.tree) l.id).label.content.inline.items) l.children l.items l.ends;
+      rows : IfSome l.rows (AreRowsFor (sight_at (bare l.fn.tree.tree) l.id) l.parts.base l.items);
     }
 
 abbrev pub invariant-walk::ask_members-loop-index : goal.invariant-walk::ask_members-loop-index

@@ -1,11 +1,11 @@
-use Rattle.std.proofs.Common.{arith, ap, subst, sym, ◌∙◌, ◌≡◌, ◌≤◌, List, length, map}
+use Rattle.std.proofs.Common.{ap, subst, sym, ◌∙◌, ◌≤◌, List, map}
 use Rattle.lunit.specs.declared.geometry.Area.{Area}
 use Rattle.lunit.specs.declared.item.Item.{Item}
 use Rattle.node_arena.specs.declared.number.NodeId.{NodeId}
 use Rattle.placing.specs.Nodes.{bare}
 use Rattle.placing.specs.Wides.{HoldsRows}
 use Rattle.placing.specs.declared.wide.GridBase.{GridBase}
-use Rattle.inline_sizes.specs.TrackAxes.{CanSize, track_count}
+use Rattle.inline_sizes.specs.TrackAxes.{CanSize}
 use Rattle.block_sizes.proofs.ReadBases.{read_wide}
 use Rattle.block_sizes.proofs.RowAxes.{few_rows, rows_can_size, rows_hold, rows_total_is}
 use Rattle.block_sizes.specs.Wides.{rows_seen}

@@ -16,7 +16,7 @@ returns-then-end-start-clause-items c = λ parts e f.
     let lies : LiesAt c.args.items.now c.args.ends.now c.args.index c.start_of-start.result (get_or c.as_slice-2.result.now c.args.index 0) = lies_at c.args.items.now c.args.ends.now c.requires.parts.parts c.args.index c.start_of-start.result (get_or c.as_slice-2.result.now c.args.index 0) c.requires.parts.joined c.requires.parts.ended c.requires.index (c.start_of-start.ensures c.requires.parts.parts (c.as_slice.ensures ∙ c.requires.parts.ended)) (ap (λ l. get_or l c.args.index 0) c.as_slice-2.ensures) in
     let last : c.start_of-start.result + length c.args.own.now ≡ (get_or c.as_slice-2.result.now c.args.index 0) = omega (arith, lies.forth, c.if-end-start.true) in
     items_put c.args.items.now c.args.ends.now parts c.args.index c.start_of-start.result (get_or c.as_slice-2.result.now c.args.index 0) c.args.own.now c.write_items.new.items e f c.requires.index (c.start_of-start.ensures parts (c.as_slice.ensures ∙ f)) (ap (λ l. get_or l c.args.index 0) c.as_slice-2.ensures)
-    (c.write_items.ensures ∙ ap (λ n. take c.start_of-start.result c.args.items.now ++ c.args.own.now ++ drop n c.args.items.now) last)
+    (c.write_items.ensures.items ∙ ap (λ n. take c.start_of-start.result c.args.items.now ++ c.args.own.now ++ drop n c.args.items.now) last)
 
 pub returns-then-end-start-clause-ends : goal.returns-then-end-start-clause-ends
 returns-then-end-start-clause-ends c = λ parts e f. ends_same c.args.ends.now parts c.args.index c.start_of-start.result (get_or c.as_slice-2.result.now c.args.index 0) c.args.own.now f c.requires.index (c.start_of-start.ensures parts (c.as_slice.ensures ∙ f)) (ap (λ l. get_or l c.args.index 0) c.as_slice-2.ensures) c.if-end-start.true
