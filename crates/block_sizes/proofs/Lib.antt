@@ -23,7 +23,7 @@ pub mod Seen
 mod SeenAlike
 pub mod Settled
 mod SharedTracks
-mod ToldRows
+pub mod ToldRows
 mod Turns
 mod Widths
 pub mod HeldWide

@@ -87,8 +87,8 @@ fn same_gap(a: Lu, b: Lu) -> bool
     a == b
 }
 
-/// Whether two views are the same.
-fn same_view(a: &View<0>, b: &View<0>) -> bool
+/// Whether two views are the same: `true` only where they are.
+pub fn same_view<const AXIS: u8>(a: &View<AXIS>, b: &View<AXIS>) -> bool
     ensures { result ≡ true → a.now ≡ b.now }
 {
     if !same_tracks(a.edges.as_slice(), b.edges.as_slice()) {

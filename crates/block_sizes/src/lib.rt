@@ -20,6 +20,7 @@ mod views;
 mod walk;
 mod wide;
 
+pub use again::same_view;
 pub use asking::wide_at;
 pub use block::{block_of, lend_rows};
 pub use children::{

@@ -5,7 +5,7 @@ use Rattle.part_rules.specs.Lists.{above_zero}
 use Rattle.placing.proofs.Each.{Each}
 use Rattle.placing.proofs.Numbers.{each_sorted}
 use Rattle.tree_rules.specs.Orders.{in_document_order, put_before, sorted_by}
-use Rattle.box_layout.specs.Turns.{pairs_from, turns}
+use Rattle.placing.specs.Turns.{pairs_from, turns}
 
 -- ---- numbers with their places
 

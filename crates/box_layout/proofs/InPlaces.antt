@@ -25,7 +25,7 @@ use Rattle.inline_sizes.specs.GridsSeen.{grid_seen}
 use Rattle.block_sizes.specs.Wides.{IsWide, columns_seen, wides_seen}
 use Rattle.placing.specs.declared.wide.GridWide.{GridWide}
 use Rattle.box_layout.specs.GridFrames.{AreFramesAt, AreIndices, IsFrameOf, no_frame}
-use Rattle.box_layout.specs.Turns.{pairs_from, turns}
+use Rattle.placing.specs.Turns.{pairs_from, turns}
 use Rattle.box_layout.proofs.Backward.{read_in_order}
 use Rattle.box_layout.proofs.ChildFrames.{zipped_length}
 

@@ -26,6 +26,7 @@ pub mod InPlaces
 mod KeptPaths
 mod KidFrames
 mod KidLeaves
+mod LastFrames
 mod LaidWalks
 mod LeafFrames
 mod LeafSteps

@@ -1,5 +1,5 @@
 -- A child of a grid whose tracks lie where they lie, by its style and its parent's (CSS Grid 2, sections 6, 9 and 11).
-use Rattle.std.specs.Prelude.{◌≡◌, ℕ, ◌<◌, ◌^◌, ℤ, pos, ◌-ℤ◌, ◌≤ℤ◌, length, Bool, List, [], ◌∷◌, Some, get_or}
+use Rattle.std.specs.Prelude.{◌≡◌, ℕ, ◌<◌, ◌^◌, ℤ, pos, ◌-ℤ◌, ◌≤ℤ◌, ◌⊎◌, length, Bool, List, [], ◌∷◌, Some, get_or, slice_get}
 use Rattle.lunit.specs.declared.geometry.Span.{Span}
 use Rattle.part_rules.specs.declared.view.View.{View}
 use Rattle.part_rules.specs.Views.{area_size, first_start, tracks_over}
@@ -8,8 +8,11 @@ use Rattle.subgrid_view.specs.Ranges.{AreNear}
 use Rattle.node_arena.specs.Numbers.{child_at}
 use Rattle.node_arena.specs.declared.number.NodeId.{NodeId}
 use Rattle.placing.specs.Kept.{frame_of}
-use Rattle.placing.specs.Nodes.{BareTrees}
+use Rattle.placing.specs.Nodes.{BareTrees, kid_at, sight_at}
+use Rattle.placing.specs.Told.{AreFrames, Marked}
 use Rattle.placing.specs.declared.node.Frame.{Frame as NodeFrame}
+use Rattle.placing.specs.declared.told.PastFrames.{PastFrames}
+use Rattle.placing.specs.declared.wide.GridBase.{GridBase}
 use Rattle.tree_rules.specs.Answers.{Frame}
 use Rattle.tree_rules.specs.Frames.{Framed, down_of}
 use Rattle.tree_rules.specs.declared.query.Given.TheVariants as given
@@ -71,3 +74,13 @@ AreFramesAt b n framed [] [] = Unit {0}
 AreFramesAt b n framed [] (f ∷ frames) = ⊥
 AreFramesAt b n framed (p ∷ places) [] = ⊥
 AreFramesAt b n framed (p ∷ places) (f ∷ frames) = IsFrameOf b n (get_or framed p.0 no_frame) f × AreFramesAt b n framed places frames
+
+-- One frame for each of these places: those of the first places are right, and so are those of children that are marked.
+pub record AreAgain (b : BareTrees) (n : NodeId) (framed : List (ℕ × Framed)) (places : List (ℕ × ℤ)) (fresh : List Bool) (at : ℕ) (frames : List NodeFrame) : Type 0 where
+  pub counted : length frames ≡ length places
+  pub each : (i : ℕ) (p : ℕ × ℤ) (f : NodeFrame) → slice_get places i ≡ Some p → slice_get frames i ≡ Some f → (i < at) ⊎ Marked fresh p.0 → IsFrameOf b n (get_or framed p.0 no_frame) f
+
+-- The frames that a grid gave its children last, in these columns and rows: those count that are marked.
+pub record IsLastOf (b : BareTrees) (n : NodeId) (base : GridBase) (columns : View 0) (rows : View 1) (p : PastFrames) : Type 0 where
+  pub counted : length p.fresh ≡ length base.placed.areas
+  pub frames : AreFrames (sight_at b n) (kid_at b) base columns rows (Marked p.fresh) p.frames

@@ -18,4 +18,3 @@ pub mod Seats
 pub mod Shares
 pub mod Sittings
 pub mod Stands
-pub mod Turns

@@ -2,10 +2,12 @@
 
 ghost use Rattle.std.specs.Prelude.{◌≡◌, ◌∷◌, [], map, IfOk, OnErr, OnOk};
 ghost use Rattle.placing.specs.Kept.{frame_of, kept_at, IsRight};
-ghost use Rattle.placing.specs.Nodes.{bare, children_at, level_at, sight_at, IsLive};
+ghost use Rattle.placing.specs.Bases.{HoldsPlaces};
+ghost use Rattle.placing.specs.Nodes.{bare, children_at, kid_at, level_at, sight_at, IsLive};
 ghost use Rattle.placing.specs.Ranges.{AreReadable};
 ghost use Rattle.placing.specs.Seats.{IsSeat};
-ghost use Rattle.placing.specs.Walks.{kept_with, state, Stopped, Walked};
+ghost use Rattle.placing.specs.Told.{AreFrames, Each};
+ghost use Rattle.placing.specs.Walks.{kept_with, state, IsAlike, Stopped, Walked};
 ghost use Rattle.placing.specs.declared.node.Answer.TheVariants as answer;
 ghost use Rattle.placing.specs.declared.node.Frame.{Frame as NodeFrame};
 ghost use Rattle.tree_rules.specs.Chains.{is_grid_kind};
@@ -25,10 +27,14 @@ use crate::queries::{frames_query, kept_frames};
 use crate::row_views::rows_of;
 use block_sizes::wide_for;
 use layout_cache::{Given, Query};
-use lunit::{Area, NoMemory, Steps};
+use lunit::{Area, NoMemory, Sequence, Steps};
 use node_arena::{Arena, NodeId};
 use outside::{Ruler, Tally};
-use placing::{Above, Answer, Node, NodeKind, SharedFrames, node_at, put, root, seat};
+use part_rules::View;
+use placing::{
+    Above, Answer, GridWide, MANY, Node, NodeKind, SharedFrames, keep_frames, node_at, put, root,
+    seat, take_frames,
+};
 use std::alloc::Global;
 use std::sync::ledger::Ledger;
 
@@ -41,6 +47,41 @@ pub(crate) fn is_grid(kind: &NodeKind) -> bool
         NodeKind::Flex => false,
         NodeKind::Leaf(_) => false,
     }
+}
+
+/// A view once more; `NoMemory` where memory is wanting.
+fn copied_view(alloc: Global, view: &View<0>) -> Result<View<0>, NoMemory>
+    ensures { IfOk result (λ other. other ≡ view.now) }
+{
+    let edges = Sequence::from_slice(alloc, view.edges.as_slice())?;
+    let gap = view.gap;
+    Ok(View { edges, gap })
+}
+
+/// Keeps the frames that a grid gives its children, where they are many. A walk goes on after it as before it. `NoMemory` where memory is
+/// wanting; nothing has changed then.
+fn keep_last(
+    alloc: Global,
+    tree: &mut Arena<Node>,
+    id: NodeId,
+    wide: &GridWide,
+    rows: View<1>,
+    frames: &SharedFrames,
+) -> Result<(), NoMemory>
+    requires live { IsLive (bare tree.old.tree) id }
+    requires right { IsRight tree.old.tree }
+    requires places { HoldsPlaces (sight_at (bare tree.old.tree) id) (children_at (bare tree.old.tree) id) wide.now.parts.base }
+    requires frames { AreFrames (sight_at (bare tree.old.tree) id) (kid_at (bare tree.old.tree)) wide.now.parts.base wide.now.columns rows Each frames.now }
+    ensures right { IsRight tree.new.tree }
+    ensures alike { IsAlike tree.old tree.new }
+{
+    if frames.as_slice().len() < MANY {
+        return Ok(());
+    }
+    let base = wide.parts.base.again()?;
+    let columns = copied_view(alloc, &wide.columns)?;
+    let shared = frames.again()?;
+    keep_frames(alloc, tree, id, base, columns, rows, shared)
 }
 
 /// The frames of a grid in its seat that keeps none for this question: it makes two steps at most. They are kept last.
@@ -81,9 +122,11 @@ fn grid_frames_anew<R: Ruler, L: Ledger>(
     )?;
     let held = wide.grid();
     let rows = rows_of(alloc, tree, id, reps, width, held, height, passes)?;
-    let frames = grid_frames(alloc, tree, id, reps, width, held, &rows)?;
+    let past = take_frames(alloc, tree, id)?;
+    let frames = grid_frames(alloc, tree, id, reps, width, held, &rows, past)?;
     let shared = SharedFrames::new(alloc, frames)?;
     let told = shared.again()?;
+    keep_last(alloc, tree, id, held, rows, &shared)?;
     put(tree, id, query, Answer::Frames(shared), tally)?;
     Ok(told)
 }

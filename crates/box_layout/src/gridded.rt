@@ -1,11 +1,13 @@
 //! The frames of the children of a grid, once its columns lie where they lie and each child is as wide as it is there (CSS Grid 2,
 //! sections 6 and 11).
 
-ghost use Rattle.std.specs.Prelude.{◌≡◌, ◌+◌, ◌&&◌, ◌<◌, ◌≤ℤ◌, ◌∷◌, drop, get_or, length, map, pos, IfOk, OnOk};
+ghost use Rattle.std.specs.Prelude.{◌≡◌, ◌+◌, ◌&&◌, ◌<◌, ◌≤ℤ◌, ◌∷◌, drop, get_or, length, map, pos, true, IfOk, IfSome, OnOk};
 ghost use Rattle.placing.specs.Areas.{entries_at, entry_by};
-ghost use Rattle.placing.specs.Nodes.{bare, children_at, sight_at, IsLive};
+ghost use Rattle.placing.specs.Nodes.{bare, children_at, kid_at, sight_at, IsLive};
 ghost use Rattle.placing.specs.Kept.{frame_of};
 ghost use Rattle.placing.specs.Ranges.{AreReadable};
+ghost use Rattle.placing.specs.Told.{AreFrames, ArePastFrames, Each, Marked};
+ghost use Rattle.placing.specs.Turns.{turns};
 ghost use Rattle.placing.specs.declared.node.Frame.{Frame as NodeFrame};
 ghost use Rattle.tree_rules.specs.Orders.{in_document_order};
 ghost use Rattle.tree_rules.specs.Chains.{is_subgrid};
@@ -17,20 +19,22 @@ ghost use Rattle.inline_sizes.specs.GridsSeen.{grid_seen};
 ghost use Rattle.block_sizes.specs.Sharing.{IsLastIn};
 ghost use Rattle.block_sizes.specs.Spans.{LiesIn};
 ghost use Rattle.block_sizes.specs.Wides.{IsWide, columns_seen, wides_seen};
-ghost use Rattle.box_layout.specs.GridFrames.{AreFramesAt, AreIndices, AreTracks, IsFrameOf, no_frame};
+ghost use Rattle.box_layout.specs.GridFrames.{AreAgain, AreFramesAt, AreIndices, AreTracks, IsFrameOf, IsLastOf, no_frame};
 
 use crate::frames::origin_of;
 use crate::framing::is_grid;
 use crate::grids::{OverTracks, frame_over_from};
 use crate::turns::turns;
-use block_sizes::{LastTracks, from_first};
+use block_sizes::{LastTracks, from_first, same_view};
 use inline_sizes::items_lie_in_their_tracks;
-use layout_cache::Given;
+use layout_cache::{Given, same_counts};
 use lunit::{Lu, NoMemory, Sequence};
 use node_arena::{Arena, NodeId};
 use part_rules::View;
 use placing::style::is_subgrid;
-use placing::{ChildArea, Frame, GridWide, Node, WideChild, count, entry, node_at, root};
+use placing::{
+    ChildArea, Frame, GridWide, Node, PastFrames, WideChild, count, entry, node_at, root,
+};
 use std::alloc::Global;
 
 /// Whether a child of a grid is a subgrid in the columns, and in the rows.
@@ -171,7 +175,145 @@ fn framed_children(
     Ok(frames)
 }
 
-/// The frames of the children of a grid, in document order, in these rows (CSS Grid 2, sections 6 and 11). `NoMemory` where memory is
+/// Whether the frames that a grid gave its children last were made under the same counts of the repetitions, and in the same columns and
+/// rows.
+fn serves(wide: &GridWide, rows: &View<1>, past: &PastFrames) -> bool
+    ensures pairs { result ≡ true → past.now.base.pairs ≡ wide.now.parts.base.pairs }
+    ensures columns { result ≡ true → past.now.columns ≡ wide.now.columns }
+    ensures rows { result ≡ true → past.now.rows ≡ rows.now }
+{
+    let before = past.base.grid().pairs.as_slice();
+    if !same_counts(before, wide.parts.base.grid().pairs.as_slice()) {
+        return false;
+    }
+    if !same_view(&past.columns, &wide.columns) {
+        return false;
+    }
+    same_view(&past.rows, rows)
+}
+
+/// Whether the child of an index is marked.
+fn is_marked(fresh: &[bool], index: usize) -> bool
+    requires { index < length fresh.now }
+    ensures { result ≡ true → Marked fresh.now index }
+{
+    fresh[index]
+}
+
+/// Makes the frame of the child at one of these places among the areas again, where the child is not marked.
+fn frame_again(
+    alloc: Global,
+    tree: &Arena<Node>,
+    id: NodeId,
+    reps: &[(u32, u32)],
+    width: &Given,
+    wide: &GridWide,
+    rows: &View<1>,
+    places: &[(usize, i64)],
+    fresh: &[bool],
+    at: usize,
+    frames: &mut Sequence<Frame>,
+    last: &mut Option<LastTracks>,
+) -> Result<(), NoMemory>
+    requires live { IsLive (bare tree.now.tree) id }
+    requires readable { AreReadable (bare tree.now.tree) }
+    requires kind { (sight_at (bare tree.now.tree) id).label.kind ≡ kind.Grid }
+    requires wide { IsWide (bare tree.now.tree) id reps.now width.now wide.now }
+    requires columns { AreTracks wide.now.parts.base.placed.columns wide.now.columns.edges }
+    requires rows { AreTracks wide.now.parts.base.placed.rows rows.now.edges }
+    requires gap { pos 0 ≤ℤ rows.now.gap }
+    requires places { AreIndices (length wide.now.parts.base.placed.areas) places.now }
+    requires fresh { length fresh.now ≡ length wide.now.parts.base.placed.areas }
+    requires at { at < length places.now }
+    requires frames { AreAgain (bare tree.now.tree) id (map (grid_child (grid_seen (bare tree.now.tree) id reps.now width.now) (columns_seen (bare tree.now.tree) id reps.now width.now) rows.now) (wides_seen (bare tree.now.tree) id reps.now width.now)) places.now fresh.now at frames.old }
+    requires last { IsLastIn rows.now last.old }
+    ensures frames { OnOk result (AreAgain (bare tree.now.tree) id (map (grid_child (grid_seen (bare tree.now.tree) id reps.now width.now) (columns_seen (bare tree.now.tree) id reps.now width.now) rows.now) (wides_seen (bare tree.now.tree) id reps.now width.now)) places.now fresh.now (at + 1) frames.new) }
+    ensures last { OnOk result (IsLastIn rows.now last.new) }
+{
+    let index = places[at].0;
+    if is_marked(fresh, index) {
+        return Ok(());
+    }
+    let origin = origin_of(&node_at(tree, id).style);
+    let frame = framed_child(
+        alloc, tree, id, reps, width, wide, rows, origin, index, last,
+    )?;
+    frames.set(at, frame);
+    Ok(())
+}
+
+/// The frames of the children of a grid that it gave them last in these columns and rows, where those of children that are not marked are
+/// made again, at these places among the areas.
+fn framed_again(
+    alloc: Global,
+    tree: &Arena<Node>,
+    id: NodeId,
+    reps: &[(u32, u32)],
+    width: &Given,
+    wide: &GridWide,
+    rows: &View<1>,
+    places: &[(usize, i64)],
+    fresh: &[bool],
+    frames: Sequence<Frame>,
+) -> Result<Sequence<Frame>, NoMemory>
+    requires live { IsLive (bare tree.now.tree) id }
+    requires readable { AreReadable (bare tree.now.tree) }
+    requires kind { (sight_at (bare tree.now.tree) id).label.kind ≡ kind.Grid }
+    requires wide { IsWide (bare tree.now.tree) id reps.now width.now wide.now }
+    requires columns { AreTracks wide.now.parts.base.placed.columns wide.now.columns.edges }
+    requires rows { AreTracks wide.now.parts.base.placed.rows rows.now.edges }
+    requires gap { pos 0 ≤ℤ rows.now.gap }
+    requires places { places.now ≡ turns wide.now.parts.base.placed.numbers }
+    requires fresh { length fresh.now ≡ length wide.now.parts.base.placed.areas }
+    requires frames { AreFrames (sight_at (bare tree.now.tree) id) (kid_at (bare tree.now.tree)) wide.now.parts.base wide.now.columns rows.now (Marked fresh.now) frames }
+    ensures { IfOk result (AreFramesAt (bare tree.now.tree) id (map (grid_child (grid_seen (bare tree.now.tree) id reps.now width.now) (columns_seen (bare tree.now.tree) id reps.now width.now) rows.now) (wides_seen (bare tree.now.tree) id reps.now width.now)) places.now) }
+{
+    root(tree);
+    let mut frames = frames;
+    let mut last = None;
+    for at in 0..places.len() {
+        frame_again(
+            alloc,
+            tree,
+            id,
+            reps,
+            width,
+            wide,
+            rows,
+            places,
+            fresh,
+            at,
+            &mut frames,
+            &mut last,
+        )?;
+    }
+    Ok(frames)
+}
+
+/// What a grid gave its children last, where it serves in these columns and rows.
+fn last_for(
+    tree: &Arena<Node>,
+    id: NodeId,
+    reps: &[(u32, u32)],
+    width: &Given,
+    wide: &GridWide,
+    rows: &View<1>,
+    past: Option<PastFrames>,
+) -> Option<PastFrames>
+    requires live { IsLive (bare tree.now.tree) id }
+    requires wide { IsWide (bare tree.now.tree) id reps.now width.now wide.now }
+    requires past { IfSome past (ArePastFrames (bare tree.now.tree) id) }
+    ensures { IfSome result (IsLastOf (bare tree.now.tree) id wide.now.parts.base wide.now.columns rows.now) }
+{
+    let past = past?;
+    if !serves(wide, rows, &past) {
+        return None;
+    }
+    Some(past)
+}
+
+/// The frames of the children of a grid, in document order, in these rows (CSS Grid 2, sections 6 and 11): those that it gave them last serve
+/// again, where they were made in the same columns and rows and the answers of their children did not go since. `NoMemory` where memory is
 /// wanting.
 pub(crate) fn grid_frames(
     alloc: Global,
@@ -181,6 +323,7 @@ pub(crate) fn grid_frames(
     width: &Given,
     wide: &GridWide,
     rows: &View<1>,
+    past: Option<PastFrames>,
 ) -> Result<Sequence<Frame>, NoMemory>
     requires live { IsLive (bare tree.now.tree) id }
     requires readable { AreReadable (bare tree.now.tree) }
@@ -189,12 +332,21 @@ pub(crate) fn grid_frames(
     requires columns { AreTracks wide.now.parts.base.placed.columns wide.now.columns.edges }
     requires rows { AreTracks wide.now.parts.base.placed.rows rows.now.edges }
     requires gap { pos 0 ≤ℤ rows.now.gap }
+    requires past { IfSome past (ArePastFrames (bare tree.now.tree) id) }
     ensures value { IfOk result (λ frames. map frame_of frames ≡ map (λ (f : Framed). f.frame) (in_document_order (map (grid_child (grid_seen (bare tree.now.tree) id reps.now width.now) (columns_seen (bare tree.now.tree) id reps.now width.now) rows.now) (wides_seen (bare tree.now.tree) id reps.now width.now)))) }
     ensures children { IfOk result (λ frames. map (λ (f : NodeFrame). f.child) frames ≡ children_at (bare tree.now.tree) id) }
+    ensures frames { IfOk result (AreFrames (sight_at (bare tree.now.tree) id) (kid_at (bare tree.now.tree)) wide.now.parts.base wide.now.columns rows.now Each) }
 {
     root(tree);
     count(tree, id);
     let base = wide.parts.base.grid();
     let places = turns(alloc, base.placed.numbers.as_slice())?;
+    if let Some(past) = last_for(tree, id, reps, width, wide, rows, past) {
+        let PastFrames { frames, fresh, .. } = past;
+        let marks = fresh.as_slice();
+        return framed_again(
+            alloc, tree, id, reps, width, wide, rows, &places, marks, frames,
+        );
+    }
     framed_children(alloc, tree, id, reps, width, wide, rows, &places)
 }

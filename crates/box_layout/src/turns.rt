@@ -2,7 +2,7 @@
 
 ghost use Rattle.std.specs.Prelude.{◌≡◌, ◌<◌, ◌^◌, ℕ, ℤ, pos, All, IfOk, OnOk};
 ghost use Rattle.tree_rules.specs.Orders.{sorted_by};
-ghost use Rattle.box_layout.specs.Turns.{pairs_from, turns};
+ghost use Rattle.placing.specs.Turns.{pairs_from, turns};
 
 use lunit::NoMemory;
 use std::alloc::Global;

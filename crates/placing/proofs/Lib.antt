@@ -8,6 +8,7 @@ pub mod Founds
 pub mod Full
 pub mod Glances
 pub mod KeptTrees
+mod LastFrames
 pub mod Leaves
 pub mod Loans
 pub mod Mapped

@@ -9,11 +9,13 @@ use Rattle.node_arena.specs.Numbers.{Part, below_of, either, one, part_at, same,
 use Rattle.node_arena.proofs.Same.{one_yes, part_some, same_from}
 use Rattle.node_arena.proofs.Standing.{some_is}
 use Rattle.plain_tree.specs.Trees.{Trees, leafless, tree}
+use Rattle.tree_rules.specs.Answers as plain
 use Rattle.tree_rules.specs.Answers.{Kid, Pair}
 use Rattle.tree_rules.specs.Chains.{Above, Sibling, sibling_of, siblings_of}
 use Rattle.tree_rules.specs.Contexts as rules
 use Rattle.part_rules.specs.declared.track.Space.TheVariants.{MaxContent}
-use Rattle.tree_rules.specs.GridSizes.{TrackAxis, column_items_of, inline_of_entry, row_items_of, total_for}
+use Rattle.part_rules.specs.declared.view.View.{View}
+use Rattle.tree_rules.specs.GridSizes.{TrackAxis, Wide, column_items_of, inline_of_entry, row_items_of, total_for}
 use Rattle.tree_rules.specs.Labels.{Label}
 use Rattle.tree_rules.specs.Places.{Seen, answers_of}
 use Rattle.tree_rules.specs.Whole.{kids_of}
@@ -22,10 +24,12 @@ use Rattle.placing.specs.Bases.{AreOf, HoldsPlaces}
 use Rattle.placing.specs.Nodes.{BareTrees, IsLive, children_at, kid_at, sight_at}
 use Rattle.placing.specs.Order.{numbers_in_order}
 use Rattle.placing.specs.Seats.{context_at}
-use Rattle.placing.specs.Told.{AreColumns, AreRows, AreRowsFor, AreTurns, Fresh, HoldsColumns, HoldsPast, HoldsTold, TellsColumns, TellsRows, columns_in, entry_with, is_fresh, last_turn, row_axis, rows_in, wide_told}
+use Rattle.placing.specs.Told.{AreColumns, AreFrames, AreRows, AreRowsFor, AreTurns, Fresh, HoldsColumns, HoldsFrames, HoldsPast, HoldsTold, IsFrameIn, TellsColumns, TellsFrame, TellsRows, columns_in, entry_with, is_fresh, last_turn, row_axis, rows_in, wide_told}
 use Rattle.placing.specs.Wides.{HoldsAreas, HoldsRows, IsAbove, child_of, kids_in}
 use Rattle.placing.specs.declared.contexts.Placed.{Placed}
+use Rattle.placing.specs.declared.node.Frame.{Frame}
 use Rattle.placing.specs.declared.told.KeptColumns.{KeptColumns}
+use Rattle.placing.specs.declared.told.KeptFrames.{KeptFrames}
 use Rattle.placing.specs.declared.told.KeptWide.{KeptWide}
 use Rattle.placing.specs.declared.told.Past.{Past}
 use Rattle.placing.specs.declared.told.ToldColumns.{ToldColumns}
@@ -233,12 +237,36 @@ module _ (b d : BareTrees) (turn late : NodeId → ℕ) (n : NodeId)
         laid = subst (λ (a : TrackAxis). HoldsRows a base.placed.rows r) (sym (axis_stays base items)) h.laid;
       }
 
+  -- a frame depends on the values of the grid, and on its base
+  frame_stays : (base : GridBase) (columns : View 0) (rows : View 1) (w : Wide) (f : plain.Frame) → IsFrameIn (sight_at b n) base columns rows w f → IsFrameIn (sight_at d n) base columns rows w f
+  frame_stays base columns rows w f h = record { same = λ g own placed. h.same g (own ∙ label) placed }
+
+  frames_stay : (base : GridBase) (columns : View 0) (rows : View 1) (turns : List ℕ) (frames : List Frame) → HoldsPlaces (sight_at b n) (children_at b n) base → AreTurns turn base.placed.areas turns
+      → AreFrames (sight_at b n) (kid_at b) base columns rows (Fresh turn base.placed.areas turns) frames → AreFrames (sight_at d n) (kid_at d) base columns rows (Fresh late base.placed.areas turns) frames
+  frames_stay base columns rows turns frames h s w =
+      record {
+        counted = w.counted;
+        each = λ i k m f there own fresh. tells k f fresh (w.each i k m f there own (fresh_before turn late base.placed.areas turns k (are_later base h) s fresh));
+      }
+    where
+      wide : (c : NodeId) (a : Area) → kid_at b c ≡ kid_at d c → wide_told (kid_at b c) a base columns (sight_at b n).label.content.inline.items ≡ wide_told (kid_at d c) a base columns (sight_at d n).label.content.inline.items
+      wide c a kid = λ i. wide_told (kid i) a base columns (sym label i).content.inline.items
+
+      tells : (k : ℕ) (f : Frame) → is_fresh late base.placed.areas turns k ≡ true → TellsFrame (sight_at b n) (kid_at b) base columns rows k f → TellsFrame (sight_at d n) (kid_at d) base columns rows k f
+      tells k f fresh y =
+          record {
+            child = y.child;
+            frame = λ c a e. frame_stays base columns rows (wide_told (kid_at d c) a base columns (sight_at d n).label.content.inline.items) (record { rect = f.rect; inline = f.inline; block = f.block })
+                (subst (λ (z : Wide). IsFrameIn (sight_at b n) base columns rows z (record { rect = f.rect; inline = f.inline; block = f.block })) (wide c a (kid_stays base turns h s k c a fresh e)) (y.frame c a e));
+          }
+
   pub past_stays : (p : Past) → HoldsPast b turn n p → HoldsPast d late n p
   past_stays p h =
       record {
         bases = subst (λ l. AreOf (sight_at d n) l p.bases) (sym kids) (all_same (sight_at b n) (sight_at d n) grid chain siblings (children_at b n) p.bases h.bases);
         columns = columns p.columns h.columns;
         wide = wide p.wide h.wide;
+        frames = frames p.frames h.frames;
       }
     where
       columns : (o : Option KeptColumns) → IfSome o (HoldsColumns b turn n) → IfSome o (HoldsColumns d late n)
@@ -259,4 +287,13 @@ module _ (b d : BareTrees) (turn late : NodeId → ℕ) (n : NodeId)
             columns = columns_stay (columns_in k) k.turns w.places w.turns w.columns;
             rows = rows_stay k.wide.parts.base (rows_in k) k.turns w.places w.turns w.rows;
             laid = laid_stay k.wide.parts.base k.wide.items k.wide.rows w.laid;
+          }
+
+      frames : (o : Option KeptFrames) → IfSome o (HoldsFrames b turn n) → IfSome o (HoldsFrames d late n)
+      frames None w = tt
+      frames (Some k) w =
+          record {
+            places = places_stay k.base w.places;
+            turns = turns_later turn late k.base.placed.areas k.turns (are_later k.base w.places) w.turns;
+            frames = frames_stay k.base k.columns k.rows k.turns k.frames w.places w.turns w.frames;
           }

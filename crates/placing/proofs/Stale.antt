@@ -50,7 +50,7 @@ listed_push k i (x ∷ stale) h = at (x == k) refl h (listed_push k i stale)
     at true e f g = absurd cc
     at false e f g = g f
 
-fresh_read : (turn : NodeId → ℕ) (areas : List (NodeId × Area)) (turns : List ℕ) (k : ℕ) (d : NodeId × Area) → length turns ≡ length areas → k < length areas → get_or turns k 0 ≡ turn (get_or areas k d).0 → get_or turns k 0 < last_turn
+pub fresh_read : (turn : NodeId → ℕ) (areas : List (NodeId × Area)) (turns : List ℕ) (k : ℕ) (d : NodeId × Area) → length turns ≡ length areas → k < length areas → get_or turns k 0 ≡ turn (get_or areas k d).0 → get_or turns k 0 < last_turn
     → is_fresh turn areas turns k ≡ true
 fresh_read turn [] turns k d c l e f = absurd (omega (arith, l))
 fresh_read turn (x ∷ areas) [] k d c l e f = absurd (omega (arith, c))
@@ -133,7 +133,7 @@ wide_past b turn n w p h o =
           told = rows_fewer (sight_at b n) (kid_at b) w.wide.parts.base (Fresh turn w.wide.parts.base.placed.areas w.turns) (AllBut p.columns.stale) (rows_in w) h.rows o.fresh;
         }
 
-turns_are : (turn : NodeId → ℕ) (areas : List (NodeId × Area)) (turns : List ℕ) → turns ≡ map (λ (e : NodeId × Area). turn e.0) areas → AreTurns turn areas turns
+pub turns_are : (turn : NodeId → ℕ) (areas : List (NodeId × Area)) (turns : List ℕ) → turns ≡ map (λ (e : NodeId × Area). turn e.0) areas → AreTurns turn areas turns
 turns_are turn areas turns e = subst (AreTurns turn areas) (sym e) (turns_same turn areas)
 
 pub columns_kept : (b : BareTrees) (turn : NodeId → ℕ) (n : NodeId) (w : KeptColumns) → w.turns ≡ map (λ (e : NodeId × Area). turn e.0) w.told.parts.base.placed.areas → HoldsPlaces (sight_at b n) (children_at b n) w.told.parts.base

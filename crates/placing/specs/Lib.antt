@@ -15,6 +15,7 @@ pub mod Ranges
 pub mod Seats
 pub mod Spread
 pub mod Told
+pub mod Turns
 pub mod Walks
 pub mod Wides
 pub mod Wishes

@@ -10,10 +10,11 @@ use Rattle.part_rules.specs.Views.{area_size, tracks_over}
 use Rattle.part_rules.specs.declared.track.Space.TheVariants.{MaxContent}
 use Rattle.part_rules.specs.declared.view.View.{View}
 use Rattle.style_types.specs.declared.value.Align.{Align}
+use Rattle.tree_rules.specs.Answers as rules
 use Rattle.tree_rules.specs.Answers.{Kid}
 use Rattle.tree_rules.specs.Distribution.{given_view, subgrid_box, view_in}
-use Rattle.tree_rules.specs.Frames.{given_box}
-use Rattle.tree_rules.specs.GridSizes.{Entry, TrackAxis, Wide, column_items_of, from_first, inline_of_entry, pairs_for, row_items_of, shares_columns, total_for}
+use Rattle.tree_rules.specs.Frames.{given_box, grid_child}
+use Rattle.tree_rules.specs.GridSizes.{Entry, Grid, TrackAxis, Wide, column_items_of, from_first, inline_of_entry, pairs_for, row_items_of, shares_columns, total_for}
 use Rattle.tree_rules.specs.Labels.{Label}
 use Rattle.tree_rules.specs.NodeSizes.{bounds_of, inline_used, is_stretched, margins, self_align}
 use Rattle.tree_rules.specs.Places.{Seen}
@@ -21,14 +22,19 @@ use Rattle.tree_rules.specs.Repetitions.{own_pair}
 use Rattle.tree_rules.specs.Templates.{written}
 use Rattle.tree_rules.specs.declared.query.Given.{Given}
 use Rattle.tree_rules.specs.declared.query.Given.TheVariants as given
+use Rattle.placing.specs.Areas.{placed_of}
 use Rattle.placing.specs.Bases.{AreOf, HoldsPlaces}
 use Rattle.placing.specs.Nodes.{BareTrees, children_at, kid_at, sight_at}
 use Rattle.placing.specs.Seats.{context_at}
+use Rattle.placing.specs.Turns.{turns}
 use Rattle.placing.specs.Wides.{HoldsRows, child_of}
+use Rattle.placing.specs.declared.node.Frame.{Frame}
 use Rattle.placing.specs.declared.told.KeptColumns.{KeptColumns}
+use Rattle.placing.specs.declared.told.KeptFrames.{KeptFrames}
 use Rattle.placing.specs.declared.told.KeptWide.{KeptWide}
 use Rattle.placing.specs.declared.told.Past.{Past}
 use Rattle.placing.specs.declared.told.PastColumns.{PastColumns}
+use Rattle.placing.specs.declared.told.PastFrames.{PastFrames}
 use Rattle.placing.specs.declared.told.PastRows.{PastRows}
 use Rattle.placing.specs.declared.told.PastWide.{PastWide}
 use Rattle.placing.specs.declared.told.ToldColumns.{ToldColumns}
@@ -108,6 +114,22 @@ pub record AreRowsFor (s : Seen) (base : GridBase) (items : List Item) (r : Rows
   pub size : r.size ≡ total_for {axis = 1} (row_axis s base items) MaxContent
   pub laid : HoldsRows (row_axis s base items) base.placed.rows r
 
+-- ---- the frames by what was told
+
+-- The frame of a child over these columns and rows in a grid of these values and areas, whatever else the grid is (CSS Grid 2, sections 6 and 11).
+pub record IsFrameIn (s : Seen) (base : GridBase) (columns : View 0) (rows : View 1) (w : Wide) (f : rules.Frame) : Type 0 where
+  pub same : (g : Grid) → g.label ≡ s.label → g.placed ≡ placed_of base.placed → f ≡ (grid_child g columns rows w).1.frame
+
+-- This is the frame of the child of this index, where the grid aligns its children as its values say.
+pub record TellsFrame (s : Seen) (kid : NodeId → Kid) (base : GridBase) (columns : View 0) (rows : View 1) (k : ℕ) (f : Frame) : Type 0 where
+  pub child : (c : NodeId) (a : Area) → slice_get base.placed.areas k ≡ Some (c, a) → f.child ≡ c
+  pub frame : (c : NodeId) (a : Area) → slice_get base.placed.areas k ≡ Some (c, a) → IsFrameIn s base columns rows (wide_told (kid c) a base columns s.label.content.inline.items) (record { rect = f.rect; inline = f.inline; block = f.block })
+
+-- One frame for each child, in document order: each child that counts has its own.
+pub record AreFrames (s : Seen) (kid : NodeId → Kid) (base : GridBase) (columns : View 0) (rows : View 1) (Counts : ℕ → Type 0) (frames : List Frame) : Type 0 where
+  pub counted : length frames ≡ length (turns base.placed.numbers)
+  pub each : (i k : ℕ) (m : ℤ) (f : Frame) → slice_get (turns base.placed.numbers) i ≡ Some (k, m) → slice_get frames i ≡ Some f → Counts k → TellsFrame s kid base columns rows k f
+
 -- ---- which of it lasts
 
 -- the last turn of a node, at which it stands still
@@ -184,15 +206,22 @@ pub record HoldsTold (b : BareTrees) (turn : NodeId → ℕ) (n : NodeId) (w : K
   -- the rows are those of all items, whether the children count that told them or not
   pub laid : IfSome w.wide.rows (AreRowsFor (sight_at b n) w.wide.parts.base w.wide.items)
 
+-- What a node keeps of the frames of its children: those count whose answers did not go since.
+pub record HoldsFrames (b : BareTrees) (turn : NodeId → ℕ) (n : NodeId) (w : KeptFrames) : Type 0 where
+  pub places : HoldsPlaces (sight_at b n) (children_at b n) w.base
+  pub turns : AreTurns turn w.base.placed.areas w.turns
+  pub frames : AreFrames (sight_at b n) (kid_at b) w.base w.columns w.rows (Fresh turn w.base.placed.areas w.turns) w.frames
+
 -- All that a node keeps longer than its answers is of it.
 pub record HoldsPast (b : BareTrees) (turn : NodeId → ℕ) (n : NodeId) (p : Past) : Type 0 where
   pub bases : AreOf (sight_at b n) (children_at b n) p.bases
   pub columns : IfSome p.columns (HoldsColumns b turn n)
   pub wide : IfSome p.wide (HoldsTold b turn n)
+  pub frames : IfSome p.frames (HoldsFrames b turn n)
 
 -- nothing
 abbrev pub no_past : Past
-no_past = record { bases = []; columns = None; wide = None }
+no_past = record { bases = []; columns = None; wide = None; frames = None }
 
 -- ---- what is taken
 
@@ -223,3 +252,13 @@ pub record IsPastOf (turn : NodeId → ℕ) (w : KeptWide) (p : PastWide) : Type
   pub laid : p.rows.rows ≡ w.wide.rows
   pub fresh : (k : ℕ) → k < length w.wide.parts.base.placed.areas → is_listed k p.columns.stale ≡ false → is_fresh turn w.wide.parts.base.placed.areas w.turns k ≡ true
   pub within : All (λ k. k < length w.wide.parts.base.placed.areas) p.columns.stale
+
+-- those children count that are marked
+abbrev pub Marked : List Bool → ℕ → Type 0
+Marked fresh k = slice_get fresh k ≡ Some true
+
+-- the frames of the children, without those that must be made again
+pub record ArePastFrames (b : BareTrees) (n : NodeId) (p : PastFrames) : Type 0 where
+  pub places : HoldsPlaces (sight_at b n) (children_at b n) p.base
+  pub counted : length p.fresh ≡ length p.base.placed.areas
+  pub frames : AreFrames (sight_at b n) (kid_at b) p.base p.columns p.rows (Marked p.fresh) p.frames

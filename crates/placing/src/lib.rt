@@ -12,6 +12,7 @@ mod covered;
 mod grids;
 mod items;
 mod keeping;
+mod last_frames;
 mod laws;
 mod lengths;
 mod linked;
@@ -35,6 +36,7 @@ pub use contexts::{Above, AxisContext, Context, Placed};
 pub use grids::context_in;
 pub use items::{ChildArea, entry, has_subgrid};
 pub use keeping::{drop_past, find, find_base, find_by, keep_base, leaf_height, leaf_sizes, put};
+pub use last_frames::{keep_frames, take_frames};
 pub use laws::{
     dropping_keeps_the_rest, forgetting_keeps_the_rest, kept_answers_are_defined,
     readable_node_by_node, right_where_seen_the_same,
@@ -46,8 +48,8 @@ pub use shared::{SharedBase, SharedFrames, SharedWide};
 pub use sight::{child, count, node_at, parent, root};
 pub use telling::{MANY, keep_columns, keep_wide, put_items, take_columns, take_wide, turn_of};
 pub use told::{
-    KeptColumns, KeptWide, Past, PastColumns, PastRows, PastWide, SharedColumns, SharedTold,
-    ToldColumns, ToldRows,
+    KeptColumns, KeptFrames, KeptWide, Past, PastColumns, PastFrames, PastRows, PastWide,
+    SharedColumns, SharedLast, SharedTold, ToldColumns, ToldRows,
 };
 pub use tree_rules::NodeKind;
 pub use wide::{GridBase, GridParts, GridWide, RowsAt, WideChild};

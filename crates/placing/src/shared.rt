@@ -47,6 +47,14 @@ impl SharedFrames {
         })
     }
 
+    /// The frames; `None` only where they are shared.
+    pub(crate) fn into_inner(self) -> Option<Sequence<Frame>>
+        ensures { IfSome result (λ frames. frames ≡ self) }
+    {
+        let SharedFrames { frames } = self;
+        Rc::into_inner(frames)
+    }
+
     /// The frames in order.
     pub fn as_slice(&self) -> &[Frame]
         ensures { result.now ≡ self.now }

@@ -40,7 +40,7 @@ pub fn turn_of(tree: &Arena<Node>, id: NodeId) -> u64
 }
 
 /// The turns of the children of a grid.
-fn turns_of(
+pub(crate) fn turns_of(
     alloc: Global,
     tree: &Arena<Node>,
     areas: &[(NodeId, Area)],

@@ -5,7 +5,8 @@ ghost use Rattle.std.specs.Prelude.{◌≡◌, [], None, IfOk, IfSome};
 ghost use Rattle.placing.specs.Told.{no_past};
 
 use crate::bases::Bases;
-use crate::shared::{SharedBase, SharedWide};
+use crate::node::Frame;
+use crate::shared::{SharedBase, SharedFrames, SharedWide};
 use crate::wide::{GridParts, RowsAt, WideChild};
 use lunit::{Item, NoMemory, Sequence};
 use part_rules::View;
@@ -82,6 +83,36 @@ pub struct PastRows {
     pub rows: Option<RowsAt>,
     /// The indices of those that must be asked again, in the order of the areas.
     pub stale: Sequence<usize>,
+}
+
+/// The frames of the children of a grid, as it keeps them longer than its answers.
+#[derive(Drop)]
+pub struct KeptFrames {
+    /// The grid before its children are asked.
+    pub base: SharedBase,
+    /// Where its columns lay.
+    pub columns: View<0>,
+    /// Where its rows lay.
+    pub rows: View<1>,
+    /// The frames, in document order.
+    pub frames: SharedFrames,
+    /// The turn of each child then, in the order of the areas.
+    pub turns: Sequence<u64>,
+}
+
+/// The frames of the children of a grid, some of which must be made again.
+#[derive(Drop)]
+pub struct PastFrames {
+    /// The grid before its children are asked.
+    pub base: SharedBase,
+    /// Where its columns lay.
+    pub columns: View<0>,
+    /// Where its rows lay.
+    pub rows: View<1>,
+    /// The frames, in document order.
+    pub frames: Sequence<Frame>,
+    /// For each child, in the order of the areas, whether its answers did not go since.
+    pub fresh: Sequence<bool>,
 }
 
 /// Both.
@@ -165,6 +196,42 @@ impl SharedTold {
     }
 }
 
+/// The frames of the children of a grid, as it keeps them longer than its answers.
+#[derive(Drop)]
+pub struct SharedLast {
+    kept: Rc<KeptFrames>,
+}
+
+impl Model for SharedLast {
+    ghost use Rattle.placing.specs.declared.told.KeptFrames.{KeptFrames};
+    ghost use Rattle.placing.specs.contracts.told.KeptFrames as kept_frames;
+
+    ghost Value = { KeptFrames };
+
+    ghost coded = { kept_frames.the_row.coded };
+
+    ghost view = { λ a. a.kept.value };
+}
+
+impl SharedLast {
+    /// This; `NoMemory` where memory is wanting.
+    pub(crate) fn new(alloc: Global, kept: KeptFrames) -> Result<SharedLast, NoMemory>
+        ensures { IfOk result (λ made. made ≡ kept) }
+    {
+        Ok(SharedLast {
+            kept: Rc::new(alloc, kept)?,
+        })
+    }
+
+    /// What it holds; `None` only where it is shared.
+    pub(crate) fn into_inner(self) -> Option<KeptFrames>
+        ensures { IfSome result (λ kept. kept ≡ self) }
+    {
+        let SharedLast { kept } = self;
+        Rc::into_inner(kept)
+    }
+}
+
 /// What a grid keeps longer than its answers.
 #[derive(Drop)]
 pub struct Past {
@@ -174,6 +241,8 @@ pub struct Past {
     pub columns: Option<SharedColumns>,
     /// What its children told last for its block size.
     pub wide: Option<SharedTold>,
+    /// The frames that it gave its children last.
+    pub frames: Option<SharedLast>,
 }
 
 impl Past {
@@ -185,6 +254,7 @@ impl Past {
             bases: Bases::new(),
             columns: None,
             wide: None,
+            frames: None,
         }
     }
 
@@ -195,5 +265,6 @@ impl Past {
         self.bases.clear();
         self.columns = None;
         self.wide = None;
+        self.frames = None;
     }
 }

@@ -32,6 +32,10 @@ const SCRIPT: &[u8] = b"---
 content p07 words 16 4 40 40 40 40 40 40 40 40 40 40 40 40 40 40 40 40 40
 ";
 
+/// An edit that makes a card narrower, and leaves it as high: as many words stand in each line of its text that three lines hold them.
+const ASIDE: &[u8] = b"set c08 margin-left: 30px
+";
+
 /// An edit that changes nothing.
 const SAME_VIEWPORT: &[u8] = b"viewport 1000 600
 ";
@@ -60,6 +64,13 @@ p07 510 214 230 64
 f07 510 282 230 24
 p08 760 214 230 64
 c09 10 326 230 100
+layout 2
+main 0 0 1000 796
+c07 510 190 230 116
+c08 790 190 200 116
+p08 790 214 200 64
+y08 930 282 60 24
+c09 10 326 230 100
 ";
 
 /// Adds the card of this number.
@@ -85,12 +96,14 @@ fn page(alloc: Global) -> Result<Vec<u8>, NoMemory> {
 }
 
 fn check_boxes(rt: &impl Abort, alloc: Global, devices: Devices) -> Result<(), NoMemory> {
-    let ran = run_text(alloc, &["layout"], &page(alloc)?, devices)?;
+    let mut page = page(alloc)?;
+    page.extend_from_slice(ASIDE)?;
+    let ran = run_text(alloc, &["layout"], &page, devices)?;
     assert!(rt; ran.status == Status::Done && has_lines(ran.written.as_slice(), LINES));
     Ok(())
 }
 
-/// The longer text moves what is below it.
+/// The longer text moves what is below it, and the narrower card what is in it.
 pub(crate) fn check_cards(rt: &impl Abort, alloc: Global) -> Result<(), NoMemory> {
     check_boxes(rt, alloc, WHOLE)?;
     check_boxes(rt, alloc, BYTEWISE)

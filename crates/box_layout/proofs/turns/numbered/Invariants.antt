@@ -1,5 +1,5 @@
 use Rattle.std.proofs.Common.{◌≡◌, take}
-use Rattle.box_layout.specs.Turns.{pairs_from}
+use Rattle.placing.specs.Turns.{pairs_from}
 use Rattle.box_layout.proofs.turns.numbered.Given as goal
 
 abbrev pub invariant-loop-place : goal.invariant-loop-place
