@@ -1,6 +1,6 @@
 -- With a leaf of the document after it, an edit touches its parent.
 use Rattle.std.proofs.Common.{◌≡◌, refl, sym, ap, subst, ◌∙◌, ℕ, zero, suc, Bool, true, false, Option, Some, None, Result, Ok, Err, true≢false}
-use Rattle.std.specs.Prelude.{◌||◌, ◌&&◌, if◌then◌else◌, map, List}
+use Rattle.std.specs.Prelude.{◌||◌, ◌&&◌, if◌then◌else◌}
 use Rattle.std.specs.Str.{bytes_eq}
 use Rattle.std.proofs.lemmas.Bool.{and_from, and_parts, or_left, or_right}
 use Rattle.text_scan.specs.declared.line.Fault.{Fault}

@@ -1,15 +1,15 @@
 -- In a page whose document has no name twice, no number stands twice and no two nodes have one name.
-use Rattle.std.proofs.Common.{◌≡◌, ◌≢◌, refl, sym, ap, ◌∙◌, subst, arith, ℕ, ◌+◌, ◌≤◌, Bool, true, false, List, Option, Some, None, IsSome, is_some, inl, inr}
-use Rattle.std.specs.Prelude.{◌⊎◌, ◌||◌}
+use Rattle.std.proofs.Common.{◌≡◌, ◌≢◌, refl, sym, ap, ◌∙◌, subst, ℕ, Bool, true, false, List, Option, Some, None, IsSome, is_some}
+use Rattle.std.specs.Prelude.{◌||◌}
 use Rattle.std.specs.Str.{bytes_eq}
-use Rattle.std.proofs.lemmas.Bool.{cases_eq, false≢true}
+use Rattle.std.proofs.lemmas.Bool.{false≢true}
 use Rattle.std.proofs.lemmas.Slice.Eq.{bytes_eq-Decides}
 use Rattle.plain_tree.specs.Trees.{leafless, tree}
 use Rattle.doc_text.specs.Growth.{holds}
 use Rattle.doc_text.specs.Named.{IsDistinct as NamesDiffer}
 use Rattle.node_arena.specs.declared.number.NodeId.{NodeId}
-use Rattle.node_arena.specs.Numbers.{EachNode, IsDistinct, one, part_at, same, times, value_at, value_of}
-use Rattle.node_arena.proofs.Same.{by_place, one_no, part_after, part_below, part_here, same_is}
+use Rattle.node_arena.specs.Numbers.{part_at, same, value_at, value_of}
+use Rattle.node_arena.proofs.Same.{by_place, part_after, part_below, part_here, same_is}
 use Rattle.node_arena.proofs.Standing.{some_is}
 use Rattle.placing.specs.declared.node.Node.{Node}
 use Rattle.placing.specs.Nodes.{Bare, IsLive, NodeTrees, bare, bare_of, label_of_bare}

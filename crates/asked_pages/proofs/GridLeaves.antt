@@ -1,26 +1,24 @@
 -- The leaves of the grids of a document, by the numbers of a page's nodes.
-use Rattle.std.proofs.Common.{◌≡◌, refl, sym, ap, subst, ◌∙◌, arith, ℕ, zero, suc, ◌≤◌, ◌+◌, Bool, true, false, List, [], ◌∷◌, ◌++◌, length, Option, Some, None, IsSome, is_some, inl, inr, true≢false}
-use Rattle.std.specs.Prelude.{◌||◌, ◌&&◌, ◌⊎◌, Contains, if◌then◌else◌, slice_get, ⊤}
+use Rattle.std.proofs.Common.{◌≡◌, refl, sym, ap, subst, ◌∙◌, arith, ℕ, zero, suc, ◌≤◌, ◌+◌, Bool, true, false, List, [], ◌∷◌, ◌++◌, Option, Some, None, is_some, inl, inr, true≢false}
+use Rattle.std.specs.Prelude.{◌&&◌, ◌⊎◌, Contains, if◌then◌else◌, slice_get, ⊤}
 use Rattle.std.proofs.lemmas.Bool.{and_from, or_left, or_right}
 use Rattle.std.proofs.lemmas.List.Elements.{Contains-append_cases, Contains-push_cases}
 use Rattle.plain_tree.specs.Trees.{Trees, leafless, map_trees, tree}
 use Rattle.node_arena.specs.declared.number.NodeId.{NodeId}
 use Rattle.node_arena.specs.Numbers.{EachNode, IsDistinct, Part, below_of, child_at, mapped, number_of, part_at, second, times, tops, value_at, value_of, way_up}
 use Rattle.node_arena.proofs.Parts.{below_within, not_here, top_there}
-use Rattle.node_arena.proofs.Same.{by_place, one_no, part_after, part_below, part_here, part_there, same_from, same_is, same_refl}
+use Rattle.node_arena.proofs.Same.{by_place, part_after, part_below, part_here, part_there, same_from, same_is, same_refl}
 use Rattle.node_arena.proofs.Standing.{some_is, way_after, way_below, way_head, way_here}
 use Rattle.tree_rules.specs.Chains.{is_grid_kind}
 use Rattle.tree_rules.specs.Labels.{Label}
 use Rattle.tree_rules.specs.declared.kind.NodeKind.{NodeKind}
 use Rattle.tree_rules.specs.declared.kind.NodeKind.TheVariants as kind
-use Rattle.tree_rules.specs.declared.query.Query.{Query}
 use Rattle.doc_text.specs.Documents as doc
 use Rattle.placing.specs.Keeping.{is_leaf}
 use Rattle.placing.specs.Kept.{kept_at, kept_of}
-use Rattle.placing.specs.Nodes.{Bare, NodeTrees, bare, bare_of, label_in, label_of_bare, sight_at}
-use Rattle.placing.specs.declared.node.Answer.{Answer}
+use Rattle.placing.specs.Nodes.{NodeTrees, bare, bare_of, label_in, label_of_bare, sight_at}
 use Rattle.placing.specs.declared.node.Node.{Node}
-use Rattle.placing.proofs.Bares.{bare_there, child_bare, distinct_bare}
+use Rattle.placing.proofs.Bares.{bare_there, child_bare}
 use Rattle.placing.proofs.Sights.{sight_label}
 use Rattle.asked_names.specs.Asked.{name_in}
 use Rattle.page_tree.specs.Documents.{kind_of, plain_trees}

@@ -10,7 +10,7 @@ use Rattle.doc_text.specs.Named.{IsDistinct as NamesDiffer}
 use Rattle.doc_text.specs.Valid.{HasContainers, IsValid}
 use Rattle.placing.specs.Keeping.{is_leaf}
 use Rattle.placing.specs.Kept.{IsRight, kept_at}
-use Rattle.placing.specs.Nodes.{Bare, BareTrees, NodeTrees, bare, label_in, label_of_bare, sight_at}
+use Rattle.placing.specs.Nodes.{Bare, BareTrees, NodeTrees, bare, label_of_bare, sight_at}
 use Rattle.placing.specs.Walks.{AreAsked, AreFresh, Entry, State, Walk, bare_in, entries_of, events_of, kept_in, kept_with}
 use Rattle.placing.specs.declared.node.Answer.{Answer}
 use Rattle.placing.specs.declared.node.Node.{Node}
@@ -31,7 +31,7 @@ use Rattle.page_tree.specs.Boxes.{boxes_of}
 use Rattle.page_tree.specs.Documents.{plain_trees}
 use Rattle.page_tree.specs.Pages.{Held, IsPage, Stands, document_of}
 use Rattle.page_tree.proofs.Laying.{page_boxes}
-use Rattle.asked_pages.specs.AskedOf.{asked_of, containers_by, labels_of, path_of}
+use Rattle.asked_pages.specs.AskedOf.{asked_of, containers_by, path_of}
 use Rattle.asked_pages.specs.Bounds.{IsBounded}
 use Rattle.asked_pages.specs.Leaves.{AreAllMeasured, IsEmptied, PassesUp, leaves_of_grids, measured_in}
 use Rattle.asked_pages.proofs.AskedOf.{containers_chosen, leaves_bare, page_asked, page_labels, page_path}

@@ -1,5 +1,5 @@
 -- A grid in its columns as an answer holds it is the one that the walk tells, and the other way round.
-use Rattle.std.proofs.Common.{◌≡◌, ◌∷◌, [], ℕ, List, Option, Some, None, refl, subst, sym, ◌≤◌, ◌^◌}
+use Rattle.std.proofs.Common.{◌≡◌, ◌∷◌, [], List, Option, Some, None, refl, subst, sym}
 use Rattle.std.specs.Prelude.{ℤ, Result, Ok, Err, IfOk, IfSome, OnOk, IsSome}
 use Rattle.placing.specs.Walks.{kept_with}
 use Rattle.placing.specs.declared.node.Answer.{Answer}

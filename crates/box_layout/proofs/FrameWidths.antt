@@ -25,7 +25,7 @@ use Rattle.tree_rules.specs.Answers.{Frame}
 use Rattle.tree_rules.specs.AskedQueries.{ToChild, asks_frames, block_query, flex_asks_block, flex_asks_inline, flex_uses, frame_width, settled_in, uses_by}
 use Rattle.tree_rules.specs.FlexSizes as rules
 use Rattle.tree_rules.specs.Frames as frames
-use Rattle.tree_rules.specs.Frames.{LineAt, given_box, given_size, settled_across, size_across}
+use Rattle.tree_rules.specs.Frames.{LineAt, given_box, given_size, size_across}
 use Rattle.tree_rules.specs.Labels.{GridAxis, Label}
 use Rattle.tree_rules.specs.NodeSizes.{Bounds, bounds_of, fitted, inner, margin, margins}
 use Rattle.tree_rules.specs.Orders.{in_document_order, numbered_from, sorted_by}

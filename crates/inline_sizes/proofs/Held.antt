@@ -1,5 +1,5 @@
 -- A grid as an answer holds it is the grid that the walk tells, and the other way round.
-use Rattle.std.proofs.Common.{◌≡◌, ℕ, zero, suc, ◌∷◌, ◌++◌, [], List, map, length, refl, sym, ap, ◌∙◌, subst, arith, length-append}
+use Rattle.std.proofs.Common.{◌≡◌, ℕ, zero, suc, ◌∷◌, ◌++◌, [], List, map, length, refl, sym, ap, ◌∙◌, arith, length-append}
 use Rattle.std.specs.Prelude.{slice_get}
 use Rattle.plain_tree.specs.Trees.{Trees, leafless, tree}
 use Rattle.node_arena.specs.declared.number.NodeId.{NodeId}

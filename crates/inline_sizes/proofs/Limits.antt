@@ -1,5 +1,5 @@
 -- Numbers within limits.
-use Rattle.std.proofs.Common.{arith, sym, ap, ◌≡◌, ◌∙◌, ℤ, pos, ◌+ℤ◌, ◌-ℤ◌, ◌≤ℤ◌, Option, Some, None, false, ◌||◌, true≢false}
+use Rattle.std.proofs.Common.{arith, ◌≡◌, ℤ, pos, ◌+ℤ◌, ◌-ℤ◌, ◌≤ℤ◌, Option, Some, None, false, ◌||◌, true≢false}
 use Rattle.std.specs.Prelude.{IfSome, is_some, unwrap_or}
 use Rattle.std.specs.Int.{int_max, int_min}
 use Rattle.std.proofs.lemmas.Int.{ints, int_max_is, int_min_is}

@@ -3,7 +3,7 @@ use Rattle.std.proofs.Common.{◌≡◌, ◌∙◌, sym, ℕ, None}
 use Rattle.lunit.specs.declared.geometry.Spot.TheVariants.{Free}
 use Rattle.lunit.specs.declared.line_value.LineValue.{LineValue}
 use Rattle.lunit.specs.declared.line_value.LineValue.TheVariants.{Auto, Reach}
-use Rattle.part_rules.specs.LineNames.{Table, cut_spot, resolved}
+use Rattle.part_rules.specs.LineNames.{cut_spot, resolved}
 use Rattle.placing.specs.Wishes.{IsOpen}
 
 pub both_auto : (start end : LineValue) (a n : ℕ) → start ≡ Auto → end ≡ Auto → n ≡ a → IsOpen start end a n

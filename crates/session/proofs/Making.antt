@@ -5,7 +5,7 @@ use Rattle.text_scan.specs.declared.line.Fault.{Fault}
 use Rattle.outside.specs.Faults.{Rose}
 use Rattle.outside.specs.Told.{Adds, AddsPrefix}
 use Rattle.outside.specs.declared.event.Event.{Event}
-use Rattle.outside.proofs.Laws.{all_but_start, all_but_more, all_but_nothing, prefix_next, prefix_all_but, prefix_after, prefix_longer, prefix_all, prefix_none, adds_more}
+use Rattle.outside.proofs.Laws.{prefix_after, prefix_longer, prefix_all, prefix_none, adds_more}
 use Rattle.doc_text.specs.declared.document.Doc.{Doc}
 use Rattle.doc_text.specs.declared.edit.Edit.{Edit}
 use Rattle.doc_text.specs.declared.edit.Edit.TheVariants as edit

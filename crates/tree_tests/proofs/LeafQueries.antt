@@ -1,8 +1,8 @@
 -- Which questions fit a leaf that stands alone.
-use Rattle.std.proofs.Common.{◌≡◌, Bool, ℕ, ℤ, true, false, List, [], ◌∷◌, Some, length, refl, sym, ap, ◌∙◌, subst}
+use Rattle.std.proofs.Common.{◌≡◌, Bool, ℕ, ℤ, true, false, [], Some, length, refl, sym, ap, ◌∙◌, subst}
 use Rattle.std.specs.Prelude.{◌&&◌, not, pos, Result, Ok, Err, OnOk}
 use Rattle.lunit.specs.Units.{clamp}
-use Rattle.plain_tree.specs.Trees.{Trees, leafless, tree}
+use Rattle.plain_tree.specs.Trees.{leafless, tree}
 use Rattle.node_arena.specs.declared.number.NodeId.{NodeId}
 use Rattle.node_arena.specs.Numbers.{value_at, value_of}
 use Rattle.node_arena.specs.Plain.{Nodes, first_node}
@@ -10,7 +10,6 @@ use Rattle.node_arena.proofs.Same.{part_here, same_refl}
 use Rattle.tree_rules.specs.Chains.{has_chain, is_subgrid}
 use Rattle.tree_rules.specs.Places.{Seen}
 use Rattle.tree_rules.specs.Queries.{Fits, IsGivenFor, outer_context, sees_columns, sees_rows}
-use Rattle.tree_rules.specs.declared.query.Query.{Query}
 use Rattle.tree_rules.specs.declared.query.Ask.TheVariants as ask
 use Rattle.tree_rules.specs.declared.query.Given.TheVariants as given
 use Rattle.tree_rules.specs.declared.kind.NodeKind.TheVariants as kind

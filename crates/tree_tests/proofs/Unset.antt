@@ -1,15 +1,15 @@
 -- A style in which nothing is set has initial values, which are in range.
-use Rattle.std.proofs.Common.{◌≡◌, ap, refl, arith, pos, ◌≤ℤ◌}
+use Rattle.std.proofs.Common.{◌≡◌, ap, refl, arith, pos}
 use Rattle.std.proofs.lemmas.Int.{ints}
 use Rattle.std.specs.FinMap as map
 use Rattle.std.specs.Option.{unwrap_or}
-use Rattle.placing.specs.Ranges.{IsEdge, IsGridAxis, IsGridStyle, IsLine, IsMargin, IsOffset}
+use Rattle.placing.specs.Ranges.{IsEdge, IsGridAxis, IsGridStyle, IsOffset}
 use Rattle.style_types.specs.Order.{prop_cmp}
 use Rattle.style_types.specs.Styles.{StyleMap, value_of}
 use Rattle.style_types.specs.Table.{initial}
 use Rattle.style_types.specs.declared.prop.Prop.{Prop}
 use Rattle.style_types.specs.declared.prop.Prop.TheVariants as prop
-use Rattle.tree_rules.specs.Labels.{columns_of, grid_of, length_in, line_in, margin_in, rows_of}
+use Rattle.tree_rules.specs.Labels.{columns_of, grid_of, length_in, rows_of}
 
 abbrev unset : StyleMap
 unset = map.empty

@@ -6,7 +6,7 @@ use Rattle.tree_rules.specs.declared.query.Query.{Query}
 use Rattle.placing.proofs.Leaves.{on_err}
 use Rattle.placing.proofs.Walks.{stopped, ticked, walked_none}
 use Rattle.inline_sizes.proofs.Asked.{on_ok}
-use Rattle.block_sizes.proofs.HeldWide.{held_wide, if_ok_same, on_ok_by}
+use Rattle.block_sizes.proofs.HeldWide.{held_wide, if_ok_same}
 use Rattle.block_sizes.specs.Wides.{IsWide}
 use Rattle.block_sizes.proofs.held.wide_for.Goals as goal
 
