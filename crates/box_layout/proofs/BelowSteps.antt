@@ -1,6 +1,6 @@
 -- The children of a container one after the other, on the way of the boxes.
-use Rattle.std.proofs.Common.{arith, refl, ◌≡◌, ℕ, ◌+◌, ◌≤◌, ◌<◌, ◌∷◌, ◌++◌, [], List, Bool, true, false, if◌then◌else◌, length, map, drop, sym, ap, ◌∙◌, subst, ℤ, Some, inl, inr, OnOk, OnErr, Ok, Err}
-use Rattle.std.specs.Prelude.{Contains, Result, get_or}
+use Rattle.std.proofs.Common.{arith, refl, ◌≡◌, ℕ, ◌+◌, ◌≤◌, ◌<◌, ◌∷◌, ◌++◌, [], List, Bool, true, false, if◌then◌else◌, length, map, drop, sym, ap, ◌∙◌, subst, ℤ, Some, inl, inr, OnOk, Ok, Err}
+use Rattle.std.specs.Prelude.{Contains, Option, Result, get_or}
 use Rattle.std.proofs.lemmas.List.{get_or_default, get_or-map, length-map}
 use Rattle.lunit.specs.declared.geometry.Area.{Area}
 use Rattle.lunit.specs.declared.geometry.Rect.{Rect}
@@ -31,6 +31,7 @@ use Rattle.box_layout.specs.Asking.{frames_asked}
 use Rattle.box_layout.specs.Beneath.{AreSeats, AreTelling, HasPairs, IsSeatTo, above_held, above_to, is_lower, pairs_held, pairs_to}
 use Rattle.box_layout.specs.BoxesSeen.{AreNear, IsNearAt, IsNearRect, boxes_seen, boxes_with, frames_seen, pairs_seen, reach}
 use Rattle.box_layout.specs.KidBoxes.{boxes_from}
+use Rattle.box_layout.specs.LastBoxes.{AddsFew}
 use Rattle.box_layout.specs.Paths.{AreKeptBelow, IsChildLaid, IsChildPart, IsLaidOut, IsLaidPart, passes_at}
 use Rattle.box_layout.specs.Ranges.{IsWithin}
 use Rattle.box_layout.specs.Stands.{StandBelow}
@@ -53,10 +54,6 @@ pub ok_then : {T E : Type 0} (r : Result T E) (P Q : Type 0) → (P → Q) → O
 ok_then (Ok x) P Q f h = f h
 ok_then (Err e) P Q f h = tt
 
-pub err_then : {T E : Type 0} (r : Result T E) (P Q : Type 0) → (P → Q) → OnErr r P → OnErr r Q
-err_then (Ok x) P Q f h = tt
-err_then (Err e) P Q f h = f h
-
 -- the box of a node, and those below it
 pub leaf_told : (b : BareTrees) (n : NodeId) (reps : List Pair) (f : Frame) (at : ℤ × ℤ) (name : List ℕ) (rect : Rect) → is_container (sight_at b n).label.kind ≡ false → name ≡ (sight_at b n).label.name → rect ≡ moved_by at f.rect
     → (name, rect) ∷ [] ≡ boxes_with b n reps f at
@@ -71,10 +68,12 @@ below_told b n reps pairs same f at name rect named moved = λ i. (named i, move
 pub near_told : (level : ℕ) (x y : ℤ) (f : Frame) (rect : Rect) → rect ≡ moved_by (x, y) f.rect → IsNearAt level x y f → IsNearRect rect
 near_told level x y f rect moved near = subst IsNearRect (sym moved) (near_rect level x y f near)
 
--- What a sink took between two of its states, where these boxes are still to come of all: each number of it is near.
-pub record HasTaken {S : Type 0} (adds : S → S → List Box → Type 0) (old now : S) (rest all : List Box) : Type 0 where
+-- What a sink took between two of its states, where these boxes are still to come of all: each number of it is near, and it came to the few
+-- boxes too.
+pub record HasTaken {S : Type 0} (adds : S → S → List Box → Type 0) (old now : S) (few_old few_now : Option (List Box)) (rest all : List Box) : Type 0 where
   pub part : List Box
   pub added : adds old now part
+  pub few : AddsFew part few_old few_now
   pub whole : part ++ rest ≡ all
   pub near : AreNear part
 

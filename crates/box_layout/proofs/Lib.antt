@@ -15,6 +15,8 @@ pub mod FlexAlike
 pub mod FlexAnswered
 pub mod FlexFits
 pub mod FlexNear
+mod FoundBoxes
+mod FoundWalks
 pub mod FrameWidths
 pub mod Framed
 pub mod FramesAnswered

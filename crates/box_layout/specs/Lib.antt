@@ -7,6 +7,7 @@ pub mod BoxesSeen
 pub mod FlexFrames
 pub mod GridFrames
 pub mod KidBoxes
+pub mod LastBoxes
 pub mod LeafHeights
 pub mod Near
 pub mod Paths

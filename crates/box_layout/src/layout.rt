@@ -1,14 +1,16 @@
 //! The boxes of a whole tree in a viewport.
 
-ghost use Rattle.std.specs.Prelude.{◌≡◌, [], OnOk, OnErr};
-ghost use Rattle.placing.specs.Kept.{IsRight};
+ghost use Rattle.std.specs.Prelude.{◌≡◌, [], false, OnOk, OnErr};
+ghost use Rattle.placing.specs.Kept.{kept_at, IsRight};
 ghost use Rattle.placing.specs.Nodes.{bare};
 ghost use Rattle.placing.specs.Ranges.{AreReadable};
 ghost use Rattle.placing.specs.Walks.{state, Walk};
 ghost use Rattle.box_layout.specs.BoxesSeen.{AreNear, bare_boxes};
+ghost use Rattle.box_layout.specs.LastBoxes.{AreFound};
 ghost use Rattle.box_layout.specs.LeafHeights.{AreMeasured};
 ghost use Rattle.box_layout.specs.Paths.{IsAllKept, IsAsked, IsCutShort, IsPathKept};
 
+use crate::last_boxes::LastBoxes;
 use crate::root_frame::root_frame;
 use crate::told::BoxSink;
 use crate::walk::boxes_of;
@@ -31,19 +33,22 @@ const NO_AREA: Area = Area {
 ///
 /// Each container is asked once for its frames; the answers that the nodes keep are taken as they are, and what is found is kept. Each
 /// leaf among the children of a grid whose frames are found then keeps its block size at the content width of its box. Where all of
-/// that is kept, nothing changes. `NoMemory` where memory is wanting; what was kept by then is right.
+/// that is kept, nothing changes. The boxes of containers that have few below them are taken as they were found last, moved with these,
+/// where they still hold, and kept where not; once an answer went since its list was full, none of them are. `NoMemory` where memory is wanting; what was kept by then is right.
 pub fn walk_boxes<T: BoxSink, R: Ruler, L: Ledger>(
     alloc: Global,
     tree: &mut Arena<Node>,
     width: Lu,
     height: Lu,
     told: &mut T,
+    last: &mut LastBoxes,
     ruler: &mut R,
     tally: &mut Tally,
     passes: &mut Steps<L>,
 ) -> Result<(), NoMemory>
     requires right { IsRight tree.old.tree }
     requires readable { AreReadable (bare tree.old.tree) }
+    requires last { AreFound (bare tree.old.tree) (kept_at tree.old.tree) last.old }
     ensures value { OnOk result (T.adds told.old told.new (bare_boxes width height (bare tree.old.tree))) }
     ensures near { OnOk result (AreNear (bare_boxes width height (bare tree.old.tree))) }
     ensures bare { bare tree.new.tree ≡ bare tree.old.tree }
@@ -53,6 +58,41 @@ pub fn walk_boxes<T: BoxSink, R: Ruler, L: Ledger>(
     ensures paths { OnOk result (IsPathKept (bare tree.old.tree) width height (state tree.new tally.new passes.new (R.log ruler.new))) }
     ensures leaves { OnOk result (AreMeasured (bare tree.old.tree) width height (state tree.old tally.old passes.old (R.log ruler.old)) (state tree.new tally.new passes.new (R.log ruler.new))) }
     ensures quiet { IsAllKept (bare tree.old.tree) width height (state tree.old tally.old passes.old (R.log ruler.old)) → state tree.new tally.new passes.new (R.log ruler.new) ≡ state tree.old tally.old passes.old (R.log ruler.old) }
+    ensures last { AreFound (bare tree.new.tree) (kept_at tree.new.tree) last.new }
+{
+    last.trim(tree.len());
+    let done = boxes_of_tree(alloc, tree, width, height, told, last, ruler, tally, passes);
+    if tally.lost {
+        last.clear();
+    }
+    done
+}
+
+/// The same, where what was found last may not hold once an answer went since its list was full.
+fn boxes_of_tree<T: BoxSink, R: Ruler, L: Ledger>(
+    alloc: Global,
+    tree: &mut Arena<Node>,
+    width: Lu,
+    height: Lu,
+    told: &mut T,
+    last: &mut LastBoxes,
+    ruler: &mut R,
+    tally: &mut Tally,
+    passes: &mut Steps<L>,
+) -> Result<(), NoMemory>
+    requires right { IsRight tree.old.tree }
+    requires readable { AreReadable (bare tree.old.tree) }
+    requires last { AreFound (bare tree.old.tree) (kept_at tree.old.tree) last.old }
+    ensures value { OnOk result (T.adds told.old told.new (bare_boxes width height (bare tree.old.tree))) }
+    ensures near { OnOk result (AreNear (bare_boxes width height (bare tree.old.tree))) }
+    ensures bare { bare tree.new.tree ≡ bare tree.old.tree }
+    ensures right { IsRight tree.new.tree }
+    ensures laid { OnOk result (Walk (IsAsked (bare tree.old.tree) width height) 0 [] (state tree.old tally.old passes.old (R.log ruler.old)) (state tree.new tally.new passes.new (R.log ruler.new))) }
+    ensures cut { OnErr result (IsCutShort (bare tree.old.tree) width height (state tree.old tally.old passes.old (R.log ruler.old)) (state tree.new tally.new passes.new (R.log ruler.new))) }
+    ensures paths { OnOk result (IsPathKept (bare tree.old.tree) width height (state tree.new tally.new passes.new (R.log ruler.new))) }
+    ensures leaves { OnOk result (AreMeasured (bare tree.old.tree) width height (state tree.old tally.old passes.old (R.log ruler.old)) (state tree.new tally.new passes.new (R.log ruler.new))) }
+    ensures quiet { IsAllKept (bare tree.old.tree) width height (state tree.old tally.old passes.old (R.log ruler.old)) → state tree.new tally.new passes.new (R.log ruler.new) ≡ state tree.old tally.old passes.old (R.log ruler.old) }
+    ensures last { tally.new.lost ≡ false → AreFound (bare tree.old.tree) (kept_at tree.new.tree) last.new }
 {
     let id = root(tree);
     let frame = root_frame(alloc, tree, id, width, height, ruler, tally, passes)?;
@@ -72,6 +112,7 @@ pub fn walk_boxes<T: BoxSink, R: Ruler, L: Ledger>(
         x,
         y,
         told,
+        last,
         ruler,
         tally,
         passes,

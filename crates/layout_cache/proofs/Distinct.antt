@@ -1,7 +1,9 @@
 -- Kept pairs of which no two have the same question.
-use Rattle.std.proofs.Common.{◌≡◌, ◌≢◌, ℕ, zero, suc, ◌+◌, ◌-◌, ◌≤◌, ◌<◌, true, false, List, [], ◌∷◌, ◌++◌, Some, None, drop, length, slice_get, sym, ap, subst, ◌∙◌, ◌⊎◌, inl, inr, cond, arith}
-use Rattle.std.proofs.lemmas.Bool.{false_from_ne_true, false≢true}
+use Rattle.std.proofs.Common.{◌≡◌, ◌≢◌, ℕ, zero, suc, ◌+◌, ◌-◌, ◌≤◌, ◌<◌, true, false, List, [], ◌∷◌, ◌++◌, Some, None, refl, drop, length, slice_get, sym, ap, subst, ◌∙◌, ◌⊎◌, inl, inr, cond, is_some, arith}
+use Rattle.std.proofs.lemmas.Bool.{cases_Bool, false_from_ne_true, false≢true}
+use Rattle.std.proofs.lemmas.Bool.Decides.{nat_tests}
 use Rattle.std.proofs.lemmas.List.{length-append, length-drop}
+use Rattle.std.specs.Prelude.{if◌then◌else◌, nat_lt}
 use Rattle.tree_rules.specs.declared.query.Query.{Query}
 use Rattle.tree_rules.specs.KeptAnswers.{AreDistinct, IsAbsent}
 use Rattle.layout_cache.specs.Kept.{answer_to}
@@ -39,6 +41,23 @@ module _ {A : Type 0} where
       let none : length (xs ++ e ∷ []) - n ≡ 0 = omega (arith, one, less) in
       let none_of : length (xs ++ e ∷ []) - 16 ≡ 0 = omega (arith, one, less, most) in
       ap (λ k. drop k (xs ++ e ∷ [])) (none ∙ sym none_of)
+
+  -- a ring that hands no pair back had room for one more
+  first_of : (xs : List (Query × A)) (e : Query × A) → is_some (slice_get (xs ++ e ∷ []) 0) ≡ true
+  first_of [] e = refl
+  first_of (x ∷ xs) e = refl
+
+  pub all_kept : (n : ℕ) (xs : List (Query × A)) (e : Query × A) → is_some (if nat_lt (length xs) n then None else slice_get (xs ++ e ∷ []) 0) ≡ false →
+      drop (length (xs ++ e ∷ []) - n) (xs ++ e ∷ []) ≡ xs ++ e ∷ []
+  all_kept n xs e none = room (cases_Bool (nat_lt (length xs) n))
+    where
+      room : (nat_lt (length xs) n ≡ true) ⊎ (nat_lt (length xs) n ≡ false) → drop (length (xs ++ e ∷ []) - n) (xs ++ e ∷ []) ≡ xs ++ e ∷ []
+      room (inl t) =
+          let one : length (xs ++ e ∷ []) ≡ length xs + 1 = length-append xs (e ∷ []) in
+          let less : length xs < n = grind (arith, nat_tests) in
+          let none_of : length (xs ++ e ∷ []) - n ≡ 0 = omega (arith, one, less) in
+          ap (λ k. drop k (xs ++ e ∷ [])) none_of
+      room (inr f) = absurd (false≢true (sym none ∙ ap (λ b. is_some (if b then None else slice_get (xs ++ e ∷ []) 0)) f ∙ first_of xs e))
 
   -- ---- any pair that has the question is the first
 

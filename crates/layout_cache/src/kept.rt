@@ -1,4 +1,4 @@
-ghost use Rattle.std.specs.Prelude.{◌≡◌, ◌≤◌, ◌<◌, ◌⊎◌, ◌++◌, ◌∷◌, [], ◌↔◌, None, IfOk, OnOk, OnErr, is_none, IsTrue, length};
+ghost use Rattle.std.specs.Prelude.{◌≡◌, ◌≤◌, ◌<◌, ◌⊎◌, ◌++◌, ◌∷◌, [], ◌↔◌, None, false, IfOk, OnOk, OnErr, is_none, IsTrue, length};
 ghost use Rattle.std.specs.Option.{option_copied};
 ghost use Rattle.tree_rules.specs.KeptAnswers.{IsAbsent, last_of, most_kept};
 ghost use Rattle.layout_cache.specs.Kept.{answer_to};
@@ -120,16 +120,17 @@ impl<A: Drop> Kept<A> {
     }
 
     #[tactic(auto, using(crate::proofs::Distinct::put_laws))]
-    /// Keeps an answer to a question that has none, and lets the oldest of sixteen go. `NoMemory` where memory is wanting for more
-    /// room, and nothing is kept then.
-    pub fn put(&mut self, query: Query, answer: A) -> Result<(), NoMemory>
+    /// Keeps an answer to a question that has none, and lets the oldest of sixteen go; it tells whether one went. `NoMemory` where
+    /// memory is wanting for more room, and nothing is kept then.
+    pub fn put(&mut self, query: Query, answer: A) -> Result<bool, NoMemory>
         requires { IsAbsent query self.old }
         ensures ok { OnOk result (self.new ≡ last_of 16 (self.old ++ (query, answer) ∷ [])) }
+        ensures all { IfOk result (λ gone. gone ≡ false → self.new ≡ self.old ++ (query, answer) ∷ []) }
         ensures err { OnErr result (self.new ≡ self.old) }
     {
         make_room(&mut self.ring)?;
-        let _ = self.ring.push_back((query, answer));
-        Ok(())
+        let oldest = self.ring.push_back((query, answer));
+        Ok(oldest.is_some())
     }
 
     /// Lets all answers go. The room stays.

@@ -10,5 +10,5 @@ mod same;
 pub use kept::Kept;
 pub use linked::Linked;
 pub use reaching::{drop_reached, reach};
-pub use same::same_counts;
+pub use same::{same_counts, same_query};
 pub use tree_rules::{Ask, Counts, Given, Query, SharedTracks};

@@ -74,7 +74,7 @@ fn same_given(a: &Given, b: &Given) -> bool
 }
 
 /// Whether a question is the one of these parts.
-pub(crate) fn same_query(
+pub fn same_query(
     query: &Query,
     ask: Ask,
     reps: &[(u32, u32)],

@@ -9,6 +9,13 @@ pub struct NodeId {
 }
 
 impl NodeId {
+    /// The slot that the node stands in. Slots are used again, and those of all nodes lie close together, from 0 on.
+    pub fn slot(self) -> usize
+        ensures { result ≡ self.slot }
+    {
+        self.slot
+    }
+
     #[tactic(auto, unfolding(crate::specs::Numbers::same))]
     /// Whether two numbers are the same.
     pub fn is(self, other: NodeId) -> bool

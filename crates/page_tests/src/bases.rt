@@ -4,7 +4,7 @@ ghost use Rattle.std.specs.Prelude.{◌≡◌, ◌<◌, IfOk};
 ghost use Rattle.doc_text.specs.Laws.{NamesItsNode};
 ghost use Rattle.placing.specs.Kept.{IsRight};
 
-use crate::pages::{laid_out, node_named, page_of};
+use crate::pages::{laid_out, node_named, none_found, page_of};
 use doc_text::{Edit, read_edit};
 use lunit::{Sequence, Steps};
 use outside::{Tally, WordRuler};
@@ -85,7 +85,8 @@ fn stays<L: Ledger>(
     assert!(rt; !keeps_areas(&page)?);
     laid_out(&mut page, &mut WordRuler::new(), &mut Tally::new(), passes)?;
     assert!(rt; keeps_areas(&page)?);
-    page.apply(edit_of(alloc, text)?)?;
+    let mut last = none_found(&page);
+    page.apply(edit_of(alloc, text)?, &mut last)?;
     assert_eq!(rt; keeps_areas(&page)?, *wanted);
     Ok(())
 }

@@ -1,4 +1,6 @@
 ghost use Rattle.std.specs.Prelude.{◌≡◌, ◌<◌, ◌≤ℤ◌, pos, true, IsTrue, length};
+ghost use Rattle.box_layout.specs.LastBoxes.{AreFound};
+ghost use Rattle.placing.specs.Kept.{kept_at};
 ghost use Rattle.placing.specs.Nodes.{bare, sight_at, IsLive};
 ghost use Rattle.tree_rules.specs.Queries.{is_container, sees_columns, sees_rows};
 ghost use Rattle.page_tests.specs.Ready.{CanAsk};
@@ -10,7 +12,7 @@ use crate::pages::has_links;
 use crate::trees::{node_on, tree_of_text};
 use Asked::{Columns, Frames, Height, Rows, Widths};
 use block_sizes::{block_of, lend_rows};
-use box_layout::{BoxList, frames_of, walk_boxes};
+use box_layout::{BoxList, LastBoxes, frames_of, walk_boxes};
 use inline_sizes::{inline_of, lend_columns};
 use layout_cache::Given;
 use lunit::{Lu, Steps};
@@ -379,6 +381,14 @@ fn nodes_without_answers_are_asked(rt: HostRuntime) -> Result<(), Fail> {
     all_answer::<Brand>(&rt, rt.alloc(), Blank::new(1), &[PLAIN, SUBGRIDS])
 }
 
+/// No boxes of the tree that were found last.
+fn none_found(alloc: Global, tree: &Arena<Node>) -> LastBoxes
+    ensures { AreFound (bare tree.now.tree) (kept_at tree.now.tree) result }
+{
+    let _ = tree.root();
+    LastBoxes::new(alloc)
+}
+
 /// Whether a walk of a tree in a viewport of 300 px by 200 px finds these boxes.
 fn walks<L: Ledger>(
     alloc: Global,
@@ -392,8 +402,9 @@ fn walks<L: Ledger>(
     let mut ruler = WordRuler::new();
     let mut tally = Tally::new();
     let mut list = BoxList::new(alloc);
+    let mut last = none_found(alloc, tree);
     walk_boxes(
-        alloc, tree, width, height, &mut list, &mut ruler, &mut tally, passes,
+        alloc, tree, width, height, &mut list, &mut last, &mut ruler, &mut tally, passes,
     )?;
     Ok(are_boxes(&list.boxes, wants))
 }

@@ -2,11 +2,13 @@
 
 ghost use Rattle.std.specs.Prelude.{◌≡◌, OnOk, IfOk, IsTrue, length};
 ghost use Rattle.doc_text.specs.Valid.{AreShort};
+ghost use Rattle.box_layout.specs.LastBoxes.{AreFound};
+ghost use Rattle.placing.specs.Kept.{kept_at};
 ghost use Rattle.placing.specs.Nodes.{bare, sight_at, IsLive};
 ghost use Rattle.placing.specs.Seats.{HasGrid};
 ghost use Rattle.page_tests.specs.Ready.{IsReady};
 
-use box_layout::BoxList;
+use box_layout::{BoxList, LastBoxes};
 use doc_text::read_doc;
 use lunit::{Name, Rect, Sequence, Steps};
 use node_arena::{Arena, NodeId};
@@ -73,6 +75,13 @@ pub(crate) fn page_of(alloc: Global, text: &[&[u8]]) -> Result<Page, Fail>
     page_of_lines(alloc, &lines)
 }
 
+/// No boxes of the page that were found last.
+pub(crate) fn none_found(page: &Page) -> LastBoxes
+    ensures { AreFound (bare page.now.nodes.tree) (kept_at page.now.nodes.tree) result }
+{
+    LastBoxes::new(page.alloc())
+}
+
 #[tactic(auto, using(crate::proofs::Readied::ready_next))]
 /// Lays a page out, and tells its boxes.
 pub(crate) fn laid_out<R: Ruler, L: Ledger>(
@@ -85,7 +94,8 @@ pub(crate) fn laid_out<R: Ruler, L: Ledger>(
     ensures { IsReady page.new }
 {
     let mut list = BoxList::new(page.alloc());
-    page.lay_out(&mut list, ruler, tally, passes)?;
+    let mut last = none_found(page);
+    page.lay_out(&mut list, &mut last, ruler, tally, passes)?;
     Ok(Sequence::from_vec(list.boxes))
 }
 

@@ -5,7 +5,7 @@ ghost use Rattle.doc_text.specs.Valid.{AreShort};
 ghost use Rattle.page_tests.specs.Ready.{GivesContent, IsReady};
 
 use crate::boxes::numbered;
-use crate::pages::{add_line, add_lines, laid_out, node_named, page_of_lines};
+use crate::pages::{add_line, add_lines, laid_out, node_named, none_found, page_of_lines};
 use doc_text::{Edit, Kind, Named};
 use lunit::{Lu, Name, Rect, Sequence, Steps};
 use outside::{Tally, WordRuler};
@@ -82,7 +82,8 @@ fn change(page: &mut Page, edit: Edit) -> Result<(), Fail>
     requires content { GivesContent edit }
     ensures { OnOk result (IsReady page.new) }
 {
-    page.apply(edit)?;
+    let mut last = none_found(page);
+    page.apply(edit, &mut last)?;
     Ok(())
 }
 

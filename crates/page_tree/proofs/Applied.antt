@@ -19,12 +19,15 @@ use Rattle.doc_text.specs.declared.edit.Edit.TheVariants as edit
 use Rattle.doc_text.specs.Edits.{tree_of, without_props}
 use Rattle.doc_text.specs.NodeText.{with_settings}
 use Rattle.placing.specs.declared.node.Node.{Node}
-use Rattle.placing.specs.Kept.{IsRight}
+use Rattle.placing.specs.Kept.{IsRight, kept_at}
 use Rattle.placing.specs.Nodes.{BareTrees, NodeTrees, bare}
+use Rattle.placing.proofs.Bares.{live_bare}
+use Rattle.box_layout.specs.LastBoxes.{AreFound, Found, IsFound}
 use Rattle.reach_frame.specs.Local.{IsLocal}
 use Rattle.reach_frame.proofs.Frame.{child_live}
 use Rattle.reach_frame.proofs.Unreached.{node_sub}
 use Rattle.page_tree.specs.Documents.{plain_trees}
+use Rattle.page_tree.specs.Forgotten.{Forgets, is_made}
 use Rattle.page_tree.specs.Left.{all_left, left_in}
 use Rattle.page_tree.specs.Marking.{AreMarked, IsReach, MarksEdit}
 use Rattle.page_tree.specs.Pages.{Held, Stands, document_of, trees_in}
@@ -37,6 +40,7 @@ use Rattle.page_tree.proofs.Properties.{content_change, props_change, props_left
 use Rattle.page_tree.proofs.Reaching.{IsChange, IsFrom, IsWhole, bare_left, kept_after, right_left}
 use Rattle.page_tree.proofs.Refusals.{whole}
 use Rattle.page_tree.proofs.Shifted.{move_change}
+use Rattle.page_tree.proofs.StillFound.{FindsOn, finds_on, stood_before}
 use Rattle.page_tree.proofs.Subgrids.{subgrids}
 
 -- ---- the root stays
@@ -126,6 +130,7 @@ abbrev pub IsLeft : Edit → NodeTrees → NodeTrees → List NodeId → Type 0
 IsLeft e t u list =
     EachNode (λ x. KeepsOn (reaches e (plain_trees t) (plain_trees t) x.1.name || reaches e (plain_trees t) (plain_trees u) x.1.name) t x) (left_in (is_felt e (plain_trees t)) list u)
     × (IsRight t → IsRight (left_in (is_felt e (plain_trees t)) list u))
+    × FindsOn t (left_in (is_felt e (plain_trees t)) list u) list
 
 module _ (t u : NodeTrees) (st : Stands t) (su : Stands u) where
   root_of : (root : NodeId) × (top_numbers t ≡ root ∷ [])
@@ -141,7 +146,9 @@ module _ (t u : NodeTrees) (st : Stands t) (su : Stands u) where
       let root = root_of in
       let wt : IsWhole root.0 t = record { distinct = st.distinct; tops = root.1; low = st.low; named = st.named; subgrids = subgrids t st.rooted st.styled } in
       let wu : IsWhole root.0 u = record { distinct = su.distinct; tops = tops ∙ root.1; low = su.low; named = su.named; subgrids = subgrids u su.rooted su.styled } in
-      subst (IsLeft e t u) (sym is) (kept_after ts (is_felt e (plain_trees t)) (is_marked e (plain_trees t)) root.0 t u wt wu c, right_left ts (is_felt e (plain_trees t)) (is_marked e (plain_trees t)) root.0 t u wt wu c)
+      let grid = is_felt e (plain_trees t) in
+      let marks = is_marked e (plain_trees t) in
+      subst (IsLeft e t u) (sym is) (kept_after ts grid marks root.0 t u wt wu c, right_left ts grid marks root.0 t u wt wu c, finds_on ts grid marks root.0 t u wt wu c)
 
   pub left_by : (e : Edit) (list : List NodeId) → IsChanged e t u → IsReach e (plain_trees t) t list → IsLeft e t u list
   left_by (edit.Set named settings) list h r =
@@ -186,3 +193,20 @@ page_left e old between new list so sb h r is =
           (λ x k. subst (λ b. KeepsOn b t x) (λ i. reaches e (sym before i) (sym before i) x.1.name || reaches e (sym before i) (sym after i) x.1.name) k) left.0),
       (λ q. subst IsRight (sym tree_is) (left.1 q)),
     )
+
+-- what was found last of the containers that are left when the reached ones are forgotten, and the one that the edit made, still holds
+pub page_found : (e : Edit) (old between new : Held) (list : List NodeId) → Stands old.nodes.tree → Stands between.nodes.tree → IsChanged e old.nodes.tree between.nodes.tree → IsReach e (trees_in old) old.nodes.tree list →
+    new.nodes ≡ all_left (is_felt e (trees_in old)) list between.nodes → (all some rest : List Found) → AreFound (bare old.nodes.tree) (kept_at old.nodes.tree) all →
+    Forgets (is_made e new.nodes.tree) all some → Forgets (λ n. is_among n list) some rest → AreFound (bare new.nodes.tree) (kept_at new.nodes.tree) rest
+page_found e old between new list so sb h r is all some rest right made reached f here live =
+    let t = old.nodes.tree in
+    let u = between.nodes.tree in
+    let felt = is_felt e (plain_trees t) in
+    let w = left_in felt list u in
+    let tree_is : new.nodes.tree ≡ w = ap (λ (n : Nodes Node). n.tree) is in
+    let second = reached f here in
+    let first = made f second.0 in
+    let new_live : IsSome (part_at new.nodes.tree f.id) = sym (live_bare new.nodes.tree f.id) ∙ live in
+    let old_live = stood_before e t u new.nodes.tree so.distinct h (ap bare tree_is ∙ bare_left felt list u) f.id new_live first.1 in
+    subst (λ (s : NodeTrees). IsFound (bare s) (kept_at s) f) (sym tree_is)
+    ((left_by t u so sb e list h r).2 f (right f first.0 (live_bare t f.id ∙ old_live)) old_live (subst (λ (s : NodeTrees). IsSome (part_at s f.id)) tree_is new_live) second.1)

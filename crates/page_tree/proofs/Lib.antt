@@ -33,4 +33,6 @@ pub mod Relabels
 pub mod Properties
 pub mod Shifted
 pub mod Marking
+pub mod StillFound
+pub mod Forgotten
 pub mod Applied

@@ -30,7 +30,7 @@ use Rattle.reach_frame.specs.Marks.{has_mark, is_reached}
 use Rattle.reach_frame.proofs.Calm.{not_later}
 use Rattle.reach_frame.proofs.Frame.{not_both}
 use Rattle.reach_frame.proofs.Marked.{all_found}
-use Rattle.reach_frame.proofs.Unreached.{node_sub, right_after}
+use Rattle.reach_frame.proofs.Unreached.{node_sub, not_found, right_after}
 use Rattle.reach_frame.proofs.Values.{label_at}
 use Rattle.page_tree.specs.Documents.{label_of, plain_trees}
 use Rattle.page_tree.specs.Left.{left_in}
@@ -146,13 +146,13 @@ times_bare : (t : NodeTrees) (n : NodeId) → times n (bare t) ≡ times n t
 unfolding bare
 times_bare t n = times_mapped (λ k v. bare_of v) n t
 
-times_left : (felt : Bool) (ns : List NodeId) (t : NodeTrees) (n : NodeId) → times n (left_in felt ns t) ≡ times n t
+pub times_left : (felt : Bool) (ns : List NodeId) (t : NodeTrees) (n : NodeId) → times n (left_in felt ns t) ≡ times n t
 times_left felt ns t n = sym (times_bare (left_in felt ns t) n) ∙ ap (times n) (bare_left felt ns t) ∙ times_bare t n
 
-tops_left : (felt : Bool) (ns : List NodeId) (t : NodeTrees) → top_numbers (left_in felt ns t) ≡ top_numbers t
+pub tops_left : (felt : Bool) (ns : List NodeId) (t : NodeTrees) → top_numbers (left_in felt ns t) ≡ top_numbers t
 tops_left felt ns t = sym (tops_bare (left_in felt ns t)) ∙ ap top_numbers (bare_left felt ns t) ∙ tops_bare t
 
-height_left : (felt : Bool) (ns : List NodeId) (t : NodeTrees) → height_of (left_in felt ns t) ≡ height_of t
+pub height_left : (felt : Bool) (ns : List NodeId) (t : NodeTrees) → height_of (left_in felt ns t) ≡ height_of t
 height_left felt ns t = sym (height_bare (left_in felt ns t)) ∙ ap height_of (bare_left felt ns t) ∙ height_bare t
 
 own_kept : (t : NodeTrees) → IsDistinct t → EachNode (λ x. x.1.kept ≡ kept_at t x.0) t
@@ -273,6 +273,19 @@ module _ (ts : List NodeId) (grid : Bool) (marks : Word → Bool) (root : NodeId
       (each_left (λ x. x.1.kept ≡ kept_at left x.0 → KeepsOn (touches x.1.name) t x) grid found u
       (each_with (λ x. (value_at u x.0 ≡ Some x.1) × (is_among x.0 ts ≡ marks x.1.name)) (IsFrom ts grid t) (Whatever (λ x. x.1.kept ≡ kept_at left x.0 → KeepsOn (touches x.1.name) t x)) u (λ x q f. keeps x q.0 q.1 f)
       (each_with (λ x. value_at u x.0 ≡ Some x.1) (λ x. is_among x.0 ts ≡ marks x.1.name) (λ x. (value_at u x.0 ≡ Some x.1) × (is_among x.0 ts ≡ marks x.1.name)) u (λ x p q. (p, q)) (numbered u wu.distinct).each c.after) c.nodes))
+
+  -- a node that is not reached keeps what it kept
+  pub kept_calm : (k : NodeId) → IsSome (part_at t k) → IsSome (value_at u k) → is_among k found ≡ false → kept_at left k ≡ kept_at t k
+  kept_calm k old new calm = at (value_at u k) refl new
+    where
+      by : (x : NodeId × Node) → x.0 ≡ k → value_at u x.0 ≡ Some x.1 → IsFrom ts grid t x → kept_at left k ≡ kept_at t k
+      by x is e (inl gone) = not_both_ways (is_among k ts) (ap (λ n. is_among n ts) (sym is) ∙ gone.0) (not_found t wt.distinct ts grid k old calm).own
+      by x is e (inr was) =
+          kept_left k false calm ∙ ap (kept_at u) (sym is) ∙ own_at u x.0 x.1 e ∙ was.1.1.1.1.0 ∙ sym (own_at t x.0 was.0 was.1.0) ∙ ap (kept_at t) is
+
+      at : (o : Option Node) → value_at u k ≡ o → IsSome o → kept_at left k ≡ kept_at t k
+      at None e l = absurd cc
+      at (Some v) e l = by (k, v) refl e (each_at (IsFrom ts grid t) u k v c.nodes e)
 
   -- the turn of a node went, or it is not reached and has its turn still
   abbrev TurnsOn : NodeId → Type 0

@@ -177,7 +177,7 @@ module _ (touched : NodeId → Bool) (grid : Bool) (id : NodeId) (value : Node) 
             of true e (inr all) = let u = under_own all x below p.0 e in (u.0, (u.1, tt))
 
 -- ---- the change
-each_mapped : (P : NodeId × Node → Type 0) (g : NodeId → Node → Node) (t : NodeTrees) → EachNode (λ x. P (x.0, g x.0 x.1)) t → EachNode P (mapped g t)
+pub each_mapped : (P : NodeId × Node → Type 0) (g : NodeId → Node → Node) (t : NodeTrees) → EachNode (λ x. P (x.0, g x.0 x.1)) t → EachNode P (mapped g t)
 each_mapped P g leafless h = tt
 each_mapped P g (tree x below after) h = (h.0, (each_mapped P g below h.1.0, each_mapped P g after h.1.1))
 

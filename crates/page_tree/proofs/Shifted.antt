@@ -240,11 +240,11 @@ module _ (touched : NodeId → Bool) (marks : Word → Bool) (styles : Styles) w
           at false q = q
 
 -- ---- the change
-each_styled : (P : NodeId × Node → Type 0) (styles : Styles) (s : NodeTrees) → ((x : NodeId × Node) (z : StyleMap) → P x → P (x.0, record x.1 { style = z })) → EachNode P s → EachNode P (restyled styles s)
+pub each_styled : (P : NodeId × Node → Type 0) (styles : Styles) (s : NodeTrees) → ((x : NodeId × Node) (z : StyleMap) → P x → P (x.0, record x.1 { style = z })) → EachNode P s → EachNode P (restyled styles s)
 each_styled P styles leafless f h = tt
 each_styled P styles (tree x below after) f h = (f x (styled_from styles x.0 x.1.style) h.0, (each_styled P styles below f h.1.0, each_styled P styles after f h.1.1))
 
-each_moved : (P : NodeId × Node → Type 0) (id to : NodeId) (i : ℕ) (t : NodeTrees) → EachNode P t → EachNode P (moved id to i t)
+pub each_moved : (P : NodeId × Node → Type 0) (id to : NodeId) (i : ℕ) (t : NodeTrees) → EachNode P t → EachNode P (moved id to i t)
 each_moved P id to i t h =
     each_edited P to (graft i (tree_at id t)) (removed id t) (λ x below p b. (p, (each_put P i (tree_at id t) below (each_tree id P t h) b, tt)))
     (each_edited P id nothing t (λ x below p b. tt) h)

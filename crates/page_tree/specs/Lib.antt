@@ -11,4 +11,5 @@ pub mod Ranges
 pub mod Reach
 pub mod Shapes
 pub mod Marking
+pub mod Forgotten
 pub mod Left

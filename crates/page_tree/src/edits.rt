@@ -7,10 +7,14 @@ ghost use Rattle.doc_text.specs.Edits.{edited, first_refusal, refusals, with_kin
 ghost use Rattle.doc_text.specs.NodeText.{with_settings};
 ghost use Rattle.doc_text.specs.declared.edit.Edit.TheVariants as edit;
 ghost use Rattle.doc_text.specs.Laws.{NamesItsNode};
-ghost use Rattle.placing.specs.Kept.{IsRight};
+ghost use Rattle.box_layout.specs.LastBoxes.{AreFound};
+ghost use Rattle.node_arena.specs.Numbers.{is_among};
+ghost use Rattle.placing.specs.Kept.{kept_at, IsRight};
+ghost use Rattle.placing.specs.Nodes.{bare};
 ghost use Rattle.page_tree.specs.Answered.{Applies};
 ghost use Rattle.page_tree.specs.Left.{all_left};
 ghost use Rattle.page_tree.specs.Marking.{IsReach};
+ghost use Rattle.page_tree.specs.Forgotten.{Forgets, is_made};
 ghost use Rattle.page_tree.specs.Pages.{document_of, trees_in};
 ghost use Rattle.page_tree.specs.Reach.{is_felt, KeepsOthers};
 ghost use Rattle.page_tree.specs.Shapes.{Inserts, IsChanged, MovesUnder, Relabels, Removes};
@@ -20,6 +24,7 @@ use crate::node::node_kind;
 use crate::page::Page;
 use crate::refusal;
 use crate::touched::marks_of;
+use box_layout::LastBoxes;
 use doc_text::{Edit, Kind, Named, Plain};
 use layout_cache::reach;
 use lunit::{Copied, NoMemory, Sequence};
@@ -42,18 +47,38 @@ impl Page {
     ///
     /// `Refused` exactly where the definition of the edited document refuses the edit, with its fault, the first in the order
     /// of refusals. `NoMemory` where memory is wanting. After either nothing is changed, and no kept answer is lost.
-    pub fn apply(&mut self, edit: Edit) -> Result<(), EditError>
-        requires { NamesItsNode edit }
+    ///
+    /// Of the boxes that were found last those of reached containers are forgotten, so that the others still hold.
+    pub fn apply(&mut self, edit: Edit, last: &mut LastBoxes) -> Result<(), EditError>
+        requires named { NamesItsNode edit }
+        requires last { AreFound (bare self.old.nodes.tree) (kept_at self.old.nodes.tree) last.old }
         ensures applies { Applies result (edited edit (document_of self.old)) self.old self.new }
         ensures right { IsRight self.old.nodes.tree → IsRight self.new.nodes.tree }
         ensures kept { OnOk result (KeepsOthers edit self.old self.new) }
+        ensures last { AreFound (bare self.new.nodes.tree) (kept_at self.new.nodes.tree) last.new }
     {
         let _ = self.stands();
         let reached = self.reached(&edit)?;
         self.change(&edit)?;
         let _ = self.stands();
         self.let_reached_go(&reached);
+        self.forget_new(&edit, last);
+        forget_all(reached.nodes.as_slice(), last);
         Ok(())
+    }
+
+    /// Forgets what may be kept for the number of a node that an edit made. Takes no memory.
+    fn forget_new(&self, edit: &Edit, last: &mut LastBoxes)
+        ensures { Forgets (is_made edit.now self.now.nodes.tree) last.old last.new }
+    {
+        match edit {
+            Edit::Insert(_, _, _, named, _) => {
+                if let Some(id) = self.find(&named.name) {
+                    last.forget(id);
+                }
+            }
+            _ => {}
+        }
     }
 
     /// Lets go what may no longer be right: the answers of the reached nodes, and, where subgrids feel the edit, what they keep
@@ -316,4 +341,13 @@ fn without_props(alloc: Global, declared: &Declared, props: &[Prop]) -> Result<D
         made.unset(*property);
     }
     Ok(made)
+}
+
+/// Forgets the boxes of these containers. Takes no memory.
+fn forget_all(ids: &[NodeId], last: &mut LastBoxes)
+    ensures { Forgets (λ id. is_among id ids.now) last.old last.new }
+{
+    for index in 0..ids.len() {
+        last.forget(ids[index]);
+    }
 }

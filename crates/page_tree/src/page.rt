@@ -11,6 +11,7 @@ ghost use Rattle.doc_text.specs.Label.{Label};
 ghost use Rattle.doc_text.specs.Named.{inserted, moved, relabelled, removed, IsDistinct};
 ghost use Rattle.doc_text.specs.View.{label_of};
 ghost use Rattle.box_layout.specs.BoxesSeen.{AreNear};
+ghost use Rattle.box_layout.specs.LastBoxes.{AreFound};
 ghost use Rattle.box_layout.specs.LeafHeights.{AreMeasured};
 ghost use Rattle.box_layout.specs.Paths.{IsAllKept, IsAsked, IsCutShort, IsPathKept};
 ghost use Rattle.doc_text.specs.Valid.{IsValid};
@@ -19,7 +20,7 @@ ghost use Rattle.layout_cache.specs.Reach.{all_forgot};
 ghost use Rattle.placing.specs.Keeping.{without_answers, without_past, HoldsNone, KeepsNone};
 ghost use Rattle.placing.specs.Nodes.{bare};
 ghost use Rattle.page_tree.specs.Boxes.{boxes_of};
-ghost use Rattle.placing.specs.Kept.{IsRight};
+ghost use Rattle.placing.specs.Kept.{kept_at, IsRight};
 ghost use Rattle.page_tree.specs.Documents.{kind_of, Becomes};
 ghost use Rattle.page_tree.specs.Filled.{filled, AreNew};
 ghost use Rattle.page_tree.specs.Moves.{AreApart};
@@ -32,7 +33,7 @@ use crate::laws::valid_documents_are_readable;
 use crate::node::{made, node_kind};
 use crate::register::Register;
 use crate::restyle::{fonts_with, styles_below, styles_under};
-use box_layout::BoxSink;
+use box_layout::{BoxSink, LastBoxes};
 use doc_text::{Doc, MAX_CHILDREN, Plain, node_limit};
 use lunit::{Copied, Lu, Name, NoMemory, Steps};
 use node_arena::{Arena, NodeId};
@@ -222,18 +223,21 @@ impl Page {
     }
 
     /// Hands over the boxes of the document in its viewport, each with the name of its node, in document order, in units of 1/64 px (CSS
-    /// Grid 2, section 6; CSS Flexbox 1, section 9). Kept answers are taken, and what is found is kept; each of both is right.
+    /// Grid 2, section 6; CSS Flexbox 1, section 9). Kept answers are taken, and what is found is kept; each of both is right. So it is
+    /// with the boxes of containers that were found last.
     ///
     /// `NoMemory` where memory is wanting; what was kept by then is right, and the document is the same.
     pub fn lay_out<T: BoxSink, R: Ruler, L: Ledger>(
         &mut self,
         told: &mut T,
+        last: &mut LastBoxes,
         ruler: &mut R,
         tally: &mut Tally,
         passes: &mut Steps<L>,
     ) -> Result<(), NoMemory>
         requires valid { IsValid (document_of self.old) }
         requires right { IsRight self.old.nodes.tree }
+        requires last { AreFound (bare self.old.nodes.tree) (kept_at self.old.nodes.tree) last.old }
         ensures boxes { OnOk result (T.adds told.old told.new (boxes_of (document_of self.old))) }
         ensures near { OnOk result (AreNear (boxes_of (document_of self.old))) }
         ensures document { document_of self.new ≡ document_of self.old }
@@ -244,6 +248,7 @@ impl Page {
         ensures paths { OnOk result (IsPathKept (bare self.old.nodes.tree) self.old.width self.old.height (state self.new.nodes tally.new passes.new (R.log ruler.new))) }
         ensures leaves { OnOk result (AreMeasured (bare self.old.nodes.tree) self.old.width self.old.height (state self.old.nodes tally.old passes.old (R.log ruler.old)) (state self.new.nodes tally.new passes.new (R.log ruler.new))) }
         ensures quiet { IsAllKept (bare self.old.nodes.tree) self.old.width self.old.height (state self.old.nodes tally.old passes.old (R.log ruler.old)) → state self.new.nodes tally.new passes.new (R.log ruler.new) ≡ state self.old.nodes tally.old passes.old (R.log ruler.old) }
+        ensures last { AreFound (bare self.new.nodes.tree) (kept_at self.new.nodes.tree) last.new }
     {
         let _ = self.stands();
         valid_documents_are_readable(self);
@@ -252,6 +257,7 @@ impl Page {
             self.width,
             self.height,
             told,
+            last,
             ruler,
             tally,
             passes,

@@ -9,11 +9,12 @@ ghost use Rattle.node_arena.specs.Edits.{removed};
 ghost use Rattle.doc_text.specs.Growth.{holds};
 ghost use Rattle.placing.specs.Keeping.{without_answers, without_past};
 ghost use Rattle.box_layout.specs.BoxesSeen.{bare_boxes, AreNear};
+ghost use Rattle.box_layout.specs.LastBoxes.{AreFound};
 ghost use Rattle.box_layout.specs.LeafHeights.{AreMeasured};
 ghost use Rattle.box_layout.specs.Paths.{IsAllKept, IsAsked, IsCutShort, IsPathKept};
 ghost use Rattle.placing.specs.Ranges.{AreReadable};
 ghost use Rattle.placing.specs.Walks.{state, Walk};
-ghost use Rattle.placing.specs.Kept.{IsRight};
+ghost use Rattle.placing.specs.Kept.{kept_at, IsRight};
 ghost use Rattle.placing.specs.Nodes.{bare};
 ghost use Rattle.page_tree.specs.Documents.{plain_trees};
 ghost use Rattle.page_tree.specs.Registers.{AreNamed, Finds, HasName};
@@ -21,7 +22,7 @@ ghost use Rattle.page_tree.specs.Restyled.{with_styles};
 
 use crate::children::take_names;
 use crate::restyle::write_all;
-use box_layout::{BoxSink, walk_boxes};
+use box_layout::{BoxSink, LastBoxes, walk_boxes};
 use layout_cache::drop_reached;
 use lunit::{Lu, Name, NoMemory, Sequence, Steps};
 use node_arena::{Arena, NodeId};
@@ -174,12 +175,14 @@ impl Register {
         width: Lu,
         height: Lu,
         told: &mut T,
+        last: &mut LastBoxes,
         ruler: &mut R,
         tally: &mut Tally,
         passes: &mut Steps<L>,
     ) -> Result<(), NoMemory>
         requires right { IsRight self.old.tree }
         requires readable { AreReadable (bare self.old.tree) }
+        requires last { AreFound (bare self.old.tree) (kept_at self.old.tree) last.old }
         ensures value { OnOk result (T.adds told.old told.new (bare_boxes width height (bare self.old.tree))) }
         ensures near { OnOk result (AreNear (bare_boxes width height (bare self.old.tree))) }
         ensures bare { bare self.new.tree ≡ bare self.old.tree }
@@ -189,6 +192,7 @@ impl Register {
         ensures paths { OnOk result (IsPathKept (bare self.old.tree) width height (state self.new tally.new passes.new (R.log ruler.new))) }
         ensures leaves { OnOk result (AreMeasured (bare self.old.tree) width height (state self.old tally.old passes.old (R.log ruler.old)) (state self.new tally.new passes.new (R.log ruler.new))) }
         ensures quiet { IsAllKept (bare self.old.tree) width height (state self.old tally.old passes.old (R.log ruler.old)) → state self.new tally.new passes.new (R.log ruler.new) ≡ state self.old tally.old passes.old (R.log ruler.old) }
+        ensures last { AreFound (bare self.new.tree) (kept_at self.new.tree) last.new }
     {
         walk_boxes(
             alloc,
@@ -196,6 +200,7 @@ impl Register {
             width,
             height,
             told,
+            last,
             ruler,
             tally,
             passes,

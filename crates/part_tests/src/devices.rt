@@ -124,17 +124,29 @@ fn counts_stand_still_at_their_end(rt: HostRuntime) {
     let mut tally = Tally {
         measured: u64::MAX - 1,
         added: 0,
+        lost: false,
     };
     for _ in 0..2 {
         tally.count_measured();
-        tally.count_added();
+        tally.count_added(false);
     }
     assert_eq!(rt; (tally.measured, tally.added), (u64::MAX, 2));
+    assert!(rt; !tally.lost);
     assert_eq!(rt;
         Tally::new(),
         Tally {
             measured: 0,
-            added: 0
+            added: 0,
+            lost: false
         }
     );
+}
+
+#[test]
+fn an_answer_that_went_stays_told(rt: HostRuntime) {
+    let mut tally = Tally::new();
+    tally.count_added(true);
+    tally.count_added(false);
+    assert_eq!(rt; tally.added, 2);
+    assert!(rt; tally.lost);
 }

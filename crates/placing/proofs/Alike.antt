@@ -12,7 +12,8 @@ use Rattle.placing.specs.Kept.{kept_at}
 use Rattle.placing.specs.Nodes.{bare}
 use Rattle.placing.specs.Walks.{AreFresh, Asks, IsAlike, IsCut, State, Stopped, Walk, Walked, WalkedBelow, entries_of, events_of, frame_of_arena, kept_with, rising, state}
 use Rattle.placing.specs.declared.node.Node.{Node}
-use Rattle.std.specs.Prelude.{◌⊎◌}
+use Rattle.layout_cache.specs.Kept.{answer_to}
+use Rattle.std.specs.Prelude.{◌⊎◌, IsSome}
 
 module _ (a b : Nodes Node) (bares : bare b.tree ≡ bare a.tree) (frames : frame_of_arena b ≡ frame_of_arena a) (kept : (m : NodeId) → kept_at b.tree m ≡ kept_at a.tree m) (tally : Tally) (passes : ℕ) (log : Option (List Event)) (new : State) where
   walk_alike : (May : NodeId → Query → Type 0) (more : ℕ) (rest : List Event) → Walk May more rest (state b tally passes log) new → Walk May more rest (state a tally passes log) new
@@ -28,6 +29,7 @@ module _ (a b : Nodes Node) (bares : bare b.tree ≡ bare a.tree) (frames : fram
         counted = w.counted;
         measured = w.measured ∙ ap (λ z. rising tally.measured (length (events_of z w.added ++ rest))) bares;
         log = subst (λ z. Adds log new.log (events_of z w.added ++ rest)) bares w.log;
+        lasting = λ e. let last = w.lasting e in (last.0, λ m q some. last.1 m q (subst (λ k. IsSome (answer_to q k)) (sym (kept m)) some));
       }
 
   pub below_alike : (n : NodeId) (q : Query) (more : ℕ) → WalkedBelow n q more (state b tally passes log) new → WalkedBelow n q more (state a tally passes log) new
@@ -77,6 +79,7 @@ module _ (a c : Nodes Node) (h : IsAlike a c) (tally : Tally) (passes : ℕ) (lo
         counted = w.counted;
         measured = w.measured;
         log = w.log;
+        lasting = λ e. let last = w.lasting e in (last.0, λ m q some. subst (λ k. IsSome (answer_to q k)) (sym (h.kept m)) (last.1 m q some));
       }
 
   pub then_alike : (old : State) (n : NodeId) (q : Query) (more : ℕ) → WalkedBelow n q more old (state a tally passes log) → WalkedBelow n q more old (state c tally passes log)

@@ -1,6 +1,6 @@
 -- A leaf that measures and keeps its answer.
 use Rattle.std.proofs.Common.{◌≡◌, ℕ, ℤ, List, [], ◌∷◌, Option, Some, None, length, refl, sym, ap, ◌∙◌, arith, append-nil, subst, inr}
-use Rattle.std.specs.Prelude.{OnErr, Result, Ok, Err}
+use Rattle.std.specs.Prelude.{Bool, false, ◌++◌, ◌||◌, OnErr, Result, Ok, Err}
 use Rattle.node_arena.specs.declared.number.NodeId.{NodeId}
 use Rattle.node_arena.specs.Plain.{Nodes}
 use Rattle.outside.specs.Faults.{one_more}
@@ -26,7 +26,7 @@ use Rattle.placing.specs.Keeping.{Counts, CountsSome, Keeps}
 use Rattle.placing.specs.Kept.{IsRight, kept_at}
 use Rattle.placing.specs.Nodes.{bare}
 use Rattle.placing.specs.Walks.{Asks, State, Stopped, Walked, events_at, events_by, leaf_events, itself, rising, state}
-use Rattle.placing.proofs.Puts.{keeps_walk, keeps_within}
+use Rattle.placing.proofs.Puts.{keeps_walk, keeps_within, or_false}
 use Rattle.placing.proofs.Walks.{adds_more, adds_none, kept_none}
 
 pub on_err : {T E : Type 0} (r : Result T E) (P : Type 0) → P → OnErr r P
@@ -42,25 +42,26 @@ adds_stays (Some us) (Some vs) (Some ws) xs p q = q ∙ p
 -- nothing was measured
 pub counts_none : (tally : Tally) (a b : Option (List Event)) (events : List Event) → Stays a b → CountsSome tally tally a b events
 counts_none tally a b events stays =
-    record { done = []; left = events; whole = refl; counts = record { added = refl; measured = refl; log = adds_stays a a b [] (adds_none a) stays } }
+    record { done = []; left = events; whole = refl; counts = record { added = refl; lost = refl; measured = refl; log = adds_stays a a b [] (adds_none a) stays } }
 
 -- the first of two was measured
 pub counts_first : (old new : Tally) (a b c : Option (List Event)) (x y : Event) → new ≡ record old { measured = one_more old.measured } → Adds a b (x ∷ []) → Stays b c → CountsSome old new a c (x ∷ y ∷ [])
 counts_first old new a b c x y e log stays =
-    record { done = x ∷ []; left = y ∷ []; whole = refl; counts = record { added = ap (λ t. t.added) e; measured = ap (λ t. t.measured) e; log = adds_stays a b c (x ∷ []) log stays } }
+    record { done = x ∷ []; left = y ∷ []; whole = refl; counts = record { added = ap (λ t. t.added) e; lost = ap (λ t. t.lost) e; measured = ap (λ t. t.measured) e; log = adds_stays a b c (x ∷ []) log stays } }
 
 -- both were
 pub counts_both : (old mid new : Tally) (a b c : Option (List Event)) (x y : Event) → mid ≡ record old { measured = one_more old.measured } → new ≡ record mid { measured = one_more mid.measured } → Adds a b (x ∷ []) → Adds b c (y ∷ []) → Counts old new a c (x ∷ y ∷ [])
 counts_both old mid new a b c x y e f p q =
     record {
       added = ap (λ t. t.added) f ∙ ap (λ t. t.added) e;
+      lost = ap (λ t. t.lost) f ∙ ap (λ t. t.lost) e;
       measured = ap (λ t. t.measured) f ∙ ap (λ t. one_more t.measured) e;
       log = adds_more a b c (x ∷ []) (y ∷ []) p q;
     }
 
 -- an answer is kept once all its events were measured
 module _ (old new : Nodes Node) (x y z : Tally) (a b : Option (List Event)) (n : NodeId) (q : Query) (answer : Answer) (events : List Event) (k : Keeps old new n q answer) (right : IsRight old.tree) (absent : IsAbsent q (kept_at old.tree n))
-    (is : events ≡ events_at (bare old.tree) n q) (c : Counts x y a b events) (more : z ≡ record y { added = one_more y.added }) (passes : ℕ) where
+    (is : events ≡ events_at (bare old.tree) n q) (c : Counts x y a b events) (gone : Bool) (more : z ≡ record y { added = one_more y.added; lost = y.lost || gone }) (all : gone ≡ false → kept_at new.tree n ≡ kept_at old.tree n ++ (q, answer) ∷ []) (passes : ℕ) where
   pub leaf_walked : Walked n q (state old x passes a) (state new z passes b)
   leaf_walked =
       let before : State = state old x passes a in
@@ -70,7 +71,8 @@ module _ (old new : Nodes Node) (x y z : Tally) (a b : Option (List Event)) (n :
             keeps_walk before after n q answer k right (Asks (bare old.tree) n q) (itself n q) absent (omega arith)
             (ap (λ t. t.added) more ∙ ap one_more c.added)
             (ap (λ t. t.measured) more ∙ c.measured ∙ ap (λ es. rising x.measured (length es)) is)
-            (subst (Adds a b) is c.log);
+            (subst (Adds a b) is c.log)
+            (λ e. let none = or_false y.lost gone (sym (ap (λ t. t.lost) more) ∙ e) in (sym c.lost ∙ none.0, all none.1));
         within = keeps_within before after n q answer k right;
       }
 
@@ -92,6 +94,7 @@ leaf_stopped arena x y a b n q events right absent is c passes =
         counted = c.counts.added;
         measured = c.counts.measured;
         log = c.counts.log;
+        lasting = λ e. (sym c.counts.lost ∙ e, λ m p some. some);
       };
       within = λ m out. refl;
       cut = inr (record { node = n; query = q; left = c.left; begun = c.whole ∙ is; asked = itself n q; absent = absent });

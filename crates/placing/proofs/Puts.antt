@@ -1,6 +1,6 @@
 -- What the tree shows after an answer was kept.
 use Rattle.std.proofs.Common.{◌≡◌, ℕ, zero, suc, ◌+◌, ◌-◌, ◌≤◌, true, false, List, [], ◌∷◌, ◌++◌, Option, Some, None, cond, length, drop, refl, sym, ap, ◌∙◌, arith, append-nil, subst, inl, inr}
-use Rattle.std.specs.Prelude.{◌⊎◌, take}
+use Rattle.std.specs.Prelude.{Bool, IsSome, ◌||◌, ◌⊎◌, take}
 use Rattle.std.proofs.lemmas.Bool.{cases_Bool}
 use Rattle.plain_tree.specs.Trees.{leafless, tree}
 use Rattle.layout_cache.specs.Kept.{answer_to}
@@ -54,6 +54,21 @@ each_found P q a (x ∷ xs) h e = at (cases_Bool (same_query x.0 q)) e (each_fou
         subst (P q) here (subst (λ r. P r x.1) (query_is x.0 q s) h.0)
     at (inr s) k rest = rest (sym (ap (λ b. cond b (Some x.1) (answer_to q xs)) s) ∙ k)
 
+-- an answer that is found is found with others after it
+pub found_before : {A : Type 0} (q : Query) (xs ys : List (Query × A)) → IsSome (answer_to q xs) → IsSome (answer_to q (xs ++ ys))
+found_before q [] ys some = absurd cc
+found_before q (x ∷ xs) ys some = at (cases_Bool (same_query x.0 q)) some (found_before q xs ys)
+  where
+    at : (same_query x.0 q ≡ true) ⊎ (same_query x.0 q ≡ false) → IsSome (cond (same_query x.0 q) (Some x.1) (answer_to q xs)) →
+        (IsSome (answer_to q xs) → IsSome (answer_to q (xs ++ ys))) → IsSome (cond (same_query x.0 q) (Some x.1) (answer_to q (xs ++ ys)))
+    at (inl e) _ _ = subst (λ b. IsSome (cond b (Some x.1) (answer_to q (xs ++ ys)))) (sym e) refl
+    at (inr e) h later = subst (λ b. IsSome (cond b (Some x.1) (answer_to q (xs ++ ys)))) (sym e) (later (subst (λ b. IsSome (cond b (Some x.1) (answer_to q xs))) e h))
+
+-- neither of two
+pub or_false : (a b : Bool) → (a || b) ≡ false → (a ≡ false) × (b ≡ false)
+or_false false b e = (refl, e)
+or_false true b e = absurd cc
+
 -- ---- one value replaced
 abbrev swapped : NodeId → Node → NodeId → Node → Node
 swapped n w k v = cond (same k n) w v
@@ -66,7 +81,7 @@ pub kept_other : (t : NodeTrees) (n m : NodeId) (w : Node) → same m n ≡ fals
 unfolding kept_at
 kept_other t n m w e = ap kept_of (value_mapped (swapped n w) t m) ∙ kept_swapped n m w (value_at t m) e
 
-kept_same : (t : NodeTrees) (n : NodeId) (v w : Node) → Some v ≡ value_at t n → kept_at (replaced n w t) n ≡ w.kept
+pub kept_same : (t : NodeTrees) (n : NodeId) (v w : Node) → Some v ≡ value_at t n → kept_at (replaced n w t) n ≡ w.kept
 unfolding kept_at
 kept_same t n v w e = ap kept_of (value_mapped (swapped n w) t n) ∙ ap (λ o. kept_of (value_by (swapped n w) n o)) (sym e) ∙ ap (λ c. (cond c w v).kept) (same_refl n)
 
@@ -303,8 +318,9 @@ module _ (s w : State) (n : NodeId) (q : Query) (a : Answer) (k : Keeps s.arena 
 
   -- an answer is kept, with what was measured for it
   pub keeps_walk : (May : NodeId → Query → Type 0) → May n q → IsAbsent q (kept_in s n) → w.passes ≤ s.passes + 4 → w.tally.added ≡ one_more s.tally.added →
-      w.tally.measured ≡ rising s.tally.measured (length (events_at (bare_in s) n q)) → Adds s.log w.log (events_at (bare_in s) n q) → Walk May 0 [] s w
-  keeps_walk May may absent passes added measured log =
+      w.tally.measured ≡ rising s.tally.measured (length (events_at (bare_in s) n q)) → Adds s.log w.log (events_at (bare_in s) n q) →
+      (w.tally.lost ≡ false → (s.tally.lost ≡ false) × (kept_in w n ≡ kept_in s n ++ (q, a) ∷ [])) → Walk May 0 [] s w
+  keeps_walk May may absent passes added measured log all =
       let entry : Entry = record { node = n; query = q; answer = a } in
       let events : events_of (bare_in s) (entry ∷ []) ++ [] ≡ events_at (bare_in s) n q = append-nil (events_at (bare_in s) n q ++ []) ∙ append-nil (events_at (bare_in s) n q) in
       record {
@@ -318,8 +334,15 @@ module _ (s w : State) (n : NodeId) (q : Query) (a : Answer) (k : Keeps s.arena 
         counted = added;
         measured = measured ∙ ap (λ z. rising s.tally.measured (length z)) (sym events);
         log = subst (Adds s.log w.log) (sym events) log;
+        lasting = λ e. ((all e).0, λ m p some. lasts (all e).1 m p some (cases_Bool (same m n)));
       }
     where
+      lasts : kept_in w n ≡ kept_in s n ++ (q, a) ∷ [] → (m : NodeId) (p : Query) → IsSome (answer_to p (kept_in s m)) → (same m n ≡ true) ⊎ (same m n ≡ false) → IsSome (answer_to p (kept_in w m))
+      lasts whole m p some (inl e) =
+          let is = same_is m n e in
+          subst (λ k. IsSome (answer_to p (kept_in w k))) (sym is) (subst (λ xs. IsSome (answer_to p xs)) (sym whole) (found_before p (kept_in s n) ((q, a) ∷ []) (subst (λ k. IsSome (answer_to p (kept_in s k))) is some)))
+      lasts whole m p some (inr e) = subst (λ xs. IsSome (answer_to p xs)) (sym (keeps_other m e)) some
+
       kept : (m : NodeId) → (same n m ≡ true) ⊎ (same n m ≡ false) → kept_in w m ≡ kept_with (kept_in s m) (cond (same n m) ((q, a) ∷ []) [] ++ [])
       kept m (inl e) =
           subst (λ z. kept_in w z ≡ kept_with (kept_in s z) ((q, a) ∷ [])) (same_is n m e) keeps_own
@@ -333,10 +356,11 @@ module _ (s w : State) (n : NodeId) (q : Query) (a : Answer) (k : Keeps s.arena 
 
   -- the question of the answer is answered
   pub keeps_joins : (old : State) (more : ℕ) → more ≤ 4 → WalkedBelow n q more old s → IsAbsent q (kept_in s n) → w.passes ≤ s.passes → w.tally.added ≡ one_more s.tally.added →
-      w.tally.measured ≡ rising s.tally.measured (length (events_at (bare_in s) n q)) → Adds s.log w.log (events_at (bare_in s) n q) → Walked n q old w
+      w.tally.measured ≡ rising s.tally.measured (length (events_at (bare_in s) n q)) → Adds s.log w.log (events_at (bare_in s) n q) →
+      (w.tally.lost ≡ false → (s.tally.lost ≡ false) × (kept_in w n ≡ kept_in s n ++ (q, a) ∷ [])) → Walked n q old w
   unfolding keeps_walk
-  keeps_joins old more few below absent passes added measured log =
-      let one : Walk (Asks (bare_in old) n q) 0 [] s w = keeps_walk (Asks (bare_in old) n q) (itself n q) absent (omega (arith, passes)) added measured log in
+  keeps_joins old more few below absent passes added measured log all =
+      let one : Walk (Asks (bare_in old) n q) 0 [] s w = keeps_walk (Asks (bare_in old) n q) (itself n q) absent (omega (arith, passes)) added measured log all in
       let count : length one.added ≡ 1 = refl in
       record {
         walk = walk_then (Asks (bare_in old) n q) (Asks (bare_in old) n q) more 0 0 [] old s w below.walk one (λ m p x. x) (omega (arith, passes, few, count, below.walk.ticks));

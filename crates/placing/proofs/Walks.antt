@@ -109,6 +109,7 @@ walk_none May s r =
       counted = refl;
       measured = refl;
       log = adds_none s.log;
+      lasting = λ e. (e, λ m q some. some);
     }
 
 -- one walk after another, where the first left no events over, with what is left over in the end
@@ -132,6 +133,7 @@ walk_then May Then more then_more all rest s t u w x f passes =
           ∙ sym (rising_more s.tally.measured (length (events_of (bare_in s) w.added ++ [])) (length (events_of (bare_in t) x.added ++ rest)) (length (events_of (bare_in s) (w.added ++ x.added) ++ rest))
           (ap length (sym events) ∙ length-append (events_of (bare_in s) w.added ++ []) (events_of (bare_in t) x.added ++ rest)));
       log = subst (Adds s.log u.log) events (adds_more s.log t.log u.log (events_of (bare_in s) w.added ++ []) (events_of (bare_in t) x.added ++ rest) w.log x.log);
+      lasting = λ e. let later = x.lasting e in let first = w.lasting later.0 in (first.0, λ m q some. later.1 m q (first.1 m q some));
     }
 
 -- what is asked of more may be asked
@@ -148,6 +150,7 @@ walk_also May Also more rest s t f w =
       counted = w.counted;
       measured = w.measured;
       log = w.log;
+      lasting = w.lasting;
     }
 
 -- ---- one node's walks
@@ -173,6 +176,7 @@ ticked n q more k s t passes h w =
         counted = w.walk.counted;
         measured = w.walk.measured;
         log = w.walk.log;
+        lasting = w.walk.lasting;
       };
       within = w.within;
       own = w.own;

@@ -54,6 +54,7 @@ pub record ChangesPast (old new : Nodes Node) (n : NodeId) (p : Past) : Type 0 w
 -- these events were measured, counted and logged
 pub record Counts (old new : Tally) (before after : Option (List Event)) (events : List Event) : Type 0 where
   pub added : new.added ≡ old.added
+  pub lost : new.lost ≡ old.lost
   pub measured : new.measured ≡ rising old.measured (length events)
   pub log : Adds before after events
 

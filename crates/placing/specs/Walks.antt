@@ -1,7 +1,8 @@
 -- What a call on a node may change: answers are kept at it and below it, and everything else follows from the list of those (own rule).
-use Rattle.std.specs.Prelude.{◌≡◌, ℕ, zero, suc, ◌+◌, ◌*◌, ◌≤◌, ◌⊎◌, List, [], ◌∷◌, ◌++◌, Contains, Option, Some, length, if◌then◌else◌}
+use Rattle.std.specs.Prelude.{◌≡◌, ℕ, zero, suc, ◌+◌, ◌*◌, ◌≤◌, ◌⊎◌, List, [], ◌∷◌, ◌++◌, Contains, Option, Some, IsSome, false, length, if◌then◌else◌}
 use Rattle.plain_tree.specs.Trees.{leafless}
 use Rattle.node_arena.specs.declared.number.NodeId.{NodeId}
+use Rattle.layout_cache.specs.Kept.{answer_to}
 use Rattle.node_arena.specs.Numbers.{child_at, same}
 use Rattle.node_arena.specs.Plain.{Nodes}
 use Rattle.outside.specs.Faults.{one_more}
@@ -115,6 +116,10 @@ pub record IsAlike (old new : Nodes Node) : Type 0 where
   pub frame : frame_of_arena new ≡ frame_of_arena old
   pub kept : (m : NodeId) → kept_at new.tree m ≡ kept_at old.tree m
 
+-- each answer that was kept still is
+abbrev pub Lasts : State → State → Type 0
+Lasts old new = (m : NodeId) (q : Query) → IsSome (answer_to q (kept_in old m)) → IsSome (answer_to q (kept_in new m))
+
 -- Answers to questions that may be asked were kept, each new where it was put, in at most four passes and with its events; so many passes and these events
 -- come on top; and nothing else changed.
 pub record Walk (May : NodeId → Query → Type 0) (more : ℕ) (rest : List Event) (old new : State) : Type 0 where
@@ -128,6 +133,8 @@ pub record Walk (May : NodeId → Query → Type 0) (more : ℕ) (rest : List Ev
   pub counted : new.tally.added ≡ rising old.tally.added (length added)
   pub measured : new.tally.measured ≡ rising old.tally.measured (length (events_of (bare_in old) added ++ rest))
   pub log : Adds old.log new.log (events_of (bare_in old) added ++ rest)
+  -- where it is not told that an answer went since its list was full, it was not told before, and none went
+  pub lasting : new.tally.lost ≡ false → (old.tally.lost ≡ false) × Lasts old new
 
 -- A question was put to a node, and answered: all that was kept answers questions that it leads to, and stands at the node and below it.
 pub record Walked (n : NodeId) (q : Query) (old new : State) : Type 0 where

@@ -1,6 +1,6 @@
 //! Kept answers: one is looked up before anything else is computed, and what is computed is put last.
 
-ghost use Rattle.std.specs.Prelude.{◌≡◌, ◌∷◌, ◌≤◌, [], ℕ, true, take, IfOk, IfSome, IfNone, OnOk, OnErr, List, Option};
+ghost use Rattle.std.specs.Prelude.{◌≡◌, ◌∷◌, ◌++◌, ◌≤◌, [], ℕ, false, true, take, IfOk, IfSome, IfNone, OnOk, OnErr, List, Option};
 ghost use Rattle.std.specs.Option.{option_copied};
 ghost use Rattle.layout_cache.specs.Kept.{answer_to};
 ghost use Rattle.outside.specs.declared.event.Event.{Event};
@@ -69,16 +69,18 @@ pub fn find_by<'a>(
     node_at(tree, id).kept.find_by(ask, reps, inline, block)
 }
 
-/// Keeps an answer in a node, and nothing else; `NoMemory` where memory is wanting, and nothing has changed then.
-fn keep(tree: &mut Arena<Node>, id: NodeId, query: Query, answer: Answer) -> Result<(), NoMemory>
+/// Keeps an answer in a node, and nothing else; it tells whether an older one went for it. `NoMemory` where memory is wanting, and
+/// nothing has changed then.
+fn keep(tree: &mut Arena<Node>, id: NodeId, query: Query, answer: Answer) -> Result<bool, NoMemory>
     requires live { IsLive (bare tree.old.tree) id }
     requires absent { IsAbsent query (kept_at tree.old.tree id) }
     ensures ok { OnOk result (Keeps tree.old tree.new id query answer) }
+    ensures all { IfOk result (λ gone. gone ≡ false → kept_at tree.new.tree id ≡ kept_at tree.old.tree id ++ (query, answer) ∷ []) }
     ensures err { OnErr result (tree.new ≡ tree.old) }
 {
     let node = tree.get_mut(id).unwrap();
-    node.kept.put(query, answer)?;
-    Ok(())
+    let gone = node.kept.put(query, answer)?;
+    Ok(gone)
 }
 
 /// Keeps the answer of a container to a question of which it keeps none; the oldest of sixteen goes. `NoMemory` where memory is
@@ -104,8 +106,8 @@ pub fn put(
     ensures err { OnErr result ((tree.new ≡ tree.old) × (tally.new ≡ tally.old)) }
     ensures stopped { OnErr result ((old : State) (more passes : ℕ) (log : Option (List Event)) → WalkedBelow id query more old (state tree.old tally.old passes log) → Stopped id query old (state tree.new tally.new passes log)) }
 {
-    keep(tree, id, query, answer)?;
-    tally.count_added();
+    let gone = keep(tree, id, query, answer)?;
+    tally.count_added(gone);
     Ok(())
 }
 
@@ -236,8 +238,8 @@ pub fn leaf_sizes<R: Ruler>(
         return Err(NoMemory);
     };
     let (low, high) = measure_widths(&leaf.name, content.content(), ruler, tally)?;
-    keep(tree, id, query, Answer::Sizes(low, high))?;
-    tally.count_added();
+    let gone = keep(tree, id, query, Answer::Sizes(low, high))?;
+    tally.count_added(gone);
     Ok((low, high))
 }
 
@@ -275,7 +277,7 @@ pub fn leaf_height<R: Ruler>(
         ruler,
         tally,
     )?;
-    keep(tree, id, query, Answer::Block(height))?;
-    tally.count_added();
+    let gone = keep(tree, id, query, Answer::Block(height))?;
+    tally.count_added(gone);
     Ok(height)
 }

@@ -9,14 +9,14 @@ use tree_rules::{Given, NodeKind};
 /// What the arena holds of a node.
 #[derive(Drop)]
 pub struct Node {
+    /// How often its answers went, and one; it stands still at 2^64 - 1. It stands first, next to what the arena looks at.
+    pub turn: u64,
     /// The answers that it keeps.
     pub kept: Kept<Answer>,
     /// A grid, a flex container, or a leaf with its content.
     pub kind: NodeKind,
     /// The name, of at most 58 bytes.
     pub name: Name,
-    /// How often its answers went, and one; it stands still at 2^64 - 1.
-    pub turn: u64,
     /// The computed values (CSS Values 4, section 6.1).
     pub style: Style,
     /// What a grid keeps longer than its answers.

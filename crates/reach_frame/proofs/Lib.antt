@@ -12,3 +12,4 @@ pub mod Moves
 pub mod Composed
 pub mod Marked
 pub mod Calm
+pub mod CalmBelow

@@ -136,7 +136,7 @@ module _ (t : NodeTrees) (d : IsDistinct t) (ts : List NodeId) (grid : Bool) whe
 
 -- ---- after a change
 module _ (t u : NodeTrees) (dt : IsDistinct t) (du : IsDistinct u) (root : NodeId) (tops_t : top_numbers t ≡ root ∷ []) (tops_u : top_numbers u ≡ root ∷ []) (low_t : height_of t ≤ 64) (low_u : height_of u ≤ 64) (ts : List NodeId) (grid : Bool) (local : IsLocal (λ n. is_among n ts) grid (bare t) (bare u)) where
-  same_sight : (n : NodeId) → IsSome (part_at t n) → IsSome (part_at u n) → is_among n (reached_by node_sub t ts grid) ≡ false → (sight_at (bare u) n ≡ sight_at (bare t) n) × (children_at (bare u) n ≡ children_at (bare t) n)
+  pub same_sight : (n : NodeId) → IsSome (part_at t n) → IsSome (part_at u n) → is_among n (reached_by node_sub t ts grid) ≡ false → (sight_at (bare u) n ≡ sight_at (bare t) n) × (children_at (bare u) n ≡ children_at (bare t) n)
   same_sight n old new e =
       let calm = not_found t dt ts grid n old e in
       let rb = rooted root (bare t) (distinct_bare t dt) (omega (arith, low_t, height_bare t)) (tops_bare t ∙ tops_t) in

@@ -1,5 +1,5 @@
 -- What a layout tells its ruler.
-use Rattle.std.proofs.Common.{◌≡◌, refl, ap, subst, ◌∙◌, ℕ, Bool, List, [], ◌∷◌, ◌++◌, length, Option, None, Ok}
+use Rattle.std.proofs.Common.{◌≡◌, refl, ap, subst, ◌∙◌, ℕ, Bool, false, List, [], ◌∷◌, ◌++◌, length, Option, None, Ok}
 use Rattle.outside.specs.Told.{Stays, Adds}
 use Rattle.outside.specs.declared.event.Event.{Event}
 use Rattle.outside.specs.declared.event.Event.TheVariants.{Begin}
@@ -44,7 +44,7 @@ laid_not a b k doc p = front_stays a b k (Ok doc ∷ []) p
 -- nothing was kept yet
 pub kept_none : (page : Held) → IsSound page → KeepsMore page page
 kept_none page s =
-    let none = walk_none (λ n q. Unit {0}) (state page.nodes (record { measured = 0; added = 0 }) 0 None) s.right in
+    let none = walk_none (λ n q. Unit {0}) (state page.nodes (record { measured = 0; added = 0; lost = false }) 0 None) s.right in
     record { entries = none.added; kept = none.kept; fresh = none.fresh }
 
 pub ruleset laying = (laid_out, laid_part, laid_not, kept_none)

@@ -1,5 +1,5 @@
 -- A layout as its engine tells it: its begin, and the walk over its page.
-use Rattle.std.proofs.Common.{◌≡◌, ap, sym, subst, ◌∙◌, ℕ, ◌≤◌, List, [], ◌∷◌, ◌++◌, length, Option, append-nil, arith}
+use Rattle.std.proofs.Common.{◌≡◌, ap, sym, subst, ◌∙◌, ℕ, ◌≤◌, false, List, [], ◌∷◌, ◌++◌, length, Option, append-nil, arith}
 use Rattle.outside.specs.Told.{Adds}
 use Rattle.outside.specs.declared.event.Event.{Event}
 use Rattle.outside.specs.declared.event.Event.TheVariants.{Begin}
@@ -14,7 +14,7 @@ use Rattle.asked_pages.specs.AskedOf.{containers_by}
 use Rattle.session.proofs.Counts.{rising_least}
 use Rattle.session.specs.Laying.{IsQuiet, KeepsAll, KeepsPath, Walks, WalksPage}
 
-module _ (k : ℕ) (old new : Held) (told began told' : Option (List Event)) (tally tally' : Tally) (passes passes' : ℕ) (start : Adds told began (Begin k ∷ [])) (none : tally ≡ record { measured = 0; added = 0 }) where
+module _ (k : ℕ) (old new : Held) (told began told' : Option (List Event)) (tally tally' : Tally) (passes passes' : ℕ) (start : Adds told began (Begin k ∷ [])) (none : tally ≡ record { measured = 0; added = 0; lost = false }) where
   pub walks_there : WalksPage old new tally tally' passes passes' began told' → Walks k old new told told' tally'.measured tally'.added passes passes'
   walks_there p =
       let w = p.walk in

@@ -1,5 +1,5 @@
 -- What one layout measures, keeps and counts.
-use Rattle.std.specs.Prelude.{◌≡◌, ℕ, ◌+◌, ◌*◌, ◌-◌, ◌^◌, ◌≤◌, Bool, List, [], ◌∷◌, length, Option, None}
+use Rattle.std.specs.Prelude.{◌≡◌, ℕ, ◌+◌, ◌*◌, ◌-◌, ◌^◌, ◌≤◌, Bool, false, List, [], ◌∷◌, length, Option, None}
 use Rattle.outside.specs.Told.{Adds}
 use Rattle.outside.specs.declared.event.Event.{Event}
 use Rattle.outside.specs.declared.event.Event.TheVariants.{Begin}
@@ -67,7 +67,7 @@ pub record Walks (k : ℕ) (old new : Held) (told told' : Option (List Event)) (
 
 -- what is kept of a page alone
 abbrev pub kept_state : Held → State
-kept_state page = state page.nodes (record { measured = 0; added = 0 }) 0 None
+kept_state page = state page.nodes (record { measured = 0; added = 0; lost = false }) 0 None
 
 -- each container of the page keeps the question for its frames that its boxes give it
 abbrev pub KeepsPath : Held → Held → Type 0

@@ -18,7 +18,7 @@ ghost use Rattle.session.specs.Printing.{IsPrintableBox};
 ghost use Rattle.session.specs.Standing.{doc_of};
 
 use crate::laying::lay_out;
-use box_layout::{BoxList, BoxSink};
+use box_layout::{BoxList, BoxSink, LastBoxes};
 use doc_text::{Doc, Edit};
 use lunit::{Name, NoMemory, Rect, Sequence, Steps};
 use outside::{Ruler, Tally};
@@ -27,10 +27,12 @@ use std::alloc::Global;
 use std::marker::Model;
 use std::sync::ledger::Ledger;
 
-/// A valid document that is edited and laid out. Every answer that its nodes keep is right.
+/// A valid document that is edited and laid out. Every answer that its nodes keep is right, and so are the boxes of containers that
+/// were found last, which contracts do not see.
 #[derive(Drop)]
 pub struct Engine {
     page: Page,
+    last: LastBoxes,
     calls: u32,
 }
 
@@ -43,7 +45,11 @@ impl Model for Engine {
 
     ghost view = { λ a. record { page = a.page; calls = a.calls } };
 
-    ghost invariant = { λ a. IsSound a.page };
+    ghost use Rattle.box_layout.specs.LastBoxes.{AreFound};
+    ghost use Rattle.placing.specs.Kept.{kept_at};
+    ghost use Rattle.placing.specs.Nodes.{bare};
+
+    ghost invariant = { λ a. IsSound a.page × AreFound (bare a.page.nodes.tree) (kept_at a.page.nodes.tree) a.last };
 }
 
 /// The boxes of a document, in document order, and what it took to lay it out.
@@ -76,7 +82,12 @@ impl Engine {
         ensures none { IfOk result (λ engine. KeepsNone engine.page.nodes.tree) }
     {
         let page = Page::new(alloc, &doc)?;
-        Ok(Engine { page, calls: 0 })
+        let last = LastBoxes::new(alloc);
+        Ok(Engine {
+            page,
+            last,
+            calls: 0,
+        })
     }
 
     /// How many calls of [`Engine::apply`] there were. The count stands still at 2^32 - 1.
@@ -111,7 +122,7 @@ impl Engine {
         ensures calls { self.new.calls ≡ min (self.old.calls + 1) (2 ^ 32 - 1) }
     {
         self.calls = self.calls.saturating_add(1);
-        self.page.apply(edit)
+        self.page.apply(edit, &mut self.last)
     }
 
     #[tactic(auto, using(crate::proofs::Laid::laying, crate::proofs::Walks::walking))]
@@ -137,9 +148,10 @@ impl Engine {
         ensures spares { (touches : Touches) (before : Option (List Event)) → SparesDue touches before (R.log ruler.old) k self.old.page → SparesAfter touches before (R.log ruler.new) self.new.page result }
     {
         let page = &mut self.page;
+        let last = &mut self.last;
         ruler.begin(k)?;
         let mut tally = Tally::new();
-        lay_out(page, told, ruler, &mut tally, passes)?;
+        lay_out(page, told, last, ruler, &mut tally, passes)?;
         Ok(Counted {
             measured: tally.measured,
             added: tally.added,

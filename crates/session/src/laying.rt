@@ -2,6 +2,8 @@
 
 ghost use Rattle.std.specs.Prelude.{◌≡◌, List, Option, OnOk, OnErr};
 ghost use Rattle.box_layout.specs.Paths.{IsAllKept, IsPathKept};
+ghost use Rattle.box_layout.specs.LastBoxes.{AreFound};
+ghost use Rattle.placing.specs.Kept.{kept_at};
 ghost use Rattle.placing.specs.Nodes.{bare};
 ghost use Rattle.placing.specs.Walks.{state};
 ghost use Rattle.std.specs.List.{All};
@@ -15,7 +17,7 @@ ghost use Rattle.session.specs.Printing.{IsPrintableBox};
 ghost use Rattle.session.specs.Standing.{IsSound};
 
 use asked_pages::layouts_of_pages;
-use box_layout::BoxSink;
+use box_layout::{BoxSink, LastBoxes};
 use lunit::{NoMemory, Steps};
 use outside::{Ruler, Tally};
 use page_tree::Page;
@@ -26,12 +28,15 @@ use std::sync::ledger::Ledger;
 pub(crate) fn lay_out<T: BoxSink, R: Ruler, L: Ledger>(
     page: &mut Page,
     told: &mut T,
+    last: &mut LastBoxes,
     ruler: &mut R,
     tally: &mut Tally,
     passes: &mut Steps<L>,
 ) -> Result<(), NoMemory>
-    requires { IsSound page.old }
+    requires sound { IsSound page.old }
+    requires last { AreFound (bare page.old.nodes.tree) (kept_at page.old.nodes.tree) last.old }
     ensures sound { IsSound page.new }
+    ensures last { AreFound (bare page.new.nodes.tree) (kept_at page.new.nodes.tree) last.new }
     ensures document { document_of page.new ≡ document_of page.old }
     ensures boxes { OnOk result (T.adds told.old told.new (boxes_of (document_of page.old))) }
     ensures printable { OnOk result (All IsPrintableBox (boxes_of (document_of page.old))) }
@@ -45,5 +50,5 @@ pub(crate) fn lay_out<T: BoxSink, R: Ruler, L: Ledger>(
 {
     let _ = page.tree().root();
     layouts_of_pages(page);
-    page.lay_out(told, ruler, tally, passes)
+    page.lay_out(told, last, ruler, tally, passes)
 }

@@ -64,6 +64,10 @@ p07 510 214 230 64
 f07 510 282 230 24
 p08 760 214 230 64
 c09 10 326 230 100
+t09 10 326 230 20
+p09 10 350 230 48
+f09 10 402 230 24
+y09 180 402 60 24
 layout 2
 main 0 0 1000 796
 c07 510 190 230 116
@@ -103,7 +107,7 @@ fn check_boxes(rt: &impl Abort, alloc: Global, devices: Devices) -> Result<(), N
     Ok(())
 }
 
-/// The longer text moves what is below it, and the narrower card what is in it.
+/// The longer text moves what is below it, the boxes in the cards there too, and the narrower card what is in it.
 pub(crate) fn check_cards(rt: &impl Abort, alloc: Global) -> Result<(), NoMemory> {
     check_boxes(rt, alloc, WHOLE)?;
     check_boxes(rt, alloc, BYTEWISE)

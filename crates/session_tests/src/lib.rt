@@ -35,4 +35,6 @@ mod stats;
 #[cfg(test)]
 mod subgrids;
 #[cfg(test)]
+mod widths;
+#[cfg(test)]
 mod words;

@@ -3,10 +3,13 @@
 ghost use Rattle.std.specs.Prelude.{◌≡◌, ◌<◌, IfOk, OnOk};
 ghost use Rattle.doc_text.specs.Laws.{NamesItsNode};
 ghost use Rattle.doc_text.specs.Valid.{AreShort};
+ghost use Rattle.box_layout.specs.LastBoxes.{AreFound};
+ghost use Rattle.placing.specs.Kept.{kept_at};
+ghost use Rattle.placing.specs.Nodes.{bare};
 ghost use Rattle.session_tests.specs.Ready.{IsReady};
 
 use Inline::{Halves, Width};
-use box_layout::BoxList;
+use box_layout::{BoxList, LastBoxes};
 use doc_text::{Edit, Named, read_doc};
 use layout_cache::{Ask, Counts, Given, Query, SharedTracks};
 use lunit::{Lu, Name, NoMemory, Sequence, Steps};
@@ -217,11 +220,25 @@ fn page(alloc: Global) -> Result<Page, Fail>
     Ok(Page::new(alloc, &doc)?)
 }
 
+/// No boxes of the page that were found last.
+fn none_found(page: &Page) -> LastBoxes
+    ensures { AreFound (bare page.now.nodes.tree) (kept_at page.now.nodes.tree) result }
+{
+    LastBoxes::new(page.alloc())
+}
+
 /// The page after its first layout.
 fn laid_out<L: Ledger>(alloc: Global, passes: &mut Steps<L>) -> Result<Page, Fail> {
     let mut page = page(alloc)?;
     let mut list = BoxList::new(alloc);
-    page.lay_out(&mut list, &mut WordRuler::new(), &mut Tally::new(), passes)?;
+    let mut last = none_found(&page);
+    page.lay_out(
+        &mut list,
+        &mut last,
+        &mut WordRuler::new(),
+        &mut Tally::new(),
+        passes,
+    )?;
     Ok(page)
 }
 
@@ -241,7 +258,8 @@ fn edit(alloc: Global, row: &Row) -> Result<Edit, Fail>
 fn edited<L: Ledger>(alloc: Global, passes: &mut Steps<L>, row: &Row) -> Result<Page, Fail> {
     let edit = edit(alloc, row)?;
     let mut page = laid_out(alloc, passes)?;
-    page.apply(edit)?;
+    let mut last = none_found(&page);
+    page.apply(edit, &mut last)?;
     Ok(page)
 }
 

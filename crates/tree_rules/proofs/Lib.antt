@@ -1,5 +1,6 @@
 pub mod KeptLists
 pub mod Lengths
+pub mod Moved
 pub mod Pairs
 pub mod SameTrees
 pub mod Sorted

@@ -62,13 +62,13 @@ AllTell (k ∷ ks) leafless = ⊥
 AllTell (k ∷ ks) (tree x below after) = (k.label.name ≡ x.name) × (((pairs : List Pair) (g : Given) → Tells (k.answers.down pairs g) below) × AllTell ks after)
 
 -- a frame is one of this child, with what the child knows by its inline size
-record IsFrameOf (k : Kid) (f : Framed) : Type 0 where
-  name : f.name ≡ k.label.name
-  width : IsUnits f.frame.rect.width
-  height : IsUnits f.frame.rect.height
-  pairs : List Pair
-  inline : Given
-  down : f.down ≡ k.answers.down pairs inline
+pub record IsFrameOf (k : Kid) (f : Framed) : Type 0 where
+  pub name : f.name ≡ k.label.name
+  pub width : IsUnits f.frame.rect.width
+  pub height : IsUnits f.frame.rect.height
+  pub pairs : List Pair
+  pub inline : Given
+  pub down : f.down ≡ k.answers.down pairs inline
 
 -- and has its number
 record IsNumbered (e : ℕ × Kid) (f : ℕ × Framed) : Type 0 where
@@ -148,7 +148,7 @@ wide_numbered e n w f a b c = record {
   };
 }
 
-grid_frames : (x : Label) (chain : List Link) (kids : List Kid) (outer : List Pair) (width : Given) (columns : View 0) (axis : TrackAxis) (height : Given)
+pub grid_frames : (x : Label) (chain : List Link) (kids : List Kid) (outer : List Pair) (width : Given) (columns : View 0) (axis : TrackAxis) (height : Given)
     → EachTwo IsFrameOf kids (grid_framed (grid_by x chain kids outer width) columns axis (wide_children (grid_by x chain kids outer width) columns) height)
 grid_frames x chain kids outer width columns axis height =
     let g = grid_by x chain kids outer width in
@@ -299,7 +299,7 @@ row_settled_is m box = record { member = refl; box = λ e. absurd (true≢false 
 column_settled_is : (container : Label) (width : ℤ) (m : Member) → IsSettled true m (settled_at m (column_box container width m))
 column_settled_is container width m = record { member = refl; box = λ e. limited _; inline = (settled_at m (column_box container width m)).inline; down = refl }
 
-row_frames : (x : Label) (kids : List Kid) (width : ℤ) (height : Given) → EachTwo IsFrameOf kids (row_framed (flex_by x kids) width (row_lines (flex_by x kids) width) (row_settled (flex_by x kids) (row_lines (flex_by x kids) width)) height)
+pub row_frames : (x : Label) (kids : List Kid) (width : ℤ) (height : Given) → EachTwo IsFrameOf kids (row_framed (flex_by x kids) width (row_lines (flex_by x kids) width) (row_settled (flex_by x kids) (row_lines (flex_by x kids) width)) height)
 row_frames x kids width height =
     let f = flex_by x kids in
     let items = map (λ (m : Member). flex_item false (Some width) m.kid.label m.inline) f.members in
@@ -308,7 +308,7 @@ row_frames x kids width height =
     let few : length lines.mains ≡ length f.members = length_main_sizes width gap x.content.wrap items ∙ length_map (λ (m : Member). flex_item false (Some width) m.kid.label m.inline) f.members in
     flex_frames false x kids width (given_size height) gap items (row_settled f lines) (length_map (λ (m : Member). flex_item false (Some width) m.kid.label m.inline) f.members ∙ sym (length_zipped settled_at f.members lines.mains few)) (each_zipped (IsSettled false) settled_at row_settled_is f.members lines.mains few)
 
-column_frames : (x : Label) (kids : List Kid) (width : ℤ) (height : Given) → EachTwo IsFrameOf kids (column_framed (flex_by x kids) width (column_settled (flex_by x kids) width) height)
+pub column_frames : (x : Label) (kids : List Kid) (width : ℤ) (height : Given) → EachTwo IsFrameOf kids (column_framed (flex_by x kids) width (column_settled (flex_by x kids) width) height)
 column_frames x kids width height =
     let f = flex_by x kids in
     let main = given_size height in

@@ -1,5 +1,5 @@
 -- The children of a container with their rectangles and what they are given (CSS Grid 2, sections 6, 10 and 11; CSS Flexbox 1, section 9).
-use Rattle.std.specs.Prelude.{◌≡◌, refl, ℕ, ◌+◌, ℤ, pos, ◌+ℤ◌, ◌-ℤ◌, int_lt, Bool, true, false, ◌&&◌, ◌||◌, List, [], ◌∷◌, ◌++◌, map, length, slice_range, Option, Some, if◌then◌else◌, None}
+use Rattle.std.specs.Prelude.{◌≡◌, refl, ℕ, ◌+◌, ℤ, pos, ◌+ℤ◌, ◌-ℤ◌, int_lt, Bool, true, false, ◌&&◌, ◌||◌, List, [], ◌∷◌, ◌++◌, map, length, slice_range, Option, Some, if◌then◌else◌, None, neg_ℤ}
 use Rattle.std.specs.Ordering.{int_eq}
 use Rattle.lunit.specs.Units.{clamp}
 use Rattle.lunit.specs.declared.geometry.Rect.{Rect}
@@ -43,6 +43,11 @@ boxes_at at [] = []
 boxes_at at (f ∷ rest) =
     let rect = moved_by at f.frame.rect in
     (f.name, rect) ∷ f.down.boxes f.frame.block (rect.x, rect.y) ++ boxes_at at rest
+
+-- The same boxes elsewhere.
+abbrev pub moved_boxes : ℤ × ℤ → List Box → List Box
+moved_boxes by [] = []
+moved_boxes by (b ∷ rest) = (b.0, moved_by by b.1) ∷ moved_boxes by rest
 
 -- what is known of a container by its inline size, from the frames that it gives its children
 abbrev pub down_of : ℤ → List Item → (Given → List Framed) → Down
@@ -268,3 +273,8 @@ leaf_below = down_of (pos 0) [] (λ height. [])
 told_in_order : boxes_at (pos 10, pos 20) (framed_box (codes "a") (pos 3) (pos 4) leaf_below ∷ framed_box (codes "b") (pos 5) (pos 7) (down_of (pos 0) [] (λ height. framed_box (codes "c") (pos 1) (pos 2) leaf_below ∷ [])) ∷ [])
     ≡ (codes "a", record { x = pos 13; y = pos 24; width = pos 5; height = pos 6 }) ∷ (codes "b", record { x = pos 15; y = pos 27; width = pos 5; height = pos 6 }) ∷ (codes "c", record { x = pos 16; y = pos 29; width = pos 5; height = pos 6 }) ∷ []
 told_in_order = refl
+
+-- The same two boxes by 7 to the left and by 5 down.
+moved_together : moved_boxes (neg_ℤ (pos 7), pos 5) ((codes "a", record { x = pos 13; y = pos 24; width = pos 5; height = pos 6 }) ∷ (codes "c", record { x = pos 16; y = pos 29; width = pos 5; height = pos 6 }) ∷ [])
+    ≡ (codes "a", record { x = pos 6; y = pos 29; width = pos 5; height = pos 6 }) ∷ (codes "c", record { x = pos 9; y = pos 34; width = pos 5; height = pos 6 }) ∷ []
+moved_together = refl

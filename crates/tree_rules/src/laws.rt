@@ -1,10 +1,13 @@
 //! What holds of the definitions. Each law is the contract of a function that does nothing.
 
-ghost use Rattle.std.specs.Prelude.{◌≡◌, ℕ, ℤ, List, ◌∷◌, [], ◌++◌};
+ghost use Rattle.std.specs.Prelude.{◌≡◌, ℕ, ℤ, ◌+ℤ◌, List, ◌∷◌, [], ◌++◌};
 ghost use Rattle.std.specs.List.Sorted.{IsSortedByKey, IsStableByKey};
 ghost use Rattle.std.specs.Ordering.{int_cmp};
 ghost use Rattle.plain_tree.specs.Trees.{Trees, leafless, tree};
+ghost use Rattle.tree_rules.specs.declared.query.Given.{Given};
 ghost use Rattle.tree_rules.specs.declared.query.Query.{Query};
+ghost use Rattle.tree_rules.specs.Answers.{Pair};
+ghost use Rattle.tree_rules.specs.Frames.{moved_boxes};
 ghost use Rattle.tree_rules.specs.Boxes.{AreLimited, LeavesAreBare, boxes, names_of, names_told};
 ghost use Rattle.tree_rules.specs.Chains.{Link, above_of, chain_of, sibling_of, siblings_of};
 ghost use Rattle.tree_rules.specs.KeptAnswers.{AreRight, IsAbsent, IsRightPair, last_of, most_kept};
@@ -40,6 +43,12 @@ pub fn right_answers_stay_right<A>()
 pub fn boxes_are_of_all_nodes()
     ensures names { (width height : ℤ) (x : Label) (below : Trees Label) → LeavesAreBare (tree x below leafless) → names_told (boxes width height x below) ≡ names_of (tree x below leafless) }
     ensures sizes { (width height : ℤ) (x : Label) (below : Trees Label) → LeavesAreBare (tree x below leafless) → AreLimited (boxes width height x below) }
+{}
+
+#[tactic(auto, using(crate::proofs::Moved::boxes_move))]
+/// The boxes below a node stand to its border box in the same way wherever that is.
+pub fn boxes_move_along()
+    ensures { (s : Seen) (reps : List Pair) (inline block : Given) (x y right down : ℤ) → ((answers_of s).down reps inline).boxes block (right +ℤ x, down +ℤ y) ≡ moved_boxes (right, down) (((answers_of s).down reps inline).boxes block (x, y)) }
 {}
 
 /// A list that a stable sort by a key makes of another is the sorted one of the definitions, and items in order-modified document

@@ -14,8 +14,8 @@ mod shared_tracks;
 pub use counts::Counts;
 pub use kind::NodeKind;
 pub use laws::{
-    boxes_are_of_all_nodes, chains_are_of_grid_values, equal_nodes_answer_equally,
-    right_answers_stay_right, stable_sorts_are_the_order,
+    boxes_are_of_all_nodes, boxes_move_along, chains_are_of_grid_values,
+    equal_nodes_answer_equally, right_answers_stay_right, stable_sorts_are_the_order,
 };
 pub use query::{Ask, Given, Query};
 pub use shared_content::SharedContent;

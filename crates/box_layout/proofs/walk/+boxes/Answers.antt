@@ -1,9 +1,9 @@
-use Rattle.std.proofs.Common.{rules, arith, refl, sym, ap, subst, ◌≡◌, ◌∙◌, ◌+◌, ◌*◌, ◌<◌, ◌≤◌, ◌++◌, ◌∷◌, [], List, true, length, map, inr}
-use Rattle.std.specs.Prelude.{get_or}
+use Rattle.std.proofs.Common.{rules, arith, refl, sym, ap, subst, ◌≡◌, ◌∙◌, ◌+◌, ◌*◌, ◌<◌, ◌≤◌, ◌++◌, ◌∷◌, [], List, true, length, map, inr, false, inl, Some}
+use Rattle.std.specs.Prelude.{Option, get_or}
 use Rattle.std.proofs.lemmas.Bool.{false≢true}
 use Rattle.std.proofs.lemmas.List.{length-map}
 use Rattle.lunit.specs.declared.geometry.Rect.{Rect}
-use Rattle.placing.specs.Kept.{IsRight, frame_of}
+use Rattle.placing.specs.Kept.{IsRight, frame_of, kept_at}
 use Rattle.placing.specs.Children.{IsTree}
 use Rattle.placing.specs.Nodes.{BareTrees, IsLive, bare, children_at, kids_at, level_at, sight_at, size_at}
 use Rattle.placing.specs.Ranges.{AreReadable}
@@ -11,18 +11,22 @@ use Rattle.placing.specs.Seats.{IsSeat}
 use Rattle.placing.specs.Walks.{state}
 use Rattle.placing.specs.declared.contexts.Above.TheVariants as above
 use Rattle.placing.specs.declared.node.Frame.{Frame as NodeFrame}
+use Rattle.inline_sizes.proofs.Asked.{on_ok}
 use Rattle.placing.proofs.Leaves.{on_err}
-use Rattle.tree_rules.specs.Answers.{Pair}
+use Rattle.tree_rules.specs.Answers.{Box, Pair}
 use Rattle.tree_rules.specs.Queries.{Fits, is_container}
 use Rattle.box_layout.specs.Asking.{frames_asked}
 use Rattle.box_layout.specs.Beneath.{AreSeats, AreTelling, HasPairs, IsSeatTo, above_to, pairs_to}
 use Rattle.box_layout.specs.BoxesSeen.{AreNear, IsNearAt, boxes_seen, boxes_with, frames_seen, pairs_seen, reach}
+use Rattle.box_layout.specs.LastBoxes.{AddsFew, AreFound, IsFound, boxes_now}
 use Rattle.box_layout.specs.LeafHeights.{MeasuresBelow}
 use Rattle.box_layout.specs.Paths.{AreKeptBelow, IsChildLaid, IsChildPart, its_own}
 use Rattle.box_layout.specs.Ranges.{IsWithin}
 use Rattle.box_layout.specs.Stands.{IsGivenNear}
-use Rattle.box_layout.proofs.BelowSteps.{IsBelow, IsTurn, below_told, child_same, err_then, fit_seen, frames_counted, given_some, kind_is, laid_next, leaf_told, near_told, ok_then, part_next, quiet_next, seat_of, seat_to, to_pairs, turn_of, value_next}
+use Rattle.box_layout.proofs.BelowSteps.{IsBelow, IsTurn, below_told, child_same, fit_seen, frames_counted, given_some, kind_is, laid_next, leaf_told, near_told, ok_then, part_next, quiet_next, seat_of, seat_to, to_pairs, turn_of, value_next}
 use Rattle.box_layout.proofs.BoxSteps.{boxes_all, boxes_are, frames_told}
+use Rattle.box_layout.proofs.FoundBoxes.{few_both, few_none}
+use Rattle.box_layout.proofs.FoundWalks.{boxes_again, found_more, kept_again, measured_again, still_found}
 use Rattle.box_layout.proofs.KeptPaths.{all_done, asked_kept, done_next, none_done, outside_same, own_next}
 use Rattle.box_layout.proofs.Lower.{tell_seen}
 use Rattle.box_layout.proofs.Seating.{number_there}
@@ -39,68 +43,118 @@ child_boxes-moved_by-rect-requires-clause-x g t c = long (level_at (bare c.args.
 pub child_boxes-moved_by-rect-requires-clause-y : goal.child_boxes-moved_by-rect-requires-clause-y
 child_boxes-moved_by-rect-requires-clause-y g t c = long (level_at (bare c.args.tree.now.tree) c.args.id) _ c.requires.near.y
 
+-- ---- the boxes that were found last
+
+pub child_boxes-returns-in-Some-clause-value : goal.child_boxes-returns-in-Some-clause-value
+child_boxes-returns-in-Some-clause-value g t c =
+    let found : IsFound (bare c.args.tree.now.tree) (kept_at c.args.tree.now.tree) (record { id = c.args.id; query = frames_asked c.pairs_for-reps.result.now c.args.frame.now.inline c.args.frame.now.block; boxes = c.in-Some.boxes.now }) = c.requires.last c.in-Some.ensures.lasts _ c.in-Some.ensures.found c.requires.live in
+    let same : boxes_now c.in-Some.boxes.now c.moved_by-rect.result ≡ boxes_with (bare c.args.tree.now.tree) c.args.id (pairs_to c.args.seats.now (frame_of c.args.frame.now)) (frame_of c.args.frame.now) (c.args.x, c.args.y) = boxes_again c.boxes_move_along.ensures (bare c.args.tree.now.tree) (kept_at c.args.tree.now.tree) c.args.id c.pairs_for-reps.result.now (pairs_to c.args.seats.now (frame_of c.args.frame.now)) (to_pairs c.args.seats.now (frame_of c.args.frame.now) c.is_lower-lower.result c.is_lower-lower.ensures c.pairs_for-reps.result.now c.pairs_for-reps.ensures) (frame_of c.args.frame.now) (c.args.x, c.args.y) c.in-Some.boxes.now c.moved_by-rect.result c.moved_by-rect.ensures found in
+    ok_then c.hand_over.result _ _ (subst (g.T.BoxSink.adds c.args.told.now c.hand_over.new.told) same) c.hand_over.ensures.value
+
+pub child_boxes-returns-in-Some-clause-near : goal.child_boxes-returns-in-Some-clause-near
+child_boxes-returns-in-Some-clause-near g t c =
+    let found : IsFound (bare c.args.tree.now.tree) (kept_at c.args.tree.now.tree) (record { id = c.args.id; query = frames_asked c.pairs_for-reps.result.now c.args.frame.now.inline c.args.frame.now.block; boxes = c.in-Some.boxes.now }) = c.requires.last c.in-Some.ensures.lasts _ c.in-Some.ensures.found c.requires.live in
+    let same : boxes_now c.in-Some.boxes.now c.moved_by-rect.result ≡ boxes_with (bare c.args.tree.now.tree) c.args.id (pairs_to c.args.seats.now (frame_of c.args.frame.now)) (frame_of c.args.frame.now) (c.args.x, c.args.y) = boxes_again c.boxes_move_along.ensures (bare c.args.tree.now.tree) (kept_at c.args.tree.now.tree) c.args.id c.pairs_for-reps.result.now (pairs_to c.args.seats.now (frame_of c.args.frame.now)) (to_pairs c.args.seats.now (frame_of c.args.frame.now) c.is_lower-lower.result c.is_lower-lower.ensures c.pairs_for-reps.result.now c.pairs_for-reps.ensures) (frame_of c.args.frame.now) (c.args.x, c.args.y) c.in-Some.boxes.now c.moved_by-rect.result c.moved_by-rect.ensures found in
+    ok_then c.hand_over.result _ _ (subst (AreNear) same) c.hand_over.ensures.near
+
+pub child_boxes-returns-in-Some-clause-few : goal.child_boxes-returns-in-Some-clause-few
+child_boxes-returns-in-Some-clause-few g t c =
+    let found : IsFound (bare c.args.tree.now.tree) (kept_at c.args.tree.now.tree) (record { id = c.args.id; query = frames_asked c.pairs_for-reps.result.now c.args.frame.now.inline c.args.frame.now.block; boxes = c.in-Some.boxes.now }) = c.requires.last c.in-Some.ensures.lasts _ c.in-Some.ensures.found c.requires.live in
+    let same : boxes_now c.in-Some.boxes.now c.moved_by-rect.result ≡ boxes_with (bare c.args.tree.now.tree) c.args.id (pairs_to c.args.seats.now (frame_of c.args.frame.now)) (frame_of c.args.frame.now) (c.args.x, c.args.y) = boxes_again c.boxes_move_along.ensures (bare c.args.tree.now.tree) (kept_at c.args.tree.now.tree) c.args.id c.pairs_for-reps.result.now (pairs_to c.args.seats.now (frame_of c.args.frame.now)) (to_pairs c.args.seats.now (frame_of c.args.frame.now) c.is_lower-lower.result c.is_lower-lower.ensures c.pairs_for-reps.result.now c.pairs_for-reps.ensures) (frame_of c.args.frame.now) (c.args.x, c.args.y) c.in-Some.boxes.now c.moved_by-rect.result c.moved_by-rect.ensures found in
+    ok_then c.hand_over.result _ _ (subst (λ (l : List Box). AddsFew l c.args.few.now c.hand_over.new.few) same) c.hand_over.ensures.few
+
+pub child_boxes-returns-in-Some-clause-laid : goal.child_boxes-returns-in-Some-clause-laid
+child_boxes-returns-in-Some-clause-laid g t c =
+    on_ok _ _ (inl refl)
+
+pub child_boxes-returns-in-Some-clause-part : goal.child_boxes-returns-in-Some-clause-part
+child_boxes-returns-in-Some-clause-part g t c =
+    on_err _ _ (inl refl)
+
+pub child_boxes-returns-in-Some-clause-paths : goal.child_boxes-returns-in-Some-clause-paths
+child_boxes-returns-in-Some-clause-paths g t c =
+    let found : IsFound (bare c.args.tree.now.tree) (kept_at c.args.tree.now.tree) (record { id = c.args.id; query = frames_asked c.pairs_for-reps.result.now c.args.frame.now.inline c.args.frame.now.block; boxes = c.in-Some.boxes.now }) = c.requires.last c.in-Some.ensures.lasts _ c.in-Some.ensures.found c.requires.live in
+    let all : is_container (sight_at (bare c.args.tree.now.tree) c.args.id).label.kind ≡ true → AreKeptBelow (bare c.args.tree.now.tree) c.args.id (frames_asked (pairs_to c.args.seats.now (frame_of c.args.frame.now)) c.args.frame.now.inline c.args.frame.now.block) (state c.args.tree.now c.args.tally.now c.args.passes.now (g.R.Ruler.log c.args.ruler.now)) = λ container. kept_again (bare c.args.tree.now.tree) (state c.args.tree.now c.args.tally.now c.args.passes.now (g.R.Ruler.log c.args.ruler.now)) c.args.id c.pairs_for-reps.result.now (pairs_to c.args.seats.now (frame_of c.args.frame.now)) (to_pairs c.args.seats.now (frame_of c.args.frame.now) c.is_lower-lower.result c.is_lower-lower.ensures c.pairs_for-reps.result.now c.pairs_for-reps.ensures) (frame_of c.args.frame.now) c.in-Some.boxes.now found in
+    on_ok _ _ all
+
+pub child_boxes-returns-in-Some-clause-leaves : goal.child_boxes-returns-in-Some-clause-leaves
+child_boxes-returns-in-Some-clause-leaves g t c =
+    let found : IsFound (bare c.args.tree.now.tree) (kept_at c.args.tree.now.tree) (record { id = c.args.id; query = frames_asked c.pairs_for-reps.result.now c.args.frame.now.inline c.args.frame.now.block; boxes = c.in-Some.boxes.now }) = c.requires.last c.in-Some.ensures.lasts _ c.in-Some.ensures.found c.requires.live in
+    let all : is_container (sight_at (bare c.args.tree.now.tree) c.args.id).label.kind ≡ true → MeasuresBelow (bare c.args.tree.now.tree) c.args.id (frames_asked (pairs_to c.args.seats.now (frame_of c.args.frame.now)) c.args.frame.now.inline c.args.frame.now.block) (state c.args.tree.now c.args.tally.now c.args.passes.now (g.R.Ruler.log c.args.ruler.now)) (state c.args.tree.now c.args.tally.now c.args.passes.now (g.R.Ruler.log c.args.ruler.now)) = λ container. measured_again (bare c.args.tree.now.tree) c.args.id (frames_asked (pairs_to c.args.seats.now (frame_of c.args.frame.now)) c.args.frame.now.inline c.args.frame.now.block) (state c.args.tree.now c.args.tally.now c.args.passes.now (g.R.Ruler.log c.args.ruler.now)) (kept_again (bare c.args.tree.now.tree) (state c.args.tree.now c.args.tally.now c.args.passes.now (g.R.Ruler.log c.args.ruler.now)) c.args.id c.pairs_for-reps.result.now (pairs_to c.args.seats.now (frame_of c.args.frame.now)) (to_pairs c.args.seats.now (frame_of c.args.frame.now) c.is_lower-lower.result c.is_lower-lower.ensures c.pairs_for-reps.result.now c.pairs_for-reps.ensures) (frame_of c.args.frame.now) c.in-Some.boxes.now found) in
+    on_ok _ _ all
+
+-- ---- else
+
 pub child_boxes-returns-then-not-container-clause-value : goal.child_boxes-returns-then-not-container-clause-value
 child_boxes-returns-then-not-container-clause-value g t c =
-    subst (g.T.BoxSink.adds c.args.told.now c.take.new.self) (leaf_told (bare c.args.tree.now.tree) c.args.id (pairs_to c.args.seats.now (frame_of c.args.frame.now)) (frame_of c.args.frame.now) (c.args.x, c.args.y) c.node_at-node.result.now.name c.moved_by-rect.result (kind_is c.node_at-node.result.now.kind (sight_at (bare c.args.tree.now.tree) c.args.id).label.kind c.is_container-container.result c.node_at-node.ensures.kind c.is_container-container.ensures ∙ c.if-not-container.true) c.node_at-node.ensures.name c.moved_by-rect.ensures) c.in_ok-take.ensures
+    subst (g.T.BoxSink.adds c.args.told.now c.tell.new.told) (leaf_told (bare c.args.tree.now.tree) c.args.id (pairs_to c.args.seats.now (frame_of c.args.frame.now)) (frame_of c.args.frame.now) (c.args.x, c.args.y) c.node_at-node.result.now.name c.moved_by-rect.result (kind_is c.node_at-node.result.now.kind (sight_at (bare c.args.tree.now.tree) c.args.id).label.kind c.is_container-container.result c.node_at-node.ensures.kind c.is_container-container.ensures ∙ c.if-not-container.true) c.node_at-node.ensures.name c.moved_by-rect.ensures) c.in_ok-tell.ensures.value
 
 pub child_boxes-returns-then-not-container-clause-near : goal.child_boxes-returns-then-not-container-clause-near
 child_boxes-returns-then-not-container-clause-near g t c =
     subst AreNear (leaf_told (bare c.args.tree.now.tree) c.args.id (pairs_to c.args.seats.now (frame_of c.args.frame.now)) (frame_of c.args.frame.now) (c.args.x, c.args.y) c.node_at-node.result.now.name c.moved_by-rect.result (kind_is c.node_at-node.result.now.kind (sight_at (bare c.args.tree.now.tree) c.args.id).label.kind c.is_container-container.result c.node_at-node.ensures.kind c.is_container-container.ensures ∙ c.if-not-container.true) c.node_at-node.ensures.name c.moved_by-rect.ensures) ((near_told (level_at (bare c.args.tree.now.tree) c.args.id) c.args.x c.args.y (frame_of c.args.frame.now) c.moved_by-rect.result c.moved_by-rect.ensures c.requires.near), tt)
 
+pub child_boxes-returns-then-not-container-clause-few : goal.child_boxes-returns-then-not-container-clause-few
+child_boxes-returns-then-not-container-clause-few g t c =
+    subst (λ (l : List Box). AddsFew l c.args.few.now c.tell.new.few) (leaf_told (bare c.args.tree.now.tree) c.args.id (pairs_to c.args.seats.now (frame_of c.args.frame.now)) (frame_of c.args.frame.now) (c.args.x, c.args.y) c.node_at-node.result.now.name c.moved_by-rect.result (kind_is c.node_at-node.result.now.kind (sight_at (bare c.args.tree.now.tree) c.args.id).label.kind c.is_container-container.result c.node_at-node.ensures.kind c.is_container-container.ensures ∙ c.if-not-container.true) c.node_at-node.ensures.name c.moved_by-rect.ensures) c.in_ok-tell.ensures.few
+
 pub child_boxes-boxes_below-requires : goal.child_boxes-boxes_below-requires
 child_boxes-boxes_below-requires g t c =
     let container : is_container (sight_at (bare c.args.tree.now.tree) c.args.id).label.kind ≡ true = kind_is c.node_at-node.result.now.kind (sight_at (bare c.args.tree.now.tree) c.args.id).label.kind c.is_container-container.result c.node_at-node.ensures.kind c.is_container-container.ensures ∙ c.if-not-container.false in
-    let fits : Fits (sight_at (bare c.args.tree.now.tree) c.args.id) (frames_asked c.pairs_for.result.now c.args.frame.now.inline c.args.frame.now.block) = subst (λ (r : List Pair). Fits (sight_at (bare c.args.tree.now.tree) c.args.id) (frames_asked r c.args.frame.now.inline c.args.frame.now.block)) (sym (to_pairs c.args.seats.now (frame_of c.args.frame.now) c.is_lower-lower.result c.is_lower-lower.ensures c.pairs_for.result.now c.pairs_for.ensures)) (c.requires.fits container) in
-    let seat : IsSeat (sight_at (bare c.args.tree.now.tree) c.args.id) c.pairs_for.result.now c.above_for.result.now c.area_for.result = seat_to c.args.seats.now (frame_of c.args.frame.now) c.is_lower-lower.result c.is_lower-lower.ensures c.pairs_for.result.now c.pairs_for.ensures (bare c.args.tree.now.tree) c.args.id c.args.index c.requires.seat c.above_for.result.now c.above_for.ensures c.area_for.result c.area_for.ensures in
+    let fits : Fits (sight_at (bare c.args.tree.now.tree) c.args.id) (frames_asked c.pairs_for-reps.result.now c.args.frame.now.inline c.args.frame.now.block) = subst (λ (r : List Pair). Fits (sight_at (bare c.args.tree.now.tree) c.args.id) (frames_asked r c.args.frame.now.inline c.args.frame.now.block)) (sym (to_pairs c.args.seats.now (frame_of c.args.frame.now) c.is_lower-lower.result c.is_lower-lower.ensures c.pairs_for-reps.result.now c.pairs_for-reps.ensures)) (c.requires.fits container) in
+    let seat : IsSeat (sight_at (bare c.args.tree.now.tree) c.args.id) c.pairs_for-reps.result.now c.above_for.result.now c.area_for.result = seat_to c.args.seats.now (frame_of c.args.frame.now) c.is_lower-lower.result c.is_lower-lower.ensures c.pairs_for-reps.result.now c.pairs_for-reps.ensures (bare c.args.tree.now.tree) c.args.id c.args.index c.requires.seat c.above_for.result.now c.above_for.ensures c.area_for.result c.area_for.ensures in
     let level : 1 ≤ level_at (bare c.args.tree.now.tree) c.args.id = c.requires.level in
     let columns : IsGivenNear (level_at (bare c.args.tree.now.tree) c.args.id) c.args.frame.now.inline = c.requires.near.inline in
     let rows : IsGivenNear (level_at (bare c.args.tree.now.tree) c.args.id) c.args.frame.now.block = c.requires.near.block in
     let x : IsWithin (reach (level_at (bare c.args.tree.now.tree) c.args.id)) c.moved_by-rect.result.x = subst (λ (r : Rect). IsWithin (reach (level_at (bare c.args.tree.now.tree) c.args.id)) r.x) (sym c.moved_by-rect.ensures) c.requires.near.x in
     let y : IsWithin (reach (level_at (bare c.args.tree.now.tree) c.args.id)) c.moved_by-rect.result.y = subst (λ (r : Rect). IsWithin (reach (level_at (bare c.args.tree.now.tree) c.args.id)) r.y) (sym c.moved_by-rect.ensures) c.requires.near.y in
     let nothing : c.args.nothing.now ≡ above.Nothing = c.requires.nothing in
+    let last : c.args.tally.now.lost ≡ false → AreFound (bare c.args.tree.now.tree) (kept_at c.args.tree.now.tree) c.args.last.now = c.requires.last in
     let small : 2 * size_at (bare c.args.tree.now.tree) c.args.id < 2 * size_at (bare c.args.tree.now.tree) c.args.id + 1 = omega arith in
     search rules
 
 pub child_boxes-returns-clause-near : goal.child_boxes-returns-clause-near
 child_boxes-returns-clause-near g t c =
-    ok_then c.boxes_below.result _ _
-    (λ more. subst AreNear (below_told (bare c.args.tree.now.tree) c.args.id c.pairs_for.result.now (pairs_to c.args.seats.now (frame_of c.args.frame.now)) (to_pairs c.args.seats.now (frame_of c.args.frame.now) c.is_lower-lower.result c.is_lower-lower.ensures c.pairs_for.result.now c.pairs_for.ensures) (frame_of c.args.frame.now) (c.args.x, c.args.y) c.node_at-node.result.now.name c.moved_by-rect.result c.node_at-node.ensures.name c.moved_by-rect.ensures) ((near_told (level_at (bare c.args.tree.now.tree) c.args.id) c.args.x c.args.y (frame_of c.args.frame.now) c.moved_by-rect.result c.moved_by-rect.ensures c.requires.near), more))
-    c.boxes_below.ensures.near
+    subst AreNear (below_told (bare c.args.tree.now.tree) c.args.id c.pairs_for-reps.result.now (pairs_to c.args.seats.now (frame_of c.args.frame.now)) (to_pairs c.args.seats.now (frame_of c.args.frame.now) c.is_lower-lower.result c.is_lower-lower.ensures c.pairs_for-reps.result.now c.pairs_for-reps.ensures) (frame_of c.args.frame.now) (c.args.x, c.args.y) c.node_at-node.result.now.name c.moved_by-rect.result c.node_at-node.ensures.name c.moved_by-rect.ensures) ((near_told (level_at (bare c.args.tree.now.tree) c.args.id) c.args.x c.args.y (frame_of c.args.frame.now) c.moved_by-rect.result c.moved_by-rect.ensures c.requires.near), c.in_ok-boxes_below.ensures.near)
 
 pub child_boxes-returns-clause-value : goal.child_boxes-returns-clause-value
 child_boxes-returns-clause-value g t c =
-    ok_then c.boxes_below.result _ _
-    (λ more. subst (g.T.BoxSink.adds c.args.told.now c.boxes_below.new.told) (below_told (bare c.args.tree.now.tree) c.args.id c.pairs_for.result.now (pairs_to c.args.seats.now (frame_of c.args.frame.now)) (to_pairs c.args.seats.now (frame_of c.args.frame.now) c.is_lower-lower.result c.is_lower-lower.ensures c.pairs_for.result.now c.pairs_for.ensures) (frame_of c.args.frame.now) (c.args.x, c.args.y) c.node_at-node.result.now.name c.moved_by-rect.result c.node_at-node.ensures.name c.moved_by-rect.ensures)
-    (g.met.T.BoxSink.adds_both c.args.told.now c.take.new.self c.boxes_below.new.told ((c.node_at-node.result.now.name, c.moved_by-rect.result) ∷ []) (boxes_seen (bare c.args.tree.now.tree) c.args.id (frames_asked c.pairs_for.result.now c.args.frame.now.inline c.args.frame.now.block) (c.moved_by-rect.result.x, c.moved_by-rect.result.y)) c.in_ok-take.ensures more))
-    c.boxes_below.ensures.value
+    subst (g.T.BoxSink.adds c.args.told.now c.boxes_below.new.told) (below_told (bare c.args.tree.now.tree) c.args.id c.pairs_for-reps.result.now (pairs_to c.args.seats.now (frame_of c.args.frame.now)) (to_pairs c.args.seats.now (frame_of c.args.frame.now) c.is_lower-lower.result c.is_lower-lower.ensures c.pairs_for-reps.result.now c.pairs_for-reps.ensures) (frame_of c.args.frame.now) (c.args.x, c.args.y) c.node_at-node.result.now.name c.moved_by-rect.result c.node_at-node.ensures.name c.moved_by-rect.ensures)
+    (g.met.T.BoxSink.adds_both c.args.told.now c.tell.new.told c.boxes_below.new.told ((c.node_at-node.result.now.name, c.moved_by-rect.result) ∷ []) (boxes_seen (bare c.args.tree.now.tree) c.args.id (frames_asked c.pairs_for-reps.result.now c.args.frame.now.inline c.args.frame.now.block) (c.moved_by-rect.result.x, c.moved_by-rect.result.y)) c.in_ok-tell.ensures.value c.in_ok-boxes_below.ensures.value)
 
 pub child_boxes-returns-clause-laid : goal.child_boxes-returns-clause-laid
 child_boxes-returns-clause-laid g t c =
-    ok_then c.boxes_below.result _ _
-    (λ laid. subst (λ (r : List Pair). IsChildLaid (bare c.args.tree.now.tree) c.args.id (frames_asked r c.args.frame.now.inline c.args.frame.now.block) (state c.args.tree.now c.args.tally.now c.args.passes.now (g.R.Ruler.log c.args.ruler.now)) (state c.boxes_below.new.tree c.boxes_below.new.tally c.boxes_below.new.passes (g.R.Ruler.log c.boxes_below.new.ruler))) (to_pairs c.args.seats.now (frame_of c.args.frame.now) c.is_lower-lower.result c.is_lower-lower.ensures c.pairs_for.result.now c.pairs_for.ensures) (inr ((kind_is c.node_at-node.result.now.kind (sight_at (bare c.args.tree.now.tree) c.args.id).label.kind c.is_container-container.result c.node_at-node.ensures.kind c.is_container-container.ensures ∙ c.if-not-container.false), laid)))
-    c.boxes_below.ensures.laid
+    subst (λ (r : List Pair). IsChildLaid (bare c.args.tree.now.tree) c.args.id (frames_asked r c.args.frame.now.inline c.args.frame.now.block) (state c.args.tree.now c.args.tally.now c.args.passes.now (g.R.Ruler.log c.args.ruler.now)) (state c.boxes_below.new.tree c.boxes_below.new.tally c.boxes_below.new.passes (g.R.Ruler.log c.boxes_below.new.ruler))) (to_pairs c.args.seats.now (frame_of c.args.frame.now) c.is_lower-lower.result c.is_lower-lower.ensures c.pairs_for-reps.result.now c.pairs_for-reps.ensures) (inr ((kind_is c.node_at-node.result.now.kind (sight_at (bare c.args.tree.now.tree) c.args.id).label.kind c.is_container-container.result c.node_at-node.ensures.kind c.is_container-container.ensures ∙ c.if-not-container.false), c.in_ok-boxes_below.ensures.laid))
 
-pub child_boxes-returns-clause-part : goal.child_boxes-returns-clause-part
-child_boxes-returns-clause-part g t c =
-    err_then c.boxes_below.result _ _
-    (λ laid. subst (λ (r : List Pair). IsChildPart (bare c.args.tree.now.tree) c.args.id (frames_asked r c.args.frame.now.inline c.args.frame.now.block) (state c.args.tree.now c.args.tally.now c.args.passes.now (g.R.Ruler.log c.args.ruler.now)) (state c.boxes_below.new.tree c.boxes_below.new.tally c.boxes_below.new.passes (g.R.Ruler.log c.boxes_below.new.ruler))) (to_pairs c.args.seats.now (frame_of c.args.frame.now) c.is_lower-lower.result c.is_lower-lower.ensures c.pairs_for.result.now c.pairs_for.ensures) (inr ((kind_is c.node_at-node.result.now.kind (sight_at (bare c.args.tree.now.tree) c.args.id).label.kind c.is_container-container.result c.node_at-node.ensures.kind c.is_container-container.ensures ∙ c.if-not-container.false), laid)))
-    c.boxes_below.ensures.part
+pub child_boxes-returns-in_err-boxes_below-clause-part : goal.child_boxes-returns-in_err-boxes_below-clause-part
+child_boxes-returns-in_err-boxes_below-clause-part g t c =
+    on_err _ _ (subst (λ (r : List Pair). IsChildPart (bare c.args.tree.now.tree) c.args.id (frames_asked r c.args.frame.now.inline c.args.frame.now.block) (state c.args.tree.now c.args.tally.now c.args.passes.now (g.R.Ruler.log c.args.ruler.now)) (state c.boxes_below.new.tree c.boxes_below.new.tally c.boxes_below.new.passes (g.R.Ruler.log c.boxes_below.new.ruler))) (to_pairs c.args.seats.now (frame_of c.args.frame.now) c.is_lower-lower.result c.is_lower-lower.ensures c.pairs_for-reps.result.now c.pairs_for-reps.ensures) (inr ((kind_is c.node_at-node.result.now.kind (sight_at (bare c.args.tree.now.tree) c.args.id).label.kind c.is_container-container.result c.node_at-node.ensures.kind c.is_container-container.ensures ∙ c.if-not-container.false), c.in_err-boxes_below.ensures.part)))
 
 pub child_boxes-returns-clause-paths : goal.child_boxes-returns-clause-paths
 child_boxes-returns-clause-paths g t c =
-    ok_then c.boxes_below.result _ _
-    (λ kept container. subst (λ (r : List Pair). AreKeptBelow (bare c.args.tree.now.tree) c.args.id (frames_asked r c.args.frame.now.inline c.args.frame.now.block) (state c.boxes_below.new.tree c.boxes_below.new.tally c.boxes_below.new.passes (g.R.Ruler.log c.boxes_below.new.ruler))) (to_pairs c.args.seats.now (frame_of c.args.frame.now) c.is_lower-lower.result c.is_lower-lower.ensures c.pairs_for.result.now c.pairs_for.ensures) kept)
-    c.boxes_below.ensures.paths
+    λ container. subst (λ (r : List Pair). AreKeptBelow (bare c.args.tree.now.tree) c.args.id (frames_asked r c.args.frame.now.inline c.args.frame.now.block) (state c.boxes_below.new.tree c.boxes_below.new.tally c.boxes_below.new.passes (g.R.Ruler.log c.boxes_below.new.ruler))) (to_pairs c.args.seats.now (frame_of c.args.frame.now) c.is_lower-lower.result c.is_lower-lower.ensures c.pairs_for-reps.result.now c.pairs_for-reps.ensures) c.in_ok-boxes_below.ensures.paths
 
 pub child_boxes-returns-clause-leaves : goal.child_boxes-returns-clause-leaves
 child_boxes-returns-clause-leaves g t c =
-    ok_then c.boxes_below.result _ _
-    (λ kept container. subst (λ (r : List Pair). MeasuresBelow (bare c.args.tree.now.tree) c.args.id (frames_asked r c.args.frame.now.inline c.args.frame.now.block) (state c.args.tree.now c.args.tally.now c.args.passes.now (g.R.Ruler.log c.args.ruler.now)) (state c.boxes_below.new.tree c.boxes_below.new.tally c.boxes_below.new.passes (g.R.Ruler.log c.boxes_below.new.ruler))) (to_pairs c.args.seats.now (frame_of c.args.frame.now) c.is_lower-lower.result c.is_lower-lower.ensures c.pairs_for.result.now c.pairs_for.ensures) kept)
-    c.boxes_below.ensures.leaves
+    λ container. subst (λ (r : List Pair). MeasuresBelow (bare c.args.tree.now.tree) c.args.id (frames_asked r c.args.frame.now.inline c.args.frame.now.block) (state c.args.tree.now c.args.tally.now c.args.passes.now (g.R.Ruler.log c.args.ruler.now)) (state c.boxes_below.new.tree c.boxes_below.new.tally c.boxes_below.new.passes (g.R.Ruler.log c.boxes_below.new.ruler))) (to_pairs c.args.seats.now (frame_of c.args.frame.now) c.is_lower-lower.result c.is_lower-lower.ensures c.pairs_for-reps.result.now c.pairs_for-reps.ensures) c.in_ok-boxes_below.ensures.leaves
 
 pub child_boxes-returns-clause-quiet : goal.child_boxes-returns-clause-quiet
 child_boxes-returns-clause-quiet g t c =
-    λ kept. c.boxes_below.ensures.quiet (subst (λ (r : List Pair). AreKeptBelow (bare c.args.tree.now.tree) c.args.id (frames_asked r c.args.frame.now.inline c.args.frame.now.block) (state c.args.tree.now c.args.tally.now c.args.passes.now (g.R.Ruler.log c.args.ruler.now))) (sym (to_pairs c.args.seats.now (frame_of c.args.frame.now) c.is_lower-lower.result c.is_lower-lower.ensures c.pairs_for.result.now c.pairs_for.ensures)) (kept (kind_is c.node_at-node.result.now.kind (sight_at (bare c.args.tree.now.tree) c.args.id).label.kind c.is_container-container.result c.node_at-node.ensures.kind c.is_container-container.ensures ∙ c.if-not-container.false)))
+    λ kept. c.boxes_below.ensures.quiet (subst (λ (r : List Pair). AreKeptBelow (bare c.args.tree.now.tree) c.args.id (frames_asked r c.args.frame.now.inline c.args.frame.now.block) (state c.args.tree.now c.args.tally.now c.args.passes.now (g.R.Ruler.log c.args.ruler.now))) (sym (to_pairs c.args.seats.now (frame_of c.args.frame.now) c.is_lower-lower.result c.is_lower-lower.ensures c.pairs_for-reps.result.now c.pairs_for-reps.ensures)) (kept (kind_is c.node_at-node.result.now.kind (sight_at (bare c.args.tree.now.tree) c.args.id).label.kind c.is_container-container.result c.node_at-node.ensures.kind c.is_container-container.ensures ∙ c.if-not-container.false)))
+
+pub child_boxes-returns-in_err-boxes_below-clause-quiet : goal.child_boxes-returns-in_err-boxes_below-clause-quiet
+child_boxes-returns-in_err-boxes_below-clause-quiet g t c =
+    λ kept. c.boxes_below.ensures.quiet (subst (λ (r : List Pair). AreKeptBelow (bare c.args.tree.now.tree) c.args.id (frames_asked r c.args.frame.now.inline c.args.frame.now.block) (state c.args.tree.now c.args.tally.now c.args.passes.now (g.R.Ruler.log c.args.ruler.now))) (sym (to_pairs c.args.seats.now (frame_of c.args.frame.now) c.is_lower-lower.result c.is_lower-lower.ensures c.pairs_for-reps.result.now c.pairs_for-reps.ensures)) (kept (kind_is c.node_at-node.result.now.kind (sight_at (bare c.args.tree.now.tree) c.args.id).label.kind c.is_container-container.result c.node_at-node.ensures.kind c.is_container-container.ensures ∙ c.if-not-container.false)))
+
+pub child_boxes-returns-clause-few : goal.child_boxes-returns-clause-few
+child_boxes-returns-clause-few g t c =
+    let seen : AddsFew (boxes_seen (bare c.args.tree.now.tree) c.args.id (frames_asked c.pairs_for-reps.result.now c.args.frame.now.inline c.args.frame.now.block) (c.moved_by-rect.result.x, c.moved_by-rect.result.y)) (Some []) c.boxes_below.new.few = subst (λ (o : Option (List Box)). AddsFew (boxes_seen (bare c.args.tree.now.tree) c.args.id (frames_asked c.pairs_for-reps.result.now c.args.frame.now.inline c.args.frame.now.block) (c.moved_by-rect.result.x, c.moved_by-rect.result.y)) o c.boxes_below.new.few) c.new-own.ensures c.in_ok-boxes_below.ensures.few in
+    subst (λ (l : List Box). AddsFew l c.args.few.now c.add.new.self) (below_told (bare c.args.tree.now.tree) c.args.id c.pairs_for-reps.result.now (pairs_to c.args.seats.now (frame_of c.args.frame.now)) (to_pairs c.args.seats.now (frame_of c.args.frame.now) c.is_lower-lower.result c.is_lower-lower.ensures c.pairs_for-reps.result.now c.pairs_for-reps.ensures) (frame_of c.args.frame.now) (c.args.x, c.args.y) c.node_at-node.result.now.name c.moved_by-rect.result c.node_at-node.ensures.name c.moved_by-rect.ensures)
+    (few_both ((c.node_at-node.result.now.name, c.moved_by-rect.result) ∷ []) (boxes_seen (bare c.args.tree.now.tree) c.args.id (frames_asked c.pairs_for-reps.result.now c.args.frame.now.inline c.args.frame.now.block) (c.moved_by-rect.result.x, c.moved_by-rect.result.y)) c.args.few.now c.tell.new.few c.add.new.self c.in_ok-tell.ensures.few (c.add.ensures (boxes_seen (bare c.args.tree.now.tree) c.args.id (frames_asked c.pairs_for-reps.result.now c.args.frame.now.inline c.args.frame.now.block) (c.moved_by-rect.result.x, c.moved_by-rect.result.y)) seen))
+
+pub child_boxes-returns-clause-last : goal.child_boxes-returns-clause-last
+child_boxes-returns-clause-last g t c =
+    let seen : AddsFew (boxes_seen (bare c.args.tree.now.tree) c.args.id (frames_asked c.pairs_for-reps.result.now c.args.frame.now.inline c.args.frame.now.block) (c.moved_by-rect.result.x, c.moved_by-rect.result.y)) (Some []) c.boxes_below.new.few = subst (λ (o : Option (List Box)). AddsFew (boxes_seen (bare c.args.tree.now.tree) c.args.id (frames_asked c.pairs_for-reps.result.now c.args.frame.now.inline c.args.frame.now.block) (c.moved_by-rect.result.x, c.moved_by-rect.result.y)) o c.boxes_below.new.few) c.new-own.ensures c.in_ok-boxes_below.ensures.few in
+    λ none. found_more (bare c.args.tree.now.tree) (kept_at c.boxes_below.new.tree.tree) c.args.id (frames_asked c.pairs_for-reps.result.now c.args.frame.now.inline c.args.frame.now.block) c.node_at-node.result.now.name c.moved_by-rect.result c.boxes_below.new.few c.boxes_below.new.last c.keep.new.self (kind_is c.node_at-node.result.now.kind (sight_at (bare c.args.tree.now.tree) c.args.id).label.kind c.is_container-container.result c.node_at-node.ensures.kind c.is_container-container.ensures ∙ c.if-not-container.false) c.node_at-node.ensures.name seen c.in_ok-boxes_below.ensures.paths c.keep.ensures (c.boxes_below.ensures.last none)
 
 -- ---- below a container
 
@@ -115,6 +169,9 @@ boxes_below-returns-in_err-frames-clause-part g t c = on_err _ _ (part_first c.a
 
 pub boxes_below-returns-in_err-frames-clause-quiet : goal.boxes_below-returns-in_err-frames-clause-quiet
 boxes_below-returns-in_err-frames-clause-quiet g t c = λ kept. c.frames_at.ensures.found (kept c.args.id (frames_asked c.args.reps.now c.args.inline.now c.args.block.now) (its_own c.args.id (frames_asked c.args.reps.now c.args.inline.now c.args.block.now)))
+
+pub boxes_below-returns-in_err-frames-clause-last : goal.boxes_below-returns-in_err-frames-clause-last
+boxes_below-returns-in_err-frames-clause-last g t c = still_found (bare c.args.tree.now.tree) c.args.last.now _ _ c.in_err-frames.ensures.stopped.walk c.requires.last
 
 pub boxes_below-seats_below-requires-clause-live : goal.boxes_below-seats_below-requires-clause-live
 boxes_below-seats_below-requires-clause-live g t c = subst (λ (z : BareTrees). IsLive z c.args.id) (sym c.in_ok-frames.ensures.walked.walk.bare_same) c.requires.live
@@ -147,6 +204,9 @@ boxes_below-returns-in_err-seats-clause-part g t c = on_err _ _ (part_laid c.arg
 pub boxes_below-returns-in_err-seats-clause-quiet : goal.boxes_below-returns-in_err-seats-clause-quiet
 boxes_below-returns-in_err-seats-clause-quiet g t c = λ kept. c.frames_at.ensures.found (kept c.args.id (frames_asked c.args.reps.now c.args.inline.now c.args.block.now) (its_own c.args.id (frames_asked c.args.reps.now c.args.inline.now c.args.block.now)))
 
+pub boxes_below-returns-in_err-seats-clause-last : goal.boxes_below-returns-in_err-seats-clause-last
+boxes_below-returns-in_err-seats-clause-last g t c = still_found (bare c.args.tree.now.tree) c.args.last.now _ _ c.in_ok-frames.ensures.walked.walk c.requires.last
+
 pub boxes_below-loop-index-init : goal.boxes_below-loop-index-init
 boxes_below-loop-index-init g t c =
     record {
@@ -156,6 +216,7 @@ boxes_below-loop-index-init g t c =
       value = record {
         part = [];
         added = g.met.T.BoxSink.adds_none c.args.told.now;
+        few = few_none c.args.few.now;
         whole = sym (boxes_are (bare c.args.tree.now.tree) c.args.id (frames_asked c.args.reps.now c.args.inline.now c.args.block.now) (c.args.x, c.args.y));
         near = tt;
       };
@@ -177,6 +238,7 @@ boxes_below-loop-index-init g t c =
       leaves = c.in_ok-frames.ensures.leaves;
       measured = none_measured (bare c.args.tree.now.tree) c.args.id (frames_asked c.args.reps.now c.args.inline.now c.args.block.now) (state c.args.tree.now c.args.tally.now c.args.passes.now (g.R.Ruler.log c.args.ruler.now)) (state c.frames_at.new.tree c.frames_at.new.tally c.frames_at.new.passes (g.R.Ruler.log c.frames_at.new.ruler));
       absent = all_absent (bare c.args.tree.now.tree) c.differ.ensures c.args.id (frames_asked c.args.reps.now c.args.inline.now c.args.block.now) (state c.args.tree.now c.args.tally.now c.args.passes.now (g.R.Ruler.log c.args.ruler.now)) (state c.frames_at.new.tree c.frames_at.new.tally c.frames_at.new.passes (g.R.Ruler.log c.frames_at.new.ruler)) c.in_ok-frames.ensures.walked;
+      last = still_found (bare c.args.tree.now.tree) c.args.last.now _ _ c.in_ok-frames.ensures.walked.walk c.requires.last;
       quiet = λ kept. c.frames_at.ensures.found (kept c.args.id (frames_asked c.args.reps.now c.args.inline.now c.args.block.now) (its_own c.args.id (frames_asked c.args.reps.now c.args.inline.now c.args.block.now)));
     }
 
@@ -203,6 +265,7 @@ boxes_below-child_boxes-requires g t c =
     let level : 1 ≤ level_at (bare c.loop-index.tree.tree) c.child_of_frame-child.result = turn.level in
     let near : IsNearAt (level_at (bare c.loop-index.tree.tree) c.child_of_frame-child.result) c.args.x c.args.y (frame_of c.index-listed-index.result) = turn.near in
     let nothing : c.args.nothing.now ≡ above.Nothing = c.requires.nothing in
+    let last : c.loop-index.tally.lost ≡ false → AreFound (bare c.loop-index.tree.tree) (kept_at c.loop-index.tree.tree) c.loop-index.last = λ none. subst (λ (z : BareTrees). AreFound z (kept_at c.loop-index.tree.tree) c.loop-index.last) (sym c.loop-index.invariant.same) (c.loop-index.invariant.last none) in
     let small : 2 * size_at (bare c.loop-index.tree.tree) c.child_of_frame-child.result + 1 < 2 * size_at (bare c.args.tree.now.tree) c.args.id = omega (arith, turn.next.smaller, ap (λ (z : BareTrees). size_at z c.args.id) c.loop-index.invariant.same) in
     search rules
 
@@ -220,6 +283,10 @@ boxes_below-returns-in_err-child_boxes-clause-quiet g t c =
     (omega (arith, c.loop-index-test.true)) c.index-listed-index.result c.index-listed-index.is c.args.area in
     quiet_next (bare c.args.tree.now.tree) (bare c.loop-index.tree.tree) c.loop-index.invariant.same c.args.id (frames_asked c.args.reps.now c.args.inline.now c.args.block.now) c.args.x c.args.y c.loop-index.index c.child_of_frame-child.result (pairs_to c.in_ok-seats.seats (frame_of c.index-listed-index.result)) (above_to c.in_ok-seats.seats (frame_of c.index-listed-index.result)) (get_or c.in_ok-seats.seats.areas c.loop-index.index c.args.area) c.index-listed-index.result turn (state c.args.tree.now c.args.tally.now c.args.passes.now (g.R.Ruler.log c.args.ruler.now)) (state c.loop-index.tree c.loop-index.tally c.loop-index.passes (g.R.Ruler.log c.loop-index.ruler)) (state c.child_boxes.new.tree c.child_boxes.new.tally c.child_boxes.new.passes (g.R.Ruler.log c.child_boxes.new.ruler)) c.loop-index.invariant.quiet c.child_boxes.ensures.quiet
 
+pub boxes_below-returns-in_err-child_boxes-clause-last : goal.boxes_below-returns-in_err-child_boxes-clause-last
+boxes_below-returns-in_err-child_boxes-clause-last g t c =
+    λ none. subst (λ (z : BareTrees). AreFound z (kept_at c.child_boxes.new.tree.tree) c.child_boxes.new.last) c.loop-index.invariant.same (c.child_boxes.ensures.last none)
+
 pub boxes_below-loop-index-preserved : goal.boxes_below-loop-index-preserved
 boxes_below-loop-index-preserved g t c =
     let turn : IsTurn (bare c.loop-index.tree.tree) c.args.id (frames_asked c.args.reps.now c.args.inline.now c.args.block.now) c.args.x c.args.y c.loop-index.index c.child_of_frame-child.result (pairs_to c.in_ok-seats.seats (frame_of c.index-listed-index.result)) (above_to c.in_ok-seats.seats (frame_of c.index-listed-index.result)) (get_or c.in_ok-seats.seats.areas c.loop-index.index c.args.area) c.index-listed-index.result = turn_of (bare c.loop-index.tree.tree) c.args.id c.args.reps.now c.args.inline.now c.args.block.now c.as_slice-listed.result.now c.in_ok-seats.seats c.args.x c.args.y
@@ -232,6 +299,7 @@ boxes_below-loop-index-preserved g t c =
       value = record {
         part = c.loop-index.invariant.value.part ++ (boxes_with (bare c.loop-index.tree.tree) c.child_of_frame-child.result (pairs_to c.in_ok-seats.seats (frame_of c.index-listed-index.result)) (frame_of c.index-listed-index.result) (c.args.x, c.args.y));
         added = g.met.T.BoxSink.adds_both c.args.told.now c.loop-index.told c.child_boxes.new.told c.loop-index.invariant.value.part (boxes_with (bare c.loop-index.tree.tree) c.child_of_frame-child.result (pairs_to c.in_ok-seats.seats (frame_of c.index-listed-index.result)) (frame_of c.index-listed-index.result) (c.args.x, c.args.y)) c.loop-index.invariant.value.added c.in_ok-child_boxes.ensures.value;
+        few = few_both c.loop-index.invariant.value.part (boxes_with (bare c.loop-index.tree.tree) c.child_of_frame-child.result (pairs_to c.in_ok-seats.seats (frame_of c.index-listed-index.result)) (frame_of c.index-listed-index.result) (c.args.x, c.args.y)) c.args.few.now c.loop-index.few c.child_boxes.new.few c.loop-index.invariant.value.few c.in_ok-child_boxes.ensures.few;
         whole = value_next (bare c.args.tree.now.tree) (bare c.loop-index.tree.tree) c.loop-index.invariant.same c.args.id (frames_asked c.args.reps.now c.args.inline.now c.args.block.now) c.args.x c.args.y c.loop-index.index c.child_of_frame-child.result (pairs_to c.in_ok-seats.seats (frame_of c.index-listed-index.result)) (above_to c.in_ok-seats.seats (frame_of c.index-listed-index.result)) (get_or c.in_ok-seats.seats.areas c.loop-index.index c.args.area) c.index-listed-index.result turn c.loop-index.invariant.value.part (c.loop-index.invariant.value.part ++ (boxes_with (bare c.loop-index.tree.tree) c.child_of_frame-child.result (pairs_to c.in_ok-seats.seats (frame_of c.index-listed-index.result)) (frame_of c.index-listed-index.result) (c.args.x, c.args.y))) _ refl c.loop-index.invariant.value.whole;
         near = near_both c.loop-index.invariant.value.part (boxes_with (bare c.loop-index.tree.tree) c.child_of_frame-child.result (pairs_to c.in_ok-seats.seats (frame_of c.index-listed-index.result)) (frame_of c.index-listed-index.result) (c.args.x, c.args.y)) c.loop-index.invariant.value.near c.in_ok-child_boxes.ensures.near;
       };
@@ -243,6 +311,7 @@ boxes_below-loop-index-preserved g t c =
       measured = measured_next (bare c.args.tree.now.tree) c.differ.ensures c.args.id c.args.reps.now c.args.inline.now c.args.block.now c.args.x c.args.y c.loop-index.index c.child_of_frame-child.result (pairs_to c.in_ok-seats.seats (frame_of c.index-listed-index.result)) (above_to c.in_ok-seats.seats (frame_of c.index-listed-index.result)) (get_or c.in_ok-seats.seats.areas c.loop-index.index c.args.area) c.index-listed-index.result (subst (λ (z : BareTrees). IsTurn z c.args.id (frames_asked c.args.reps.now c.args.inline.now c.args.block.now) c.args.x c.args.y c.loop-index.index c.child_of_frame-child.result (pairs_to c.in_ok-seats.seats (frame_of c.index-listed-index.result)) (above_to c.in_ok-seats.seats (frame_of c.index-listed-index.result)) (get_or c.in_ok-seats.seats.areas c.loop-index.index c.args.area) c.index-listed-index.result) c.loop-index.invariant.same turn) (state c.args.tree.now c.args.tally.now c.args.passes.now (g.R.Ruler.log c.args.ruler.now)) (state c.loop-index.tree c.loop-index.tally c.loop-index.passes (g.R.Ruler.log c.loop-index.ruler)) (state c.child_boxes.new.tree c.child_boxes.new.tally c.child_boxes.new.passes (g.R.Ruler.log c.child_boxes.new.ruler)) (outside_same (bare c.args.tree.now.tree) c.child_of_frame-child.result (frames_asked (pairs_to c.in_ok-seats.seats (frame_of c.index-listed-index.result)) c.index-listed-index.result.inline c.index-listed-index.result.block) (state c.loop-index.tree c.loop-index.tally c.loop-index.passes (g.R.Ruler.log c.loop-index.ruler)) (state c.child_boxes.new.tree c.child_boxes.new.tally c.child_boxes.new.passes (g.R.Ruler.log c.child_boxes.new.ruler)) c.loop-index.invariant.same (subst (λ (z : BareTrees). IsChildLaid z c.child_of_frame-child.result (frames_asked (pairs_to c.in_ok-seats.seats (frame_of c.index-listed-index.result)) c.index-listed-index.result.inline c.index-listed-index.result.block) (state c.loop-index.tree c.loop-index.tally c.loop-index.passes (g.R.Ruler.log c.loop-index.ruler)) (state c.child_boxes.new.tree c.child_boxes.new.tally c.child_boxes.new.passes (g.R.Ruler.log c.child_boxes.new.ruler))) c.loop-index.invariant.same c.in_ok-child_boxes.ensures.laid)) c.loop-index.invariant.measured c.loop-index.invariant.absent
           (subst (λ (z : BareTrees). is_container (sight_at z c.child_of_frame-child.result).label.kind ≡ true → MeasuresBelow z c.child_of_frame-child.result (frames_asked (pairs_to c.in_ok-seats.seats (frame_of c.index-listed-index.result)) c.index-listed-index.result.inline c.index-listed-index.result.block) (state c.loop-index.tree c.loop-index.tally c.loop-index.passes (g.R.Ruler.log c.loop-index.ruler)) (state c.child_boxes.new.tree c.child_boxes.new.tally c.child_boxes.new.passes (g.R.Ruler.log c.child_boxes.new.ruler))) c.loop-index.invariant.same c.in_ok-child_boxes.ensures.leaves);
       absent = absent_next (bare c.args.tree.now.tree) c.differ.ensures c.args.id c.args.reps.now c.args.inline.now c.args.block.now c.args.x c.args.y c.loop-index.index c.child_of_frame-child.result (pairs_to c.in_ok-seats.seats (frame_of c.index-listed-index.result)) (above_to c.in_ok-seats.seats (frame_of c.index-listed-index.result)) (get_or c.in_ok-seats.seats.areas c.loop-index.index c.args.area) c.index-listed-index.result (subst (λ (z : BareTrees). IsTurn z c.args.id (frames_asked c.args.reps.now c.args.inline.now c.args.block.now) c.args.x c.args.y c.loop-index.index c.child_of_frame-child.result (pairs_to c.in_ok-seats.seats (frame_of c.index-listed-index.result)) (above_to c.in_ok-seats.seats (frame_of c.index-listed-index.result)) (get_or c.in_ok-seats.seats.areas c.loop-index.index c.args.area) c.index-listed-index.result) c.loop-index.invariant.same turn) (state c.args.tree.now c.args.tally.now c.args.passes.now (g.R.Ruler.log c.args.ruler.now)) (state c.loop-index.tree c.loop-index.tally c.loop-index.passes (g.R.Ruler.log c.loop-index.ruler)) (state c.child_boxes.new.tree c.child_boxes.new.tally c.child_boxes.new.passes (g.R.Ruler.log c.child_boxes.new.ruler)) (outside_same (bare c.args.tree.now.tree) c.child_of_frame-child.result (frames_asked (pairs_to c.in_ok-seats.seats (frame_of c.index-listed-index.result)) c.index-listed-index.result.inline c.index-listed-index.result.block) (state c.loop-index.tree c.loop-index.tally c.loop-index.passes (g.R.Ruler.log c.loop-index.ruler)) (state c.child_boxes.new.tree c.child_boxes.new.tally c.child_boxes.new.passes (g.R.Ruler.log c.child_boxes.new.ruler)) c.loop-index.invariant.same (subst (λ (z : BareTrees). IsChildLaid z c.child_of_frame-child.result (frames_asked (pairs_to c.in_ok-seats.seats (frame_of c.index-listed-index.result)) c.index-listed-index.result.inline c.index-listed-index.result.block) (state c.loop-index.tree c.loop-index.tally c.loop-index.passes (g.R.Ruler.log c.loop-index.ruler)) (state c.child_boxes.new.tree c.child_boxes.new.tally c.child_boxes.new.passes (g.R.Ruler.log c.child_boxes.new.ruler))) c.loop-index.invariant.same c.in_ok-child_boxes.ensures.laid)) c.loop-index.invariant.absent;
+      last = λ none. subst (λ (z : BareTrees). AreFound z (kept_at c.child_boxes.new.tree.tree) c.child_boxes.new.last) c.loop-index.invariant.same (c.child_boxes.ensures.last none);
       quiet = quiet_next (bare c.args.tree.now.tree) (bare c.loop-index.tree.tree) c.loop-index.invariant.same c.args.id (frames_asked c.args.reps.now c.args.inline.now c.args.block.now) c.args.x c.args.y c.loop-index.index c.child_of_frame-child.result (pairs_to c.in_ok-seats.seats (frame_of c.index-listed-index.result)) (above_to c.in_ok-seats.seats (frame_of c.index-listed-index.result)) (get_or c.in_ok-seats.seats.areas c.loop-index.index c.args.area) c.index-listed-index.result turn (state c.args.tree.now c.args.tally.now c.args.passes.now (g.R.Ruler.log c.args.ruler.now)) (state c.loop-index.tree c.loop-index.tally c.loop-index.passes (g.R.Ruler.log c.loop-index.ruler)) (state c.child_boxes.new.tree c.child_boxes.new.tally c.child_boxes.new.passes (g.R.Ruler.log c.child_boxes.new.ruler)) c.loop-index.invariant.quiet c.child_boxes.ensures.quiet;
     }
 
@@ -255,6 +324,14 @@ pub boxes_below-returns-clause-near : goal.boxes_below-returns-clause-near
 boxes_below-returns-clause-near g t c =
     let few : length (frames_seen (bare c.args.tree.now.tree) c.args.id (frames_asked c.args.reps.now c.args.inline.now c.args.block.now)) ≤ c.loop-index.index = omega (arith, ap length c.loop-index.invariant.below.seen, length-map c.as_slice-listed.result.now frame_of, c.loop-index-test.false) in
     subst AreNear (boxes_all (pairs_seen (bare c.args.tree.now.tree) c.args.id (frames_asked c.args.reps.now c.args.inline.now c.args.block.now)) (c.args.x, c.args.y) (kids_at (bare c.args.tree.now.tree) c.args.id) (frames_seen (bare c.args.tree.now.tree) c.args.id (frames_asked c.args.reps.now c.args.inline.now c.args.block.now)) c.loop-index.index c.loop-index.invariant.value.part _ few c.loop-index.invariant.value.whole) c.loop-index.invariant.value.near
+
+pub boxes_below-returns-clause-few : goal.boxes_below-returns-clause-few
+boxes_below-returns-clause-few g t c =
+    let ended : length (frames_seen (bare c.args.tree.now.tree) c.args.id (frames_asked c.args.reps.now c.args.inline.now c.args.block.now)) ≤ c.loop-index.index = omega (arith, ap length c.loop-index.invariant.below.seen, length-map c.as_slice-listed.result.now frame_of, c.loop-index-test.false) in
+    subst (λ (l : List Box). AddsFew l c.args.few.now c.loop-index.few) (boxes_all (pairs_seen (bare c.args.tree.now.tree) c.args.id (frames_asked c.args.reps.now c.args.inline.now c.args.block.now)) (c.args.x, c.args.y) (kids_at (bare c.args.tree.now.tree) c.args.id) (frames_seen (bare c.args.tree.now.tree) c.args.id (frames_asked c.args.reps.now c.args.inline.now c.args.block.now)) c.loop-index.index c.loop-index.invariant.value.part _ ended c.loop-index.invariant.value.whole) c.loop-index.invariant.value.few
+
+pub boxes_below-returns-clause-last : goal.boxes_below-returns-clause-last
+boxes_below-returns-clause-last g t c = c.loop-index.invariant.last
 
 pub boxes_below-returns-clause-right : goal.boxes_below-returns-clause-right
 boxes_below-returns-clause-right g t c = c.loop-index.invariant.right

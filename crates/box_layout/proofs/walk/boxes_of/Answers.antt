@@ -1,11 +1,12 @@
-use Rattle.std.proofs.Common.{rules, refl, sym, subst, ◌∷◌, [], ◌≡◌, ◌∙◌, ◌≤◌, true}
+use Rattle.std.proofs.Common.{rules, refl, sym, subst, ◌∷◌, [], ◌≡◌, ◌∙◌, ◌≤◌, true, false}
 use Rattle.lunit.specs.declared.geometry.Rect.{Rect}
-use Rattle.placing.specs.Kept.{frame_of}
+use Rattle.placing.specs.Kept.{frame_of, kept_at}
 use Rattle.placing.specs.Nodes.{bare, level_at, sight_at}
 use Rattle.placing.specs.declared.contexts.Above.TheVariants as above
 use Rattle.tree_rules.specs.Queries.{Fits, is_container}
 use Rattle.box_layout.specs.Asking.{frames_asked}
 use Rattle.box_layout.specs.BoxesSeen.{AreNear, boxes_seen, reach}
+use Rattle.box_layout.specs.LastBoxes.{AreFound}
 use Rattle.box_layout.specs.Ranges.{IsWithin}
 use Rattle.box_layout.specs.Stands.{IsGivenNear}
 use Rattle.box_layout.proofs.BelowSteps.{below_told, kind_is, leaf_told, near_told, ok_then}
@@ -36,6 +37,7 @@ boxes_below-requires g c =
     let x : IsWithin (reach (level_at (bare c.args.tree.now.tree) c.args.id)) c.moved_by-rect.result.x = subst (λ (r : Rect). IsWithin (reach (level_at (bare c.args.tree.now.tree) c.args.id)) r.x) (sym c.moved_by-rect.ensures) c.requires.near.x in
     let y : IsWithin (reach (level_at (bare c.args.tree.now.tree) c.args.id)) c.moved_by-rect.result.y = subst (λ (r : Rect). IsWithin (reach (level_at (bare c.args.tree.now.tree) c.args.id)) r.y) (sym c.moved_by-rect.ensures) c.requires.near.y in
     let nothing : c.args.nothing.now ≡ above.Nothing = c.requires.nothing in
+    let last : c.args.tally.now.lost ≡ false → AreFound (bare c.args.tree.now.tree) (kept_at c.args.tree.now.tree) c.args.last.now = c.requires.last in
     search rules
 
 pub returns-clause-near : goal.returns-clause-near

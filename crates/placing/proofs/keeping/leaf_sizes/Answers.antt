@@ -15,26 +15,26 @@ returns-in_err-low-clause-stopped g c =
     (sizes_events (sight_at (bare c.args.tree.now.tree) c.args.id) c.content.result.now c.node_at-leaf.result.now.name c.args.query (ap kind.Leaf c.content.ensures ∙ sym c.in-Leaf.is ∙ c.node_at-leaf.ensures.kind) c.node_at-leaf.ensures.name c.requires.ask)
     c.in_err-low.ensures.some)
 
-pub returns-in_err-keep-clause-right : goal.returns-in_err-keep-clause-right
-returns-in_err-keep-clause-right g c = subst (λ (z : Nodes Node). IsRight z.tree) (sym c.in_err-keep.ensures.err) c.requires.right
+pub returns-in_err-gone-clause-right : goal.returns-in_err-gone-clause-right
+returns-in_err-gone-clause-right g c = subst (λ (z : Nodes Node). IsRight z.tree) (sym c.in_err-gone.ensures.err) c.requires.right
 
-pub returns-in_err-keep-clause-stopped : goal.returns-in_err-keep-clause-stopped
-returns-in_err-keep-clause-stopped g c =
-    on_err _ _ (leaf_unkept c.args.tree.now _ _ _ _ _ c.args.id c.args.query _ c.in_err-keep.ensures.err c.requires.right c.requires.absent
+pub returns-in_err-gone-clause-stopped : goal.returns-in_err-gone-clause-stopped
+returns-in_err-gone-clause-stopped g c =
+    on_err _ _ (leaf_unkept c.args.tree.now _ _ _ _ _ c.args.id c.args.query _ c.in_err-gone.ensures.err c.requires.right c.requires.absent
     (sizes_events (sight_at (bare c.args.tree.now.tree) c.args.id) c.content.result.now c.node_at-leaf.result.now.name c.args.query (ap kind.Leaf c.content.ensures ∙ sym c.in-Leaf.is ∙ c.node_at-leaf.ensures.kind) c.node_at-leaf.ensures.name c.requires.ask)
     c.in_ok-low.ensures.counts)
 
 pub returns-clause-right : goal.returns-clause-right
 returns-clause-right g c =
-    keeps_right (state c.args.tree.now c.args.tally.now 0 None) (state c.keep.new.tree c.args.tally.now 0 None) c.args.id c.args.query _ c.in_ok-keep.ensures.ok c.requires.right c.requires.absent c.requires.fits
+    keeps_right (state c.args.tree.now c.args.tally.now 0 None) (state c.keep.new.tree c.args.tally.now 0 None) c.args.id c.args.query _ c.in_ok-gone.ensures.ok c.requires.right c.requires.absent c.requires.fits
     (sizes_answer (sight_at (bare c.args.tree.now.tree) c.args.id) c.content.result.now c.node_at-leaf.result.now.name c.args.query (ap kind.Leaf c.content.ensures ∙ sym c.in-Leaf.is ∙ c.node_at-leaf.ensures.kind) c.requires.ask _ _ c.in_ok-low.ensures.value)
     tt
 
 pub returns-clause-walked : goal.returns-clause-walked
 returns-clause-walked g c =
-    leaf_walked c.args.tree.now c.keep.new.tree _ _ _ _ _ c.args.id c.args.query _ _ c.in_ok-keep.ensures.ok c.requires.right c.requires.absent
+    leaf_walked c.args.tree.now c.keep.new.tree _ _ _ _ _ c.args.id c.args.query _ _ c.in_ok-gone.ensures.ok c.requires.right c.requires.absent
     (sizes_events (sight_at (bare c.args.tree.now.tree) c.args.id) c.content.result.now c.node_at-leaf.result.now.name c.args.query (ap kind.Leaf c.content.ensures ∙ sym c.in-Leaf.is ∙ c.node_at-leaf.ensures.kind) c.node_at-leaf.ensures.name c.requires.ask)
-    c.in_ok-low.ensures.counts c.count_added.ensures
+    c.in_ok-low.ensures.counts c.in_ok-gone.gone c.count_added.ensures c.in_ok-gone.ensures.all
 
 pub returns-clause-own : goal.returns-clause-own
-returns-clause-own g c = keeps_own (state c.args.tree.now c.args.tally.now 0 None) (state c.keep.new.tree c.args.tally.now 0 None) c.args.id c.args.query _ c.in_ok-keep.ensures.ok c.requires.right
+returns-clause-own g c = keeps_own (state c.args.tree.now c.args.tally.now 0 None) (state c.keep.new.tree c.args.tally.now 0 None) c.args.id c.args.query _ c.in_ok-gone.ensures.ok c.requires.right

@@ -1,6 +1,8 @@
-use Rattle.std.proofs.Common.{Ok, ap, sym, ◌∙◌}
+use Rattle.std.proofs.Common.{Ok, ap, sym, subst, ◌∙◌}
+use Rattle.node_arena.specs.Numbers.{is_among}
+use Rattle.page_tree.specs.Forgotten.{Forgets}
 use Rattle.page_tree.specs.Left.{all_left}
-use Rattle.page_tree.proofs.Applied.{page_left}
+use Rattle.page_tree.proofs.Applied.{page_found, page_left}
 use Rattle.page_tree.proofs.page.Page.apply.Goals as goal
 
 pub returns-clause-applies : goal.returns-clause-applies
@@ -17,3 +19,11 @@ returns-clause-kept c =
     let list = c.in_ok-reached.reached.nodes in
     let nodes = c.let_reached_go.ensures.nodes ∙ ap (λ b. all_left b list c.change.new.self.nodes) c.in_ok-reached.ensures.felt in
     (page_left c.args.edit c.args.self.now c.change.new.self c.let_reached_go.new.self list c.stands.ensures c.stands-2.ensures c.in_ok-change.ensures.changes c.in_ok-reached.ensures.nodes nodes).0
+
+pub returns-clause-last : goal.returns-clause-last
+returns-clause-last c =
+    let list = c.in_ok-reached.reached.nodes in
+    let nodes = c.let_reached_go.ensures.nodes ∙ ap (λ b. all_left b list c.change.new.self.nodes) c.in_ok-reached.ensures.felt in
+    page_found c.args.edit c.args.self.now c.change.new.self c.let_reached_go.new.self list c.stands.ensures c.stands-2.ensures c.in_ok-change.ensures.changes c.in_ok-reached.ensures.nodes nodes
+    c.args.last.now c.forget_new.new.last c.forget_all.new.last c.requires.last c.forget_new.ensures
+    (subst (λ l. Forgets (λ n. is_among n l) c.forget_new.new.last c.forget_all.new.last) c.as_slice.ensures c.forget_all.ensures)

@@ -1,9 +1,11 @@
 use Rattle.std.specs.Prelude.{OnOk}
 use Rattle.placing.specs.Walks.{state}
 use Rattle.box_layout.specs.BoxesSeen.{AreNear}
+use Rattle.box_layout.specs.LastBoxes.{AreFound}
 use Rattle.box_layout.specs.LeafHeights.{AreMeasured}
 use Rattle.box_layout.specs.Paths.{IsPathKept}
 use Rattle.std.proofs.Common.{ap, sym, subst, ◌∙◌}
+use Rattle.placing.specs.Kept.{kept_at}
 use Rattle.placing.specs.Nodes.{bare}
 use Rattle.placing.specs.Ranges.{AreReadable}
 use Rattle.page_tree.specs.Pages.{Held}
@@ -40,3 +42,6 @@ returns-clause-paths g c =
 pub returns-clause-leaves : goal.returns-clause-leaves
 returns-clause-leaves g c =
     subst (λ (h : Held). OnOk c.lay_out.result (AreMeasured (bare h.nodes.tree) h.width h.height (state h.nodes c.args.tally.now c.args.passes.now (g.R.Ruler.log c.args.ruler.now)) (state c.lay_out.new.self c.lay_out.new.tally c.lay_out.new.passes (g.R.Ruler.log c.lay_out.new.ruler)))) c.self.view_is c.lay_out.ensures.leaves
+
+pub lay_out-requires-clause-last : goal.lay_out-requires-clause-last
+lay_out-requires-clause-last g c = subst (λ (h : Held). AreFound (bare h.nodes.tree) (kept_at h.nodes.tree) c.args.last.now) (sym c.self.view_is) c.requires.last

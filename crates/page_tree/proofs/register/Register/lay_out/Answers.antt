@@ -1,12 +1,14 @@
-use Rattle.std.proofs.Common.{subst}
+use Rattle.std.proofs.Common.{subst, sym}
 use Rattle.std.specs.Prelude.{OnOk}
 use Rattle.node_arena.specs.Plain.{Nodes}
 use Rattle.placing.specs.declared.node.Node.{Node}
+use Rattle.placing.specs.Kept.{kept_at}
 use Rattle.placing.specs.Nodes.{bare}
 use Rattle.placing.specs.Walks.{state}
 use Rattle.std.specs.BTreeMap.{get}
 use Rattle.std.specs.Ordering.{nat_cmp}
 use Rattle.std.specs.Cmp.Lexicographic.{slice_cmp}
+use Rattle.box_layout.specs.LastBoxes.{AreFound}
 use Rattle.box_layout.specs.LeafHeights.{AreMeasured}
 use Rattle.box_layout.specs.Paths.{IsPathKept}
 use Rattle.page_tree.proofs.Bares.{same_registered}
@@ -22,3 +24,6 @@ returns-clause-paths g c =
 pub returns-clause-leaves : goal.returns-clause-leaves
 returns-clause-leaves g c =
     subst (λ (n : Nodes Node). OnOk c.walk_boxes.result (AreMeasured (bare n.tree) c.args.width c.args.height (state n c.args.tally.now c.args.passes.now (g.R.Ruler.log c.args.ruler.now)) (state c.walk_boxes.new.tree c.walk_boxes.new.tally c.walk_boxes.new.passes (g.R.Ruler.log c.walk_boxes.new.ruler)))) c.self.view_is c.walk_boxes.ensures.leaves
+
+pub walk_boxes-requires-clause-last : goal.walk_boxes-requires-clause-last
+walk_boxes-requires-clause-last g c = subst (λ (n : Nodes Node). AreFound (bare n.tree) (kept_at n.tree) c.args.last.now) (sym c.self.view_is) c.requires.last

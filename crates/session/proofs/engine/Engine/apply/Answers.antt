@@ -12,4 +12,4 @@ pub returns-clause-up : goal.returns-clause-up
 returns-clause-up c =
     let page : c.self.inside.page ≡ c.args.self.now.page = ap (λ (s : Standing). s.page) c.self.view_is in
     subst (λ (h : Held). OnOk c.apply.result (PassesUp (is_touched c.args.edit (document_of h) (document_of c.apply.new.self)) (tree_of (document_of c.apply.new.self)))) page
-    (passes_edit c.apply.result c.args.edit c.self.inside.page c.apply.new.self c.self.invariant c.requires.named c.apply.ensures.applies)
+    (passes_edit c.apply.result c.args.edit c.self.inside.page c.apply.new.self c.self.invariant.0 c.requires.named c.apply.ensures.applies)

@@ -1,19 +1,21 @@
-use Rattle.std.proofs.Common.{true, refl, sym, subst, ◌≡◌, ◌∙◌, ◌≤◌, [], pos, ℤ}
-use Rattle.placing.specs.Kept.{frame_of}
+use Rattle.std.proofs.Common.{true, false, refl, sym, subst, ◌≡◌, ◌∙◌, ◌≤◌, [], pos, ℤ}
+use Rattle.placing.specs.Kept.{frame_of, kept_at}
 use Rattle.placing.specs.Nodes.{BareTrees, bare, level_at, sight_at}
 use Rattle.placing.specs.Walks.{state}
 use Rattle.placing.proofs.Leaves.{on_err}
 use Rattle.box_layout.specs.Asking.{frames_asked}
 use Rattle.box_layout.specs.BoxesSeen.{AreNear, IsNearAt}
 use Rattle.tree_rules.specs.Queries.{is_container}
+use Rattle.box_layout.specs.LastBoxes.{AreFound}
 use Rattle.box_layout.specs.LeafHeights.{MeasuresBelow}
 use Rattle.box_layout.specs.Paths.{AreKeptBelow, IsAllKept, IsChildLaid, IsChildPart}
 use Rattle.box_layout.proofs.BelowSteps.{child_same, part_same}
+use Rattle.box_layout.proofs.FoundWalks.{still_found}
 use Rattle.box_layout.proofs.KeptPaths.{path_of_root}
 use Rattle.box_layout.proofs.LaidWalks.{cut_boxes, walk_boxes}
 use Rattle.box_layout.proofs.LeafSteps.{measured_root}
 use Rattle.box_layout.proofs.RootBoxes.{first_of_root, level_some, quiet_all, value_all}
-use Rattle.box_layout.proofs.layout.walk_boxes.Goals as goal
+use Rattle.box_layout.proofs.layout.boxes_of_tree.Goals as goal
 
 pub returns-in_err-frame-clause-quiet : goal.returns-in_err-frame-clause-quiet
 returns-in_err-frame-clause-quiet g c = (λ (kept : IsAllKept (bare c.args.tree.now.tree) c.args.width c.args.height (state c.args.tree.now c.args.tally.now c.args.passes.now (g.R.Ruler.log c.args.ruler.now))). c.root_frame.ensures.quiet (kept.inline c.root-id.result c.root-id.ensures.root) (kept.block c.root-id.result c.root-id.ensures.root))
@@ -72,3 +74,19 @@ pub returns-clause-leaves : goal.returns-clause-leaves
 returns-clause-leaves g c =
     measured_root (bare c.args.tree.now.tree) c.root-id.result c.args.width c.args.height (frame_of c.in_ok-frame.frame) (state c.args.tree.now c.args.tally.now c.args.passes.now (g.R.Ruler.log c.args.ruler.now)) (state c.root_frame.new.tree c.root_frame.new.tally c.root_frame.new.passes (g.R.Ruler.log c.root_frame.new.ruler)) (state c.boxes_of.new.tree c.boxes_of.new.tally c.boxes_of.new.passes (g.R.Ruler.log c.boxes_of.new.ruler)) c.root-id.ensures.root c.in_ok-frame.ensures.value c.in_ok-frame.ensures.frames
     (subst (λ (z : BareTrees). is_container (sight_at z c.root-id.result).label.kind ≡ true → MeasuresBelow z c.root-id.result (frames_asked [] c.in_ok-frame.frame.inline c.in_ok-frame.frame.block) (state c.root_frame.new.tree c.root_frame.new.tally c.root_frame.new.passes (g.R.Ruler.log c.root_frame.new.ruler)) (state c.boxes_of.new.tree c.boxes_of.new.tally c.boxes_of.new.passes (g.R.Ruler.log c.boxes_of.new.ruler))) c.root_frame.ensures.bare c.in_ok-boxes_of.ensures.leaves)
+
+pub boxes_of-requires-clause-last : goal.boxes_of-requires-clause-last
+boxes_of-requires-clause-last g c =
+    subst (λ (z : BareTrees). c.root_frame.new.tally.lost ≡ false → AreFound z (kept_at c.root_frame.new.tree.tree) c.args.last.now) (sym c.root_frame.ensures.bare)
+    (still_found (bare c.args.tree.now.tree) c.args.last.now _ _ c.in_ok-frame.ensures.laid (λ none. c.requires.last))
+
+pub returns-in_err-frame-clause-last : goal.returns-in_err-frame-clause-last
+returns-in_err-frame-clause-last g c = still_found (bare c.args.tree.now.tree) c.args.last.now _ _ c.in_err-frame.ensures.cut.walk (λ none. c.requires.last)
+
+pub returns-in_err-boxes_of-clause-last : goal.returns-in_err-boxes_of-clause-last
+returns-in_err-boxes_of-clause-last g c =
+    subst (λ (z : BareTrees). c.boxes_of.new.tally.lost ≡ false → AreFound z (kept_at c.boxes_of.new.tree.tree) c.boxes_of.new.last) c.root_frame.ensures.bare c.boxes_of.ensures.last
+
+pub returns-clause-last : goal.returns-clause-last
+returns-clause-last g c =
+    subst (λ (z : BareTrees). c.boxes_of.new.tally.lost ≡ false → AreFound z (kept_at c.boxes_of.new.tree.tree) c.boxes_of.new.last) c.root_frame.ensures.bare c.boxes_of.ensures.last
