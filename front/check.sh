@@ -8,7 +8,7 @@ front=$(dirname -- "$(readlink -f -- "${BASH_SOURCE[0]}")")
 
 # Counts of bytes that no document has, each with the line where it first comes: `KIND COUNT LINE`, one line each.
 count_bytes() {
-    LC_ALL=C awk '
+    lines_of "$1" | LC_ALL=C awk '
         function note(kind, many) { if (many) { if (!(kind in count)) line[kind] = NR; count[kind] += many } }
         NR == 1 && /^\357\273\277/ { note("mark", 1); sub(/^\357\273\277/, "") }
         NR == 1 && (/^\377\376/ || /^\376\377/) { note("wide", 1) }
@@ -20,7 +20,7 @@ count_bytes() {
             note("high", gsub(/[\200-\377]+/, " "))
             note("others", gsub(/[^ -~]/, " "))
         }
-        END { for (kind in count) print kind, count[kind], line[kind] }' <"$1"
+        END { for (kind in count) print kind, count[kind], line[kind] }'
 }
 
 # times COUNT: how a count is said.
@@ -28,10 +28,18 @@ times() {
     [ "$1" -eq 1 ] && echo "once" || echo "$1 times"
 }
 
+# Whether all bytes are those of texts, in lines that are not too long: seen at once, also of a large file.
+has_plain_bytes() {
+    [ "$(LC_ALL=C tr -d '\n\040-\176' <"$1" | head -c 1 | wc -c)" -eq 0 ] && [ "$(LC_ALL=C wc -L <"$1")" -le 65536 ]
+}
+
 # Tells what bytes are wrong and what mends them; the status is 0 where something is wrong.
 tell_bytes() {
     local file=$1 kind many at name mend=()
     local -A count=() line=()
+    if has_plain_bytes "$file"; then
+        return 1
+    fi
     while read -r kind many at; do
         count[$kind]=$many
         line[$kind]=$at

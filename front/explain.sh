@@ -41,7 +41,7 @@ say_so() {
 
 # The line of this number, its bytes 0 as bytes 1, which bash can hold.
 line_of() {
-    sed -n "$2{p;q}" <"$1" | tr '\000' '\001'
+    lines_of "$1" | sed -n "$2{p;q}" | tr '\000' '\001'
 }
 
 # The words and marks of a text, without its comment.
@@ -57,30 +57,30 @@ is_number() {
 
 # The version that the first line that counts asks for; 1 where it asks for none.
 version_of() {
-    awk '{ sub(/#.*/, "") } NF { if ($1 == "gridlay" && $2 == "2") v = 2; exit } END { print v ? v : 1 }' "$1"
+    lines_of "$1" | awk '{ sub(/#.*/, "") } NF { if ($1 == "gridlay" && $2 == "2") v = 2; exit } END { print v ? v : 1 }'
 }
 
 # The last node of the document before this line: the number of its line, its spaces, and its name.
 node_before() {
-    awk -v stop="$2" 'NR >= stop { exit } { sub(/#.*/, "") } NF && ++counted > 2 { match($0, /^ */); at = NR; spaces = RLENGTH; name = $1 }
-        END { if (at) print at, spaces, name }' "$1"
+    lines_of "$1" | awk -v stop="$2" 'NR >= stop { exit } { sub(/#.*/, "") }
+        NF && ++counted > 2 { match($0, /^ */); at = NR; spaces = RLENGTH; name = $1 } END { if (at) print at, spaces, name }'
 }
 
 # The parent that a node with so many spaces on this line has.
 parent_before() {
-    awk -v stop="$2" -v spaces="$3" 'NR >= stop { exit } { sub(/#.*/, "") }
-        NF && ++counted > 2 { match($0, /^ */); if (RLENGTH == spaces - 2) name = $1 } END { print name }' "$1"
+    lines_of "$1" | awk -v stop="$2" -v spaces="$3" 'NR >= stop { exit } { sub(/#.*/, "") }
+        NF && ++counted > 2 { match($0, /^ */); if (RLENGTH == spaces - 2) name = $1 } END { print name }'
 }
 
 # The number of the line of the node of this name in the document; nothing where there is none.
 line_of_node() {
-    awk -v name="$2" '$0 == "---" { exit } { sub(/#.*/, "") } NF && ++counted > 2 && $1 == name { print NR; exit }' "$1"
+    lines_of "$1" | awk -v name="$2" '$0 == "---" { exit } { sub(/#.*/, "") } NF && ++counted > 2 && $1 == name { print NR; exit }'
 }
 
 # All names of nodes of the document, and of those that edits insert before this line.
 names_before() {
-    awk -v stop="$2" 'NR >= stop { exit } $0 == "---" { script = 1; next } { sub(/#.*/, "") }
-        !script && NF && ++counted > 2 { print $1 } script && $1 == "insert" { print $4 }' "$1" | sort -u
+    lines_of "$1" | awk -v stop="$2" 'NR >= stop { exit } $0 == "---" { script = 1; next } { sub(/#.*/, "") }
+        !script && NF && ++counted > 2 { print $1 } script && $1 == "insert" { print $4 }' | sort -u
 }
 
 # ---- the bytes of a line
@@ -125,7 +125,7 @@ explain_other_bytes() {
 
 explain_bad_header() {
     local file=$1 at=$2 first
-    first=$(awk '{ sub(/#.*/, "") } NF { print NR; exit }' "$file")
+    first=$(lines_of "$file" | awk '{ sub(/#.*/, "") } NF { print NR; exit }')
     if [ -z "$first" ]; then
         say_so "the text is empty: it begins with a line \`gridlay 1\` (or \`gridlay 2\`), then comes \`viewport W H\`"
     elif [ "$at" -le "$first" ]; then
@@ -476,6 +476,12 @@ explain_bad_number() {
                 fi
                 return ;;
             content) before=("${before[@]:1}") ;;
+            undo | redo)
+                explain_count ${#before[@]}
+                return ;;
+            hit)
+                explain_point $((${#before[@]} - 1))
+                return ;;
             viewport)
                 explain_numbers viewport "width" "height" $((${#before[@]} - 1))
                 return ;;
@@ -497,6 +503,28 @@ explain_index() {
         say_so "the INDEX is missing: the number of the place among the children, from 0"
     else
         say_so "\`$token\` is no INDEX: it is a whole number from 0 to 1000000, the place among the children"
+    fi
+}
+
+# explain_count WORDS: the number after `undo` or `redo`, after so many words.
+explain_count() {
+    if [ "$1" -gt 1 ]; then
+        say_so "after the number of edits the line ends"
+    elif [ -z "$token" ]; then
+        say_so "the number of edits is missing: a whole number from 1 to 1000000"
+    else
+        say_so "\`$token\` is no number of edits: it is a whole number from 1 to 1000000"
+    fi
+}
+
+# explain_point NUMBERS: the point of `hit`, after so many numbers.
+explain_point() {
+    if [ "$1" -gt 1 ]; then
+        say_so "after \`hit X Y\` the line ends"
+    elif [ -z "$token" ]; then
+        say_so "\`hit\` has two numbers, X and Y, in px from the upper left corner of the viewport"
+    else
+        say_so "\`$token\` is no number of px from -1048576 to 1048576"
     fi
 }
 
@@ -896,7 +924,7 @@ explain_fault() {
     local file=$1 at=$2
     case $3 in
         bad-byte) explain_bad_byte "$file" "$at" ;;
-        line-too-long) say_so "the line has more than 65536 bytes: part the node's words or tracks, or write equal tracks with \`repeat\`" ;;
+        line-too-long) say_so "the line has more than 65536 bytes: split the node's words or tracks, or write equal tracks with \`repeat\`" ;;
         bad-header) explain_bad_header "$file" "$at" ;;
         bad-indent) explain_bad_indent "$file" "$at" ;;
         bad-name) explain_bad_name ;;

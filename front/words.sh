@@ -39,6 +39,11 @@ is_among() {
     return 1
 }
 
+# The lines of a file, each as far as the program reads it and a little further: tools are slow on lines of many megabytes.
+lines_of() {
+    LC_ALL=C cut -b 1-65600 <"$1"
+}
+
 lower() {
     printf '%s' "${1,,}"
 }

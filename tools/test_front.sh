@@ -105,7 +105,7 @@ fresh=$room/fresh
 mkdir -p "$fresh/examples" "$room/bin"
 cp -R "$top/gridlay" "$top/front" "$top/crates.txt" "$fresh/"
 cp "$first" "$fresh/examples/"
-for tool in bash env awk sed grep cat tr head tail od sort wc find mktemp mkfifo tee rm ls dirname readlink realpath timeout git; do
+for tool in bash env awk sed grep cat tr cut head tail od sort wc find mktemp mkfifo tee rm ls dirname readlink realpath timeout git; do
     at=$(command -v "$tool") && ln -s "$at" "$room/bin/$tool"
 done
 no_kit() {

@@ -70,10 +70,26 @@ wants "edits that did not come" err "set unset insert remove move content viewpo
 lacks "edits that did not come are not told" grep -q "undo redo" "$room/err"
 rm "$stub/print"
 
-# ---- each mistake of the table
-
+# the faults and numbers of edits that come later
 # shellcheck source=../../front/explain.sh
 . "$top/front/explain.sh"
+# later_told EDIT PLACE FAULT TEXT: what is said of an edit in line 5
+later_told() {
+    printf 'gridlay 1\nviewport 1 1\nmain grid\n---\n%s\n' "$1" >"$room/mistake"
+    explain_refusal mistake "$room/mistake" 1 "$2" "$3" >"$room/err" 2>&1
+    wants "$1" err "$4"
+    wants "$1: its place" err "mistake:$2: $3 (edit 1)"
+}
+later_told "undo 3" 5:6 nothing-to-undo "fewer edits than that were made"
+later_told "redo 1" 5:6 nothing-to-redo "fewer edits than that are undone"
+later_told "undo 0" 5:6 bad-value "\`0\` is no number of edits"
+later_told "redo" 5:5 bad-value "the number of edits is missing"
+later_told "undo 1 2" 5:8 bad-value "after the number of edits the line ends"
+later_told "hit 1" 5:6 bad-value "\`hit\` has two numbers, X and Y"
+later_told "hit a 1" 5:5 bad-value "\`a\` is no number of px"
+later_told "hit 1 2 3" 5:9 bad-value "after \`hit X Y\` the line ends"
+
+# ---- each mistake of the table
 
 # expand LINE: a line of the table as it stands in a text
 expand() {

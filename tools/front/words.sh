@@ -36,6 +36,7 @@ slip() {
     wants_status "slip $*" 64
     wants "slip $*" err "$text"
     wants "slip $*: where to read on" err "./gridlay --help"
+    holds "slip $*: one line" [ "$(wc -l <"$room/err")" -eq 1 ]
     wants_nothing "slip $* prints nothing" out
 }
 
