@@ -99,7 +99,7 @@ compare_folder() {
         base=${input%"$ending"}
         name=${base##*/}
         case $folder in
-            rows | examples) group=$folder ;;
+            rows | own | examples) group=$folder ;;
             *) group="$folder ${name%-*}" ;;
         esac
         wanted=$base.out
@@ -115,8 +115,8 @@ compare_folder() {
     done
 }
 
-for folder in small usual late rows; do
-    compare_folder "$folder" "$data/$folder" .in
+for folder in small usual late rows own; do
+    [ "$folder" = own ] && [ ! -d "$data/own" ] || compare_folder "$folder" "$data/$folder" .in
 done
 compare_folder examples "$top/examples" .gridlay
 
