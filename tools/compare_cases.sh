@@ -115,8 +115,10 @@ compare_folder() {
     done
 }
 
-for folder in small usual late rows own; do
-    [ "$folder" = own ] && [ ! -d "$data/own" ] || compare_folder "$folder" "$data/$folder" .in
+folders=(small usual late rows)
+[ ! -d "$data/own" ] || folders+=(own)
+for folder in "${folders[@]}"; do
+    compare_folder "$folder" "$data/$folder" .in
 done
 compare_folder examples "$top/examples" .gridlay
 
