@@ -39,25 +39,26 @@ say_status() {
     esac
 }
 
-# How the input is called, and the file that has it, where it is one: the FILE, or what standard input comes from.
+# How the input is called, and the file that has it, where it is one and can be read again: the FILE, or what standard input comes
+# from.
 name_input() {
-    shown='<stdin>' input=
+    shown=${1:-'<stdin>'} input=''
     if [ -n "$1" ]; then
-        shown=$1 input=$1
+        [ ! -f "$1" ] || input=$(readlink -f -- "$1")
     elif [ -f /dev/stdin ] && grep -q '^pos:[[:space:]]*0$' "/proc/$$/fdinfo/0" 2>/dev/null; then
         input=$(readlink -f /dev/stdin)
         shown=$(realpath --relative-base="$PWD" -- "$input" 2>/dev/null) || shown=$input
-        [ -r "$input" ] || input=
     fi
+    [ -r "$input" ] || input=''
 }
 
 # answer FILE WORD..: runs the program with these words on FILE, or on standard input where FILE is empty.
 answer() {
     local file=$1 shown input status
     shift
+    name_input "$file"
     [ -z "$file" ] || exec <"$file" || exit 64
     if [ -n "${explain-}" ] || [ -t 2 ]; then
-        name_input "$file"
         run_and_explain "$@"
     else
         "$program" "$@"

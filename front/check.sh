@@ -33,9 +33,9 @@ has_plain_bytes() {
     [ "$(LC_ALL=C tr -d '\n\040-\176' <"$1" | head -c 1 | wc -c)" -eq 0 ] && [ "$(LC_ALL=C wc -L <"$1")" -le 65536 ]
 }
 
-# Tells what bytes are wrong and what mends them; the status is 0 where something is wrong.
+# tell_bytes SHOWN FILE: tells what bytes are wrong and what mends them; the status is 0 where something is wrong.
 tell_bytes() {
-    local file=$1 kind many at name mend=()
+    local shown=$1 file=$2 kind many at name mend=()
     local -A count=() line=()
     if has_plain_bytes "$file"; then
         return 1
@@ -44,9 +44,9 @@ tell_bytes() {
         count[$kind]=$many
         line[$kind]=$at
     done < <(count_bytes "$file")
-    printf -v name %q "$file"
+    printf -v name %q "$shown"
     if [ -n "${count[wide]-}" ]; then
-        printf '%s: the text is UTF-16, and a document is plain ASCII text. This writes it so:\n' "$file"
+        printf '%s: the text is UTF-16, and a document is plain ASCII text. This writes it so:\n' "$shown"
         printf '    iconv -f UTF-16 -t ASCII//TRANSLIT %s > NEW\n' "$name"
         return 0
     fi
@@ -68,7 +68,7 @@ tell_bytes() {
 tell() {
     local many=${count[$1]-}
     [ -n "$many" ] || return 0
-    printf '%s:%s: %s%s\n' "$file" "${line[$1]}" "$2" "$([ "$many" -eq 1 ] || echo " (here first, and $many times in all)")"
+    printf '%s:%s: %s%s\n' "$shown" "${line[$1]}" "$2" "$([ "$many" -eq 1 ] || echo " (here first, and $many times in all)")"
     [ $# -lt 3 ] || mend+=("-e '$3'")
 }
 
@@ -86,19 +86,25 @@ tell_outcome() {
 }
 
 check_file() {
-    local file=$1 room status
-    if tell_bytes "$file"; then
-        exit 2
-    fi
-    find_program
+    local shown=$1 file room status
     room=$(mktemp -d) || exit 70
     # shellcheck disable=SC2064
     trap "rm -rf -- '$room'" EXIT
+    file=$(readlink -f -- "$shown")
+    if [ ! -f "$file" ]; then
+        # (what comes from a pipe is read more than once here)
+        cat -- "$shown" >"$room/input"
+        file=$room/input
+    fi
+    if tell_bytes "$shown" "$file"; then
+        exit 2
+    fi
+    find_program
     "$program" layout <"$file" >"$room/out"
     status=$?
-    explain_all "$file" "$file" <"$room/out"
+    explain_all "$shown" "$file" <"$room/out"
     case $status in
-        0 | 2 | 3) tell_outcome "$file" "$room/out" ;;
+        0 | 2 | 3) tell_outcome "$shown" "$room/out" ;;
         *) say_status "$status" ;;
     esac
     exit "$status"

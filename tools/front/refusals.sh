@@ -154,3 +154,16 @@ if [ -e "$top/crates/session/specs/FaultNames.antt" ]; then
 else
     skip "the tables of faults and properties: the sources are not here"
 fi
+
+# a FILE that is no plain file, and one that is standard input
+printf 'refused 1 5:5 unknown-name\n' >"$stub/print"
+wanted_status=3
+for call in --explain check; do
+    (as_program timeout 10 "$top/gridlay" "$call" <(tail -c +1 "$room/two.gridlay") </dev/null >"$room/out" 2>&1)
+    wants "a FILE from a pipe: $call" out "did you mean \`main\`?"
+    (as_program timeout 10 "$top/gridlay" "$call" /dev/stdin <"$room/two.gridlay" >"$room/out" 2>&1)
+    wants "a FILE that is standard input: $call" out "/dev/stdin:5:5: unknown-name"
+    wants "a FILE that is standard input: $call" out "did you mean \`main\`?"
+done
+rm "$stub/print"
+wanted_status=0
