@@ -141,6 +141,8 @@ had() {
 
 # shellcheck source=front/words.sh
 . "$top/tools/front/words.sh"
+# shellcheck source=front/build.sh
+. "$top/tools/front/build.sh"
 # shellcheck source=front/answers.sh
 . "$top/tools/front/answers.sh"
 # shellcheck source=front/refusals.sh
