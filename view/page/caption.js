@@ -1,0 +1,54 @@
+// What stands above a picture: the layout's number and edit, or the refusal with its place marked in the line.
+(function (gridlay) {
+  'use strict';
+
+  const { element } = gridlay.text;
+  /** More of a line is not shown around a mark. */
+  const AROUND = 160;
+
+  function count(number, one, many = `${one}s`) {
+    return `${number.toLocaleString('en')} ${number === 1 ? one : many}`;
+  }
+
+  function changesOf({ changed, added, gone }) {
+    const parts = [changed && `${count(changed, 'box', 'boxes')} changed`, added && `${count(added, 'new', 'new')}`, gone && `${count(gone, 'gone', 'gone')}`];
+    return parts.filter(Boolean).join(', ') || 'no box changed';
+  }
+
+  /** A line with the marked place, cut at both ends where it is long. */
+  function marked([before, token, after]) {
+    const pre = element('pre');
+    pre.append(before.length > AROUND ? `\u2026${before.slice(-AROUND)}` : before, element('mark', '', token.slice(0, AROUND) || ' '));
+    pre.append(after.length > AROUND ? `${after.slice(0, AROUND)}\u2026` : after);
+    return pre;
+  }
+
+  function refusal(run, answer) {
+    const { line, column, fault, number } = answer;
+    const parts = [element('b', 'wrong', number ? `refused ${number}` : 'refused'), element('code', 'wrong', fault)];
+    parts.push(element('span', 'note', `line ${line}, byte ${column}. ${gridlay.faults.meaning(fault)}`));
+    if (line > run.lines.count) parts.push(element('pre', '', '(the end of the text)'));
+    else parts.push(marked(run.markedLine(line, column)));
+    return parts;
+  }
+
+  function layout(run, answer, scene) {
+    const { number } = answer, edit = number ? run.document.edits[number - 1] : null;
+    const parts = [element('b', '', `layout ${number}`)];
+    if (edit) parts.push(element('code', '', gridlay.text.visible(edit.text.slice(0, 400))));
+    const notes = [edit ? `line ${edit.line}` : 'the document', count(scene.count, 'box', 'boxes'), `viewport ${scene.viewport.join(' \u00d7 ')}`];
+    if (scene.isCompared) notes.push(changesOf(scene.changes));
+    parts.push(element('span', 'note', notes.join(' \u00b7 ')));
+    if (!scene.isTree) parts.push(element('span', 'note wrong', 'The printed names are not those of the document: its tree is not shown.'));
+    return parts;
+  }
+
+  /** The elements that tell of a step. */
+  function captionOf(run, step, scene) {
+    const answer = run.printed.answers[step];
+    if (!answer) return [element('b', 'wrong', 'Nothing was printed.')];
+    return answer.isRefused ? refusal(run, answer) : layout(run, answer, scene);
+  }
+
+  gridlay.caption = { captionOf, changesOf, count };
+})(globalThis.gridlay ??= {});

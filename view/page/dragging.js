@@ -1,0 +1,90 @@
+// Dragging an edge: each place of the pointer is an edit, which is laid out as if it stood in the script, right after the edits that
+// the picture shows. When the pointer is let go, the edit is written there.
+(function (gridlay) {
+  'use strict';
+
+  const { notCounted } = gridlay.document;
+
+  /** A text with lines put behind one of its lines, and where they stand in it; where there is no script, it is begun. */
+  function withEdits(lines, doc, afterLine, edits) {
+    const { text } = lines, hasScript = doc.scriptAt < lines.count;
+    const line = hasScript ? Math.max(afterLine, doc.scriptAt + 1) : lines.count;
+    const at = line < lines.count ? lines.starts[line] : text.length;
+    const before = at > 0 && text[at - 1] !== '\n' ? '\n' : '';
+    const put = `${before}${hasScript ? '' : '---\n'}${edits.map(it => `${it}\n`).join('')}`;
+    return { text: text.slice(0, at) + put + text.slice(at), at, put };
+  }
+
+  class Dragging {
+    /**
+     * `isReady()` tells whether the picture is that of the editor's text; `show(text, step)` lays a text out and shows a step of it;
+     * `write(from, to, put)` changes the editor's text; `list(script)` shows the edits that were made by dragging.
+     */
+    constructor({ viewer, isReady, show, write, list }) {
+      Object.assign(this, { viewer, isReady, show, write, list });
+      this.now = null;
+      /** The drag that was last written: a further one of the same edge replaces it. */
+      this.last = null;
+      /** All edits that were made by dragging, in their order. */
+      this.script = [];
+    }
+
+    begin({ box, axis }) {
+      const { viewer } = this, { run, scene } = viewer, name = box < 0 ? '' : scene.boxes.names[box];
+      const isAgain = this.last?.text === run.lines.text && this.last.step === viewer.step && this.last.name === name && this.last.axis === axis;
+      const from = isAgain ? this.last.from : { run, step: viewer.step };
+      // (the picture is to stand still under the pointer)
+      viewer.view.mode = 'free';
+      this.now = { name, axis, from, isAgain, edits: [], put: null, start: this.startOf(box), before: { text: run.lines.text, step: viewer.step } };
+    }
+
+    /** Where the dragged box begins, its size, and what of that its `width` and `height` do not count. */
+    startOf(box) {
+      const { scene } = this.viewer, { x, y } = scene.boxes, node = scene.nodes[box];
+      if (box < 0) return { x: 0, y: 0, width: scene.viewport[0], height: scene.viewport[1], less: { width: 0, height: 0 } };
+      return { x: x[box], y: y[box], width: 0, height: 0, less: { width: notCounted(node, 'width'), height: notCounted(node, 'height') } };
+    }
+
+    /** The pointer is at a place of the page. */
+    to(pageX, pageY) {
+      const { now } = this, { from, start, axis } = now;
+      const width = Math.max(0, Math.round(pageX - start.x - start.less.width)), height = Math.max(0, Math.round(pageY - start.y - start.less.height));
+      const edits = this.editsOf(now.name, axis, axis === 'height' ? start.width : width, axis === 'width' ? start.height : height);
+      if (edits.join() === now.edits.join()) return;
+      now.edits = edits;
+      now.put = withEdits(from.run.lines, from.run.document, from.step ? from.run.editAt(from.step).line : 0, edits);
+      this.show(now.put.text, from.step + edits.length);
+    }
+
+    editsOf(name, axis, width, height) {
+      if (!name) return [`viewport ${width} ${height}`];
+      const edits = { width: `set ${name} width: ${width}px`, height: `set ${name} height: ${height}px` };
+      return axis === 'both' ? [edits.width, edits.height] : [edits[axis]];
+    }
+
+    /** The pointer was let go; where not `isDone`, as if it had never been taken. */
+    end(isDone) {
+      const { now } = this;
+      this.now = null;
+      if (!now.put) return;
+      if (!isDone) {
+        this.show(now.before.text, now.before.step);
+        return;
+      }
+      const replaced = now.isAgain ? this.last.put.put.length : 0;
+      if (now.isAgain) this.script.length -= this.last.edits.length;
+      this.script.push(...now.edits);
+      this.last = { ...now, text: now.put.text, step: now.from.step + now.edits.length };
+      this.write(now.put.at, now.put.at + replaced, now.put.put);
+      this.list(this.script);
+    }
+
+    forget() {
+      this.script = [];
+      this.last = null;
+      this.list(this.script);
+    }
+  }
+
+  gridlay.dragging = { Dragging, withEdits };
+})(globalThis.gridlay ??= {});

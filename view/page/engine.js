@@ -1,0 +1,104 @@
+// The engine of the page: `layout(text)` gives what the program prints for a text. This is the one place that knows how the engine is
+// reached; here the whole text goes to a worker each time, and the program is run on it.
+(function (gridlay) {
+  'use strict';
+
+  const { block } = gridlay.text;
+  /** A run that has taken longer than this, in ms, is given up once a newer text waits. */
+  const PATIENCE = 5000;
+
+  async function unpacked(bytes) {
+    const stream = new Blob([bytes]).stream().pipeThrough(new DecompressionStream('gzip'));
+    return new Response(stream).arrayBuffer();
+  }
+
+  class Engine {
+    constructor(module, source) {
+      this.module = module;
+      this.source = source;
+      this.last = 0;
+      this.running = null;
+      this.waiting = null;
+      this.worker = null;
+      this.start();
+    }
+
+    /** The engine of the page; refused where the browser cannot run it. */
+    static async load() {
+      const source = document.getElementById('worker').textContent;
+      let module;
+      try {
+        module = await WebAssembly.compile(await unpacked(block('engine')));
+      } catch (error) {
+        throw new Error(`This browser does not run the engine: it wants 64-bit WebAssembly, as Chromium 133 and Firefox 134 have it. (${error.message})`, { cause: error });
+      }
+      return new Engine(module, source);
+    }
+
+    start() {
+      this.worker?.terminate();
+      const address = URL.createObjectURL(new Blob([this.source], { type: 'text/javascript' }));
+      this.worker = new Worker(address);
+      URL.revokeObjectURL(address);
+      this.worker.onmessage = ({ data }) => this.hear(data);
+      this.worker.onerror = event => {
+        event.preventDefault();
+        this.fail(event.message || 'the worker ended');
+      };
+      this.worker.postMessage({ module: this.module });
+    }
+
+    /**
+     * What the program prints for a text: `{ output, status, time }`, or `{ trouble, time }` where it was stopped.
+     * While one text is laid out, only the latest other one waits: where a text never gets its turn, its answer is null.
+     */
+    layout(text) {
+      return new Promise(settle => {
+        this.waiting?.settle(null);
+        this.waiting = { text, settle };
+        if (!this.running) this.next();
+        else this.running.limit ??= setTimeout(() => this.giveUp(), Math.max(0, PATIENCE - (performance.now() - this.running.start)));
+      });
+    }
+
+    get isBusy() {
+      return this.running !== null;
+    }
+
+    next() {
+      if (!this.waiting) return;
+      const { text, settle } = this.waiting, input = new TextEncoder().encode(text);
+      this.waiting = null;
+      this.running = { number: ++this.last, settle, start: performance.now(), limit: null };
+      this.worker.postMessage({ number: this.last, input }, [input.buffer]);
+    }
+
+    hear({ number, status, output, trouble, time }) {
+      if (this.running?.number !== number) return;
+      if (trouble) this.start();
+      this.answer(trouble ? { trouble, time } : { status, output: new TextDecoder().decode(output), time });
+    }
+
+    /** The worker itself failed: a new one takes its place. */
+    fail(trouble) {
+      this.start();
+      if (this.running) this.answer({ trouble, time: performance.now() - this.running.start });
+    }
+
+    giveUp() {
+      if (!this.waiting) return;
+      this.start();
+      this.answer(null);
+    }
+
+    answer(answer) {
+      const { settle, limit } = this.running;
+      clearTimeout(limit);
+      this.running = null;
+      settle(answer);
+      this.next();
+    }
+  }
+
+  gridlay.engine = { Engine };
+})(globalThis.gridlay ??= {});

@@ -1,0 +1,60 @@
+// A list of many rows, of which only those that are seen are in the page.
+(function (gridlay) {
+  'use strict';
+
+  const SPARE = 4;
+
+  class List {
+    /** Makes the element a list; `fill(row, index)` writes what the row of an index shows, and `choose(index)` hears of clicks. */
+    constructor(element, { height, fill, choose }) {
+      this.element = element;
+      this.height = height;
+      this.fill = fill;
+      this.count = 0;
+      this.space = gridlay.text.element('div', 'space');
+      this.window = gridlay.text.element('div', 'window');
+      this.space.append(this.window);
+      element.replaceChildren(this.space);
+      element.addEventListener('scroll', () => this.refresh());
+      element.addEventListener('click', event => {
+        const row = event.target.closest('[data-index]');
+        if (row) choose(Number(row.dataset.index));
+      });
+      new ResizeObserver(() => this.refresh()).observe(element);
+    }
+
+    /** Shows as many rows as are told, each filled anew. */
+    show(count) {
+      this.count = count;
+      this.space.style.height = `${count * this.height}px`;
+      this.refresh();
+    }
+
+    refresh() {
+      const { scrollTop, clientHeight } = this.element;
+      const first = Math.max(0, Math.floor(scrollTop / this.height) - SPARE);
+      const end = Math.min(this.count, Math.ceil((scrollTop + clientHeight) / this.height) + SPARE);
+      const rows = [];
+      for (let index = first; index < end; index++) {
+        const row = gridlay.text.element('div', 'row');
+        row.dataset.index = index;
+        row.style.height = `${this.height}px`;
+        this.fill(row, index);
+        rows.push(row);
+      }
+      this.window.style.top = `${first * this.height}px`;
+      this.window.replaceChildren(...rows);
+    }
+
+    /** Scrolls as little as is needed so that a row is seen. */
+    reveal(index) {
+      const { scrollTop, clientHeight } = this.element, top = index * this.height;
+      if (top < scrollTop || top + this.height > scrollTop + clientHeight) {
+        this.element.scrollTop = top - (clientHeight - this.height) / 2;
+      }
+      this.refresh();
+    }
+  }
+
+  gridlay.list = { List };
+})(globalThis.gridlay ??= {});

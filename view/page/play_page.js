@@ -1,0 +1,145 @@
+// The page that lays out while you type: joins the editor, the engine and the viewer.
+(function (gridlay) {
+  'use strict';
+
+  const { block, textOfUtf8 } = gridlay.text, { Run } = gridlay.run;
+  /** After so many ms of laying out, the page says that it does. */
+  const SOON = 250;
+
+  class Page {
+    constructor() {
+      this.part = Object.fromEntries([...document.querySelectorAll('.writing [id]')].map(it => [it.id, it]));
+      this.engine = null;
+      this.viewer = new gridlay.viewer.Viewer({
+        choose: box => this.editor.pointAt(box < 0 ? 0 : this.viewer.scene.nodes[box].line),
+        step: step => this.editor.pointAt(step ? this.viewer.run.editAt(step).line : 0),
+      });
+      this.viewer.part['tab-source'].hidden = true;
+      this.editor = new gridlay.editor.Editor({
+        change: () => this.layOut(this.editor.text),
+        caret: line => this.follow(line),
+        refused: word => this.viewer.say(word),
+        file: file => this.openFile(file),
+      });
+      this.dragging = new gridlay.dragging.Dragging({
+        viewer: this.viewer,
+        isReady: () => this.viewer.run?.lines.text === this.editor.text,
+        show: (text, step) => this.layOut(text, step),
+        write: (from, to, put) => this.editor.replace(from, to, put),
+        list: script => this.listDragged(script),
+      });
+      this.viewer.hears.drag = this.dragging;
+      this.makeControls();
+    }
+
+    makeControls() {
+      const { part, editor } = this;
+      part.examples.addEventListener('change', () => this.openExample(part.examples.value));
+      part.open.addEventListener('click', () => part.file.click());
+      part.file.addEventListener('change', () => part.file.files.length && this.openFile(part.file.files[0]));
+      part.save.addEventListener('click', () => this.save());
+      part.copy.addEventListener('click', () => this.copy(this.dragging.script.map(it => `${it}\n`).join('')));
+      part.forget.addEventListener('click', () => this.dragging.forget());
+      for (const it of document.querySelectorAll('script[data-example]')) part.examples.append(new Option(it.dataset.example));
+      editor.show();
+    }
+
+    openExample(name) {
+      const example = [...document.querySelectorAll('script[data-example]')].find(it => it.dataset.example === name);
+      this.editor.open(textOfUtf8(block(example.id)));
+      this.viewer.view.mode = 'self';
+    }
+
+    async openFile(file) {
+      // (no character has more than four bytes)
+      if (file.size > 4 * gridlay.editor.LIMIT) this.editor.takes(file.size);
+      else this.editor.open(await file.text());
+      this.part.file.value = '';
+    }
+
+    save() {
+      const link = document.createElement('a');
+      link.href = URL.createObjectURL(new Blob([this.editor.text], { type: 'text/plain' }));
+      link.download = 'page.gridlay';
+      link.click();
+      setTimeout(() => URL.revokeObjectURL(link.href), 1000);
+    }
+
+    async copy(text) {
+      try {
+        await navigator.clipboard.writeText(text);
+        this.part.copy.textContent = 'Copied';
+      } catch {
+        getSelection().selectAllChildren(this.part.script);
+        this.part.copy.textContent = document.execCommand('copy') ? 'Copied' : 'Copy what is marked';
+      }
+      setTimeout(() => { this.part.copy.textContent = 'Copy'; }, 1500);
+    }
+
+    listDragged(script) {
+      this.part.dragged.hidden = !script.length;
+      this.part.script.textContent = script.join('\n');
+    }
+
+    /** Lays a text out and shows a step of it: that of the caret where none is told. */
+    async layOut(text, step = -1) {
+      if (!this.engine) return;
+      clearTimeout(this.saying);
+      this.saying = setTimeout(() => { this.part.state.textContent = 'laying out\u2026'; }, SOON);
+      const answer = await this.engine.layout(text);
+      if (!this.engine.isBusy) clearTimeout(this.saying);
+      if (answer) this.show(text, answer, step);
+    }
+
+    show(text, answer, step) {
+      const { viewer, editor } = this, { output, status, trouble, time } = answer;
+      this.part.state.textContent = `${time < 10 ? time.toFixed(1) : Math.round(time)} ms`;
+      if (trouble) {
+        viewer.say(`The engine stopped at this text, and was started again: ${trouble}. The picture is the last that was made.`);
+        return;
+      }
+      viewer.say(status === 6 ? 'Memory was wanting: what was laid out until then is shown.' : '');
+      const run = new Run({ text, output, status }), old = viewer.run;
+      const before = old && !old.hasNoLayout && text !== old.lines.text ? old.printed.boxes(0) : viewer.before;
+      viewer.open(run, step >= 0 ? step : this.stepOf(run, editor.caretLine), before);
+      if (text === editor.text) editor.showFaults(run.refusals);
+    }
+
+    /** The step that a line of the text is about: that of its edit, or of the last edit above it. */
+    stepOf(run, line) {
+      const edits = run.document.edits.slice(0, Math.max(0, run.steps - 1));
+      return edits.filter(it => it.line <= line).length;
+    }
+
+    /** The caret went to a line: the picture shows the layout of its edit. */
+    follow(line) {
+      const { viewer } = this;
+      this.editor.pointAt(0);
+      if (viewer.run?.lines.text !== this.editor.text) return;
+      const step = this.stepOf(viewer.run, line);
+      if (step !== viewer.step) viewer.showStep(step);
+    }
+  }
+
+  function aboutOf(made) {
+    const proof = made.isProved
+      ? 'The engine in this page is made of the same sources as the proved program, compiled by another way: it is tested, and not proved.'
+      : 'The engine in this page is made of sources of which nothing was proved when it was built, compiled by another way than the program.';
+    return `${proof} Drag the right or lower edge of a box to set its width or height, or the grips beside the viewport: the edit is written into the script, right after the layout that you see. (${made.kit})`;
+  }
+
+  async function start() {
+    const page = gridlay.page = new Page();
+    const made = JSON.parse(textOfUtf8(block('made')));
+    page.part.about.textContent = aboutOf(made);
+    document.title = 'gridlay \u2013 lay out while you type';
+    try {
+      page.engine = await gridlay.engine.Engine.load();
+    } catch (error) {
+      page.viewer.say(error.message);
+    }
+    page.openExample(page.part.examples.value);
+  }
+
+  gridlay.started = start();
+})(globalThis.gridlay ??= {});

@@ -1,0 +1,83 @@
+// What the program printed: layouts and refusals in their order, and the boxes of a layout.
+(function (gridlay) {
+  'use strict';
+
+  /** The first places of all lines that begin with a word. */
+  function placesOf(text, word) {
+    const found = text.startsWith(word) ? [0] : [];
+    for (let at = text.indexOf(`\n${word}`); at >= 0; at = text.indexOf(`\n${word}`, at + 1)) found.push(at + 1);
+    return found;
+  }
+
+  function lineFrom(text, start) {
+    const end = text.indexOf('\n', start);
+    return text.slice(start, end < 0 ? text.length : end);
+  }
+
+  class Printed {
+    /**
+     * Finds the answers in a printed text. A box may have any name, so lines are told apart by their numbers of words.
+     * Where `isCut`, the text was cut off somewhere, and its last answer is left out.
+     */
+    constructor(text, isCut = false) {
+      this.text = text;
+      /** For each layout and refusal its number, whether it is a refusal, and where its boxes or its fault stand. */
+      this.answers = [];
+      const places = [...placesOf(text, 'layout '), ...placesOf(text, 'refused ')].sort((a, b) => a - b);
+      for (const start of places) {
+        const line = lineFrom(text, start), words = line.split(' ');
+        const last = this.answers.at(-1);
+        if (words.length === 2 && words[0] === 'layout') {
+          if (last) last.end = Math.min(last.end, start);
+          this.answers.push({ number: Number(words[1]), isRefused: false, start: start + line.length + 1, end: text.length });
+        } else if (words.length === 4 && words[0] === 'refused') {
+          if (last) last.end = Math.min(last.end, start);
+          const [row, column] = words[2].split(':').map(Number);
+          this.answers.push({ number: Number(words[1]), isRefused: true, line: row, column, fault: words[3], end: text.length });
+        }
+      }
+      if (isCut) this.answers.pop();
+      this.kept = new Map();
+    }
+
+    /** Whether the document itself was refused, or nothing was printed. */
+    get hasNoLayout() {
+      return !this.answers.length || this.answers[0].isRefused;
+    }
+
+    /** The boxes of an answer that is a layout. The last few that were asked for are kept. */
+    boxes(index) {
+      let boxes = this.kept.get(index);
+      this.kept.delete(index);
+      boxes ??= new Boxes(this.text.slice(this.answers[index].start, this.answers[index].end));
+      this.kept.set(index, boxes);
+      if (this.kept.size > 6) this.kept.delete(this.kept.keys().next().value);
+      return boxes;
+    }
+  }
+
+  /** The boxes of a layout in their order: names, numbers, and the numbers as they were printed. */
+  class Boxes {
+    constructor(text) {
+      const words = text.split('\n').filter(it => it && !/^stats \d+ \d+$/.test(it)).map(it => it.split(' '));
+      const count = words.length;
+      this.count = count;
+      this.names = words.map(it => it[0]);
+      this.printed = words.map(it => it.slice(1));
+      for (const [at, part] of ['x', 'y', 'width', 'height'].entries()) {
+        const numbers = new Float64Array(count);
+        for (let box = 0; box < count; box++) numbers[box] = Number(words[box][at + 1]);
+        this[part] = numbers;
+      }
+      this.places = new Map(this.names.map((name, box) => [name, box]));
+    }
+
+    /** Whether a box of this layout and one of another have the same numbers. */
+    isSame(box, other, otherBox) {
+      return this.x[box] === other.x[otherBox] && this.y[box] === other.y[otherBox]
+        && this.width[box] === other.width[otherBox] && this.height[box] === other.height[otherBox];
+    }
+  }
+
+  gridlay.printed = { Printed, Boxes };
+})(globalThis.gridlay ??= {});

@@ -1,0 +1,84 @@
+// A run: a text, what was printed for it, and for each step of it the boxes with their tree. A step is an answer: a layout or a refusal.
+(function (gridlay) {
+  'use strict';
+
+  const { Lines } = gridlay.text, { Document, Tree } = gridlay.document, { Printed } = gridlay.printed, { Scene } = gridlay.scene;
+
+  class Run {
+    /**
+     * `output` is what was printed for `text`. Where `isBytes`, both have a character for each byte, else `text` is what was typed.
+     * Where `isCut`, more was printed than `output` has. `status` is that of the program.
+     */
+    constructor({ text, output, status, isBytes = false, isCut = false }) {
+      this.lines = new Lines(text);
+      this.document = new Document(this.lines);
+      this.printed = new Printed(output, isCut);
+      this.status = status;
+      this.refusals = this.printed.answers.map((answer, step) => ({ ...answer, step })).filter(it => it.isRefused);
+      this.refusedLines = new Map(this.refusals.map(it => [it.line, it]));
+      this.isBytes = isBytes;
+      this.isCut = isCut;
+      this.tree = null;
+      this.treeStep = -1;
+    }
+
+    get steps() {
+      return this.printed.answers.length;
+    }
+
+    /** Whether the document was refused, or there is no layout of it for another reason. */
+    get hasNoLayout() {
+      return this.printed.hasNoLayout;
+    }
+
+    /** The step of the layout that stands after a step: its own, or where it is a refusal the last before it; -1 where there is none. */
+    layoutAt(step) {
+      let at = Math.min(step, this.steps - 1);
+      while (at >= 0 && this.printed.answers[at].isRefused) at--;
+      return at;
+    }
+
+    /** The edit that a step answers: its text and its line. Nothing for the document. */
+    editAt(step) {
+      return this.document.edits[this.printed.answers[step].number - 1];
+    }
+
+    /** The tree after a step. */
+    treeAt(step) {
+      if (!this.tree || this.treeStep > step) {
+        this.tree = new Tree(this.document);
+        this.treeStep = 0;
+      }
+      while (this.treeStep < step) {
+        this.treeStep++;
+        const edit = this.editAt(this.treeStep);
+        if (edit && !this.printed.answers[this.treeStep].isRefused) this.tree.apply(edit);
+      }
+      return this.tree;
+    }
+
+    /** What is to be drawn at a step: null where there is no layout. The first layout is compared with `before`, if it is given. */
+    sceneAt(step, before = null) {
+      const at = this.layoutAt(step);
+      if (at < 0) return null;
+      const earlier = this.layoutAt(at - 1), isRefusal = at !== step;
+      const old = isRefusal ? null : earlier >= 0 ? this.printed.boxes(earlier) : before;
+      return new Scene(this.printed.boxes(at), this.treeAt(at), old);
+    }
+
+    /** A line of the text as it can be seen; `index` counts from 0. */
+    shownLine(index) {
+      const line = this.lines.line(index);
+      return this.isBytes ? gridlay.text.visibleBytes(line) : gridlay.text.visible(line);
+    }
+
+    /** A line with a place marked, in three parts: before the marked token, the token, after it. Both places count from 1. */
+    markedLine(line, column) {
+      const text = this.lines.line(line - 1), from = column - 1, end = gridlay.text.tokenEnd(text, from);
+      const shown = this.isBytes ? gridlay.text.visibleBytes : gridlay.text.visible;
+      return [text.slice(0, from), text.slice(from, end), text.slice(end)].map(shown);
+    }
+  }
+
+  gridlay.run = { Run };
+})(globalThis.gridlay ??= {});

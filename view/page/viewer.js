@@ -1,0 +1,301 @@
+// The viewer: the picture of a step, the tree beside it, and what moves from step to step.
+(function (gridlay) {
+  'use strict';
+
+  const { element } = gridlay.text, { List } = gridlay.list, { View } = gridlay.view, { Drawing, coloursOf, HUES } = gridlay.draw;
+  const ROW = 20;
+  const HELP = 'Left, right: layouts \u00b7 up, down: boxes \u00b7 C: next changed box \u00b7 wheel: move, with Ctrl: zoom \u00b7 0, 9, 1: whole, wide, 1:1';
+
+  class Viewer {
+    /** Takes over the viewer's elements of the page. `hears` are told of what the user does: choose(box), step(step). */
+    constructor(hears = {}) {
+      this.hears = hears;
+      this.part = Object.fromEntries([...document.querySelectorAll('.viewer [id]')].map(it => [it.id, it]));
+      this.view = new View();
+      this.run = null;
+      this.step = 0;
+      this.scene = null;
+      this.before = null;
+      this.chosen = -1;
+      this.pointed = -1;
+      this.drawn = 0;
+      /** Where the last picture is that of an earlier run, since the document of this one was refused. */
+      this.isOld = false;
+      this.pointer = new gridlay.pointer.Pointer(this);
+      this.makeLists();
+      this.makeControls();
+      this.watch();
+    }
+
+    makeLists() {
+      const { boxes, layouts, source } = this.part;
+      this.lists = {
+        boxes: new List(boxes, { height: ROW, fill: (row, box) => this.fillBox(row, box), choose: box => this.choose(box, true) }),
+        layouts: new List(layouts, { height: ROW, fill: (row, step) => this.fillStep(row, step), choose: step => this.go(step) }),
+        source: new List(source, { height: ROW, fill: (row, line) => this.fillLine(row, line), choose: line => this.chooseLine(line + 1) }),
+      };
+      boxes.addEventListener('pointermove', event => this.point(Number(event.target.closest('[data-index]')?.dataset.index ?? -1)));
+      boxes.addEventListener('pointerleave', () => this.point(-1));
+      this.showTab('boxes');
+      for (const name of Object.keys(this.lists)) this.part[`tab-${name}`].addEventListener('click', () => this.showTab(name));
+    }
+
+    showTab(shown) {
+      for (const name of Object.keys(this.lists)) {
+        this.part[name].hidden = name !== shown;
+        this.part[`tab-${name}`].setAttribute('aria-selected', String(name === shown));
+      }
+      this.lists[shown].refresh();
+    }
+
+    makeControls() {
+      const { part, view } = this;
+      part.previous.addEventListener('click', () => this.go(this.step - 1));
+      part.next.addEventListener('click', () => this.go(this.step + 1));
+      part.slider.addEventListener('input', () => this.go(Number(part.slider.value)));
+      part.smaller.addEventListener('click', () => this.enlarge(1 / 1.25));
+      part.larger.addEventListener('click', () => this.enlarge(1.25));
+      part.actual.addEventListener('click', () => this.enlarge(1 / view.zoom));
+      part.whole.addEventListener('click', () => this.fit('whole'));
+      part.wide.addEventListener('click', () => this.fit('wide'));
+      document.addEventListener('keydown', event => this.key(event));
+    }
+
+    watch() {
+      const setColours = () => {
+        this.colours = coloursOf(document.documentElement);
+        this.draw();
+      };
+      matchMedia('(prefers-color-scheme: dark)').addEventListener('change', setColours);
+      new ResizeObserver(() => this.resize()).observe(this.part.canvas.parentElement);
+      setColours();
+      this.resize();
+    }
+
+    resize() {
+      const { canvas } = this.part, { clientWidth, clientHeight } = canvas.parentElement, ratio = globalThis.devicePixelRatio || 1;
+      if (!clientWidth || !clientHeight) return;
+      Object.assign(this.view, { width: clientWidth, height: clientHeight, ratio });
+      canvas.width = Math.round(clientWidth * ratio);
+      canvas.height = Math.round(clientHeight * ratio);
+      if (this.scene) this.view.fit(this.scene.extent);
+      this.draw(true);
+    }
+
+    /** Shows a run at a step. `before` are boxes to compare its first layout with, or null. */
+    open(run, step, before = null) {
+      this.run = run;
+      this.before = before;
+      this.part.slider.max = String(Math.max(0, run.steps - 1));
+      this.lists.layouts.show(run.steps);
+      this.lists.source.show(run.lines.count);
+      this.showStep(Math.max(0, Math.min(step, run.steps - 1)));
+    }
+
+    /** Goes to a step, as the user asked. */
+    go(step) {
+      if (!this.run || step < 0 || step >= this.run.steps || step === this.step) return;
+      this.showStep(step);
+      this.lists.layouts.reveal(step);
+      this.hears.step?.(step);
+    }
+
+    showStep(step) {
+      const { run, part } = this, name = this.nameOf(this.chosen), scene = run.sceneAt(step, this.before);
+      this.step = step;
+      this.isOld = !scene && this.scene !== null;
+      if (scene) {
+        this.scene = scene;
+        this.chosen = scene.boxes.places.get(name) ?? -1;
+        this.pointed = -1;
+        this.view.fit(scene.extent);
+        this.lists.boxes.show(scene.count);
+      }
+      part.slider.value = String(step);
+      part.step.textContent = `${step} of ${Math.max(0, run.steps - 1)}`;
+      part.previous.disabled = step <= 0;
+      part.next.disabled = step >= run.steps - 1;
+      part.caption.replaceChildren(...gridlay.caption.captionOf(run, step, scene));
+      if (this.isOld) part.caption.append(element('span', 'note', 'The picture is the last that could be made.'));
+      this.lists.layouts.refresh();
+      this.markSource();
+      this.showDetails();
+      this.draw();
+    }
+
+    /** Whether the picture is not that of the step: the step is a refusal, or the document is refused. */
+    get isDim() {
+      return this.isOld || Boolean(this.run?.printed.answers[this.step]?.isRefused);
+    }
+
+    /** Draws at the next frame, so that many changes make one picture; or at once. */
+    draw(isAtOnce = false) {
+      if (!isAtOnce) {
+        this.frame ??= requestAnimationFrame(() => this.draw(true));
+        return;
+      }
+      if (this.frame) cancelAnimationFrame(this.frame);
+      this.frame = null;
+      const { scene, view, colours, chosen, pointed, isDim } = this;
+      this.drawn = new Drawing(this.part.canvas, scene, view, colours).draw({ chosen, pointed, isDim, hasGrips: Boolean(this.hears.drag) && !isDim });
+      this.part.zoom.textContent = `${view.zoom < 0.1 ? (view.zoom * 100).toFixed(1) : Math.round(view.zoom * 100)}%`;
+      this.hears.drawn?.();
+    }
+
+    enlarge(factor, x, y) {
+      this.view.enlarge(factor, x, y);
+      this.draw();
+    }
+
+    fit(mode) {
+      if (!this.scene) return;
+      this.view.mode = mode;
+      this.view.fit(this.scene.extent);
+      this.draw();
+    }
+
+    /** Chooses a box, or none with -1: it is marked in the picture, the tree and the source. Where `isFar`, the picture moves to it. */
+    choose(box, isFar = false) {
+      const { scene, lists } = this;
+      if (!scene) return;
+      this.chosen = box;
+      if (box >= 0) {
+        const { x, y, width, height } = scene.boxes;
+        if (isFar) this.view.reveal(x[box], y[box], width[box], height[box]);
+        lists.boxes.reveal(box);
+      } else {
+        lists.boxes.refresh();
+      }
+      this.markSource();
+      this.showDetails();
+      this.draw();
+      this.hears.choose?.(box);
+    }
+
+    /** Chooses the next box that changed. */
+    chooseChanged() {
+      const { scene } = this;
+      if (!scene) return;
+      const from = this.chosen + 1, found = scene.changed.findIndex((it, box) => it && box >= from);
+      const box = found >= 0 ? found : scene.changed.findIndex(Boolean);
+      if (box >= 0) this.choose(box, true);
+    }
+
+    /** Marks the box under the pointer. */
+    point(box) {
+      if (box === this.pointed) return;
+      this.pointed = box;
+      for (const row of this.part.boxes.querySelectorAll('.row')) row.classList.toggle('pointed', Number(row.dataset.index) === box);
+      this.draw();
+    }
+
+    nameOf(box) {
+      return this.scene?.boxes.names[box];
+    }
+
+    /** Chooses what stands on a line of the source: its node, or the step of its edit. */
+    chooseLine(line) {
+      const step = this.run.printed.answers.findIndex((_, at) => at && this.run.editAt(at)?.line === line);
+      if (step >= 0) this.go(step);
+      else if (this.scene) this.choose(this.scene.nodes.findIndex(it => it.line === line), true);
+    }
+
+    /** The line of the source that is to be seen: that of the refusal, of the chosen box, or of the edit. */
+    lineInQuestion() {
+      const answer = this.run?.printed.answers[this.step];
+      if (answer?.isRefused) return answer.line;
+      if (this.chosen >= 0) return this.scene.nodes[this.chosen].line;
+      return answer?.number ? this.run.editAt(this.step)?.line ?? 0 : 0;
+    }
+
+    markSource() {
+      const line = this.lineInQuestion();
+      if (line) this.lists.source.reveal(line - 1);
+      else this.lists.source.refresh();
+    }
+
+    /** What is told of a box: its kind, its numbers as they were printed, and how it changed. */
+    describe(box) {
+      const { scene } = this, [x, y, width, height] = scene.boxes.printed[box];
+      const lines = [`${scene.boxes.names[box]}  ${scene.kindOf(box)}`, `x ${x}  y ${y}  width ${width}  height ${height}`];
+      if (scene.changed[box]) lines.push(scene.changed[box] === gridlay.scene.NEW ? 'new in this layout' : 'changed in this layout');
+      const sides = scene.standsOut(box);
+      if (sides.length) lines.push(`stands out of ${scene.boxes.names[scene.parent[box]]}: ${sides.join(', ')}`);
+      return lines;
+    }
+
+    showDetails() {
+      const { details } = this.part;
+      if (this.chosen < 0) {
+        details.textContent = HELP;
+        return;
+      }
+      const [name, ...rest] = this.describe(this.chosen);
+      details.replaceChildren(element('b', '', name), `  ${rest.join('  \u00b7  ')}`);
+    }
+
+    fillBox(row, box) {
+      const { scene } = this, hue = scene.depth[box] % HUES, [x, y, width, height] = scene.boxes.printed[box];
+      row.style.paddingLeft = `${8 + 12 * scene.depth[box]}px`;
+      row.setAttribute('role', 'treeitem');
+      row.setAttribute('aria-level', String(scene.depth[box] + 1));
+      row.setAttribute('aria-selected', String(box === this.chosen));
+      row.classList.toggle('chosen', box === this.chosen);
+      row.classList.toggle('pointed', box === this.pointed);
+      row.classList.toggle('changed', scene.changed[box] > 0);
+      row.title = this.describe(box).join('\n');
+      const dot = element('span', 'dot');
+      dot.style.background = `var(--${scene.isLeaf[box] ? 'leaf' : 'fill'}${hue})`;
+      dot.style.borderColor = `var(--edge${hue})`;
+      row.append(dot, element('span', '', scene.boxes.names[box]), element('span', 'number', `${x} ${y} ${width} ${height}`));
+    }
+
+    fillStep(row, step) {
+      const answer = this.run.printed.answers[step], edit = this.run.editAt(step);
+      row.classList.toggle('chosen', step === this.step);
+      row.append(element('span', 'at', String(answer.number)));
+      row.append(element('span', answer.isRefused ? 'wrong' : '', edit ? gridlay.text.visible(edit.text.slice(0, 200)) : 'the document'));
+      if (answer.isRefused) row.append(element('span', 'number wrong', answer.fault));
+    }
+
+    fillLine(row, index) {
+      const { run } = this;
+      row.classList.toggle('chosen', index + 1 === this.lineInQuestion());
+      row.append(element('span', 'at', String(index + 1)));
+      const refusal = run.refusedLines.get(index + 1);
+      if (refusal) {
+        const [before, token, after] = run.markedLine(refusal.line, refusal.column), text = element('span');
+        text.append(before.slice(-400), element('mark', '', token || ' '), after.slice(0, 400));
+        row.append(text);
+      } else {
+        row.append(element('span', '', run.shownLine(index).slice(0, 800)));
+      }
+    }
+
+    key(event) {
+      if (event.target.closest('textarea, select, input:not([type=range])') || event.altKey || event.metaKey || event.ctrlKey || !this.run) return;
+      const { scene, view } = this;
+      const does = {
+        ArrowLeft: () => this.go(this.step - 1), ArrowRight: () => this.go(this.step + 1),
+        Home: () => this.go(0), End: () => this.go(this.run.steps - 1),
+        ArrowUp: () => scene && this.choose(Math.max(0, this.chosen - 1), true),
+        ArrowDown: () => scene && this.choose(Math.min(scene.count - 1, this.chosen + 1), true),
+        Escape: () => this.pointer.cancel() || this.choose(-1),
+        c: () => this.chooseChanged(),
+        '+': () => this.enlarge(1.25), '=': () => this.enlarge(1.25), '-': () => this.enlarge(1 / 1.25),
+        0: () => this.fit('whole'), 9: () => this.fit('wide'), 1: () => this.enlarge(1 / view.zoom),
+      }[event.key];
+      if (!does) return;
+      event.preventDefault();
+      does();
+    }
+
+    /** Says a word in the line below the bar; '' takes it away. */
+    say(text) {
+      this.part.notice.textContent = text;
+      this.part.notice.hidden = !text;
+    }
+  }
+
+  gridlay.viewer = { Viewer };
+})(globalThis.gridlay ??= {});
