@@ -43,7 +43,8 @@ kit_version=$(rt version)
 # What the engine is made of: as long as it is the same, the engine is not built again.
 sum_of_sources() {
     printf '%s %s\n' "$is_proved" "$kit_version"
-    cat "$view/build_engine.sh" "$view/engine/shim.c" "$top/crates.txt"
+    declare -f build_engine
+    cat "$view/engine/shim.c" "$top/crates.txt"
     find "$top/crates" -name out -prune -o -type f \( -name '*.rt' -o -name '*.antt' \) -print0 | sort -z | xargs -0 cat
 }
 
@@ -83,9 +84,16 @@ compile_proved() {
     say "compiling it once more to catch its module: some minutes"
     mkdir "$work/before"
     cp -p "$top"/crates/gridlay/out/gridlay* "$work/before/"
+    touch "$work/is_kept"
     # (on the word `build` the program reads nothing, and ends with status 64)
     (cd "$top/crates/gridlay" && "$work/kit/bin/rt" run --backend llvm -- build </dev/null >"$work/log" 2>&1) || [ $? -eq 64 ] || status=1
-    cp -p "$work"/before/* "$top/crates/gridlay/out/"
+    put_back
+}
+
+# Puts back what the build before had left, also where the script is broken off.
+put_back() {
+    [ ! -f "$work/is_kept" ] || cp -p "$work"/before/* "$top/crates/gridlay/out/"
+    rm -f "$work/is_kept"
 }
 
 compile_unproved() {
@@ -140,7 +148,7 @@ write_page() {
 
 mkdir -p "$out"
 work=$(mktemp -d)
-trap 'rm -rf "$work"' EXIT
+trap 'put_back; rm -rf "$work"' EXIT
 sum=$(sum_of_sources | sha256sum)
 if [ -f "$out/engine.wasm.gz" ] && [ "$(cat "$out/engine.sum" 2>/dev/null)" = "$sum" ]; then
     say "the engine is built already from these sources"

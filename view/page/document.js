@@ -10,13 +10,36 @@
     return (at < 0 ? line : line.slice(0, at)).trimEnd();
   }
 
+  /** A node: what its line says, its place in a tree, and what edits declared of it since, in their order. */
+  class Node {
+    constructor(name, kind, sizes, braces, line, level) {
+      this.name = name;
+      this.kind = kind;
+      this.sizes = sizes;
+      /** What stands between the braces of its line. */
+      this.braces = braces;
+      this.line = line;
+      this.level = level;
+      this.edits = null;
+      this.parent = null;
+      this.children = [];
+    }
+
+    copy() {
+      return new Node(this.name, this.kind, this.sizes, this.braces, this.line, this.level);
+    }
+
+    /** All its declarations, from its line and from edits. */
+    declared() {
+      const written = this.braces.replace(/\}[^}]*$/, '').split(';').filter(it => it.trim());
+      return this.edits ? [...written, ...this.edits] : written;
+    }
+  }
+
   /** The node that a line declares, with no place in a tree yet; `line` counts from 1. */
   function nodeOf(text, line) {
     const found = NODE.exec(text);
-    if (!found) return null;
-    const [, spaces, name, kind, sizes, braces] = found;
-    const declared = braces === undefined ? [] : braces.replace(/\}[^}]*$/, '').split(';').filter(it => it.trim());
-    return { name, kind, sizes: sizes.trim(), line, level: spaces.length / 2, declared, parent: null, children: [] };
+    return found && new Node(found[2], found[3], found[4].trim(), found[5] ?? '', line, found[1].length / 2);
   }
 
   /** A document as it is written: the viewport, the nodes in their order, and the edits of the script. */
@@ -58,7 +81,7 @@
       this.root = null;
       const above = [];
       for (const written of doc.nodes) {
-        const node = { ...written, declared: [...written.declared], children: [] };
+        const node = written.copy();
         above.length = Math.min(above.length, node.level);
         node.parent = above[node.level - 1] ?? null;
         above[node.level] = node;
@@ -86,8 +109,8 @@
       const node = this.named.get(first);
       if (word === 'viewport') this.viewport = [first, second];
       else if (!node) return;
-      else if (word === 'set') node.declared.push(text.replace(/^set +\S+ +/, ''));
-      else if (word === 'unset') node.declared.push({ unset: second });
+      else if (word === 'set') (node.edits ??= []).push(text.replace(/^set +\S+ +/, ''));
+      else if (word === 'unset') (node.edits ??= []).push({ unset: second });
       else if (word === 'insert') this.insert(node, Number(second), nodeOf(text.replace(/^insert +\S+ +\S+ +/, ''), line));
       else if (word === 'remove') this.remove(node);
       else if (word === 'move') this.move(node, this.named.get(second), Number(third));
@@ -136,7 +159,7 @@
   }
 
   function declaredOf(node) {
-    return new Map(node.declared.flatMap(partsOf));
+    return new Map(node.declared().flatMap(partsOf));
   }
 
   /** The px of a length, where `em` and `rem` have the sizes that are told. */

@@ -29,27 +29,29 @@
       this.script = [];
     }
 
-    begin({ box, axis }) {
+    /** An edge is taken at a place of the page. */
+    begin({ box, axis }, pageX, pageY) {
       const { viewer } = this, { run, scene } = viewer, name = box < 0 ? '' : scene.boxes.names[box];
       const isAgain = this.last?.text === run.lines.text && this.last.step === viewer.step && this.last.name === name && this.last.axis === axis;
       const from = isAgain ? this.last.from : { run, step: viewer.step };
       // (the picture is to stand still under the pointer)
       viewer.view.mode = 'free';
-      this.now = { name, axis, from, isAgain, edits: [], put: null, start: this.startOf(box), before: { text: run.lines.text, step: viewer.step } };
+      this.now = { name, axis, from, isAgain, edits: [], put: null, start: this.startOf(box, pageX, pageY), before: { text: run.lines.text, step: viewer.step } };
     }
 
-    /** Where the dragged box begins, its size, and what of that its `width` and `height` do not count. */
-    startOf(box) {
-      const { scene } = this.viewer, { x, y } = scene.boxes, node = scene.nodes[box];
-      if (box < 0) return { x: 0, y: 0, width: scene.viewport[0], height: scene.viewport[1], less: { width: 0, height: 0 } };
-      return { x: x[box], y: y[box], width: 0, height: 0, less: { width: notCounted(node, 'width'), height: notCounted(node, 'height') } };
+    /** What a size is when the pointer is at 0: so that the edge keeps its distance from the pointer, and without what the property does not count. */
+    startOf(box, pageX, pageY) {
+      const { scene } = this.viewer, [wide, high] = scene.viewport, node = scene.nodes[box];
+      if (box < 0) return { width: wide - pageX, height: high - pageY, wide, high };
+      const { width, height } = scene.boxes;
+      return { width: width[box] - notCounted(node, 'width') - pageX, height: height[box] - notCounted(node, 'height') - pageY };
     }
 
     /** The pointer is at a place of the page. */
     to(pageX, pageY) {
       const { now } = this, { from, start, axis } = now;
-      const width = Math.max(0, Math.round(pageX - start.x - start.less.width)), height = Math.max(0, Math.round(pageY - start.y - start.less.height));
-      const edits = this.editsOf(now.name, axis, axis === 'height' ? start.width : width, axis === 'width' ? start.height : height);
+      const width = Math.max(0, Math.round(start.width + pageX)), height = Math.max(0, Math.round(start.height + pageY));
+      const edits = this.editsOf(now.name, axis, axis === 'height' ? start.wide : width, axis === 'width' ? start.high : height);
       if (edits.join() === now.edits.join()) return;
       now.edits = edits;
       now.put = withEdits(from.run.lines, from.run.document, from.step ? from.run.editAt(from.step).line : 0, edits);

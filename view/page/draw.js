@@ -18,14 +18,20 @@
     };
   }
 
-  /** Where the viewport is taken to drag its edges: places of the window outside of it, with the axis of each. */
+  /** Where the viewport is taken to drag its edges: places of the window outside of it, with the axis of each; none where it is small. */
   function gripsOf([width, height], view) {
-    const [left, top] = view.toWindow(0, 0), [right, lower] = view.toWindow(width, height);
-    const middle = (from, to, most) => (Math.max(0, from) + Math.min(most, to)) / 2, long = 36, thick = 7, gap = 3;
+    const [left, top] = view.toWindow(0, 0), [right, lower] = view.toWindow(width, height), thick = 7, gap = 3;
+    // of an edge that is seen in part, the middle of that part
+    const along = (from, to, most) => {
+      const begin = Math.max(0, from), end = Math.min(most, to), long = Math.min(36, (end - begin) / 2);
+      return { begin: (begin + end - long) / 2, long };
+    };
+    const side = along(top, lower, view.height), foot = along(left, right, view.width);
+    if (Math.min(side.long, foot.long) < 8) return [];
     return [
       { axis: 'both', left: right + gap, top: lower + gap, width: thick * 1.6, height: thick * 1.6 },
-      { axis: 'width', left: right + gap, top: middle(top, lower, view.height) - long / 2, width: thick, height: long },
-      { axis: 'height', left: middle(left, right, view.width) - long / 2, top: lower + gap, width: long, height: thick },
+      { axis: 'width', left: right + gap, top: side.begin, width: thick, height: side.long },
+      { axis: 'height', left: foot.begin, top: lower + gap, width: foot.long, height: thick },
     ];
   }
 
@@ -139,10 +145,10 @@
     nameContainer(box, place) {
       const { context, scale } = this, [left, top, width, height] = place, name = this.scene.boxes.names[box];
       for (const size of [11, 9, 7]) {
-        const letters = size * scale, tall = letters + 2 * scale, text = this.fitting(name, width - 6 * scale, letters);
+        const letters = size * scale, tall = letters + scale, text = this.fitting(name, width - 6 * scale, letters);
         if (!text || tall > height) continue;
         const wide = text.length * letters * LETTER + 4 * scale;
-        for (const at of [top + scale, top + height - tall - scale]) {
+        for (const at of [top + scale / 2, top + height - tall - scale / 2]) {
           if (!this.isFree(box, left, at, wide, tall)) continue;
           context.fillStyle = this.colours.dim;
           context.font = `${letters}px ${FONT}`;

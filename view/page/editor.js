@@ -65,9 +65,8 @@
       this.hears.caret(line);
     }
 
-    /** Takes a whole text in place of what stands here, where it is not too long. */
+    /** Takes a whole text in place of what stands here. */
     open(text) {
-      if (!this.takes(text.length)) return;
       this.area.value = text;
       this.area.setSelectionRange(0, 0);
       this.area.scrollTo(0, 0);

@@ -10,6 +10,8 @@
     constructor() {
       this.part = Object.fromEntries([...document.querySelectorAll('.writing [id]')].map(it => [it.id, it]));
       this.engine = null;
+      /** Whether the text was opened as a whole since the last picture. */
+      this.isFresh = true;
       this.viewer = new gridlay.viewer.Viewer({
         choose: box => this.editor.pointAt(box < 0 ? 0 : this.viewer.scene.nodes[box].line),
         step: step => this.editor.pointAt(step ? this.viewer.run.editAt(step).line : 0),
@@ -46,14 +48,22 @@
 
     openExample(name) {
       const example = [...document.querySelectorAll('script[data-example]')].find(it => it.dataset.example === name);
-      this.editor.open(textOfUtf8(block(example.id)));
+      this.open(textOfUtf8(block(example.id)));
+    }
+
+    /** Takes a whole text: nothing of the one before is compared with it. */
+    open(text) {
+      if (!this.editor.takes(text.length)) return;
+      this.isFresh = true;
       this.viewer.view.mode = 'self';
+      this.dragging.forget();
+      this.editor.open(text);
     }
 
     async openFile(file) {
       // (no character has more than four bytes)
       if (file.size > 4 * gridlay.editor.LIMIT) this.editor.takes(file.size);
-      else this.editor.open(await file.text());
+      else this.open(await file.text());
       this.part.file.value = '';
     }
 
@@ -99,10 +109,17 @@
         return;
       }
       viewer.say(status === 6 ? 'Memory was wanting: what was laid out until then is shown.' : '');
-      const run = new Run({ text, output, status }), old = viewer.run;
-      const before = old && !old.hasNoLayout && text !== old.lines.text ? old.printed.boxes(0) : viewer.before;
-      viewer.open(run, step >= 0 ? step : this.stepOf(run, editor.caretLine), before);
+      const run = new Run({ text, output, status });
+      viewer.open(run, step >= 0 ? step : this.stepOf(run, editor.caretLine), this.earlierThan(text));
+      this.isFresh = false;
       if (text === editor.text) editor.showFaults(run.refusals);
+    }
+
+    /** What the first layout of a text is compared with: that of the text before; nothing where the text was opened as a whole. */
+    earlierThan(text) {
+      const { run, before } = this.viewer;
+      if (this.isFresh || !run) return null;
+      return run.hasNoLayout || text === run.lines.text ? before : run.printed.boxes(0);
     }
 
     /** The step that a line of the text is about: that of its edit, or of the last edit above it. */

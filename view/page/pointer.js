@@ -5,7 +5,7 @@
   /** How near to an edge, in pixels of the window, it is taken. */
   const NEAR = 5;
   /** Edges of boxes that are seen smaller than this are not taken, unless the box is chosen. */
-  const LEAST = 16;
+  const LEAST = 10;
   /** A press that moves less is a click. */
   const STILL = 4;
 
@@ -34,7 +34,7 @@
       this.canvas.setPointerCapture(event.pointerId);
       this.canvas.focus({ preventScroll: true });
       this.pressed = { x, y, lastX: x, lastY: y, isMoved: false, edge: this.edgeAt(x, y) };
-      if (this.pressed.edge) this.viewer.hears.drag.begin(this.pressed.edge);
+      if (this.pressed.edge) this.viewer.hears.drag.begin(this.pressed.edge, ...this.viewer.view.toPage(x, y));
     }
 
     move(event) {

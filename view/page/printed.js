@@ -56,20 +56,59 @@
     }
   }
 
+  const SPACE = 32, POINT = 46, MINUS = 45, ZERO = 48;
+
   /** The boxes of a layout in their order: names, numbers, and the numbers as they were printed. */
   class Boxes {
     constructor(text) {
-      const words = text.split('\n').filter(it => it && !/^stats \d+ \d+$/.test(it)).map(it => it.split(' '));
-      const count = words.length;
-      this.count = count;
-      this.names = words.map(it => it[0]);
-      this.printed = words.map(it => it.slice(1));
-      for (const [at, part] of ['x', 'y', 'width', 'height'].entries()) {
-        const numbers = new Float64Array(count);
-        for (let box = 0; box < count; box++) numbers[box] = Number(words[box][at + 1]);
-        this[part] = numbers;
+      const starts = [];
+      for (let at = 0; at < text.length; at = text.indexOf('\n', at) + 1 || text.length) {
+        // (a line of counts is no box)
+        if (!text.startsWith('stats ', at) || lineFrom(text, at).split(' ').length === 5) starts.push(at);
       }
-      this.places = new Map(this.names.map((name, box) => [name, box]));
+      this.text = text;
+      this.starts = starts;
+      this.count = starts.length;
+      this.names = new Array(this.count);
+      this.places = new Map();
+      for (const part of ['x', 'y', 'width', 'height']) this[part] = new Float64Array(this.count);
+      for (let box = 0; box < this.count; box++) this.read(box);
+    }
+
+    read(box) {
+      const start = this.starts[box], end = this.text.indexOf(' ', start);
+      this.names[box] = this.text.slice(start, end);
+      this.places.set(this.names[box], box);
+      this.at = end;
+      this.x[box] = this.number();
+      this.y[box] = this.number();
+      this.width[box] = this.number();
+      this.height[box] = this.number();
+    }
+
+    /** The number behind the space at `at`. Each has at most six decimals and is whole in units of 1/64, so it is read exactly. */
+    number() {
+      const { text } = this, isNegative = text.charCodeAt(this.at + 1) === MINUS;
+      let at = this.at + (isNegative ? 2 : 1), whole = 0, divisor = 0;
+      for (; at < text.length; at++) {
+        const code = text.charCodeAt(at);
+        if (code === POINT) {
+          divisor = 1;
+        } else if (code > SPACE) {
+          whole = whole * 10 + code - ZERO;
+          divisor *= 10;
+        } else {
+          break;
+        }
+      }
+      this.at = at;
+      const number = divisor ? whole / divisor : whole;
+      return isNegative ? -number : number;
+    }
+
+    /** The numbers of a box as they were printed: x, y, width and height. */
+    printed(box) {
+      return lineFrom(this.text, this.starts[box]).split(' ').slice(1);
     }
 
     /** Whether a box of this layout and one of another have the same numbers. */

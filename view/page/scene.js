@@ -7,7 +7,7 @@
   class Scene {
     /** Joins the printed boxes with the nodes of the tree. `before` are the boxes of the layout before, or null. */
     constructor(boxes, tree, before) {
-      const nodes = tree.nodes(), count = boxes.count;
+      const nodes = tree.nodes(), { count } = boxes;
       this.boxes = boxes;
       this.count = count;
       this.viewport = tree.viewport.map(Number.parseFloat);

@@ -216,7 +216,7 @@
 
     /** What is told of a box: its kind, its numbers as they were printed, and how it changed. */
     describe(box) {
-      const { scene } = this, [x, y, width, height] = scene.boxes.printed[box];
+      const { scene } = this, [x, y, width, height] = scene.boxes.printed(box);
       const lines = [`${scene.boxes.names[box]}  ${scene.kindOf(box)}`, `x ${x}  y ${y}  width ${width}  height ${height}`];
       if (scene.changed[box]) lines.push(scene.changed[box] === gridlay.scene.NEW ? 'new in this layout' : 'changed in this layout');
       const sides = scene.standsOut(box);
@@ -235,7 +235,7 @@
     }
 
     fillBox(row, box) {
-      const { scene } = this, hue = scene.depth[box] % HUES, [x, y, width, height] = scene.boxes.printed[box];
+      const { scene } = this, hue = scene.depth[box] % HUES, [x, y, width, height] = scene.boxes.printed(box);
       row.style.paddingLeft = `${8 + 12 * scene.depth[box]}px`;
       row.setAttribute('role', 'treeitem');
       row.setAttribute('aria-level', String(scene.depth[box] + 1));

@@ -1,0 +1,24 @@
+// Runs all checks: node run.mjs BROWSER PROGRAM VIEW SHOTS [PLAYING-PAGE]
+import { mkdirSync, mkdtempSync, rmSync } from 'node:fs';
+import { tmpdir } from 'node:os';
+import { join } from 'node:path';
+import { start } from './browser.mjs';
+import { Checks } from './harness.mjs';
+import { checkPictures } from './picture_checks.mjs';
+import { checkPlaying } from './play_checks.mjs';
+
+const [browserProgram, program, view, shots, playing = ''] = process.argv.slice(2);
+const work = mkdtempSync(join(tmpdir(), 'gridlay-view-test-'));
+mkdirSync(shots, { recursive: true });
+const checks = new Checks(), browser = await start(browserProgram);
+console.log(`the browser is ${browser.product}`);
+try {
+  await checkPictures(checks, { browser, program, view, shots, work });
+  if (playing) await checkPlaying(checks, { browser, program, view, shots, work, playing });
+  else checks.skip('the page that lays out while you type', 'it is not built: view/build_engine.sh builds it');
+} finally {
+  await browser.close();
+  rmSync(work, { recursive: true, force: true });
+}
+console.log(`the screenshots lie in ${shots}`);
+process.exit(checks.end());
