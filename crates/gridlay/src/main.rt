@@ -1,7 +1,9 @@
 //! The program: hands its words, standard input and standard output to `session::run`, and ends with its status.
 #![tactic(auto)]
 
-ghost use Rattle.std.specs.Prelude.{◌≡◌, ◌<◌};
+ghost use Rattle.std.specs.Prelude.{◌≡◌, ◌<◌, false, IfErr, IfOk};
+ghost use Rattle.std.specs.Process.{exit_status};
+ghost use Rattle.session.specs.Words.{asked, code_of, is_served, IsUnserved};
 
 mod words;
 
@@ -15,28 +17,45 @@ use std::process::ExitCode;
 use std::rt::Env;
 use std::sync::ledger::{Blank, Ledger};
 
-fn status<R: Input + Print + Env + AllocGlobal, L: Ledger>(rt: &R, blank: Blank) -> Status
+/// How a run with these words ends, over standard input and output; or why there are no words.
+fn status<R: Input + Print + Env + AllocGlobal, L: Ledger>(
+    rt: &R,
+    words: Result<Vec<String>, Status>,
+    blank: Blank,
+) -> Status
     requires name { blank.name ≡ L.name }
     requires parts { blank.parts ≡ L.parts }
     requires some { 0 < blank.parts }
+    ensures refused { IfErr words (λ why. result ≡ why) }
+    ensures words { IfOk words (λ given. result ≡ Status.BadWords → is_served (asked given.items) ≡ false) }
+    ensures unserved { IfOk words (λ given. is_served (asked given.items) ≡ false → IsUnserved result) }
 {
+    let words = match words {
+        Ok(words) => words,
+        Err(why) => return why,
+    };
     let mut passes: Steps<L> = Steps::new(blank);
     let mut source = StdSource::new(rt.reader());
     let mut sink = StdSink::new(io::writer(rt));
     let mut ruler = WordRuler::new();
-    match words_of(rt, rt.alloc()) {
-        Ok(words) => run(
-            rt.alloc(),
-            words,
-            &mut source,
-            &mut sink,
-            &mut ruler,
-            &mut passes,
-        ),
-        Err(status) => status,
-    }
+    run(
+        rt.alloc(),
+        words,
+        &mut source,
+        &mut sink,
+        &mut ruler,
+        &mut passes,
+    )
+}
+
+/// The number of a status, as the system takes it.
+fn code_for(status: Status) -> ExitCode
+    ensures { exit_status result ≡ code_of status }
+{
+    ExitCode::from(status.code())
 }
 
 fn main(rt: HostRuntime) -> ExitCode {
-    ExitCode::from(status::<HostRuntime, Brand>(&rt, Blank::new(1)).code())
+    let words = words_of(&rt, rt.alloc());
+    code_for(status::<HostRuntime, Brand>(&rt, words, Blank::new(1)))
 }

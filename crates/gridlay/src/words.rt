@@ -92,6 +92,37 @@ mod tests {
         }
     }
 
+    /// Whether the words after the program's name are these, in their order.
+    fn are_read(alloc: Global, called: &[&[u8]], want: &[&str]) -> bool {
+        match words_of(&Called { words: called }, alloc) {
+            Ok(words) => {
+                words.len() == want.len()
+                    && (0..want.len()).all(|index| words[index].as_str() == want[index])
+            }
+            Err(_) => false,
+        }
+    }
+
+    #[test]
+    fn all_words_of_a_command_are_read_as_they_are(rt: HostRuntime) {
+        let alloc = rt.alloc();
+        assert!(rt;
+            are_read(
+                alloc,
+                &[b"gridlay", b"layout", b"--stats"],
+                &["layout", "--stats"]
+            )
+        );
+        assert!(rt;
+            are_read(
+                alloc,
+                &[b"gridlay", b"make", b"--seed", b"1", b"--nodes", b"2"],
+                &["make", "--seed", "1", "--nodes", "2"],
+            )
+        );
+        assert!(rt; are_read(alloc, &[b"gridlay"], &[]));
+    }
+
     #[test]
     fn words_that_are_no_text_are_bad_words(rt: HostRuntime) {
         let alloc = rt.alloc();
