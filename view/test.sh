@@ -1,7 +1,8 @@
 #!/usr/bin/env bash
 # Tries the viewer and the playing page in a real browser.
-#     view/test.sh [FOLDER]
-# Screenshots are kept in FOLDER, which should lie outside the repository; without it in a new folder, which is told.
+#     view/test.sh [FOLDER [WORD]]
+# Screenshots are kept in FOLDER, which should lie outside the repository; without it in a new folder, which is told. With a WORD only
+# the checks with it in their names are made.
 # Needed are node (18 or later), and Chromium's headless shell (Debian's chromium-headless-shell) or Chromium; BROWSER names another
 # one. Nothing is installed here. The boxes are held to those of the program: GRIDLAY_PROGRAM, else the one that ./gridlay built.
 # The playing page is tried where view/build_engine.sh has built it; else it is told that this was skipped.
@@ -36,4 +37,4 @@ elif [ -n "$(find "$view/page" "$view/assemble.sh" -newer "$page" -print -quit)"
     exit 69
 fi
 shots=${1:-$(mktemp -d -t gridlay-shots-XXXXXX)}
-exec node "$view/test/run.mjs" "$browser" "$program" "$view" "$shots" "$page"
+exec node "$view/test/run.mjs" "$browser" "$program" "$view" "$shots" "$page" "${2-}"

@@ -8,11 +8,12 @@ typedef unsigned __int128 u128;
 typedef __int128 i128;
 typedef __SIZE_TYPE__ usize;
 
-// What the processor can do beyond the least: nothing. (glibc answers with two lists of four words for a leaf of CPUID.)
+// What the processor can do: all that the program asks about before it begins. It was compiled for an x86-64 that has it; here
+// wasm64 has the same by other instructions. (glibc answers with two lists of four words for a leaf of CPUID.)
 const unsigned *__x86_get_cpuid_feature_leaf(unsigned leaf) {
-    static const unsigned nothing[8];
+    static const unsigned all[8] = {~0u, ~0u, ~0u, ~0u, ~0u, ~0u, ~0u, ~0u};
     (void)leaf;
-    return nothing;
+    return all;
 }
 
 // The heap

@@ -78,7 +78,7 @@
       }
       if (isDim) this.veil();
       if (pointed >= 0 && pointed < scene.count) this.frame(this.boxOnScreen(pointed), colours.chosen, 1, [4, 3]);
-      if (chosen >= 0 && chosen < scene.count) this.frame(this.boxOnScreen(chosen), colours.chosen, 2.5);
+      if (chosen >= 0 && chosen < scene.count) this.frame(this.boxOnScreen(chosen), colours.chosen, 2, [], true);
       if (hasGrips) this.drawGrips();
       return drawn;
     }

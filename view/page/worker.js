@@ -3,6 +3,8 @@
 'use strict';
 
 const WORDS = ['gridlay', 'layout'];
+/** All done; the document refused; some edits refused; memory wanting. */
+const STATUSES = [0, 2, 3, 6];
 
 let module = null;
 
@@ -17,8 +19,8 @@ function hostOf(input, run) {
       return BigInt(piece.length);
     },
     write: (handle, place, length) => {
-      // (1 is the standard output; nothing else is shown)
-      if (handle === 1) run.output.push(bytes().slice(Number(place), Number(place + length)));
+      // (1 is the standard output, and what is not written there is a complaint)
+      (handle === 1 ? run.output : run.complaints).push(bytes().slice(Number(place), Number(place + length)));
       return length;
     },
     rattle_arg: (index, place, room) => {
@@ -41,10 +43,11 @@ function hostOf(input, run) {
 
 /** Runs the program on an input, and gives its status and what it wrote, or what stopped it. */
 function lay(input) {
-  const run = { at: 0, errno: 0, output: [], instance: null }, start = performance.now();
+  const run = { at: 0, errno: 0, output: [], complaints: [], instance: null }, start = performance.now();
   try {
     run.instance = new WebAssembly.Instance(module, { env: hostOf(input, run) });
     const status = run.instance.exports.main(0, 0n);
+    if (!STATUSES.includes(status)) return { trouble: `it ended with status ${status} ${new TextDecoder().decode(joined(run.complaints))}`.trim(), time: performance.now() - start };
     return { status, output: joined(run.output), time: performance.now() - start };
   } catch (error) {
     return { trouble: error instanceof RangeError ? 'it ran out of stack or of memory' : error.message, time: performance.now() - start };

@@ -5,15 +5,17 @@ import { readFileSync, writeFileSync } from 'node:fs';
 import { join } from 'node:path';
 import { pathToFileURL } from 'node:url';
 
-/** Runs checks one after another, and counts them. */
+/** Runs checks one after another, and counts them; only those with a word in their names, where one is told. */
 export class Checks {
-  constructor() {
+  constructor(word) {
+    this.word = word;
     this.passed = 0;
     this.failed = 0;
     this.skipped = 0;
   }
 
   async check(name, does) {
+    if (!name.includes(this.word)) return;
     try {
       await does();
       this.passed++;
@@ -25,6 +27,7 @@ export class Checks {
   }
 
   skip(name, why) {
+    if (!name.includes(this.word)) return;
     this.skipped++;
     console.log(`skipped  ${name}: ${why}`);
   }

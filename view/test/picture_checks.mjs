@@ -232,6 +232,18 @@ async function checkLooks(checks, tools, examples) {
     await page.close();
   });
 
+  await checks.check('the picture that README shows can be made', async () => {
+    const page = await opened(tools, join(examples, 'cards.gridlay'));
+    await page.size(1020, 430);
+    await page.until('gridlay.page.view.width === 680');
+    for (const key of ['ArrowRight', 'ArrowRight', '9', ...Array(6).fill('ArrowDown')]) await page.key(key);
+    assert.match(await page.value(CAPTION), /^layout 2insert page 5 card5 leaf 100 40.*1 new$/);
+    assert.match(await page.value("document.querySelector('#details').textContent"), /^text2 {2}words, 5 of them/);
+    await page.value('gridlay.page.draw(true)');
+    await page.picture(join(shots, 'cards.png'));
+    await page.close();
+  });
+
   await checks.check('in a narrow window all is in reach', async () => {
     const page = await opened(tools, join(examples, 'form.gridlay'));
     await page.size(380, 700);

@@ -1,4 +1,4 @@
-// Runs all checks: node run.mjs BROWSER PROGRAM VIEW SHOTS [PLAYING-PAGE]
+// Runs the checks: node run.mjs BROWSER PROGRAM VIEW SHOTS PLAYING-PAGE-OR-'' WORD-OR-''
 import { mkdirSync, mkdtempSync, rmSync } from 'node:fs';
 import { tmpdir } from 'node:os';
 import { join } from 'node:path';
@@ -7,10 +7,10 @@ import { Checks } from './harness.mjs';
 import { checkPictures } from './picture_checks.mjs';
 import { checkPlaying } from './play_checks.mjs';
 
-const [browserProgram, program, view, shots, playing = ''] = process.argv.slice(2);
+const [browserProgram, program, view, shots, playing, word] = process.argv.slice(2);
 const work = mkdtempSync(join(tmpdir(), 'gridlay-view-test-'));
 mkdirSync(shots, { recursive: true });
-const checks = new Checks(), browser = await start(browserProgram);
+const checks = new Checks(word), browser = await start(browserProgram);
 console.log(`the browser is ${browser.product}`);
 try {
   await checkPictures(checks, { browser, program, view, shots, work });
