@@ -75,7 +75,6 @@
 
     hear({ number, status, output, trouble, time }) {
       if (this.running?.number !== number) return;
-      if (trouble) this.start();
       this.answer(trouble ? { trouble, time } : { status, output: new TextDecoder().decode(output), time });
     }
 

@@ -105,7 +105,7 @@
       const { viewer, editor } = this, { output, status, trouble, time } = answer;
       this.part.state.textContent = `${time < 10 ? time.toFixed(1) : Math.round(time)} ms`;
       if (trouble) {
-        viewer.say(`The engine stopped at this text, and was started again: ${trouble}. The picture is the last that was made.`);
+        viewer.say(`The engine stopped at this text: ${trouble}. It begins anew with the next one; the picture is the last that was made.`);
         return;
       }
       viewer.say(status === 6 ? 'Memory was wanting: what was laid out until then is shown.' : '');

@@ -87,6 +87,56 @@ export async function checkPictures(checks, tools) {
       assert.equal(caption.includes(`${added} new`), added > 0, caption);
       assert.equal(caption.includes(`${gone} gone`), gone > 0, caption);
     }
+    // from the last step, at which all but one box of ten changed: the key C goes from one to the next
+    const chosen = [];
+    for (let press = 0; press < 3; press++) {
+      await page.key('c');
+      chosen.push(await page.value("document.querySelector('#boxes .row.chosen').children[1].textContent"));
+    }
+    const changed = answers.at(-1).boxes.filter(it => !answers.at(-2).boxes.includes(it)).map(it => it.split(' ')[0]);
+    assert.deepEqual(chosen, changed.slice(0, 3));
+    await page.close();
+  });
+
+  await checks.check('the tree follows all kinds of edits', async () => {
+    const file = join(work, 'edits.gridlay');
+    writeFileSync(file, `gridlay 1
+viewport 100 100
+root grid # the root
+  a grid{padding:1px}
+
+  # a comment
+    a1 leaf 1 1
+    a2 words 1 1 { width: 2px; }
+  b flex
+---
+insert a 1 new grid { gap: 1px }
+insert new 0 deep leaf 3 3
+move a2 new 1
+ set b  width: 5px ;
+unset b width
+content deep words 1 1 1 1
+insert nobody 0 none leaf 1 1
+move new root 0
+remove a
+viewport 50 60px
+`);
+    const page = await opened(tools, file), trees = [
+      'root 1,a 2,a1 3,a2 3,b 2', 'root 1,a 2,a1 3,new 3,a2 3,b 2', 'root 1,a 2,a1 3,new 3,deep 4,a2 3,b 2', 'root 1,a 2,a1 3,new 3,deep 4,a2 4,b 2',
+      'root 1,a 2,a1 3,new 3,deep 4,a2 4,b 2', 'root 1,a 2,a1 3,new 3,deep 4,a2 4,b 2', 'root 1,a 2,a1 3,new 3,deep 4,a2 4,b 2', 'root 1,a 2,a1 3,new 3,deep 4,a2 4,b 2',
+      'root 1,new 2,deep 3,a2 3,a 2,a1 3,b 2', 'root 1,new 2,deep 3,a2 3,b 2', 'root 1,new 2,deep 3,a2 3,b 2'];
+    for (const [step, tree] of trees.entries()) {
+      if (step) await page.key('ArrowRight');
+      assert.equal(await page.value("[...document.querySelectorAll('#boxes .row')].map(it => `${it.children[1].textContent} ${it.getAttribute('aria-level')}`).join()"), tree, `step ${step}`);
+      assert.equal((await page.value(SHOWN)).isTree, true);
+    }
+    assert.match(await page.value(CAPTION), /viewport 50 \u00d7 60 /);
+    const kinds = await page.value('gridlay.page.scene.nodes.map(it => `${it.kind} ${it.sizes}`.trim()).join()');
+    assert.equal(kinds, 'grid,grid,words 1 1 1 1,words 1 1,flex');
+    // back again, to a tree from before the edits
+    await page.key('Home');
+    assert.equal((await page.value(SHOWN)).isTree, true);
+    assertQuiet(page);
     await page.close();
   });
 

@@ -46,11 +46,11 @@ async function assertAsProgram(page, program) {
   return { source, answers, shown };
 }
 
-/** Where an edge of a box is seen in the window. */
+/** Where an edge of a box, or its middle, is seen in the window. */
 function edgeOf(page, name, side) {
   return page.value(`(() => {
     const { scene, view, part } = gridlay.page.viewer, box = scene.boxes.places.get('${name}'), { x, y, width, height } = scene.boxes;
-    const place = { right: [x[box] + width[box], y[box] + height[box] / 2], lower: [x[box] + width[box] / 2, y[box] + height[box]], corner: [x[box] + width[box], y[box] + height[box]] }['${side}'];
+    const place = { right: [x[box] + width[box], y[box] + height[box] / 2], lower: [x[box] + width[box] / 2, y[box] + height[box]], corner: [x[box] + width[box], y[box] + height[box]], middle: [x[box] + width[box] / 2, y[box] + height[box] / 2] }['${side}'];
     const stage = part.canvas.getBoundingClientRect(), [left, top] = view.toWindow(...place);
     return [stage.left + left - 1, stage.top + top - 1];
   })()`);
@@ -119,6 +119,7 @@ export async function checkPlaying(checks, tools) {
     assert.match(await page.value(CAPTION), /^refusedunknown-kindline 8, byte 9\./);
     assert.deepEqual((await page.value(SHOWN)).boxes, before);
     assert.equal(await page.value('gridlay.page.viewer.isDim'), true);
+    assert.match(await page.value(CAPTION), /The picture is the last that could be made\.$/);
     await page.picture(join(shots, 'play-fault.png'));
     await page.type('i');
     await page.until(SETTLED);
@@ -218,6 +219,25 @@ export async function checkPlaying(checks, tools) {
     await page.until(SETTLED);
     assert.equal(await page.value(NOTICE), '');
     await assertAsProgram(page, program);
+  });
+
+  await checks.check('a worker that fails, and a text that takes too long while another waits, are given up', async () => {
+    const source = 'gridlay 1\\nviewport 9 9\\na leaf 1 1\\n', layOut = `gridlay.page.engine.layout('${source}')`;
+    await page.value("globalThis.kept = gridlay.page.engine.source, gridlay.page.engine.source = 'onmessage = ({ data }) => { if (data.input) throw new Error(`it failed`); }', gridlay.page.engine.start()");
+    await page.value(`globalThis.first = ${layOut}, gridlay.page.engine.source = globalThis.kept, 0`);
+    assert.match((await page.value('globalThis.first')).trouble, /it failed/);
+    assert.equal((await page.value(layOut)).output, 'layout 0\na 0 0 9 1\n');
+    await page.value("gridlay.page.engine.source = 'onmessage = ({ data }) => { while (data.input); }', gridlay.page.engine.start()");
+    await page.value(`globalThis.first = ${layOut}, globalThis.second = ${layOut}, gridlay.page.engine.source = globalThis.kept, 0`);
+    assert.equal(await page.value('globalThis.first'), null);
+    assert.equal((await page.value('globalThis.second')).output, 'layout 0\na 0 0 9 1\n');
+  });
+
+  await checks.check('a box that is chosen is marked in the text', async () => {
+    await put(page, text(join(examples, 'cards.gridlay')));
+    await page.click(...await edgeOf(page, 'text3', 'middle'));
+    assert.equal(await page.value('gridlay.page.editor.here'), 11);
+    assert.equal(await page.value("Math.round(document.querySelector('#marks .here').getBoundingClientRect().top - document.querySelector('#text').getBoundingClientRect().top)"), 6 + 10 * 20);
   });
 
   await checkLarge(checks, tools, page);
