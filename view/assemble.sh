@@ -22,11 +22,12 @@ page_head() { # MORE-POLICY
 HEAD
 }
 
-# The scripts of a page, each in an element of its own: those of the viewer, in the order in which they stand on each other, and more.
+# The scripts of a page, each in an element of its own: those of the viewer, in the order in which they stand on each
+# other, and more.
 page_scripts() { # FOLDER NAME..
     local folder=$1 name
     shift
-    for name in text faults document printed scene run caption draw list view pointer viewer "$@"; do
+    for name in text faults document printed scene run caption draw rows list view pointer viewer "$@"; do
         printf '<script nonce="gridlay">\n'
         cat "$folder/$name.js"
         printf '</script>\n'

@@ -11,14 +11,18 @@
   }
 
   function changesOf({ changed, added, gone }) {
-    const parts = [changed && `${count(changed, 'box', 'boxes')} changed`, added && `${count(added, 'new', 'new')}`, gone && `${count(gone, 'gone', 'gone')}`];
-    return parts.filter(Boolean).join(', ') || 'no box changed';
+    const parts = [];
+    if (changed) parts.push(`${count(changed, 'box', 'boxes')} changed`);
+    if (added) parts.push(count(added, 'new', 'new'));
+    if (gone) parts.push(count(gone, 'gone', 'gone'));
+    return parts.join(', ') || 'no box changed';
   }
 
   /** A line with the marked place, cut at both ends where it is long. */
   function marked([before, token, after]) {
     const pre = element('pre');
-    pre.append(before.length > AROUND ? `\u2026${before.slice(-AROUND)}` : before, element('mark', '', token.slice(0, AROUND) || ' '));
+    pre.append(before.length > AROUND ? `\u2026${before.slice(-AROUND)}` : before);
+    pre.append(element('mark', '', token.slice(0, AROUND) || ' '));
     pre.append(after.length > AROUND ? `${after.slice(0, AROUND)}\u2026` : after);
     return pre;
   }
@@ -36,10 +40,11 @@
     const { number } = answer, edit = number ? run.document.edits[number - 1] : null;
     const parts = [element('b', '', `layout ${number}`)];
     if (edit) parts.push(element('code', '', gridlay.text.visible(edit.text.slice(0, 400))));
-    const notes = [edit ? `line ${edit.line}` : 'the document', count(scene.count, 'box', 'boxes'), `viewport ${scene.viewport.join(' \u00d7 ')}`];
+    const notes = [edit ? `line ${edit.line}` : 'the document', count(scene.count, 'box', 'boxes')];
+    notes.push(`viewport ${scene.viewport.join(' \u00d7 ')}`);
     if (scene.isCompared) notes.push(changesOf(scene.changes));
     parts.push(element('span', 'note', notes.join(' \u00b7 ')));
-    if (!scene.isTree) parts.push(element('span', 'note wrong', 'The printed names are not those of the document: its tree is not shown.'));
+    if (!scene.isTree) parts.push(element('span', 'note wrong', 'The names are not those of the document: no tree is shown.'));
     return parts;
   }
 

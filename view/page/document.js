@@ -151,7 +151,8 @@
 
   /** The parts that a declaration or an unset property sets, as [property, value], value '' where it is unset. */
   function partsOf(declaration) {
-    const [property, value] = declaration.unset ? [declaration.unset, ''] : declaration.split(/:(.*)/s).map(it => it.trim());
+    const parts = declaration.unset ? [declaration.unset, ''] : declaration.split(/:(.*)/s);
+    const [property, value] = parts.map(it => it.trim());
     const shape = { 'padding': side => `padding-${side}`, 'border-width': side => `border-${side}-width` }[property];
     if (!shape) return [[property, value]];
     const [top, right = top, bottom = top, left = right] = value.split(/ +/);
@@ -185,7 +186,8 @@
     while (root.parent) root = root.parent;
     const em = fontOf(node), rem = fontOf(root);
     const sides = axis === 'width' ? ['left', 'right'] : ['top', 'bottom'];
-    return sides.reduce((sum, side) => sum + lengthOf(declared.get(`padding-${side}`), em, rem) + lengthOf(declared.get(`border-${side}-width`), em, rem), 0);
+    const properties = sides.flatMap(side => [`padding-${side}`, `border-${side}-width`]);
+    return properties.reduce((sum, property) => sum + lengthOf(declared.get(property), em, rem), 0);
   }
 
   gridlay.document = { Document, Tree, notCounted, withoutComment };

@@ -1,5 +1,5 @@
-// Dragging an edge: each place of the pointer is an edit, which is laid out as if it stood in the script, right after the edits that
-// the picture shows. When the pointer is let go, the edit is written there.
+// Dragging an edge: each place of the pointer is an edit, which is laid out as if it stood in the script, right after
+// the edits that the picture shows. When the pointer is let go, the edit is written there.
 (function (gridlay) {
   'use strict';
 
@@ -17,8 +17,8 @@
 
   class Dragging {
     /**
-     * `isReady()` tells whether the picture is that of the editor's text; `show(text, step)` lays a text out and shows a step of it;
-     * `write(from, to, put)` changes the editor's text; `list(script)` shows the edits that were made by dragging.
+     * `isReady()` tells whether the picture is that of the editor's text; `show(text, step)` lays a text out and shows a
+     * step of it; `write(from, to, put)` changes the editor's text; `list(script)` shows the edits made by dragging.
      */
     constructor({ viewer, isReady, show, write, list }) {
       Object.assign(this, { viewer, isReady, show, write, list });
@@ -31,35 +31,47 @@
 
     /** An edge is taken at a place of the page. */
     begin({ box, axis }, pageX, pageY) {
-      const { viewer } = this, { run, scene } = viewer, name = box < 0 ? '' : scene.boxes.names[box];
-      const isAgain = this.last?.text === run.lines.text && this.last.step === viewer.step && this.last.name === name && this.last.axis === axis;
-      const from = isAgain ? this.last.from : { run, step: viewer.step };
+      const { viewer, last } = this, { run, step } = viewer, { text } = run.lines;
+      const name = box < 0 ? '' : viewer.scene.boxes.names[box];
+      const isAgain = last?.text === text && last.step === step && last.name === name && last.axis === axis;
       // (the picture is to stand still under the pointer)
       viewer.view.mode = 'free';
-      this.now = { name, axis, from, isAgain, edits: [], put: null, start: this.startOf(box, pageX, pageY), before: { text: run.lines.text, step: viewer.step } };
+      this.now = {
+        name, axis, isAgain, edits: [], put: null, before: { text, step },
+        from: isAgain ? last.from : { run, step },
+        start: this.startOf(box, pageX, pageY),
+      };
     }
 
-    /** What a size is when the pointer is at 0: so that the edge keeps its distance from the pointer, and without what the property does not count. */
+    /**
+     * What a size is when the pointer is at 0, so that the edge keeps its distance from the pointer, and without what
+     * the property does not count.
+     */
     startOf(box, pageX, pageY) {
-      const { scene } = this.viewer, [wide, high] = scene.viewport, node = scene.nodes[box];
+      const { scene } = this.viewer, [wide, high] = scene.viewport;
       if (box < 0) return { width: wide - pageX, height: high - pageY, wide, high };
-      const { width, height } = scene.boxes;
-      return { width: width[box] - notCounted(node, 'width') - pageX, height: height[box] - notCounted(node, 'height') - pageY };
+      const node = scene.nodes[box], { width, height } = scene.boxes;
+      return {
+        width: width[box] - notCounted(node, 'width') - pageX,
+        height: height[box] - notCounted(node, 'height') - pageY,
+      };
     }
 
     /** The pointer is at a place of the page. */
     to(pageX, pageY) {
       const { now } = this, { from, start, axis } = now;
       const width = Math.max(0, Math.round(start.width + pageX)), height = Math.max(0, Math.round(start.height + pageY));
-      const edits = this.editsOf(now.name, axis, axis === 'height' ? start.wide : width, axis === 'width' ? start.high : height);
+      const edits = now.name
+        ? this.editsOfBox(now.name, axis, width, height)
+        : [`viewport ${axis === 'height' ? start.wide : width} ${axis === 'width' ? start.high : height}`];
       if (edits.join() === now.edits.join()) return;
+      const line = from.step ? from.run.editAt(from.step).line : 0;
       now.edits = edits;
-      now.put = withEdits(from.run.lines, from.run.document, from.step ? from.run.editAt(from.step).line : 0, edits);
+      now.put = withEdits(from.run.lines, from.run.document, line, edits);
       this.show(now.put.text, from.step + edits.length);
     }
 
-    editsOf(name, axis, width, height) {
-      if (!name) return [`viewport ${width} ${height}`];
+    editsOfBox(name, axis, width, height) {
       const edits = { width: `set ${name} width: ${width}px`, height: `set ${name} height: ${height}px` };
       return axis === 'both' ? [edits.width, edits.height] : [edits[axis]];
     }

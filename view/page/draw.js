@@ -13,12 +13,16 @@
     const style = getComputedStyle(element), of = name => style.getPropertyValue(name).trim();
     const each = name => Array.from({ length: HUES }, (_, hue) => of(`--${name}${hue}`));
     return {
-      page: of('--back'), viewport: of('--viewport'), viewportEdge: of('--viewport-edge'), ink: of('--ink'), dim: of('--dim'),
-      changed: of('--changed'), chosen: of('--chosen'), fills: each('fill'), leaves: each('leaf'), edges: each('edge'),
+      page: of('--back'), ink: of('--ink'), dim: of('--dim'), changed: of('--changed'), chosen: of('--chosen'),
+      viewport: of('--viewport'), viewportEdge: of('--viewport-edge'),
+      fills: each('fill'), leaves: each('leaf'), edges: each('edge'),
     };
   }
 
-  /** Where the viewport is taken to drag its edges: places of the window outside of it, with the axis of each; none where it is small. */
+  /**
+   * Where the viewport is taken to drag its edges: places of the window outside of it, with the axis of each; none where
+   * it is small.
+   */
   function gripsOf([width, height], view) {
     const [left, top] = view.toWindow(0, 0), [right, lower] = view.toWindow(width, height), thick = 7, gap = 3;
     // of an edge that is seen in part, the middle of that part
@@ -67,7 +71,10 @@
       const { context, scene, colours } = this;
       context.fillStyle = colours.page;
       context.fillRect(0, 0, this.right, this.lower);
-      if (!scene) return 0;
+      if (!scene) {
+        this.write('no layout', this.right / 2, this.lower / 2, 14 * this.scale, colours.dim, 'center');
+        return 0;
+      }
       this.drawViewport();
       let drawn = 0;
       for (let box = 0; box < scene.count; box++) {
@@ -114,11 +121,20 @@
 
     /** Draws a frame within a place, or outside of it. */
     frame([left, top, width, height], colour, thickness, dashes = [], isOutside = false) {
-      const { context, scale } = this, line = Math.max(1, Math.round(thickness * scale)), in_ = isOutside ? -line / 2 : line / 2;
+      const { context, scale } = this, line = Math.max(1, Math.round(thickness * scale)), by = isOutside ? -line / 2 : line / 2;
       context.strokeStyle = colour;
       context.lineWidth = line;
       context.setLineDash(dashes.map(it => it * scale));
-      context.strokeRect(left + in_, top + in_, Math.max(0, width - 2 * in_), Math.max(0, height - 2 * in_));
+      context.strokeRect(left + by, top + by, Math.max(0, width - 2 * by), Math.max(0, height - 2 * by));
+    }
+
+    write(text, x, y, size, colour, align) {
+      const { context } = this;
+      context.fillStyle = colour;
+      context.font = `${size}px ${FONT}`;
+      context.textAlign = align;
+      context.textBaseline = 'middle';
+      context.fillText(text, x, y);
     }
 
     /** A name within a width at a size of letters: cut short where it has to be, '' where nothing of it fits. */
@@ -129,32 +145,24 @@
     }
 
     nameLeaf(box, [left, top, width, height]) {
-      const { context, scale } = this, name = this.scene.boxes.names[box];
+      const { scale } = this, name = this.scene.boxes.names[box];
       const room = width - 4 * scale;
       const size = Math.min(12 * scale, height - 1, Math.max(7 * scale, room / (name.length * LETTER)));
       if (size < 6 * scale) return;
       const text = this.fitting(name, room, size);
-      context.fillStyle = this.colours.ink;
-      context.font = `${size}px ${FONT}`;
-      context.textAlign = 'center';
-      context.textBaseline = 'middle';
-      context.fillText(text, left + width / 2, top + height / 2 + size * 0.05);
+      this.write(text, left + width / 2, top + height / 2 + size * 0.05, size, this.colours.ink, 'center');
     }
 
     /** A container's name stands where no child covers it: at its upper edge, else at its lower one, else nowhere. */
-    nameContainer(box, place) {
-      const { context, scale } = this, [left, top, width, height] = place, name = this.scene.boxes.names[box];
+    nameContainer(box, [left, top, width, height]) {
+      const { scale } = this, name = this.scene.boxes.names[box];
       for (const size of [11, 9, 7]) {
         const letters = size * scale, tall = letters + scale, text = this.fitting(name, width - 6 * scale, letters);
         if (!text || tall > height) continue;
         const wide = text.length * letters * LETTER + 4 * scale;
         for (const at of [top + scale / 2, top + height - tall - scale / 2]) {
           if (!this.isFree(box, left, at, wide, tall)) continue;
-          context.fillStyle = this.colours.dim;
-          context.font = `${letters}px ${FONT}`;
-          context.textAlign = 'left';
-          context.textBaseline = 'middle';
-          context.fillText(text, left + 3 * scale, at + tall / 2);
+          this.write(text, left + 3 * scale, at + tall / 2, letters, this.colours.dim, 'left');
           return;
         }
       }

@@ -77,7 +77,8 @@
     /** Whether a text of so many characters is taken; if not, a word is said. */
     takes(length) {
       if (length <= LIMIT) return true;
-      this.hears.refused(`That text has ${length.toLocaleString('en')} characters, and this page takes at most ${LIMIT.toLocaleString('en')}. The command line takes up to 67,108,864 bytes.`);
+      const [has, most] = [length, LIMIT].map(it => it.toLocaleString('en'));
+      this.hears.refused(`That text has ${has} characters, and this page takes at most ${most}. The program itself takes 67,108,864 bytes.`);
       return false;
     }
 
@@ -91,7 +92,7 @@
       if (!this.takes(this.area.textLength + length)) event.preventDefault();
     }
 
-    /** Replaces a part of the text by lines, as typing would, so that it can be undone. The caret stands at the end of the last of them. */
+    /** Replaces a part of the text by lines, as typing would, so that it can be undone. The caret ends up in the last of them. */
     replace(from, to, text) {
       this.area.focus({ preventScroll: true });
       this.area.setSelectionRange(from, to);
@@ -136,7 +137,8 @@
     /** Scrolls so that a line is seen. */
     reveal(line) {
       const top = (line - 1) * LINE, { scrollTop, clientHeight } = this.area;
-      if (top < scrollTop || top + 2 * LINE > scrollTop + clientHeight) this.area.scrollTop = Math.max(0, top - clientHeight / 3);
+      const isSeen = top >= scrollTop && top + 2 * LINE <= scrollTop + clientHeight;
+      if (!isSeen) this.area.scrollTop = Math.max(0, top - clientHeight / 3);
       this.show();
     }
 
@@ -148,11 +150,15 @@
       const count = Math.max(1, this.lines.count + (this.text.endsWith('\n') ? 1 : 0));
       const end = Math.min(count, first + seen);
       this.numbers.style.minWidth = `${String(count).length + 3}ch`;
-      const column = element('div', '', Array.from({ length: Math.max(0, end - first) }, (_, at) => first + at + 1).join('\n'));
+      const numbers = Array.from({ length: Math.max(0, end - first) }, (_, at) => first + at + 1);
+      const column = element('div', '', numbers.join('\n'));
       column.style.marginTop = `${first * LINE - scrollTop}px`;
       this.numbers.replaceChildren(column);
-      const marks = this.faults.filter(it => it.line > first && it.line <= end + 1).slice(0, 200).flatMap(it => this.marksOf(it));
-      if (this.here > first && this.here <= end) marks.unshift(Object.assign(element('span', 'here'), { line: this.here - 1, column: 0 }));
+      const seenFaults = this.faults.filter(it => it.line > first && it.line <= end + 1).slice(0, 200);
+      const marks = seenFaults.flatMap(it => this.marksOf(it));
+      if (this.here > first && this.here <= end) {
+        marks.unshift(Object.assign(element('span', 'here'), { line: this.here - 1, column: 0 }));
+      }
       for (const mark of marks) {
         mark.style.top = `${ABOVE + mark.line * LINE - scrollTop}px`;
         mark.style.left = `${BEFORE + mark.column * this.letter - scrollLeft}px`;

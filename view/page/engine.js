@@ -1,5 +1,5 @@
-// The engine of the page: `layout(text)` gives what the program prints for a text. This is the one place that knows how the engine is
-// reached; here the whole text goes to a worker each time, and the program is run on it.
+// The engine of the page: `layout(text)` gives what the program prints for a text. This is the one place that knows how
+// the engine is reached; here the whole text goes to a worker each time, and the program is run on it.
 (function (gridlay) {
   'use strict';
 
@@ -30,7 +30,8 @@
       try {
         module = await WebAssembly.compile(await unpacked(block('engine')));
       } catch (error) {
-        throw new Error(`This browser does not run the engine: it wants 64-bit WebAssembly, as Chromium 133 and Firefox 134 have it. (${error.message})`, { cause: error });
+        const why = 'This browser does not run the engine: it wants 64-bit WebAssembly, as Chromium 133 and Firefox 134 have it.';
+        throw new Error(`${why} (${error.message})`, { cause: error });
       }
       return new Engine(module, source);
     }
@@ -56,8 +57,9 @@
       return new Promise(settle => {
         this.waiting?.settle(null);
         this.waiting = { text, settle };
-        if (!this.running) this.next();
-        else this.running.limit ??= setTimeout(() => this.giveUp(), Math.max(0, PATIENCE - (performance.now() - this.running.start)));
+        const { running } = this;
+        if (!running) this.next();
+        else running.limit ??= setTimeout(() => this.giveUp(), running.start + PATIENCE - performance.now());
       });
     }
 

@@ -3,15 +3,15 @@
   'use strict';
 
   const MEANINGS = {
-    'bad-byte': 'This byte is neither a printable ASCII character nor a space. Tabs, carriage returns and letters with accents are not read.',
+    'bad-byte': 'This byte is no printable ASCII character. Tabs, carriage returns and letters with accents are not read.',
     'line-too-long': 'The line has more than 65,536 bytes.',
     'bad-header': 'The first line is "gridlay 1" or "gridlay 2", the second "viewport W H", such as "viewport 640 480".',
-    'bad-indent': 'A node stands two spaces deeper than its parent, and at most one level deeper than the line above; the first node is not indented.',
+    'bad-indent': 'A node stands two spaces deeper than its parent, which stands above it; the first node is not indented.',
     'bad-name': 'A name stands here: a letter or _, then letters, digits, - and _, at most 58 bytes.',
     'duplicate-name': 'A node of this name is there already.',
     'unknown-kind': 'The kind of a node is grid, flex, leaf W H or words LINE SPACE w1 w2 ..; content takes a leaf or words.',
     'unknown-property': 'No property has this name.',
-    'bad-value': 'This is none of the values that the property or the number takes, or a ":" or "}" is missing here, or text follows the end.',
+    'bad-value': 'No such value is taken here; or a ":" or "}" is missing, or text follows the end.',
     'duplicate-property': 'The same property stands twice in these braces.',
     'unsupported': 'CSS has this, gridlay does not. Lengths in em and rem want "gridlay 2" in the first line.',
     'too-deep': 'A node stands on level 64 at most.',

@@ -5,8 +5,8 @@
   const SPARE = 4;
 
   class List {
-    /** Makes the element a list; `fill(row, index)` writes what the row of an index shows, and `choose(index)` hears of clicks. */
-    constructor(element, { height, fill, choose }) {
+    /** Makes the element a list: `fill(row, index)` writes what a row shows, and `choose(index)` hears of clicks. */
+    constructor(element, height, fill, choose) {
       this.element = element;
       this.height = height;
       this.fill = fill;

@@ -42,12 +42,16 @@
       part.save.addEventListener('click', () => this.save());
       part.copy.addEventListener('click', () => this.copy(this.dragging.script.map(it => `${it}\n`).join('')));
       part.forget.addEventListener('click', () => this.dragging.forget());
-      for (const it of document.querySelectorAll('script[data-example]')) part.examples.append(new Option(it.dataset.example));
+      part.examples.append(...this.examples().map(it => new Option(it.dataset.example)));
       editor.show();
     }
 
+    examples() {
+      return [...document.querySelectorAll('script[data-example]')];
+    }
+
     openExample(name) {
-      const example = [...document.querySelectorAll('script[data-example]')].find(it => it.dataset.example === name);
+      const example = this.examples().find(it => it.dataset.example === name);
       this.open(textOfUtf8(block(example.id)));
     }
 
@@ -105,7 +109,7 @@
       const { viewer, editor } = this, { output, status, trouble, time } = answer;
       this.part.state.textContent = `${time < 10 ? time.toFixed(1) : Math.round(time)} ms`;
       if (trouble) {
-        viewer.say(`The engine stopped at this text: ${trouble}. It begins anew with the next one; the picture is the last that was made.`);
+        viewer.say(`The engine stopped at this text: ${trouble}. It begins anew with the next; the picture is the last that was made.`);
         return;
       }
       viewer.say(status === 6 ? 'Memory was wanting: what was laid out until then is shown.' : '');
@@ -115,7 +119,7 @@
       if (text === editor.text) editor.showFaults(run.refusals);
     }
 
-    /** What the first layout of a text is compared with: that of the text before; nothing where the text was opened as a whole. */
+    /** What the first layout of a text is compared with: that of the text before, if this was not opened as a whole. */
     earlierThan(text) {
       const { run, before } = this.viewer;
       if (this.isFresh || !run) return null;
@@ -140,9 +144,11 @@
 
   function aboutOf(made) {
     const proof = made.isProved
-      ? 'The engine in this page is made of the same sources as the proved program, compiled by another way: it is tested, and not proved.'
-      : 'The engine in this page is made of sources of which nothing was proved when it was built, compiled by another way than the program.';
-    return `${proof} Drag the right or lower edge of a box to set its width or height, or the grips beside the viewport: the edit is written into the script, right after the layout that you see. (${made.kit})`;
+      ? 'This engine is made of the same sources as the proved program, compiled by another way: it is tested, and not proved.'
+      : 'This engine is made of sources of which nothing was proved when it was built. It is tested, and not proved.';
+    const help = 'Drag the right or lower edge of a box to set its width or height, or the grips beside the viewport: '
+      + 'the edit is written into the script, right after the layout that you see.';
+    return `${proof} (${made.kit}) ${help}`;
   }
 
   async function start() {

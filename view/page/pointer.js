@@ -1,4 +1,5 @@
-// The pointer over the picture: what it points at, choosing, moving, zooming, and dragging edges where the page can lay out anew.
+// The pointer over the picture: what it points at, choosing, moving, zooming, and dragging edges where the page can lay
+// out anew.
 (function (gridlay) {
   'use strict';
 
@@ -110,11 +111,12 @@
       tip.style.top = `${y + 18 + tip.offsetHeight > height ? Math.max(0, y - tip.offsetHeight - 10) : y + 18}px`;
     }
 
-    /** The edge that can be dragged from a place of the window: of the viewport, the chosen box, or another box; null where there is none. */
+    /** The edge that can be dragged from a place of the window: of the viewport, the chosen box or another; null without one. */
     edgeAt(x, y) {
       const { viewer } = this, { scene, view } = viewer;
       if (!viewer.hears.drag?.isReady() || viewer.isDim) return null;
-      const grip = gridlay.draw.gripsOf(scene.viewport, view).find(it => x >= it.left && x <= it.left + it.width && y >= it.top && y <= it.top + it.height);
+      const isIn = it => x >= it.left && x <= it.left + it.width && y >= it.top && y <= it.top + it.height;
+      const grip = gridlay.draw.gripsOf(scene.viewport, view).find(isIn);
       if (grip) return { box: -1, axis: grip.axis };
       const near = NEAR / view.zoom, [pageX, pageY] = view.toPage(x, y);
       const isLarge = box => scene.boxes.width[box] * view.zoom >= LEAST && scene.boxes.height[box] * view.zoom >= LEAST;

@@ -29,11 +29,13 @@
         const last = this.answers.at(-1);
         if (words.length === 2 && words[0] === 'layout') {
           if (last) last.end = Math.min(last.end, start);
-          this.answers.push({ number: Number(words[1]), isRefused: false, start: start + line.length + 1, end: text.length });
+          const first = start + line.length + 1;
+          this.answers.push({ number: Number(words[1]), isRefused: false, start: first, end: text.length });
         } else if (words.length === 4 && words[0] === 'refused') {
           if (last) last.end = Math.min(last.end, start);
           const [row, column] = words[2].split(':').map(Number);
-          this.answers.push({ number: Number(words[1]), isRefused: true, line: row, column, fault: words[3], end: text.length });
+          const place = { line: row, column, fault: words[3] };
+          this.answers.push({ number: Number(words[1]), isRefused: true, ...place, end: text.length });
         }
       }
       if (isCut) this.answers.pop();
@@ -86,7 +88,7 @@
       this.height[box] = this.number();
     }
 
-    /** The number behind the space at `at`. Each has at most six decimals and is whole in units of 1/64, so it is read exactly. */
+    /** The number behind the space at `at`: of at most six decimals and whole in units of 1/64, so that it is read exactly. */
     number() {
       const { text } = this, isNegative = text.charCodeAt(this.at + 1) === MINUS;
       let at = this.at + (isNegative ? 2 : 1), whole = 0, divisor = 0;

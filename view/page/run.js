@@ -1,13 +1,15 @@
-// A run: a text, what was printed for it, and for each step of it the boxes with their tree. A step is an answer: a layout or a refusal.
+// A run: a text, what was printed for it, and for each step of it the boxes with their tree. A step is an answer: a layout
+// or a refusal.
 (function (gridlay) {
   'use strict';
 
-  const { Lines } = gridlay.text, { Document, Tree } = gridlay.document, { Printed } = gridlay.printed, { Scene } = gridlay.scene;
+  const { Lines } = gridlay.text, { Document, Tree } = gridlay.document;
+  const { Printed } = gridlay.printed, { Scene } = gridlay.scene;
 
   class Run {
     /**
-     * `output` is what was printed for `text`. Where `isBytes`, both have a character for each byte, else `text` is what was typed.
-     * Where `isCut`, more was printed than `output` has. `status` is that of the program.
+     * `output` is what was printed for `text`. Where `isBytes`, both have a character for each byte, else `text` is what
+     * was typed. Where `isCut`, more was printed than `output` has. `status` is that of the program.
      */
     constructor({ text, output, status, isBytes = false, isCut = false }) {
       this.lines = new Lines(text);
@@ -31,7 +33,7 @@
       return this.printed.hasNoLayout;
     }
 
-    /** The step of the layout that stands after a step: its own, or where it is a refusal the last before it; -1 where there is none. */
+    /** The step of the layout that stands after a step: its own, or after a refusal the last before it; -1 without one. */
     layoutAt(step) {
       let at = Math.min(step, this.steps - 1);
       while (at >= 0 && this.printed.answers[at].isRefused) at--;
@@ -57,7 +59,7 @@
       return this.tree;
     }
 
-    /** What is to be drawn at a step: null where there is no layout. The first layout is compared with `before`, if it is given. */
+    /** What is to be drawn at a step: null without a layout. The first layout is compared with `before`, if it is given. */
     sceneAt(step, before = null) {
       const at = this.layoutAt(step);
       if (at < 0) return null;
@@ -72,7 +74,7 @@
       return this.isBytes ? gridlay.text.visibleBytes(line) : gridlay.text.visible(line);
     }
 
-    /** A line with a place marked, in three parts: before the marked token, the token, after it. Both places count from 1. */
+    /** A line in three parts: before the token at a place, the token, after it. `line` and `column` count from 1. */
     markedLine(line, column) {
       const text = this.lines.line(line - 1), from = column - 1, end = gridlay.text.tokenEnd(text, from);
       const shown = this.isBytes ? gridlay.text.visibleBytes : gridlay.text.visible;

@@ -1,4 +1,4 @@
-// A scene: the boxes of one layout, with what the tree tells of each: its parent, its depth, its kind, and whether it changed.
+// A scene: the boxes of one layout, with what the tree tells of each (its parent, its depth, its kind) and whether it changed.
 (function (gridlay) {
   'use strict';
 
@@ -13,7 +13,8 @@
       this.viewport = tree.viewport.map(Number.parseFloat);
       /** Whether the names that were printed are those of the tree, in its order: if not, the tree is not shown. */
       this.isTree = nodes.length === count && nodes.every((node, at) => node.name === boxes.names[at]);
-      this.nodes = this.isTree ? nodes : boxes.names.map(name => ({ name, kind: '', sizes: '', line: 0, children: [], parent: null }));
+      const alone = name => ({ name, kind: '', sizes: '', line: 0, children: [], parent: null });
+      this.nodes = this.isTree ? nodes : boxes.names.map(alone);
       this.depth = new Uint8Array(count);
       this.parent = new Int32Array(count).fill(-1);
       this.firstChild = new Int32Array(count).fill(-1);
@@ -78,7 +79,8 @@
     boxAt(pointX, pointY) {
       const { x, y, width, height } = this.boxes;
       for (let box = this.count - 1; box >= 0; box--) {
-        if (pointX >= x[box] && pointX < x[box] + width[box] && pointY >= y[box] && pointY < y[box] + height[box]) return box;
+        const isWithin = pointX >= x[box] && pointX < x[box] + width[box];
+        if (isWithin && pointY >= y[box] && pointY < y[box] + height[box]) return box;
       }
       return -1;
     }

@@ -2,6 +2,9 @@
 (function (gridlay) {
   'use strict';
 
+  /** So many bytes are made text at once. */
+  const PIECE = 32768;
+
   /** The bytes of a data block: what the script that made the page wrote into it, in base64. */
   function block(id) {
     const element = document.getElementById(id);
@@ -15,7 +18,9 @@
   /** A text with one character for each byte, so that places in bytes are places in the text. */
   function textOfBytes(bytes) {
     const pieces = [];
-    for (let at = 0; at < bytes.length; at += 32768) pieces.push(String.fromCharCode.apply(null, bytes.subarray(at, at + 32768)));
+    for (let at = 0; at < bytes.length; at += PIECE) {
+      pieces.push(String.fromCharCode.apply(null, bytes.subarray(at, at + PIECE)));
+    }
     return pieces.join('');
   }
 
@@ -61,7 +66,8 @@
 
   /** A piece of text as it can be seen: each control character as its picture. */
   function visible(text) {
-    return text.replace(/[\x00-\x1f\x7f]/g, it => it === '\x7f' ? '\u2421' : String.fromCharCode(0x2400 + it.charCodeAt(0)));
+    const pictureOf = it => it === '\x7f' ? '\u2421' : String.fromCharCode(0x2400 + it.charCodeAt(0));
+    return text.replace(/[\x00-\x1f\x7f]/g, pictureOf);
   }
 
   /** The same of a text with one character for each byte. */
@@ -70,7 +76,7 @@
     return visible(textOfUtf8(Uint8Array.from(text, it => it.charCodeAt(0))));
   }
 
-  /** Where the token ends that begins at a place of a line: a mark stands alone, other tokens go up to a space or a mark. */
+  /** Where the token at a place of a line ends: a mark stands alone, other tokens go up to a space or a mark. */
   function tokenEnd(line, place) {
     if (place >= line.length) return place;
     const found = /^[^ {}()[\]:;,/#]+/.exec(line.slice(place, place + 200));

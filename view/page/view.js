@@ -15,7 +15,7 @@
       this.top = 0;
       this.width = 1;
       this.height = 1;
-      /** 'self': fitted by itself; 'whole', 'wide': fitted as asked; 'free': moved by hand. All but the last follow the page and the window. */
+      /** 'self', 'whole', 'wide': fitted by itself or as asked, also when page or window change; 'free': moved by hand. */
       this.mode = 'self';
     }
 
@@ -58,13 +58,21 @@
 
     /** Moves as little as is needed so that a rectangle of the page is seen. */
     reveal(x, y, width, height) {
-      const [left, top] = this.toWindow(x, y), right = left + width * this.zoom, lower = top + height * this.zoom;
-      const isSeen = right > 0 && left < this.width && lower > 0 && top < this.height;
-      if (isSeen && (left >= 0 || right - left > this.width) && (top >= 0 || lower - top > this.height) && (right <= this.width || right - left > this.width) && (lower <= this.height || lower - top > this.height)) return;
-      this.mode = 'free';
-      if (left < 0 || right > this.width) this.left = x + width / 2 - this.width / this.zoom / 2;
-      if (top < 0 || lower > this.height) this.top = y + Math.min(height / 2, this.height / this.zoom / 3) - this.height / this.zoom / 2;
+      const [left, top] = this.toWindow(x, y), room = [this.width / this.zoom, this.height / this.zoom];
+      if (!isInSight(left, width * this.zoom, this.width)) {
+        this.mode = 'free';
+        this.left = x + (width - room[0]) / 2;
+      }
+      if (!isInSight(top, height * this.zoom, this.height)) {
+        this.mode = 'free';
+        this.top = y + Math.min(height / 2, room[1] / 3) - room[1] / 2;
+      }
     }
+  }
+
+  /** Whether a length is seen in a room: all of it, or some where it does not fit. */
+  function isInSight(from, long, room) {
+    return long > room ? from < room && from + long > 0 : from >= 0 && from + long <= room;
   }
 
   gridlay.view = { View };

@@ -2,9 +2,11 @@
 (function (gridlay) {
   'use strict';
 
-  const { element } = gridlay.text, { List } = gridlay.list, { View } = gridlay.view, { Drawing, coloursOf, HUES } = gridlay.draw;
+  const { element } = gridlay.text, { List } = gridlay.list, { View } = gridlay.view, { Drawing, coloursOf } = gridlay.draw;
+  const { fillBox, fillStep, fillLine } = gridlay.rows;
+  /** The height of a row of a list, as the style sheet has it. */
   const ROW = 20;
-  const HELP = 'Left, right: layouts \u00b7 up, down: boxes \u00b7 C: next changed box \u00b7 wheel: move, with Ctrl: zoom \u00b7 0, 9, 1: whole, wide, 1:1';
+  const HELP = ['Left, right: layouts', 'up, down: boxes', 'C: next changed box', 'wheel: move, with Ctrl: zoom', '0, 9, 1: whole, wide, 1:1'];
 
   class Viewer {
     /** Takes over the viewer's elements of the page. `hears` are told of what the user does: choose(box), step(step). */
@@ -30,14 +32,17 @@
     makeLists() {
       const { boxes, layouts, source } = this.part;
       this.lists = {
-        boxes: new List(boxes, { height: ROW, fill: (row, box) => this.fillBox(row, box), choose: box => this.choose(box, true) }),
-        layouts: new List(layouts, { height: ROW, fill: (row, step) => this.fillStep(row, step), choose: step => this.go(step) }),
-        source: new List(source, { height: ROW, fill: (row, line) => this.fillLine(row, line), choose: line => this.chooseLine(line + 1) }),
+        boxes: new List(boxes, ROW, (row, box) => fillBox(this, row, box), box => this.choose(box, true)),
+        layouts: new List(layouts, ROW, (row, step) => fillStep(this, row, step), step => this.go(step)),
+        source: new List(source, ROW, (row, index) => fillLine(this, row, index), index => this.chooseLine(index + 1)),
       };
-      boxes.addEventListener('pointermove', event => this.point(Number(event.target.closest('[data-index]')?.dataset.index ?? -1)));
+      const boxOf = event => Number(event.target.closest('[data-index]')?.dataset.index ?? -1);
+      boxes.addEventListener('pointermove', event => this.point(boxOf(event)));
       boxes.addEventListener('pointerleave', () => this.point(-1));
+      for (const name of Object.keys(this.lists)) {
+        this.part[`tab-${name}`].addEventListener('click', () => this.showTab(name));
+      }
       this.showTab('boxes');
-      for (const name of Object.keys(this.lists)) this.part[`tab-${name}`].addEventListener('click', () => this.showTab(name));
     }
 
     showTab(shown) {
@@ -73,7 +78,8 @@
     }
 
     resize() {
-      const { canvas } = this.part, { clientWidth, clientHeight } = canvas.parentElement, ratio = globalThis.devicePixelRatio || 1;
+      const { canvas } = this.part, { clientWidth, clientHeight } = canvas.parentElement;
+      const ratio = globalThis.devicePixelRatio || 1;
       if (!clientWidth || !clientHeight) return;
       Object.assign(this.view, { width: clientWidth, height: clientHeight, ratio });
       canvas.width = Math.round(clientWidth * ratio);
@@ -137,8 +143,9 @@
       if (this.frame) cancelAnimationFrame(this.frame);
       this.frame = null;
       const { scene, view, colours, chosen, pointed, isDim } = this;
-      this.drawn = new Drawing(this.part.canvas, scene, view, colours).draw({ chosen, pointed, isDim, hasGrips: Boolean(this.hears.drag) && !isDim });
-      this.part.zoom.textContent = `${view.zoom < 0.1 ? (view.zoom * 100).toFixed(1) : Math.round(view.zoom * 100)}%`;
+      const hasGrips = Boolean(this.hears.drag) && !isDim, percent = view.zoom * 100;
+      this.drawn = new Drawing(this.part.canvas, scene, view, colours).draw({ chosen, pointed, isDim, hasGrips });
+      this.part.zoom.textContent = `${percent < 10 ? percent.toFixed(1) : Math.round(percent)}%`;
       this.hears.drawn?.();
     }
 
@@ -154,7 +161,7 @@
       this.draw();
     }
 
-    /** Chooses a box, or none with -1: it is marked in the picture, the tree and the source. Where `isFar`, the picture moves to it. */
+    /** Chooses a box, or none with -1: it is marked everywhere. Where `isFar`, the picture moves to it. */
     choose(box, isFar = false) {
       const { scene, lists } = this;
       if (!scene) return;
@@ -172,6 +179,11 @@
       this.hears.choose?.(box);
     }
 
+    /** Chooses the box that stands so many rows further in the list. */
+    chooseBy(rows) {
+      if (this.scene) this.choose(Math.max(0, Math.min(this.scene.count - 1, this.chosen + rows)), true);
+    }
+
     /** Chooses the next box that changed. */
     chooseChanged() {
       const { scene } = this;
@@ -185,7 +197,9 @@
     point(box) {
       if (box === this.pointed) return;
       this.pointed = box;
-      for (const row of this.part.boxes.querySelectorAll('.row')) row.classList.toggle('pointed', Number(row.dataset.index) === box);
+      for (const row of this.part.boxes.querySelectorAll('.row')) {
+        row.classList.toggle('pointed', Number(row.dataset.index) === box);
+      }
       this.draw();
     }
 
@@ -218,7 +232,7 @@
     describe(box) {
       const { scene } = this, [x, y, width, height] = scene.boxes.printed(box);
       const lines = [`${scene.boxes.names[box]}  ${scene.kindOf(box)}`, `x ${x}  y ${y}  width ${width}  height ${height}`];
-      if (scene.changed[box]) lines.push(scene.changed[box] === gridlay.scene.NEW ? 'new in this layout' : 'changed in this layout');
+      if (scene.changed[box]) lines.push(`${scene.changed[box] === gridlay.scene.NEW ? 'new' : 'changed'} in this layout`);
       const sides = scene.standsOut(box);
       if (sides.length) lines.push(`stands out of ${scene.boxes.names[scene.parent[box]]}: ${sides.join(', ')}`);
       return lines;
@@ -227,63 +241,31 @@
     showDetails() {
       const { details } = this.part;
       if (this.chosen < 0) {
-        details.textContent = HELP;
+        details.textContent = HELP.join(' \u00b7 ');
         return;
       }
       const [name, ...rest] = this.describe(this.chosen);
       details.replaceChildren(element('b', '', name), `  ${rest.join('  \u00b7  ')}`);
     }
 
-    fillBox(row, box) {
-      const { scene } = this, hue = scene.depth[box] % HUES, [x, y, width, height] = scene.boxes.printed(box);
-      row.style.paddingLeft = `${8 + 12 * scene.depth[box]}px`;
-      row.setAttribute('role', 'treeitem');
-      row.setAttribute('aria-level', String(scene.depth[box] + 1));
-      row.setAttribute('aria-selected', String(box === this.chosen));
-      row.classList.toggle('chosen', box === this.chosen);
-      row.classList.toggle('pointed', box === this.pointed);
-      row.classList.toggle('changed', scene.changed[box] > 0);
-      row.title = this.describe(box).join('\n');
-      const dot = element('span', 'dot');
-      dot.style.background = `var(--${scene.isLeaf[box] ? 'leaf' : 'fill'}${hue})`;
-      dot.style.borderColor = `var(--edge${hue})`;
-      row.append(dot, element('span', '', scene.boxes.names[box]), element('span', 'number', `${x} ${y} ${width} ${height}`));
-    }
-
-    fillStep(row, step) {
-      const answer = this.run.printed.answers[step], edit = this.run.editAt(step);
-      row.classList.toggle('chosen', step === this.step);
-      row.append(element('span', 'at', String(answer.number)));
-      row.append(element('span', answer.isRefused ? 'wrong' : '', edit ? gridlay.text.visible(edit.text.slice(0, 200)) : 'the document'));
-      if (answer.isRefused) row.append(element('span', 'number wrong', answer.fault));
-    }
-
-    fillLine(row, index) {
-      const { run } = this;
-      row.classList.toggle('chosen', index + 1 === this.lineInQuestion());
-      row.append(element('span', 'at', String(index + 1)));
-      const refusal = run.refusedLines.get(index + 1);
-      if (refusal) {
-        const [before, token, after] = run.markedLine(refusal.line, refusal.column), text = element('span');
-        text.append(before.slice(-400), element('mark', '', token || ' '), after.slice(0, 400));
-        row.append(text);
-      } else {
-        row.append(element('span', '', run.shownLine(index).slice(0, 800)));
-      }
-    }
-
     key(event) {
-      if (event.target.closest('textarea, select, input:not([type=range])') || event.altKey || event.metaKey || event.ctrlKey || !this.run) return;
-      const { scene, view } = this;
+      const isWriting = event.target.closest('textarea, select, input:not([type=range])');
+      if (isWriting || event.altKey || event.metaKey || event.ctrlKey || !this.run) return;
       const does = {
-        ArrowLeft: () => this.go(this.step - 1), ArrowRight: () => this.go(this.step + 1),
-        Home: () => this.go(0), End: () => this.go(this.run.steps - 1),
-        ArrowUp: () => scene && this.choose(Math.max(0, this.chosen - 1), true),
-        ArrowDown: () => scene && this.choose(Math.min(scene.count - 1, this.chosen + 1), true),
+        ArrowLeft: () => this.go(this.step - 1),
+        ArrowRight: () => this.go(this.step + 1),
+        Home: () => this.go(0),
+        End: () => this.go(this.run.steps - 1),
+        ArrowUp: () => this.chooseBy(-1),
+        ArrowDown: () => this.chooseBy(1),
         Escape: () => this.pointer.cancel() || this.choose(-1),
         c: () => this.chooseChanged(),
-        '+': () => this.enlarge(1.25), '=': () => this.enlarge(1.25), '-': () => this.enlarge(1 / 1.25),
-        0: () => this.fit('whole'), 9: () => this.fit('wide'), 1: () => this.enlarge(1 / view.zoom),
+        '+': () => this.enlarge(1.25),
+        '=': () => this.enlarge(1.25),
+        '-': () => this.enlarge(1 / 1.25),
+        0: () => this.fit('whole'),
+        9: () => this.fit('wide'),
+        1: () => this.enlarge(1 / this.view.zoom),
       }[event.key];
       if (!does) return;
       event.preventDefault();

@@ -1,5 +1,5 @@
-// The worker in which the engine runs: a text comes, and what the program writes for it goes back. Each run has an instance of its
-// own, so nothing of a run, a trap in it neither, is left for the next.
+// The worker in which the engine runs: a text comes, and what the program writes for it goes back. Each run has an instance
+// of its own, so nothing of a run, a trap in it neither, is left for the next.
 'use strict';
 
 const WORDS = ['gridlay', 'layout'];
@@ -37,20 +37,21 @@ function hostOf(input, run) {
     __sysv_signal: () => 0n,
   };
   known.__write = known.write;
+  const lacking = name => () => { throw new Error(`the engine calls ${name}, which this page does not have`); };
   const called = WebAssembly.Module.imports(module).filter(it => it.kind === 'function');
-  return Object.fromEntries(called.map(({ name }) => [name, known[name] ?? (() => { throw new Error(`the engine calls ${name}, which this page does not have`); })]));
+  return Object.fromEntries(called.map(({ name }) => [name, known[name] ?? lacking(name)]));
 }
 
 /** Runs the program on an input, and gives its status and what it wrote, or what stopped it. */
 function lay(input) {
-  const run = { at: 0, errno: 0, output: [], complaints: [], instance: null }, start = performance.now();
+  const run = { at: 0, errno: 0, output: [], complaints: [], instance: null };
   try {
     run.instance = new WebAssembly.Instance(module, { env: hostOf(input, run) });
     const status = run.instance.exports.main(0, 0n);
-    if (!STATUSES.includes(status)) return { trouble: `it ended with status ${status} ${new TextDecoder().decode(joined(run.complaints))}`.trim(), time: performance.now() - start };
-    return { status, output: joined(run.output), time: performance.now() - start };
+    if (STATUSES.includes(status)) return { status, output: joined(run.output) };
+    return { trouble: `it ended with status ${status} ${new TextDecoder().decode(joined(run.complaints))}`.trim() };
   } catch (error) {
-    return { trouble: error instanceof RangeError ? 'it ran out of stack or of memory' : error.message, time: performance.now() - start };
+    return { trouble: error instanceof RangeError ? 'it ran out of stack or of memory' : error.message };
   }
 }
 
@@ -69,6 +70,6 @@ globalThis.onmessage = ({ data }) => {
     module = data.module;
     return;
   }
-  const answer = lay(data.input);
-  postMessage({ number: data.number, ...answer }, answer.output ? [answer.output.buffer] : []);
+  const start = performance.now(), answer = lay(data.input), time = performance.now() - start;
+  postMessage({ number: data.number, ...answer, time }, answer.output ? [answer.output.buffer] : []);
 };

@@ -65,7 +65,7 @@ export async function start(program) {
   }
 
   const { product } = await call('Browser.getVersion');
-  return { product, open, close };
+  return { product, open, close, call };
 }
 
 /** A page of the browser: what it says on its console and asks of the network is kept. */
