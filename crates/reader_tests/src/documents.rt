@@ -1,4 +1,4 @@
-//! A document and an edit line, and what they say.
+//! What the texts of documents and edit lines say. Their faults stand in `faults` and `edit_faults`.
 
 use crate::texts::lines_of;
 use doc_text::{Content, Doc, Edit, Kind, Plain, read_doc, read_edit};

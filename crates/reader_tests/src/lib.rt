@@ -1,10 +1,15 @@
-//! Tests of the readers of text: each call that takes memory is made with ample memory, and its answer compared; lines in pieces;
-//! and documents of as many nodes as the limits let in. Documents with their boxes or faults stand as data in the crate `corpus`.
-//! They stand above the crates that they test, so that none of these is proved twice.
+//! Tests of the readers of text, as tables of cases worked by hand. They stand above the crates that they test, so that none
+//! of these is proved twice.
 #![tactic(auto)]
 
 #[cfg(test)]
+mod declarations;
+#[cfg(test)]
 mod documents;
+#[cfg(test)]
+mod edit_faults;
+#[cfg(test)]
+mod faults;
 #[cfg(test)]
 mod limits;
 #[cfg(test)]
@@ -16,4 +21,4 @@ mod styles;
 #[cfg(test)]
 mod texts;
 #[cfg(test)]
-mod values;
+mod track_lists;

@@ -1,51 +1,17 @@
-//! A declaration and a template, worked by hand.
+//! Values of the two templates, worked by hand. Values that are refused stand in `declarations`.
 
 use lunit::{Lu, NameSet};
 use std::alloc::Global;
 use std::process::Abort;
 use std::test::Fail;
-use style_types::{Breadth, DeclaredValue, Prop, Size, Template, TrackFn, Unit, Value};
+use style_types::{Breadth, Template, TrackFn};
 use text_scan::Place;
 use track_text::read_tracks;
-use value_text::read_decl;
 
-const AT: Place = Place { line: 3, column: 1 };
-
-/// A length of so many units of 1/64 px, declared in this unit.
-fn is_length(declared: &DeclaredValue, unit: Unit, units: i64) -> bool {
-    declared.value == Value::Size(Size::Length(Lu::of(units)))
-        && declared.units.as_slice() == [unit].as_slice()
-}
-
-/// These properties are set, each to such a length.
-fn are_lengths(all: &[(Prop, DeclaredValue)], unit: Unit, due: &[(Prop, i64)]) -> bool {
-    if all.len() != due.len() {
-        return false;
-    }
-    for ((set, declared), (p, units)) in all.iter().zip(due) {
-        if *set != *p || !is_length(declared, unit, *units) {
-            return false;
-        }
-    }
-    true
-}
-
-/// Of three values the left side is the right one; a relative length stands as 0 beside its millionths.
-#[test]
-fn a_declaration_sets_its_properties(rt: HostRuntime) -> Result<(), Fail> {
-    static MARGINS: &[(Prop, i64)] = &[
-        (Prop::MarginTop, 64),
-        (Prop::MarginRight, 128),
-        (Prop::MarginBottom, 192),
-        (Prop::MarginLeft, 128),
-    ];
-    let margins = read_decl(rt.alloc(), b"margin: 1px 2px 3px", AT, 2)?;
-    assert!(rt; are_lengths(margins.as_slice(), Unit::Px, MARGINS));
-    let font = read_decl(rt.alloc(), b"font-size: 0.5em", AT, 2)?;
-    let half = Unit::Em(500_000);
-    assert!(rt; are_lengths(font.as_slice(), half, &[(Prop::FontSize, 0)]));
-    Ok(())
-}
+const AT: Place = Place {
+    line: 3,
+    column: 14,
+};
 
 /// The set has these names.
 fn is_set(set: &NameSet, due: &[&[u8]]) -> bool {
@@ -113,9 +79,25 @@ fn flexible(thousandths: u32) -> TrackFn {
 }
 
 #[test]
-fn a_template_is_read_with_its_repeats_written_out(rt: HostRuntime) -> Result<(), Fail> {
+fn repeats_are_written_out(rt: HostRuntime) -> Result<(), Fail> {
     let text = b"[a] 10px repeat(2, 1fr [b]) [c]";
     static NAMES: &[&[&[u8]]] = &[&[b"a"], &[], &[b"b"], &[b"b", b"c"]];
     let tracks = [fixed(640), flexible(1000), flexible(1000)];
     lists(&rt, rt.alloc(), text, &tracks, NAMES)
+}
+
+#[test]
+fn both_sides_of_a_track(rt: HostRuntime) -> Result<(), Fail> {
+    let between = TrackFn {
+        least: Breadth::MinContent,
+        most: Breadth::Percent(50_000),
+        fit: None,
+    };
+    let capped = TrackFn {
+        least: Breadth::Auto,
+        most: Breadth::MaxContent,
+        fit: Some(Breadth::Length(Lu::of(64))),
+    };
+    let text = b"minmax(min-content, 50%) fit-content(1px)";
+    lists(&rt, rt.alloc(), text, &[between, capped], &[&[], &[], &[]])
 }
