@@ -58,13 +58,14 @@ wants_status "a case without an output" 2
 # ---- .ci/run: the gate first, then the comparison; the gate's last line stays the last
 
 gate=$room/gate
-mkdir -p "$gate/tools" "$gate/.ci" "$gate/bin"
+mkdir -p "$gate/tools" "$gate/.ci" "$gate/bin" "$gate/crates/gridlay/out"
 cp "$top/.ci/run" "$gate/.ci/"
 # shellcheck disable=SC2016
 printf '#!/bin/sh\necho "rt $*"\necho "40 passed, $RT_FAILS failed"\nexit "$RT_STATUS"\n' >"$gate/bin/rt"
 # shellcheck disable=SC2016
 printf '#!/bin/sh\necho "compared $*"\nexit "$COMPARED"\n' >"$gate/tools/compare_cases.sh"
-chmod +x "$gate/bin/rt" "$gate/tools/compare_cases.sh"
+cp "$gate/bin/rt" "$gate/crates/gridlay/out/gridlay"
+chmod +x "$gate/bin/rt" "$gate/tools/compare_cases.sh" "$gate/crates/gridlay/out/gridlay"
 gated() {
     try env PATH="$gate/bin:$PATH" RT_FAILS="$1" RT_STATUS="$2" COMPARED="$3" "$gate/.ci/run"
 }
@@ -79,3 +80,7 @@ holds "a gate that fails: its last line" [ "$(tail -n 1 "$room/out")" = "40 pass
 lacks "a gate that fails: nothing is compared" grep -q compared "$room/out"
 gated 0 0 1
 wants_status "a program that differs from the cases" 1
+rm "$gate/crates/gridlay/out/gridlay"
+gated 0 0 0
+wants_status "a gate that leaves no program" 0
+lacks "a gate that leaves no program: nothing is compared" grep -q "^compared" "$room/out"
