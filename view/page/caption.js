@@ -2,7 +2,7 @@
 (function (gridlay) {
   'use strict';
 
-  const { element } = gridlay.text;
+  const { element, visible } = gridlay.text;
   /** More of a line is not shown around a mark. */
   const AROUND = 160;
 
@@ -39,7 +39,7 @@
   function layout(run, answer, scene) {
     const { number } = answer, edit = number ? run.document.edits[number - 1] : null;
     const parts = [element('b', '', `layout ${number}`)];
-    if (edit) parts.push(element('code', '', gridlay.text.visible(edit.text.slice(0, 400))));
+    if (edit) parts.push(element('code', '', visible(edit.text.slice(0, 400))));
     const notes = [edit ? `line ${edit.line}` : 'the document', count(scene.count, 'box', 'boxes')];
     notes.push(`viewport ${scene.viewport.join(' \u00d7 ')}`);
     if (scene.isCompared) notes.push(changesOf(scene.changes));
@@ -48,11 +48,17 @@
     return parts;
   }
 
+  function hit(run, { number, name }) {
+    const { text, line } = run.document.edits[number - 1];
+    const found = name === '-' ? 'no box holds the point' : `the last box that holds the point: ${name}`;
+    return [element('b', '', `hit ${number}`), element('code', '', visible(text)), element('span', 'note', `line ${line} \u00b7 ${found}`)];
+  }
+
   /** The elements that tell of a step. */
   function captionOf(run, step, scene) {
     const answer = run.printed.answers[step];
     if (!answer) return [element('b', 'wrong', 'Nothing was printed.')];
-    return answer.isRefused ? refusal(run, answer) : layout(run, answer, scene);
+    return { layout, refused: refusal, hit }[answer.kind](run, answer, scene);
   }
 
   gridlay.caption = { captionOf, changesOf, count };

@@ -67,7 +67,7 @@
     }
 
     /** Draws all, and answers how many boxes were drawn. */
-    draw({ chosen, pointed, isDim, hasGrips }) {
+    draw({ chosen, pointed, point, isDim, hasGrips }) {
       const { context, scene, colours } = this;
       context.fillStyle = colours.page;
       context.fillRect(0, 0, this.right, this.lower);
@@ -86,8 +86,23 @@
       if (isDim) this.veil();
       if (pointed >= 0 && pointed < scene.count) this.frame(this.boxOnScreen(pointed), colours.chosen, 1, [4, 3]);
       if (chosen >= 0 && chosen < scene.count) this.frame(this.boxOnScreen(chosen), colours.chosen, 2, [], true);
+      if (point) this.cross(point);
       if (hasGrips) this.drawGrips();
       return drawn;
+    }
+
+    /** Marks a point of the page. */
+    cross([x, y]) {
+      const { context, scale } = this, [left, top] = this.onScreen(x, y, 0, 0), long = 7 * scale;
+      context.strokeStyle = this.colours.changed;
+      context.lineWidth = 2 * scale;
+      context.setLineDash([]);
+      context.beginPath();
+      context.moveTo(left - long, top);
+      context.lineTo(left + long, top);
+      context.moveTo(left, top - long);
+      context.lineTo(left, top + long);
+      context.stroke();
     }
 
     drawGrips() {

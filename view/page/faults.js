@@ -19,11 +19,13 @@
     'leaf-has-children': 'A leaf has no children.',
     'second-root': 'Only the first node stands without indentation: all others stand below it.',
     'no-root': 'The document has no node.',
-    'unknown-edit': 'An edit begins with set, unset, insert, remove, move, content or viewport.',
+    'unknown-edit': 'No edit begins with this word.',
     'unknown-name': 'No node has this name.',
     'root': 'The root cannot be removed or moved.',
     'cycle': 'A node cannot stand below itself.',
     'bad-index': 'The parent has fewer children than this index.',
+    'nothing-to-undo': 'Fewer edits than this have been made and not undone.',
+    'nothing-to-redo': 'Fewer edits than this have been undone.',
   };
 
   /** What a fault means, in a sentence or two. */

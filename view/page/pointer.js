@@ -77,7 +77,7 @@
 
     leave() {
       this.viewer.part.tip.hidden = true;
-      this.viewer.point(-1);
+      this.viewer.pointAt(-1);
     }
 
     wheel(event) {
@@ -102,7 +102,7 @@
     /** Shows the exact numbers of the box under the pointer. */
     pointAt(x, y) {
       const { viewer } = this, { tip } = viewer.part, box = viewer.isOld ? -1 : this.boxAt(x, y);
-      viewer.point(box);
+      viewer.pointAt(box);
       tip.hidden = box < 0;
       if (box < 0) return;
       tip.textContent = viewer.describe(box).join('\n');

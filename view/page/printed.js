@@ -1,4 +1,4 @@
-// What the program printed: layouts and refusals in their order, and the boxes of a layout.
+// What the program printed: layouts, refusals and hits in their order, and the boxes of a layout.
 (function (gridlay) {
   'use strict';
 
@@ -14,6 +14,17 @@
     return text.slice(start, end < 0 ? text.length : end);
   }
 
+  /** What follows the number in a line that answers, by the line's words; null where the line is a box. */
+  const ANSWERS = {
+    layout: words => words.length === 2 ? {} : null,
+    refused: words => {
+      if (words.length !== 4) return null;
+      const [line, column] = words[2].split(':').map(Number);
+      return { line, column, fault: words[3] };
+    },
+    hit: words => words.length === 3 ? { name: words[2] } : null,
+  };
+
   class Printed {
     /**
      * Finds the answers in a printed text. A box may have any name, so lines are told apart by their numbers of words.
@@ -21,22 +32,14 @@
      */
     constructor(text, isCut = false) {
       this.text = text;
-      /** For each layout and refusal its number, whether it is a refusal, and where its boxes or its fault stand. */
+      /** For each layout, refusal and hit its kind and number; where its boxes stand, its fault, or the name that was hit. */
       this.answers = [];
-      const places = [...placesOf(text, 'layout '), ...placesOf(text, 'refused ')].sort((a, b) => a - b);
+      const places = Object.keys(ANSWERS).flatMap(it => placesOf(text, `${it} `)).sort((a, b) => a - b);
       for (const start of places) {
-        const line = lineFrom(text, start), words = line.split(' ');
-        const last = this.answers.at(-1);
-        if (words.length === 2 && words[0] === 'layout') {
-          if (last) last.end = Math.min(last.end, start);
-          const first = start + line.length + 1;
-          this.answers.push({ number: Number(words[1]), isRefused: false, start: first, end: text.length });
-        } else if (words.length === 4 && words[0] === 'refused') {
-          if (last) last.end = Math.min(last.end, start);
-          const [row, column] = words[2].split(':').map(Number);
-          const place = { line: row, column, fault: words[3] };
-          this.answers.push({ number: Number(words[1]), isRefused: true, ...place, end: text.length });
-        }
+        const line = lineFrom(text, start), words = line.split(' '), [kind] = words, more = ANSWERS[kind](words);
+        if (!more) continue;
+        if (this.answers.length) this.answers.at(-1).end = start;
+        this.answers.push({ kind, number: Number(words[1]), ...more, start: start + line.length + 1, end: text.length });
       }
       if (isCut) this.answers.pop();
       this.kept = new Map();
@@ -44,7 +47,7 @@
 
     /** Whether the document itself was refused, or nothing was printed. */
     get hasNoLayout() {
-      return !this.answers.length || this.answers[0].isRefused;
+      return this.answers[0]?.kind !== 'layout';
     }
 
     /** The boxes of an answer that is a layout. The last few that were asked for are kept. */

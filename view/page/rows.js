@@ -28,8 +28,9 @@
     const answer = viewer.run.printed.answers[step], edit = viewer.run.editAt(step);
     row.classList.toggle('chosen', step === viewer.step);
     row.append(element('span', 'at', String(answer.number)));
-    row.append(element('span', answer.isRefused ? 'wrong' : '', edit ? visible(edit.text.slice(0, LONG)) : 'the document'));
-    if (answer.isRefused) row.append(element('span', 'number wrong', answer.fault));
+    const wrong = answer.kind === 'refused' ? 'wrong' : '';
+    row.append(element('span', wrong, edit ? visible(edit.text.slice(0, LONG)) : 'the document'));
+    if (answer.kind !== 'layout') row.append(element('span', `number ${wrong}`, answer.fault ?? answer.name));
   }
 
   /** A line of the source, with the place marked where it was refused. `index` counts from 0. */

@@ -1,5 +1,5 @@
-// A run: a text, what was printed for it, and for each step of it the boxes with their tree. A step is an answer: a layout
-// or a refusal.
+// A run: a text, what was printed for it, and for each step of it the boxes with their tree. A step is an answer: a layout,
+// a refusal or a hit.
 (function (gridlay) {
   'use strict';
 
@@ -16,12 +16,12 @@
       this.document = new Document(this.lines);
       this.printed = new Printed(output, isCut);
       this.status = status;
-      this.refusals = this.printed.answers.map((answer, step) => ({ ...answer, step })).filter(it => it.isRefused);
+      this.refusals = this.printed.answers.filter(it => it.kind === 'refused');
       this.refusedLines = new Map(this.refusals.map(it => [it.line, it]));
       this.isBytes = isBytes;
       this.isCut = isCut;
       this.tree = null;
-      this.treeStep = -1;
+      this.applied = [];
     }
 
     get steps() {
@@ -33,29 +33,49 @@
       return this.printed.hasNoLayout;
     }
 
-    /** The step of the layout that stands after a step: its own, or after a refusal the last before it; -1 without one. */
+    /** The step of the layout that stands after a step: its own, or the last before it; -1 without one. */
     layoutAt(step) {
       let at = Math.min(step, this.steps - 1);
-      while (at >= 0 && this.printed.answers[at].isRefused) at--;
+      while (at >= 0 && this.printed.answers[at].kind !== 'layout') at--;
       return at;
     }
 
-    /** The edit that a step answers: its text and its line. Nothing for the document. */
+    /** The line of the script that a step answers: its text and its number. Nothing for the document. */
     editAt(step) {
       return this.document.edits[this.printed.answers[step].number - 1];
     }
 
+    /** The edits that made the document of a step, in their order, without those that were undone. */
+    editsAt(step) {
+      const past = [], future = [];
+      const take = (from, to, count) => {
+        for (let left = Number(count); left > 0 && from.length; left--) to.push(from.pop());
+      };
+      for (let at = 1; at <= step; at++) {
+        const edit = this.editAt(at);
+        if (!edit || this.printed.answers[at].kind !== 'layout') continue;
+        const [word, count] = edit.text.split(/ +/);
+        if (word === 'undo') {
+          take(past, future, count);
+        } else if (word === 'redo') {
+          take(future, past, count);
+        } else {
+          past.push(edit);
+          future.length = 0;
+        }
+      }
+      return past;
+    }
+
     /** The tree after a step. */
     treeAt(step) {
-      if (!this.tree || this.treeStep > step) {
+      const edits = this.editsAt(step);
+      if (!this.tree || !this.applied.every((it, at) => it === edits[at])) {
         this.tree = new Tree(this.document);
-        this.treeStep = 0;
+        this.applied = [];
       }
-      while (this.treeStep < step) {
-        this.treeStep++;
-        const edit = this.editAt(this.treeStep);
-        if (edit && !this.printed.answers[this.treeStep].isRefused) this.tree.apply(edit);
-      }
+      for (const edit of edits.slice(this.applied.length)) this.tree.apply(edit);
+      this.applied = edits;
       return this.tree;
     }
 
@@ -63,8 +83,8 @@
     sceneAt(step, before = null) {
       const at = this.layoutAt(step);
       if (at < 0) return null;
-      const earlier = this.layoutAt(at - 1), isRefusal = at !== step;
-      const old = isRefusal ? null : earlier >= 0 ? this.printed.boxes(earlier) : before;
+      const earlier = this.layoutAt(at - 1), isItsOwn = at === step;
+      const old = !isItsOwn ? null : earlier >= 0 ? this.printed.boxes(earlier) : before;
       return new Scene(this.printed.boxes(at), this.treeAt(at), old);
     }
 

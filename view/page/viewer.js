@@ -37,8 +37,8 @@
         source: new List(source, ROW, (row, index) => fillLine(this, row, index), index => this.chooseLine(index + 1)),
       };
       const boxOf = event => Number(event.target.closest('[data-index]')?.dataset.index ?? -1);
-      boxes.addEventListener('pointermove', event => this.point(boxOf(event)));
-      boxes.addEventListener('pointerleave', () => this.point(-1));
+      boxes.addEventListener('pointermove', event => this.pointAt(boxOf(event)));
+      boxes.addEventListener('pointerleave', () => this.pointAt(-1));
       for (const name of Object.keys(this.lists)) {
         this.part[`tab-${name}`].addEventListener('click', () => this.showTab(name));
       }
@@ -112,10 +112,12 @@
       this.isOld = !scene && this.scene !== null;
       if (scene) {
         this.scene = scene;
-        this.chosen = scene.boxes.places.get(name) ?? -1;
+        const { kind, name: hit } = run.printed.answers[step];
+        this.chosen = scene.boxes.places.get(kind === 'hit' ? hit : name) ?? -1;
         this.pointed = -1;
         this.view.fit(scene.extent);
         this.lists.boxes.show(scene.count);
+        if (kind === 'hit' && this.chosen >= 0) this.lists.boxes.reveal(this.chosen);
       }
       part.slider.value = String(step);
       part.step.textContent = `${step} of ${Math.max(0, run.steps - 1)}`;
@@ -131,7 +133,18 @@
 
     /** Whether the picture is not that of the step: the step is a refusal, or the document is refused. */
     get isDim() {
-      return this.isOld || Boolean(this.run?.printed.answers[this.step]?.isRefused);
+      return this.isOld || this.answer?.kind === 'refused';
+    }
+
+    /** The answer that is shown. */
+    get answer() {
+      return this.run?.printed.answers[this.step];
+    }
+
+    /** The point of the page that the step asks about, as [x, y]; null where it is no hit. */
+    get point() {
+      if (this.answer?.kind !== 'hit') return null;
+      return this.run.editAt(this.step).text.split(/ +/).slice(1, 3).map(Number.parseFloat);
     }
 
     /** Draws at the next frame, so that many changes make one picture; or at once. */
@@ -142,9 +155,9 @@
       }
       if (this.frame) cancelAnimationFrame(this.frame);
       this.frame = null;
-      const { scene, view, colours, chosen, pointed, isDim } = this;
+      const { scene, view, colours, chosen, pointed, isDim, point } = this;
       const hasGrips = Boolean(this.hears.drag) && !isDim, percent = view.zoom * 100;
-      this.drawn = new Drawing(this.part.canvas, scene, view, colours).draw({ chosen, pointed, isDim, hasGrips });
+      this.drawn = new Drawing(this.part.canvas, scene, view, colours).draw({ chosen, pointed, point, isDim, hasGrips });
       this.part.zoom.textContent = `${percent < 10 ? percent.toFixed(1) : Math.round(percent)}%`;
       this.hears.drawn?.();
     }
@@ -194,7 +207,7 @@
     }
 
     /** Marks the box under the pointer. */
-    point(box) {
+    pointAt(box) {
       if (box === this.pointed) return;
       this.pointed = box;
       for (const row of this.part.boxes.querySelectorAll('.row')) {
@@ -216,9 +229,9 @@
 
     /** The line of the source that is to be seen: that of the refusal, of the chosen box, or of the edit. */
     lineInQuestion() {
-      const answer = this.run?.printed.answers[this.step];
-      if (answer?.isRefused) return answer.line;
-      if (this.chosen >= 0) return this.scene.nodes[this.chosen].line;
+      const { answer } = this;
+      if (answer?.kind === 'refused') return answer.line;
+      if (this.chosen >= 0 && answer?.kind !== 'hit') return this.scene.nodes[this.chosen].line;
       return answer?.number ? this.run.editAt(this.step)?.line ?? 0 : 0;
     }
 

@@ -51,7 +51,7 @@ export function answersOf(printed) {
   for (const line of printed.split('\n').slice(0, -1)) {
     const words = line.split(' ');
     if (words.length === 5) answers.at(-1).boxes.push(line);
-    else answers.push({ head: words, boxes: [] });
+    else if (words[0] !== 'stats') answers.push({ head: words, boxes: [] });
   }
   return answers;
 }

@@ -140,6 +140,45 @@ viewport 50 60px
     await page.close();
   });
 
+  await checks.check('undone and redone edits, and hits: the tree follows, and the point is marked', async () => {
+    // what is printed here was worked by hand, so that this holds for a program that does not know these edits too
+    const [file, program] = ['undo.gridlay', 'printer'].map(it => join(work, it));
+    writeFileSync(file, `gridlay 1
+viewport 100 50
+main flex
+  a leaf 20 10
+  b leaf 30 10
+---
+remove a
+set b flex-grow: 1
+undo 2
+hit 15px 5
+redo 1
+hit 15 40
+undo 3
+redo 2
+`);
+    const [whole, less, wide] = ['main 0 0 100 10\na 0 0 20 10\nb 20 0 30 10', 'main 0 0 100 10\nb 0 0 30 10', 'main 0 0 100 10\nb 0 0 100 10'];
+    const printed = `layout 0\n${whole}\nlayout 1\n${less}\nstats 1 2\nlayout 2\n${wide}\nlayout 3\n${whole}\nhit 4 a\nlayout 5\n${less}\nhit 6 -\nrefused 7 13:6 nothing-to-undo\nrefused 8 14:6 nothing-to-redo\n`;
+    writeFileSync(program, `#!/bin/sh\ncat >/dev/null\ncat <<'PRINTED'\n${printed}PRINTED\nexit 3\n`, { mode: 0o755 });
+    const page = await opened({ ...tools, program }, file), names = '[...document.querySelectorAll("#boxes .row")].map(it => it.children[1].textContent).join()';
+    for (const [step, boxes, caption] of [
+      [0, whole, /^layout 0/], [1, less, /^layout 1remove a.* 1 gone/], [2, wide, /^layout 2set b/], [3, whole, /^layout 3undo 2.*1 new/],
+      [4, whole, /^hit 4hit 15px 5line 10 .* point: a$/], [5, less, /^layout 5redo 1/], [6, less, /^hit 6hit 15 40.*no box holds the point$/],
+      [7, less, /^refused 7nothing-to-undoline 13, byte 6/], [8, less, /^refused 8nothing-to-redoline 14, byte 6/]]) {
+      if (step) await page.key('ArrowRight');
+      assert.match(await page.value(CAPTION), caption);
+      const shown = await page.value(SHOWN);
+      assertDrawn(shown, boxes.split('\n'));
+      assert.equal(shown.isTree, true);
+      assert.equal(await page.value(names), boxes.split('\n').map(it => it.split(' ')[0]).join());
+      if (step === 4) assert.equal(await page.value("document.querySelector('#boxes .row.chosen').children[1].textContent"), 'a');
+      assert.deepEqual(await page.value('gridlay.page.point'), { 4: [15, 5], 6: [15, 40] }[step] ?? null);
+    }
+    assertQuiet(page);
+    await page.close();
+  });
+
   await checks.check('hovering tells the exact numbers; a click in the picture chooses in the list, and the other way round', async () => {
     const page = await opened(tools, join(examples, 'cards.gridlay'));
     const placeOf = name => page.value(`(() => {
