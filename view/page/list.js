@@ -15,12 +15,22 @@
       this.window = gridlay.text.element('div', 'window');
       this.space.append(this.window);
       element.replaceChildren(this.space);
-      element.addEventListener('scroll', () => this.refresh());
+      // (kept here, since asking for them makes the browser lay out the page at once)
+      this.top = 0;
+      this.room = 0;
+      element.addEventListener('scroll', () => this.look());
       element.addEventListener('click', event => {
         const row = event.target.closest('[data-index]');
         if (row) choose(Number(row.dataset.index));
       });
-      new ResizeObserver(() => this.refresh()).observe(element);
+      new ResizeObserver(() => this.look()).observe(element);
+    }
+
+    /** Takes note of what part of the list is seen, and fills it. */
+    look() {
+      this.top = this.element.scrollTop;
+      this.room = this.element.clientHeight;
+      this.refresh();
     }
 
     /** Shows as many rows as are told, each filled anew. */
@@ -30,10 +40,11 @@
       this.refresh();
     }
 
+    /** Fills the rows that are seen; none where the list is hidden. */
     refresh() {
-      const { scrollTop, clientHeight } = this.element;
-      const first = Math.max(0, Math.floor(scrollTop / this.height) - SPARE);
-      const end = Math.min(this.count, Math.ceil((scrollTop + clientHeight) / this.height) + SPARE);
+      if (!this.room) return;
+      const first = Math.max(0, Math.floor(this.top / this.height) - SPARE);
+      const end = Math.min(this.count, Math.ceil((this.top + this.room) / this.height) + SPARE);
       const rows = [];
       for (let index = first; index < end; index++) {
         const row = gridlay.text.element('div', 'row');
@@ -48,11 +59,13 @@
 
     /** Scrolls as little as is needed so that a row is seen. */
     reveal(index) {
-      const { scrollTop, clientHeight } = this.element, top = index * this.height;
-      if (top < scrollTop || top + this.height > scrollTop + clientHeight) {
-        this.element.scrollTop = top - (clientHeight - this.height) / 2;
+      const top = index * this.height;
+      if (top < this.top || top + this.height > this.top + this.room) {
+        this.element.scrollTop = top - (this.room - this.height) / 2;
+        this.look();
+      } else {
+        this.refresh();
       }
-      this.refresh();
     }
   }
 

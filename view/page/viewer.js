@@ -50,7 +50,10 @@
         this.part[name].hidden = name !== shown;
         this.part[`tab-${name}`].setAttribute('aria-selected', String(name === shown));
       }
-      this.lists[shown].refresh();
+      this.lists[shown].look();
+      if (!this.run) return;
+      if (shown === 'source') this.markSource();
+      else this.lists[shown].reveal(shown === 'layouts' ? this.step : Math.max(0, this.chosen));
     }
 
     makeControls() {

@@ -144,8 +144,9 @@ class Page {
     await this.call('Input.dispatchKeyEvent', { type: 'keyUp', ...params });
   }
 
+  /** Types a text, key by key. */
   async type(text) {
-    await this.call('Input.insertText', { text });
+    for (const key of text) await this.key(key);
   }
 
   async picture(file, clip = undefined) {

@@ -239,7 +239,7 @@ redo 2
     const times = await page.value(`(() => {
       const least = does => Math.min(...[1, 2, 3, 4, 5].map(it => { const start = performance.now(); does(it); gridlay.page.draw(true); return performance.now() - start; }));
       return { step: least(it => gridlay.page.go(it % 2)), whole: least(() => gridlay.page.fit('whole')), wide: least(() => gridlay.page.fit('wide')),
-        scroll: least(() => { document.querySelector('#boxes').scrollTop += 4000; gridlay.page.lists.boxes.refresh(); }) };
+        scroll: least(() => { document.querySelector('#boxes').scrollTop += 4000; gridlay.page.lists.boxes.look(); }) };
     })()`);
     console.log(`         least ms: ${Object.entries(times).map(([what, time]) => `${what} ${time.toFixed(1)}`).join(', ')}`);
     for (const time of Object.values(times)) assert.ok(time < 300, JSON.stringify(times));
@@ -251,6 +251,11 @@ redo 2
     const rows = await page.value(`(() => { const first = Number(document.querySelector('#boxes .row').dataset.index); return [first, ${ROWS('boxes')}]; })()`);
     const shown = (await page.value(SHOWN)).boxes;
     assert.deepEqual(rows[1], shown.slice(rows[0], rows[0] + rows[1].length));
+    // a list that is opened shows what is chosen
+    await page.value("gridlay.page.choose(gridlay.page.scene.boxes.places.get('y2000'), true), document.querySelector('#tab-source').click()");
+    assert.equal(await page.value("document.querySelector('#source .row.chosen')?.textContent"), '12007        y2000 leaf 60 24 { margin-left: auto }');
+    await page.value("document.querySelector('#tab-boxes').click()");
+    assert.ok((await page.value("document.querySelector('#boxes .row.chosen')?.textContent")).startsWith('y2000'));
     assertQuiet(page);
     await page.close();
   });
