@@ -27,7 +27,7 @@ HEAD
 page_scripts() { # FOLDER NAME..
     local folder=$1 name
     shift
-    for name in text faults document printed scene run caption draw rows list view pointer viewer "$@"; do
+    for name in text faults document tree printed scene run caption draw view stage rows list side pointer controls viewer "$@"; do
         printf '<script nonce="gridlay">\n'
         cat "$folder/$name.js"
         printf '</script>\n'

@@ -143,7 +143,7 @@ write_page() {
     printf '<script type="text/plain" id="worker">\n'
     cat "$view/page/worker.js"
     printf '</script>\n'
-    page_scripts "$view/page" engine editor dragging play_page
+    page_scripts "$view/page" engine editor edges dragging play_page
 }
 
 mkdir -p "$out"

@@ -1,8 +1,9 @@
-// What stands above a picture: the layout's number and edit, or the refusal with its place marked in the line.
+// What is told of a step, above the picture: the layout's number and edit, or the refusal with its place marked in the line;
+// and of a box, below it and beside the pointer.
 (function (gridlay) {
   'use strict';
 
-  const { element, visible } = gridlay.text;
+  const { element, visible } = gridlay.text, { NEW } = gridlay.scene;
   /** More of a line is not shown around a mark. */
   const AROUND = 160;
 
@@ -61,5 +62,22 @@
     return { layout, refused: refusal, hit }[answer.kind](run, answer, scene);
   }
 
-  gridlay.caption = { captionOf, changesOf, count };
+  /** What is told of a box, as lines: its kind, its numbers as they were printed, how it changed, and where it stands out. */
+  function describe(scene, box) {
+    const { boxes, changed, parent } = scene, [x, y, width, height] = boxes.printed(box);
+    const lines = [`${boxes.names[box]}  ${scene.kindOf(box)}`, `x ${x}  y ${y}  width ${width}  height ${height}`];
+    if (changed[box]) lines.push(`${changed[box] === NEW ? 'new' : 'changed'} in this layout`);
+    const sides = scene.standsOut(box);
+    if (sides.length) lines.push(`stands out of ${boxes.names[parent[box]]}: ${sides.join(', ')}`);
+    return lines;
+  }
+
+  /** What stands below a picture: of the chosen box what is told of it, and without one (-1) which keys there are. */
+  function detailsOf(scene, chosen) {
+    if (chosen < 0) return [gridlay.controls.HELP];
+    const [name, ...rest] = describe(scene, chosen);
+    return [element('b', '', name), `  ${rest.join('  \u00b7  ')}`];
+  }
+
+  gridlay.caption = { captionOf, describe, detailsOf };
 })(globalThis.gridlay ??= {});

@@ -3,7 +3,7 @@
 (function (gridlay) {
   'use strict';
 
-  const { notCounted } = gridlay.document;
+  const { notCounted } = gridlay.edges;
 
   /** A text with lines put behind one of its lines, and where they stand in it; where there is no script, it is begun. */
   function withEdits(lines, doc, afterLine, edits) {
@@ -35,7 +35,7 @@
       const name = box < 0 ? '' : viewer.scene.boxes.names[box];
       const isAgain = last?.text === text && last.step === step && last.name === name && last.axis === axis;
       // (the picture is to stand still under the pointer)
-      viewer.view.mode = 'free';
+      viewer.stage.view.mode = 'free';
       this.now = {
         name, axis, isAgain, edits: [], put: null, before: { text, step },
         from: isAgain ? last.from : { run, step },

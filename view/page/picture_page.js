@@ -26,7 +26,7 @@
     gridlay.page.part.title.title = name;
     gridlay.page.say(noticeOf(run));
     gridlay.page.open(run, 0);
-    if (run.hasNoLayout) gridlay.page.showTab('source');
+    if (run.hasNoLayout) gridlay.page.side.showTab('source');
   }
 
   start();

@@ -59,7 +59,7 @@
     open(text) {
       if (!this.editor.takes(text.length)) return;
       this.isFresh = true;
-      this.viewer.view.mode = 'self';
+      this.viewer.stage.view.mode = 'self';
       this.dragging.forget();
       this.editor.open(text);
     }

@@ -3,6 +3,7 @@
 (function (gridlay) {
   'use strict';
 
+  const { describe } = gridlay.caption;
   /** How near to an edge, in pixels of the window, it is taken. */
   const NEAR = 5;
   /** Edges of boxes that are seen smaller than this are not taken, unless the box is chosen. */
@@ -35,7 +36,7 @@
       this.canvas.setPointerCapture(event.pointerId);
       this.canvas.focus({ preventScroll: true });
       this.pressed = { x, y, lastX: x, lastY: y, isMoved: false, edge: this.edgeAt(x, y) };
-      if (this.pressed.edge) this.viewer.hears.drag.begin(this.pressed.edge, ...this.viewer.view.toPage(x, y));
+      if (this.pressed.edge) this.viewer.hears.drag.begin(this.pressed.edge, ...this.viewer.stage.view.toPage(x, y));
     }
 
     move(event) {
@@ -50,11 +51,10 @@
       if (Math.hypot(x - pressed.x, y - pressed.y) >= STILL) pressed.isMoved = true;
       if (!pressed.isMoved) return;
       if (pressed.edge) {
-        viewer.hears.drag.to(...viewer.view.toPage(x, y));
+        viewer.hears.drag.to(...viewer.stage.view.toPage(x, y));
       } else {
-        viewer.view.move(x - pressed.lastX, y - pressed.lastY, viewer.scene.extent);
+        viewer.stage.move(x - pressed.lastX, y - pressed.lastY);
         Object.assign(pressed, { lastX: x, lastY: y });
-        viewer.draw();
       }
       viewer.part.tip.hidden = true;
     }
@@ -84,19 +84,18 @@
       const { viewer } = this;
       if (!viewer.scene) return;
       event.preventDefault();
-      const [x, y] = this.placeOf(event), unit = [1, 20, viewer.view.height][event.deltaMode];
+      const [x, y] = this.placeOf(event), unit = [1, 20, viewer.stage.view.height][event.deltaMode];
       if (event.ctrlKey || event.metaKey) {
-        viewer.enlarge(Math.exp(-event.deltaY * unit / 300), x, y);
+        viewer.stage.enlarge(Math.exp(-event.deltaY * unit / 300), x, y);
       } else {
         const [dx, dy] = event.shiftKey && !event.deltaX ? [event.deltaY, 0] : [event.deltaX, event.deltaY];
-        viewer.view.move(-dx * unit, -dy * unit, viewer.scene.extent);
-        viewer.draw();
+        viewer.stage.move(-dx * unit, -dy * unit);
       }
       this.pointAt(x, y);
     }
 
     boxAt(x, y) {
-      return this.viewer.scene.boxAt(...this.viewer.view.toPage(x, y));
+      return this.viewer.scene.boxAt(...this.viewer.stage.view.toPage(x, y));
     }
 
     /** Shows the exact numbers of the box under the pointer. */
@@ -105,15 +104,15 @@
       viewer.pointAt(box);
       tip.hidden = box < 0;
       if (box < 0) return;
-      tip.textContent = viewer.describe(box).join('\n');
-      const { width, height } = viewer.view;
+      tip.textContent = describe(viewer.scene, box).join('\n');
+      const { width, height } = viewer.stage.view;
       tip.style.left = `${Math.max(0, Math.min(x + 14, width - tip.offsetWidth - 4))}px`;
       tip.style.top = `${y + 18 + tip.offsetHeight > height ? Math.max(0, y - tip.offsetHeight - 10) : y + 18}px`;
     }
 
     /** The edge that can be dragged from a place of the window: of the viewport, the chosen box or another; null without one. */
     edgeAt(x, y) {
-      const { viewer } = this, { scene, view } = viewer;
+      const { viewer } = this, { scene, stage: { view } } = viewer;
       if (!viewer.hears.drag?.isReady() || viewer.isDim) return null;
       const isIn = it => x >= it.left && x <= it.left + it.width && y >= it.top && y <= it.top + it.height;
       const grip = gridlay.draw.gripsOf(scene.viewport, view).find(isIn);

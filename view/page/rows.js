@@ -2,7 +2,7 @@
 (function (gridlay) {
   'use strict';
 
-  const { element, visible } = gridlay.text, { HUES } = gridlay.draw;
+  const { element, visible } = gridlay.text, { HUES } = gridlay.draw, { describe } = gridlay.caption;
   /** Of a long line so many characters are shown, and before a mark so many. */
   const LONG = 800, BEFORE = 400;
 
@@ -16,7 +16,7 @@
     row.classList.toggle('chosen', isChosen);
     row.classList.toggle('pointed', box === viewer.pointed);
     row.classList.toggle('changed', scene.changed[box] > 0);
-    row.title = viewer.describe(box).join('\n');
+    row.title = describe(scene, box).join('\n');
     const dot = element('span', 'dot');
     dot.style.background = `var(--${scene.isLeaf[box] ? 'leaf' : 'fill'}${hue})`;
     dot.style.borderColor = `var(--edge${hue})`;

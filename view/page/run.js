@@ -3,7 +3,7 @@
 (function (gridlay) {
   'use strict';
 
-  const { Lines } = gridlay.text, { Document, Tree } = gridlay.document;
+  const { Lines } = gridlay.text, { Document } = gridlay.document, { Tree } = gridlay.tree;
   const { Printed } = gridlay.printed, { Scene } = gridlay.scene;
 
   class Run {
