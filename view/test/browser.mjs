@@ -6,66 +6,82 @@ import { tmpdir } from 'node:os';
 import { join } from 'node:path';
 
 const LIMIT = 60000;
+const WORDS = ['--headless', '--no-sandbox', '--disable-gpu', '--hide-scrollbars', '--no-first-run', '--remote-debugging-pipe'];
 
 /** Starts the browser, and gives what opens pages in it. */
 export async function start(program) {
-  const home = mkdtempSync(join(tmpdir(), 'gridlay-browser-'));
-  const words = ['--headless', '--no-sandbox', '--disable-gpu', '--hide-scrollbars', '--no-first-run', '--remote-debugging-pipe', `--user-data-dir=${home}`];
-  const child = spawn(program, words, { stdio: ['ignore', 'ignore', 'ignore', 'pipe', 'pipe'] });
-  const waiting = new Map(), listeners = new Map();
-  let last = 0, rest = Buffer.alloc(0), ended = null;
-  child.on('exit', status => {
-    ended = new Error(`the browser ended with status ${status}`);
-    for (const { refuse } of waiting.values()) refuse(ended);
-  });
-  child.on('error', error => { ended = error; });
-  child.stdio[4].on('data', piece => {
-    rest = Buffer.concat([rest, piece]);
-    for (let end = rest.indexOf(0); end >= 0; end = rest.indexOf(0)) {
-      hear(JSON.parse(rest.subarray(0, end).toString('utf8')));
-      rest = rest.subarray(end + 1);
-    }
-  });
+  const browser = new Browser(program), { product } = await browser.call('Browser.getVersion');
+  return Object.assign(browser, { product });
+}
 
-  function hear(said) {
-    const asked = waiting.get(said.id);
+/** A browser that runs with a folder of its own: calls go to it through its pipe, and what it says comes back. */
+class Browser {
+  constructor(program) {
+    this.home = mkdtempSync(join(tmpdir(), 'gridlay-browser-'));
+    this.child = spawn(program, [...WORDS, `--user-data-dir=${this.home}`], { stdio: ['ignore', 'ignore', 'ignore', 'pipe', 'pipe'] });
+    this.waiting = new Map();
+    this.listeners = new Map();
+    this.last = 0;
+    this.rest = Buffer.alloc(0);
+    this.ended = null;
+    this.child.on('exit', status => this.end(new Error(`the browser ended with status ${status}`)));
+    this.child.on('error', error => this.end(error));
+    this.child.stdio[4].on('data', piece => this.take(piece));
+  }
+
+  /** Nothing comes any more: all that is waited for is refused. */
+  end(error) {
+    this.ended = error;
+    for (const { refuse } of this.waiting.values()) refuse(error);
+  }
+
+  /** A piece of what the browser says: each message ends with a zero byte. */
+  take(piece) {
+    this.rest = Buffer.concat([this.rest, piece]);
+    for (let end = this.rest.indexOf(0); end >= 0; end = this.rest.indexOf(0)) {
+      this.hear(JSON.parse(this.rest.subarray(0, end).toString('utf8')));
+      this.rest = this.rest.subarray(end + 1);
+    }
+  }
+
+  hear(said) {
+    const asked = this.waiting.get(said.id);
     if (asked) {
-      waiting.delete(said.id);
+      this.waiting.delete(said.id);
       clearTimeout(asked.timer);
       if (said.error) asked.refuse(new Error(`${asked.method}: ${said.error.message}`));
       else asked.settle(said.result);
     } else if (said.sessionId) {
-      listeners.get(said.sessionId)?.(said.method, said.params);
+      this.listeners.get(said.sessionId)?.(said.method, said.params);
     }
   }
 
-  function call(method, params = {}, sessionId = undefined) {
-    if (ended) return Promise.reject(ended);
-    const id = ++last;
+  call(method, params = {}, sessionId = undefined) {
+    if (this.ended) return Promise.reject(this.ended);
+    const id = ++this.last;
     return new Promise((settle, refuse) => {
       const timer = setTimeout(() => refuse(new Error(`${method} took more than ${LIMIT} ms`)), LIMIT);
-      waiting.set(id, { method, settle, refuse, timer });
-      child.stdio[3].write(`${JSON.stringify({ id, method, params, sessionId })}\0`);
+      this.waiting.set(id, { method, settle, refuse, timer });
+      this.child.stdio[3].write(`${JSON.stringify({ id, method, params, sessionId })}\0`);
     });
   }
 
-  async function open() {
-    const { targetId } = await call('Target.createTarget', { url: 'about:blank' });
-    const { sessionId } = await call('Target.attachToTarget', { targetId, flatten: true });
-    const page = new Page((method, params) => call(method, params, sessionId), () => call('Target.closeTarget', { targetId }));
-    listeners.set(sessionId, (method, params) => page.hear(method, params));
+  /** Opens a page. */
+  async open() {
+    const { targetId } = await this.call('Target.createTarget', { url: 'about:blank' });
+    const { sessionId } = await this.call('Target.attachToTarget', { targetId, flatten: true });
+    const page = new Page((method, params) => this.call(method, params, sessionId), () => this.call('Target.closeTarget', { targetId }));
+    this.listeners.set(sessionId, (method, params) => page.hear(method, params));
     for (const part of ['Page', 'Runtime', 'Log', 'Network']) await page.call(`${part}.enable`);
     return page;
   }
 
-  async function close() {
-    await call('Browser.close').catch(() => {});
+  async close() {
+    const { child } = this;
+    await this.call('Browser.close').catch(() => {});
     if (child.exitCode === null) await new Promise(done => { child.once('exit', done); setTimeout(() => { child.kill('SIGKILL'); done(); }, 3000); });
-    rmSync(home, { recursive: true, force: true, maxRetries: 5, retryDelay: 200 });
+    rmSync(this.home, { recursive: true, force: true, maxRetries: 5, retryDelay: 200 });
   }
-
-  const { product } = await call('Browser.getVersion');
-  return { product, open, close, call };
 }
 
 /** A page of the browser: what it says on its console and asks of the network is kept. */

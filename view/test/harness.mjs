@@ -75,12 +75,15 @@ export const NOTING = `(() => {
   };
 })()`;
 
+/** What stands above the picture. */
+export const CAPTION = 'document.querySelector("#caption").textContent';
+
 /** What the viewer shows now, from the page itself. */
 export const SHOWN = `(() => {
-  const viewer = gridlay.page.viewer ?? gridlay.page, { zoom, left, top, ratio } = viewer.view;
-  viewer.draw(true);
+  const viewer = gridlay.page.viewer ?? gridlay.page, { zoom, left, top, ratio } = viewer.stage.view;
+  viewer.stage.draw(true);
   return {
-    step: viewer.step, drawn: viewer.drawn, zoom, left, top, ratio, noted: globalThis.noted,
+    step: viewer.step, drawn: viewer.stage.drawn, zoom, left, top, ratio, noted: globalThis.noted,
     boxes: viewer.scene ? viewer.scene.boxes.names.map((name, at) => [name, ...viewer.scene.boxes.printed(at)].join(' ')) : [],
     isTree: viewer.scene?.isTree ?? false,
   };

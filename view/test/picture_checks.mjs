@@ -2,7 +2,7 @@
 import assert from 'node:assert/strict';
 import { readdirSync, writeFileSync } from 'node:fs';
 import { join } from 'node:path';
-import { NOTING, SHOWN, answersOf, assertDrawn, cards, makePicture, printedBy, text } from './harness.mjs';
+import { CAPTION, NOTING, SHOWN, answersOf, assertDrawn, cards, makePicture, printedBy, text } from './harness.mjs';
 
 /** Opens the picture of a file, and gives the page. */
 async function opened(tools, file, name = file) {
@@ -22,7 +22,6 @@ function assertQuiet(page) {
   assert.deepEqual(page.requests, []);
 }
 
-const CAPTION = 'document.querySelector("#caption").textContent';
 const MARKED = 'document.querySelector("#caption mark")?.textContent ?? null';
 const ROWS = id => `[...document.querySelectorAll('#${id} .row')].map(it => [...it.children].map(child => child.textContent).join(' ').trim())`;
 
@@ -51,11 +50,9 @@ async function throughSteps(page, source, answers) {
   }
 }
 
-export async function checkPictures(checks, tools) {
-  const { view, program, work, shots, browser } = tools, examples = join(view, '..', 'examples');
-  const files = readdirSync(examples).filter(it => it.endsWith('.gridlay'));
-
-  for (const file of files) {
+async function checkSteps(checks, tools) {
+  const { program, shots, examples } = tools;
+  for (const file of readdirSync(examples).filter(it => it.endsWith('.gridlay'))) {
     await checks.check(`picture of ${file}: each step draws just the printed boxes, and refusals are marked at their places`, async () => {
       const page = await opened(tools, join(examples, file)), source = text(join(examples, file));
       await throughSteps(page, source, answersOf(printedBy(program, source)));
@@ -64,7 +61,10 @@ export async function checkPictures(checks, tools) {
       await page.close();
     });
   }
+}
 
+async function checkList(checks, tools) {
+  const { program, examples } = tools;
   await checks.check('the list of boxes shows the printed numbers, and the depth of each node', async () => {
     const source = text(join(examples, 'cards.gridlay')), page = await opened(tools, join(examples, 'cards.gridlay'));
     const rows = await page.value(ROWS('boxes'));
@@ -74,7 +74,10 @@ export async function checkPictures(checks, tools) {
     assert.deepEqual(levels, wanted);
     await page.close();
   });
+}
 
+async function checkChanges(checks, tools) {
+  const { program, examples } = tools;
   await checks.check('boxes that changed are marked, and what came and went is counted', async () => {
     const page = await opened(tools, join(examples, 'cards.gridlay')), answers = answersOf(printedBy(program, text(join(examples, 'cards.gridlay'))));
     for (let step = 1; step < answers.length; step++) {
@@ -97,10 +100,10 @@ export async function checkPictures(checks, tools) {
     assert.deepEqual(chosen, changed.slice(0, 3));
     await page.close();
   });
+}
 
-  await checks.check('the tree follows all kinds of edits', async () => {
-    const file = join(work, 'edits.gridlay');
-    writeFileSync(file, `gridlay 1
+/** A document with an edit of each kind but undo and redo, and two that are refused. */
+const ALL_EDITS = `gridlay 1
 viewport 100 100
 root grid # the root
   a grid{padding:1px}
@@ -120,7 +123,13 @@ insert nobody 0 none leaf 1 1
 move new root 0
 remove a
 viewport 50 60px
-`);
+`;
+
+async function checkTree(checks, tools) {
+  const { work } = tools;
+  await checks.check('the tree follows all kinds of edits', async () => {
+    const file = join(work, 'edits.gridlay');
+    writeFileSync(file, ALL_EDITS);
     const page = await opened(tools, file), trees = [
       'root 1,a 2,a1 3,a2 3,b 2', 'root 1,a 2,a1 3,new 3,a2 3,b 2', 'root 1,a 2,a1 3,new 3,deep 4,a2 3,b 2', 'root 1,a 2,a1 3,new 3,deep 4,a2 4,b 2',
       'root 1,a 2,a1 3,new 3,deep 4,a2 4,b 2', 'root 1,a 2,a1 3,new 3,deep 4,a2 4,b 2', 'root 1,a 2,a1 3,new 3,deep 4,a2 4,b 2', 'root 1,a 2,a1 3,new 3,deep 4,a2 4,b 2',
@@ -139,11 +148,10 @@ viewport 50 60px
     assertQuiet(page);
     await page.close();
   });
+}
 
-  await checks.check('undone and redone edits, and hits: the tree follows, and the point is marked', async () => {
-    // what is printed here was worked by hand, so that this holds for a program that does not know these edits too
-    const [file, program] = ['undo.gridlay', 'printer'].map(it => join(work, it));
-    writeFileSync(file, `gridlay 1
+/** A document whose edits are undone and redone, with points that are asked about. */
+const UNDONE = `gridlay 1
 viewport 100 50
 main flex
   a leaf 20 10
@@ -157,7 +165,14 @@ redo 1
 hit 15 40
 undo 3
 redo 2
-`);
+`;
+
+async function checkUndone(checks, tools) {
+  const { program, work } = tools;
+  await checks.check('undone and redone edits, and hits: the tree follows, and the point is marked', async () => {
+    // what is printed here was worked by hand, so that this holds for a program that does not know these edits too
+    const [file, program] = ['undo.gridlay', 'printer'].map(it => join(work, it));
+    writeFileSync(file, UNDONE);
     const [whole, less, wide] = ['main 0 0 100 10\na 0 0 20 10\nb 20 0 30 10', 'main 0 0 100 10\nb 0 0 30 10', 'main 0 0 100 10\nb 0 0 100 10'];
     const printed = `layout 0\n${whole}\nlayout 1\n${less}\nstats 1 2\nlayout 2\n${wide}\nlayout 3\n${whole}\nhit 4 a\nlayout 5\n${less}\nhit 6 -\nrefused 7 13:6 nothing-to-undo\nrefused 8 14:6 nothing-to-redo\n`;
     writeFileSync(program, `#!/bin/sh\ncat >/dev/null\ncat <<'PRINTED'\n${printed}PRINTED\nexit 3\n`, { mode: 0o755 });
@@ -178,11 +193,14 @@ redo 2
     assertQuiet(page);
     await page.close();
   });
+}
 
+async function checkChoosing(checks, tools) {
+  const { examples } = tools;
   await checks.check('hovering tells the exact numbers; a click in the picture chooses in the list, and the other way round', async () => {
     const page = await opened(tools, join(examples, 'cards.gridlay'));
     const placeOf = name => page.value(`(() => {
-      const { scene, view, part } = gridlay.page, box = scene.boxes.places.get('${name}'), { x, y, width, height } = scene.boxes;
+      const { scene, part, stage: { view } } = gridlay.page, box = scene.boxes.places.get('${name}'), { x, y, width, height } = scene.boxes;
       const [left, top] = view.toWindow(x[box] + width[box] / 2, y[box] + height[box] - 2), stage = part.canvas.getBoundingClientRect();
       return [stage.left + left, stage.top + top];
     })()`);
@@ -201,7 +219,10 @@ redo 2
     assertQuiet(page);
     await page.close();
   });
+}
 
+async function checkGoing(checks, tools) {
+  const { examples } = tools;
   await checks.check('the slider and the list of layouts go to a step', async () => {
     const page = await opened(tools, join(examples, 'cards.gridlay'));
     await page.value("(() => { const it = document.querySelector('#slider'); it.value = '3'; it.dispatchEvent(new Event('input', { bubbles: true })); })()");
@@ -211,12 +232,15 @@ redo 2
     assert.match(await page.value(CAPTION), /^layout 5viewport 400 480/);
     await page.close();
   });
+}
 
+async function checkMoving(checks, tools) {
+  const { program, examples } = tools;
   await checks.check('zooming and moving draw the same boxes elsewhere', async () => {
     const page = await opened(tools, join(examples, 'toolbar.gridlay')), [{ boxes }] = answersOf(printedBy(program, text(join(examples, 'toolbar.gridlay'))));
     const first = await page.value(SHOWN);
     await page.call('Input.dispatchMouseEvent', { type: 'mouseWheel', x: 300, y: 300, deltaX: 0, deltaY: -60, modifiers: 2 });
-    await page.until(`gridlay.page.view.zoom > ${first.zoom} * 1.1`);
+    await page.until(`gridlay.page.stage.view.zoom > ${first.zoom} * 1.1`);
     const near = await page.value(SHOWN);
     await page.drag([400, 500], [380, 540]);
     const moved = await page.value(SHOWN);
@@ -227,7 +251,10 @@ redo 2
     assert.equal((await page.value(SHOWN)).zoom, 1);
     await page.close();
   });
+}
 
+async function checkLarge(checks, tools) {
+  const { program, work, shots } = tools;
   await checks.check('a page of 14,405 boxes: all are drawn, and a step, a scroll and a zoom each take less than 0.3 s', async () => {
     const file = join(work, 'cards2400.gridlay'), source = `${cards(2400)}---\nset x1200 width: 70px\nset nobody width: 1px\nset cards column-gap: 30px\n`;
     writeFileSync(file, source);
@@ -237,14 +264,14 @@ redo 2
     await throughSteps(page, source, answers);
     await page.picture(join(shots, 'picture-cards2400-whole.png'));
     const times = await page.value(`(() => {
-      const least = does => Math.min(...[1, 2, 3, 4, 5].map(it => { const start = performance.now(); does(it); gridlay.page.draw(true); return performance.now() - start; }));
-      return { step: least(it => gridlay.page.go(it % 2)), whole: least(() => gridlay.page.fit('whole')), wide: least(() => gridlay.page.fit('wide')),
-        scroll: least(() => { document.querySelector('#boxes').scrollTop += 4000; gridlay.page.lists.boxes.look(); }) };
+      const least = does => Math.min(...[1, 2, 3, 4, 5].map(it => { const start = performance.now(); does(it); gridlay.page.stage.draw(true); return performance.now() - start; }));
+      return { step: least(it => gridlay.page.go(it % 2)), whole: least(() => gridlay.page.stage.fit('whole')), wide: least(() => gridlay.page.stage.fit('wide')),
+        scroll: least(() => { document.querySelector('#boxes').scrollTop += 4000; gridlay.page.side.lists.boxes.look(); }) };
     })()`);
     console.log(`         least ms: ${Object.entries(times).map(([what, time]) => `${what} ${time.toFixed(1)}`).join(', ')}`);
     for (const time of Object.values(times)) assert.ok(time < 300, JSON.stringify(times));
     // what is out of sight is not drawn, and what is in sight is
-    const wide = await page.value("(gridlay.page.fit('wide'), gridlay.page.draw(true), gridlay.page.drawn)");
+    const wide = await page.value("(gridlay.page.stage.fit('wide'), gridlay.page.stage.draw(true), gridlay.page.stage.drawn)");
     assert.ok(wide > 20 && wide < 1000, `${wide} boxes drawn`);
     await page.value("document.querySelector('#boxes').scrollTop = 20 * 10000");
     await page.until("document.querySelector('#boxes .row')?.dataset.index > 9000");
@@ -259,24 +286,24 @@ redo 2
     assertQuiet(page);
     await page.close();
   });
-
-  await checkBadInput(checks, tools);
-  await checkLooks(checks, tools, examples);
 }
 
-async function checkBadInput(checks, tools) {
-  const { view, program, work } = tools;
-  const nasty = '</script><script>globalThis.harm = 1</script><img src=x onerror="globalThis.harm = 2">&amp;"\'`${harm}';
+const NASTY = '</script><script>globalThis.harm = 1</script><img src=x onerror="globalThis.harm = 2">&amp;"\'`${harm}';
 
-  for (const [what, bytes, place] of [
-    ['marks of HTML in a comment', Buffer.from(`gridlay 1\nviewport 90 90\n# ${nasty}\na leaf 1 1\n---\nset ${nasty}\n`), /^layout 0/],
-    ['marks of HTML in place of a name', Buffer.from(`gridlay 1\nviewport 90 90\n${nasty} leaf 1 1\n`), /^refusedbad-nameline 3, byte 1\./],
-    ['control bytes', Buffer.from('gridlay 1\nviewport 90 90\na leaf 1 1 # \x00\x1b[31m\x07\n'), /^refusedbad-byteline 3, byte 14\./],
-    ['bytes that are no UTF-8', Buffer.from([...Buffer.from('gridlay 1\nviewport 90 90\na leaf 1 1 # '), 0xff, 0xc3, 0x28, 10]), /^refusedbad-byteline 3, byte 14\./],
-    ['carriage returns', Buffer.from('gridlay 1\r\nviewport 90 90\r\na leaf 1 1\r\n'), /^refusedbad-byteline 1, byte 10\./],
-    ['an empty file', Buffer.from(''), /^refusedbad-headerline 1, byte 1\./],
-    ['a long line', Buffer.from(`gridlay 1\nviewport 90 90\na words 1 1${' 10'.repeat(30000)}\n`), /^refusedline-too-longline 3, byte 65537\./],
-  ]) {
+/** Inputs of which nothing may run: what each is, its bytes, and how its caption begins. */
+const BAD_INPUTS = [
+  ['marks of HTML in a comment', Buffer.from(`gridlay 1\nviewport 90 90\n# ${NASTY}\na leaf 1 1\n---\nset ${NASTY}\n`), /^layout 0/],
+  ['marks of HTML in place of a name', Buffer.from(`gridlay 1\nviewport 90 90\n${NASTY} leaf 1 1\n`), /^refusedbad-nameline 3, byte 1\./],
+  ['control bytes', Buffer.from('gridlay 1\nviewport 90 90\na leaf 1 1 # \x00\x1b[31m\x07\n'), /^refusedbad-byteline 3, byte 14\./],
+  ['bytes that are no UTF-8', Buffer.from([...Buffer.from('gridlay 1\nviewport 90 90\na leaf 1 1 # '), 0xff, 0xc3, 0x28, 10]), /^refusedbad-byteline 3, byte 14\./],
+  ['carriage returns', Buffer.from('gridlay 1\r\nviewport 90 90\r\na leaf 1 1\r\n'), /^refusedbad-byteline 1, byte 10\./],
+  ['an empty file', Buffer.from(''), /^refusedbad-headerline 1, byte 1\./],
+  ['a long line', Buffer.from(`gridlay 1\nviewport 90 90\na words 1 1${' 10'.repeat(30000)}\n`), /^refusedline-too-longline 3, byte 65537\./],
+];
+
+async function checkBadInput(checks, tools) {
+  const { work } = tools;
+  for (const [what, bytes, place] of BAD_INPUTS) {
     await checks.check(`picture of ${what}: shown as text where it stands, and nothing of it runs`, async () => {
       const file = join(work, `${what.replace(/\W/g, '-')}"<b>&.gridlay`);
       writeFileSync(file, bytes);
@@ -294,7 +321,10 @@ async function checkBadInput(checks, tools) {
       await page.close();
     });
   }
+}
 
+async function checkNotDrawn(checks, tools) {
+  const { view, program, work } = tools;
   await checks.check('picture says a word where it draws nothing: 64 MB, no file, no program, no word', () => {
     const file = join(work, 'large.gridlay');
     writeFileSync(file, Buffer.alloc(1 << 26, 10));
@@ -311,8 +341,8 @@ async function checkBadInput(checks, tools) {
   });
 }
 
-async function checkLooks(checks, tools, examples) {
-  const { shots } = tools;
+async function checkLooks(checks, tools) {
+  const { shots, examples } = tools;
   await checks.check('light and dark follow the system, also while the page is open', async () => {
     const page = await opened(tools, join(examples, 'cards.gridlay'));
     // (from 0, black, to 765, white)
@@ -329,11 +359,11 @@ async function checkLooks(checks, tools, examples) {
   await checks.check('the picture that README shows can be made', async () => {
     const page = await opened(tools, join(examples, 'cards.gridlay'));
     await page.size(1020, 430);
-    await page.until('gridlay.page.view.width === 680');
+    await page.until('gridlay.page.stage.view.width === 680');
     for (const key of ['ArrowRight', 'ArrowRight', '9', ...Array(6).fill('ArrowDown')]) await page.key(key);
     assert.match(await page.value(CAPTION), /^layout 2insert page 5 card5 leaf 100 40.*1 new$/);
     assert.match(await page.value("document.querySelector('#details').textContent"), /^text2 {2}words, 5 of them/);
-    await page.value('gridlay.page.draw(true)');
+    await page.value('gridlay.page.stage.draw(true)');
     await page.picture(join(shots, 'cards.png'));
     await page.close();
   });
@@ -341,11 +371,21 @@ async function checkLooks(checks, tools, examples) {
   await checks.check('in a narrow window all is in reach', async () => {
     const page = await opened(tools, join(examples, 'form.gridlay'));
     await page.size(380, 700);
-    await page.until('gridlay.page.view.width === 380');
+    await page.until('gridlay.page.stage.view.width === 380');
     const room = await page.value("[document.documentElement.scrollWidth, document.querySelector('#canvas').clientHeight, document.querySelector('#boxes').clientHeight]");
     assert.ok(room[0] <= 380 && room[1] >= 200 && room[2] >= 60, room.join(' '));
     await page.key('End');
     await page.picture(join(shots, 'picture-form-narrow.png'));
     await page.close();
   });
+}
+
+const CHECKS = [
+  checkSteps, checkList, checkChanges, checkTree, checkUndone, checkChoosing, checkGoing, checkMoving, checkLarge, checkBadInput, checkNotDrawn,
+  checkLooks,
+];
+
+/** Checks the pages one after another. */
+export async function checkPictures(checks, tools) {
+  for (const check of CHECKS) await check(checks, tools);
 }

@@ -4,11 +4,10 @@ import { writeFileSync } from 'node:fs';
 import { availableParallelism, loadavg } from 'node:os';
 import { join } from 'node:path';
 import { pathToFileURL } from 'node:url';
-import { NOTING, SHOWN, answersOf, assertDrawn, cards, printedBy, text } from './harness.mjs';
+import { CAPTION, NOTING, SHOWN, answersOf, assertDrawn, cards, printedBy, text } from './harness.mjs';
 
 const SETTLED = 'gridlay.page.viewer.run?.lines.text === gridlay.page.editor.text && !gridlay.page.engine.isBusy';
 const TEXT = 'gridlay.page.editor.text';
-const CAPTION = 'document.querySelector("#caption").textContent';
 const NOTICE = 'document.querySelector("#notice").hidden ? "" : document.querySelector("#notice").textContent';
 const MARKS = `[...document.querySelectorAll('#marks .place')].map(it => {
   const { left, top, width } = it.getBoundingClientRect(), paper = document.querySelector('#text').getBoundingClientRect(), { letter, area } = gridlay.page.editor;
@@ -40,7 +39,7 @@ async function caretBehind(page, piece) {
 async function assertAsProgram(page, program) {
   const source = await page.value(TEXT), printed = printedBy(program, source), answers = answersOf(printed);
   assert.equal(await page.value('gridlay.page.viewer.run.printed.text'), printed);
-  await page.value("gridlay.page.viewer.fit('whole')");
+  await page.value("gridlay.page.viewer.stage.fit('whole')");
   const shown = await page.value(SHOWN);
   assertDrawn(shown, answers.slice(0, shown.step + 1).findLast(it => it.head[0] === 'layout').boxes);
   return { source, answers, shown };
@@ -49,7 +48,7 @@ async function assertAsProgram(page, program) {
 /** Where an edge of a box, or its middle, is seen in the window. */
 function edgeOf(page, name, side) {
   return page.value(`(() => {
-    const { scene, view, part } = gridlay.page.viewer, box = scene.boxes.places.get('${name}'), { x, y, width, height } = scene.boxes;
+    const { scene, part, stage: { view } } = gridlay.page.viewer, box = scene.boxes.places.get('${name}'), { x, y, width, height } = scene.boxes;
     const place = { right: [x[box] + width[box], y[box] + height[box] / 2], lower: [x[box] + width[box] / 2, y[box] + height[box]], corner: [x[box] + width[box], y[box] + height[box]], middle: [x[box] + width[box] / 2, y[box] + height[box] / 2] }['${side}'];
     const stage = part.canvas.getBoundingClientRect(), [left, top] = view.toWindow(...place);
     return [stage.left + left - 1, stage.top + top - 1];
@@ -58,19 +57,19 @@ function edgeOf(page, name, side) {
 
 /** Drags an edge by px of the page, and waits for its edit. */
 async function dragEdge(page, name, side, dx, dy) {
-  const from = await edgeOf(page, name, side), zoom = await page.value('gridlay.page.viewer.view.zoom');
+  const from = await edgeOf(page, name, side), zoom = await page.value('gridlay.page.viewer.stage.view.zoom');
   await page.drag(from, [from[0] + dx * zoom, from[1] + dy * zoom]);
   await page.until(SETTLED);
 }
 
-export async function checkPlaying(checks, tools) {
-  const { view, program, shots } = tools, examples = join(view, '..', 'examples');
-  const page = await opened(tools);
-
+async function checkWords(checks, tools, page) {
   await checks.check('the playing page says that its engine is not proved', async () => {
     assert.match(await page.value("document.querySelector('#about').textContent"), /tested, and not proved|of which nothing was proved/);
   });
+}
 
+async function checkExamples(checks, tools, page) {
+  const { program, examples } = tools;
   await checks.check('each example can be chosen, and all its layouts are those of the program', async () => {
     const names = await page.value("[...document.querySelectorAll('#examples option')].map(it => it.value)");
     assert.ok(names.length >= 5, names.join(' '));
@@ -81,7 +80,10 @@ export async function checkPlaying(checks, tools) {
       await assertAsProgram(page, program);
     }
   });
+}
 
+async function checkKeys(checks, tools, page) {
+  const { program, examples } = tools;
   await checks.check('each keystroke gives the boxes that the program gives for the text', async () => {
     await put(page, text(join(examples, 'cards.gridlay')));
     await caretBehind(page, 'text2 words 16 4 90 20 60');
@@ -95,7 +97,10 @@ export async function checkPlaying(checks, tools) {
     await page.until(SETTLED);
     await assertAsProgram(page, program);
   });
+}
 
+async function checkCaret(checks, tools, page) {
+  const { examples } = tools;
   await checks.check('the picture shows the layout of the line where the caret stands', async () => {
     await put(page, text(join(examples, 'cards.gridlay')));
     await caretBehind(page, 'remove wide');
@@ -103,7 +108,10 @@ export async function checkPlaying(checks, tools) {
     await caretBehind(page, 'card1');
     await page.until("gridlay.page.viewer.step === 0", 5000);
   });
+}
 
+async function checkFault(checks, tools, page) {
+  const { program, shots, examples } = tools;
   await checks.check('a fault is underlined at its place and explained, the last picture stays, and it goes when it is mended', async () => {
     await put(page, text(join(examples, 'cards.gridlay')));
     const before = (await page.value(SHOWN)).boxes;
@@ -127,7 +135,10 @@ export async function checkPlaying(checks, tools) {
     assert.equal(await page.value('gridlay.page.viewer.isDim'), false);
     await assertAsProgram(page, program);
   });
+}
 
+async function checkRefused(checks, tools, page) {
+  const { shots, examples } = tools;
   await checks.check('refused edits are underlined, each at its place; a click on its explanation goes there', async () => {
     await put(page, `${text(join(examples, 'first.gridlay'))}---\nset z width: 1px\nset a widht: 1px\nset a width: 7px\n`);
     assert.deepEqual(await page.value(MARKS), [[7, 5, 1], [8, 7, 5]]);
@@ -137,11 +148,14 @@ export async function checkPlaying(checks, tools) {
     assert.match(await page.value(CAPTION), /^refused 2unknown-property/);
     await page.picture(join(shots, 'play-refused.png'));
   });
+}
 
+async function checkDragging(checks, tools, page) {
+  const { program, shots, examples } = tools;
   await checks.check('dragging edges writes edits behind the layout that is seen, and a second drag of an edge replaces the first', async () => {
     const source = text(join(examples, 'cards.gridlay'));
     await put(page, source);
-    await page.value("gridlay.page.dragging.forget(), gridlay.page.viewer.fit('whole')");
+    await page.value("gridlay.page.dragging.forget(), gridlay.page.viewer.stage.fit('whole')");
     // card1 has paddings of 10px and borders of 1px, which its width does not count
     await dragEdge(page, 'card1', 'right', -40, 0);
     assert.equal(await page.value(TEXT), source.replace('---\n', '---\nset card1 width: 118px\n'));
@@ -164,17 +178,20 @@ export async function checkPlaying(checks, tools) {
     await page.value("document.querySelector('#copy').click()");
     await page.until("document.querySelector('#copy').textContent === 'Copied'", 5000);
   });
+}
 
+async function checkScript(checks, tools, page) {
+  const { program, examples } = tools;
   await checks.check('a script is begun where there is none; the grips drag the viewport; Escape takes a drag back; undo takes an edit back', async () => {
     const source = text(join(examples, 'first.gridlay')).replace(/\n$/, '');
     await put(page, source);
-    await page.value("gridlay.page.dragging.forget(), gridlay.page.viewer.fit('whole')");
+    await page.value("gridlay.page.dragging.forget(), gridlay.page.viewer.stage.fit('whole')");
     const [x, y] = await page.value(`(() => {
-      const { scene, view, part } = gridlay.page.viewer, stage = part.canvas.getBoundingClientRect();
+      const { scene, part, stage: { view } } = gridlay.page.viewer, stage = part.canvas.getBoundingClientRect();
       const grip = gridlay.draw.gripsOf(scene.viewport, view).find(it => it.axis === 'width');
       return [stage.left + grip.left + 3, stage.top + grip.top + 8];
     })()`);
-    const zoom = await page.value('gridlay.page.viewer.view.zoom');
+    const zoom = await page.value('gridlay.page.viewer.stage.view.zoom');
     await page.drag([x, y], [x - 100 * zoom, y]);
     await page.until(SETTLED);
     assert.equal(await page.value(TEXT), `${source}\n---\nviewport 200 200\n`);
@@ -195,13 +212,18 @@ export async function checkPlaying(checks, tools) {
     await page.until(SETTLED);
     assert.equal(await page.value(TEXT), source);
   });
+}
 
+async function checkLatest(checks, tools, page) {
   await checks.check('of texts that come while one is laid out, only the latest is', async () => {
     const answers = await page.value("Promise.all([1, 2, 3, 4].map(it => gridlay.page.engine.layout(`gridlay 1\\nviewport 9 9\\na leaf ${it} 1\\n`)))");
     assert.deepEqual(answers.map(it => it && it.output.split('\n')[1]), ['a 0 0 9 1', null, null, 'a 0 0 9 1']);
     assert.deepEqual(answers.map(it => it && it.status), [0, null, null, 0]);
   });
+}
 
+async function checkTrap(checks, tools, page) {
+  const { program, examples } = tools;
   await checks.check('after a trap the page says so, keeps the text and the picture, and lays out the next text', async () => {
     await put(page, text(join(examples, 'first.gridlay')));
     const before = await page.value(SHOWN);
@@ -220,7 +242,9 @@ export async function checkPlaying(checks, tools) {
     assert.equal(await page.value(NOTICE), '');
     await assertAsProgram(page, program);
   });
+}
 
+async function checkWorker(checks, tools, page) {
   await checks.check('a worker that fails, and a text that takes too long while another waits, are given up', async () => {
     const source = 'gridlay 1\\nviewport 9 9\\na leaf 1 1\\n', layOut = `gridlay.page.engine.layout('${source}')`;
     await page.value("globalThis.kept = gridlay.page.engine.source, gridlay.page.engine.source = 'onmessage = ({ data }) => { if (data.input) throw new Error(`it failed`); }', gridlay.page.engine.start()");
@@ -232,41 +256,48 @@ export async function checkPlaying(checks, tools) {
     assert.equal(await page.value('globalThis.first'), null);
     assert.equal((await page.value('globalThis.second')).output, 'layout 0\na 0 0 9 1\n');
   });
+}
 
+async function checkChosen(checks, tools, page) {
+  const { examples } = tools;
   await checks.check('a box that is chosen is marked in the text', async () => {
     await put(page, text(join(examples, 'cards.gridlay')));
     await page.click(...await edgeOf(page, 'text3', 'middle'));
     assert.equal(await page.value('gridlay.page.editor.here'), 11);
     assert.equal(await page.value("Math.round(document.querySelector('#marks .here').getBoundingClientRect().top - document.querySelector('#text').getBoundingClientRect().top)"), 6 + 10 * 20);
   });
+}
 
-  await checkLarge(checks, tools, page);
-
+async function checkMarks(checks, tools, page) {
   await checks.check('a text with marks of HTML is text, in the editor as in the picture', async () => {
     await put(page, 'gridlay 1\nviewport 90 90\n</script><script>globalThis.harm = 1</script><img src=x onerror="globalThis.harm = 2"> leaf 1 1\n');
     assert.match(await page.value(CAPTION), /^refusedbad-nameline 3, byte 1\./);
     assert.equal(await page.value('typeof globalThis.harm'), 'undefined');
     assert.equal(await page.value("document.querySelectorAll('img').length"), 0);
   });
+}
 
+async function checkNarrow(checks, tools, page) {
+  const { shots, examples } = tools;
   await checks.check('the playing page fits a narrow window, and has a dark look', async () => {
     await put(page, text(join(examples, 'toolbar.gridlay')));
     await page.scheme('dark');
     await page.picture(join(shots, 'play-dark.png'));
     await page.size(420, 900);
-    await page.until('gridlay.page.viewer.view.width <= 420', 5000);
+    await page.until('gridlay.page.viewer.stage.view.width <= 420', 5000);
     const [wide, editor, canvas] = await page.value("[document.documentElement.scrollWidth, document.querySelector('#text').clientHeight, document.querySelector('#canvas').clientHeight]");
     assert.ok(wide <= 420 && editor > 120 && canvas > 200, [wide, editor, canvas].join(' '));
     await page.picture(join(shots, 'play-narrow.png'));
     await page.scheme('light');
     await page.size(1400, 820);
   });
+}
 
+async function checkQuiet(checks, tools, page) {
   await checks.check('the playing page complained of nothing, and asked nothing of the network', () => {
     assert.deepEqual(page.troubles, []);
     assert.deepEqual(page.requests, []);
   });
-  await page.close();
 }
 
 /** Types digits and takes them away again; gives the ms from each keystroke until its boxes were drawn, in order of size. */
@@ -297,8 +328,8 @@ function summary(times) {
   return `least ${times[0]?.toFixed(0)}, median ${times[times.length >> 1]?.toFixed(0)}, most ${times.at(-1)?.toFixed(0)}`;
 }
 
-async function checkLarge(checks, tools, page) {
-  const { program, shots, work } = tools;
+async function checkSpeed(checks, tools, page) {
+  const { program, shots } = tools;
   for (const [count, keys, limit] of [[240, 24, 150], [2400, 10, 1500]]) {
     let times = [];
     await checks.check(`a keystroke in ${count} cards gives the boxes of the program`, async () => {
@@ -313,10 +344,13 @@ async function checkLarge(checks, tools, page) {
     if (busy > 1.5 && times[0] >= limit) checks.skip(within, `the machine is busy: ${busy.toFixed(1)} jobs for each processor; ${summary(times)} ms`);
     else await checks.check(within, () => assert.ok(times[0] < limit, times.join(' ')));
   }
+}
 
+async function checkDragSpeed(checks, tools, page) {
+  const { program } = tools;
   await checks.check('a drag in 240 cards follows the pointer', async () => {
     await put(page, cards(240));
-    await page.value("gridlay.page.viewer.fit('wide')");
+    await page.value("gridlay.page.viewer.stage.fit('wide')");
     const from = await edgeOf(page, 'p2', 'right'), times = [];
     await page.mouse('mouseMoved', ...from);
     await page.mouse('mousePressed', ...from);
@@ -334,7 +368,10 @@ async function checkLarge(checks, tools, page) {
     assert.match(await page.value(TEXT), /---\nset p2 width: \d+px\n$/);
     await assertAsProgram(page, program);
   });
+}
 
+async function checkLargeTexts(checks, tools, page) {
+  const { program, work } = tools;
   await checks.check('64 MB are refused with a word, as a file and as a paste, and the page goes on', async () => {
     await put(page, cards(2));
     const before = await page.value(TEXT), file = join(work, 'large.gridlay');
@@ -355,4 +392,16 @@ async function checkLarge(checks, tools, page) {
     await page.until(SETTLED);
     await assertAsProgram(page, program);
   });
+}
+
+const CHECKS = [
+  checkWords, checkExamples, checkKeys, checkCaret, checkFault, checkRefused, checkDragging, checkScript, checkLatest,
+  checkTrap, checkWorker, checkChosen, checkSpeed, checkDragSpeed, checkLargeTexts, checkMarks, checkNarrow, checkQuiet,
+];
+
+/** Checks the page in one window, one check after another. */
+export async function checkPlaying(checks, tools) {
+  const page = await opened(tools);
+  for (const check of CHECKS) await check(checks, tools, page);
+  await page.close();
 }

@@ -11,10 +11,11 @@ const [browserProgram, program, view, shots, playing, word] = process.argv.slice
 const work = mkdtempSync(join(tmpdir(), 'gridlay-view-test-'));
 mkdirSync(shots, { recursive: true });
 const checks = new Checks(word), browser = await start(browserProgram);
+const tools = { browser, program, view, shots, work, playing, examples: join(view, '..', 'examples') };
 console.log(`the browser is ${browser.product}`);
 try {
-  await checkPictures(checks, { browser, program, view, shots, work });
-  if (playing) await checkPlaying(checks, { browser, program, view, shots, work, playing });
+  await checkPictures(checks, tools);
+  if (playing) await checkPlaying(checks, tools);
   else checks.skip('the page that lays out while you type', 'it is not built: view/build_engine.sh builds it');
 } finally {
   await browser.close();
