@@ -13,12 +13,13 @@ program=
 most_explained=20
 
 # explain_all SHOWN FILE: explains each refusal of an output, which is read as it comes. It ends where the output does.
+# (a box may be called `refused`: its line has five words)
 explain_all() {
     local edit place name count=0
     while read -r _ edit place name; do
         count=$((count + 1))
         [ "$count" -gt "$most_explained" ] || explain_refusal "$1" "$2" "$edit" "$place" "$name"
-    done < <(grep --line-buffered '^refused ')
+    done < <(LC_ALL=C grep -a --line-buffered -E '^refused [0-9]+ [0-9]+:[0-9]+ [a-z-]+$')
     if [ "$count" -gt "$most_explained" ]; then
         printf '%s: %d more edits are refused\n' "$1" $((count - most_explained))
     fi

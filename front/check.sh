@@ -72,11 +72,11 @@ tell() {
     [ $# -lt 3 ] || mend+=("-e '$3'")
 }
 
-# What a document and its script came to.
+# What a document and its script came to. (a box may have any name: its line has five words, and no answer has)
 tell_outcome() {
     awk -v file="$1" '
-        $1 == "layout" || $1 == "refused" { if (layouts + refused > 0) edits++; if ($1 == "layout") layouts++; else refused++; next }
-        layouts == 1 && edits == 0 { nodes++ }
+        NF == 5 { if (layouts == 1 && edits == 0) nodes++; next }
+        $1 == "layout" || $1 == "refused" { if (layouts + refused > 0) edits++; if ($1 == "layout") layouts++; else refused++ }
         END {
             if (!layouts) { print file ": the document is refused"; exit }
             text = file ": a document of " nodes (nodes == 1 ? " node" : " nodes")

@@ -46,8 +46,12 @@ wants "check: a refused edit" out "edits.gridlay:9:5: unknown-name (edit 2)"
 wants "check: what there is" out "edits.gridlay: a document of 2 nodes and 2 edits, of which 1 is refused"
 wants_nothing "check: all is said on standard output" err
 had "check runs layout" "layout"
-printf 'layout 0\nmain 0 0 1 1\n' >"$stub/print"
+printf 'layout 0\nlayout 0 0 1 1\nrefused 0 0 1 1\nlayout 1\nlayout 0 0 1 1\nrefused 0 0 1 1\n' >"$stub/print"
 wanted_status=0
+with_program check "$first"
+wants "check: boxes that are called as answers are" out "first.gridlay: a document of 2 nodes and 1 edit, all well"
+holds "check: boxes that are called as answers are: no refusal is told" [ "$(wc -l <"$room/out")" -eq 1 ]
+printf 'layout 0\nmain 0 0 1 1\n' >"$stub/print"
 with_program check "$first"
 wants_status "check: all well" 0
 wants "check: all well" out "first.gridlay: a document of 1 node, all well"
