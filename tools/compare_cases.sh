@@ -10,23 +10,10 @@
 set -u
 export LC_ALL=C
 
-top=$(dirname -- "$(dirname -- "$(readlink -f -- "${BASH_SOURCE[0]}")")")
-data=$top/crates/corpus/data
-program=${1-${GRIDLAY_PROGRAM-$top/crates/gridlay/out/gridlay}}
+# shellcheck source=program.sh
+. "$(dirname -- "$(readlink -f -- "${BASH_SOURCE[0]}")")/program.sh"
+take_program "$@"
 seconds=60
-
-stop() {
-    printf 'compare_cases: %s\n' "$*" >&2
-    exit 2
-}
-
-[ $# -le 1 ] || stop "one PROGRAM, or none"
-if [ ! -f "$program" ] || [ ! -x "$program" ]; then
-    stop "$program is no program: build it (./gridlay FILE does so), or name one"
-fi
-program=$(readlink -f -- "$program")
-room=$(mktemp -d) || stop "no folder for temporary files"
-trap 'rm -rf -- "$room"' EXIT
 
 # The cases that wait, FOLDER/NAME with all of its runs or FOLDER/NAME.write with that one alone.
 declare -A waits=()

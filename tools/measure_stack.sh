@@ -6,15 +6,9 @@
 # PROGRAM is the built program; without it $GRIDLAY_PROGRAM, else the one that the gate leaves in crates/gridlay/out.
 set -u
 
-top=$(dirname -- "$(dirname -- "$(readlink -f -- "${BASH_SOURCE[0]}")")")
-program=${1-${GRIDLAY_PROGRAM-$top/crates/gridlay/out/gridlay}}
-[ -x "$program" ] || {
-    printf 'measure_stack: %s is no program\n' "$program" >&2
-    exit 2
-}
-program=$(readlink -f -- "$program")
-room=$(mktemp -d) || exit 2
-trap 'rm -rf -- "$room"' EXIT
+# shellcheck source=program.sh
+. "$(dirname -- "$(readlink -f -- "${BASH_SOURCE[0]}")")/program.sh"
+take_program "$@"
 
 # document LEVELS KIND: that many levels of a kind, a leaf on the last one
 document() {

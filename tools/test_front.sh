@@ -1,5 +1,5 @@
 #!/usr/bin/env bash
-# Tests the script `gridlay`, the files in front/, and tools/compare_cases.sh:
+# Tests the script `gridlay`, the files in front/, and those in tools/ that try a program:
 #     tools/test_front.sh [PROGRAM]
 # Most of it needs no kit and no built program: a small script stands for the program. With PROGRAM (or $GRIDLAY_PROGRAM, or the
 # one in crates/gridlay/out) it is also tested that the program refuses each mistake as tools/front/mistakes.txt says, and that the
@@ -93,11 +93,11 @@ wants_same() {
 
 # ---- calls
 
-# try WORD..: runs a command with nothing to read, for at most ten seconds. What it wrote is in $room/out and $room/err, its status
-# in $status.
+# try WORD..: runs a command with nothing to read, for at most a minute, also on a busy machine. What it wrote is in $room/out and
+# $room/err, its status in $status.
 try() {
     status=0
-    timeout 10 "$@" </dev/null >"$room/out" 2>"$room/err" || status=$?
+    timeout 60 "$@" </dev/null >"$room/out" 2>"$room/err" || status=$?
 }
 
 # A checkout without what is built, and a machine that has a few tools and no kit.
@@ -151,6 +151,8 @@ had() {
 . "$top/tools/front/check.sh"
 # shellcheck source=front/compare.sh
 . "$top/tools/front/compare.sh"
+# shellcheck source=front/memory.sh
+. "$top/tools/front/memory.sh"
 # shellcheck source=front/documents.sh
 . "$top/tools/front/documents.sh"
 

@@ -10,7 +10,7 @@ chmod +x "$room/other"
 small=$room/checkout
 cases=$small/crates/corpus/data
 mkdir -p "$small/tools" "$cases/"{small,usual,late,rows,examples} "$small/examples"
-cp "$top/tools/compare_cases.sh" "$small/tools/"
+cp "$top/tools/compare_cases.sh" "$top/tools/program.sh" "$small/tools/"
 for folder in small usual late rows examples; do
     printf 'x\n' >"$cases/$folder/plain-1.in"
     printf 'layout 0\n' >"$cases/$folder/plain-1.out"
