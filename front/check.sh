@@ -76,7 +76,9 @@ tell() {
 tell_outcome() {
     awk -v file="$1" '
         NF == 5 { if (layouts == 1 && edits == 0) nodes++; next }
-        $1 == "layout" || $1 == "refused" { if (layouts + refused > 0) edits++; if ($1 == "layout") layouts++; else refused++ }
+        $1 == "layout" || $1 == "refused" || $1 == "hit" { if (layouts + refused > 0) edits++ }
+        $1 == "layout" { layouts++ }
+        $1 == "refused" { refused++ }
         END {
             if (!layouts) { print file ": the document is refused"; exit }
             text = file ": a document of " nodes (nodes == 1 ? " node" : " nodes")

@@ -276,6 +276,7 @@ explain_unknown_edit() {
         delete | del | rm | erase) found=remove ;;
         change | style | update) found='set' ;;
         resize) found=viewport ;;
+        click | pick | point) found=hit ;;
         /) say_so "a comment begins with \`#\`" ; return ;;
         *) found=$(nearest "$token" "${edit_words[@]}") ;;
     esac

@@ -261,9 +261,24 @@ explain_point() {
     if [ "$1" -gt 1 ]; then
         say_so "after \`hit X Y\` the line ends"
     elif [ -z "$token" ]; then
-        say_so "\`hit\` has two numbers, X and Y, in px from the upper left corner of the viewport"
+        say_so "\`hit\` has two numbers, X and Y, in px from the upper left corner of the viewport: \`hit 100 20\`"
+    elif explain_joined "a number of \`hit\`"; then
+        return
+    elif [[ $token =~ ^[-+.0-9]+([A-Za-z]+|%)$ ]] && [ "${BASH_REMATCH[1]}" != px ]; then
+        say_so "\`$token\` is in \`${BASH_REMATCH[1]}\`: the numbers of \`hit\` are in px, with or without \`px\`"
     else
-        say_so "\`$token\` is no number of px from -1048576 to 1048576"
+        say_so "\`${token:0:40}\` is no number of px from -1048576 to 1048576"
+    fi
+}
+
+# explain_joined WHAT: tells where two numbers are joined by something else than a space.
+explain_joined() {
+    if [ "$token" = , ]; then
+        say_so "a \`,\` stands where $1 is due: numbers are separated by spaces"
+    elif [[ $token =~ ^[-+.0-9]+x[-+.0-9]+$ ]]; then
+        say_so "the two numbers are separated by a space: \`${token/x/ }\`"
+    else
+        return 1
     fi
 }
 
@@ -282,11 +297,7 @@ explain_numbers() {
     [ "$what" != more ] || what="width of a word"
     if [ -z "$token" ] || [ "$token" = '{' ]; then
         say_so "the $what is missing: a number of px after \`$word\`"
-    elif [ "$token" = , ]; then
-        say_so "a \`,\` stands where the $what is due: numbers are separated by spaces"
-    elif [[ $token =~ ^[-+.0-9]+x[-+.0-9]+$ ]]; then
-        say_so "the two numbers are separated by a space: \`${token/x/ }\`"
-    else
+    elif ! explain_joined "the $what"; then
         say_so "\`${token:0:40}\` is no $what: it is a number from 0 to 1048576, with or without \`px\`"
     fi
 }

@@ -81,7 +81,7 @@ nearest() {
 # by the file that answers them.
 edit_words=(set unset insert remove move content viewport)
 ! stands_on edit_journal || edit_words+=(undo redo)
-! stands_on hit_index || edit_words+=(hit)
+edit_words+=(hit)
 
 # Words of the script, and of them those that are here.
 all_words=(layout make check write picture play library)

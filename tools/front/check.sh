@@ -51,6 +51,9 @@ wanted_status=0
 with_program check "$first"
 wants "check: boxes that are called as answers are" out "first.gridlay: a document of 2 nodes and 1 edit, all well"
 holds "check: boxes that are called as answers are: no refusal is told" [ "$(wc -l <"$room/out")" -eq 1 ]
+printf 'layout 0\nmain 0 0 1 1\nhit 1 main\nhit 2 -\nrefused 3 9:5 bad-value\nlayout 4\nmain 0 0 1 1\nhit 5 main\n' >"$stub/print"
+with_program check "$first"
+wants "check: a hit is a line of the script, and no node" out "first.gridlay: a document of 1 node and 5 edits, of which 1 is refused"
 printf 'layout 0\nmain 0 0 1 1\n' >"$stub/print"
 with_program check "$first"
 wants_status "check: all well" 0

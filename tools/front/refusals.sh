@@ -64,9 +64,9 @@ wants "edits that came" err "set unset insert remove move content viewport undo 
 no_undo=$room/before
 mkdir "$no_undo"
 cp -R "$top/gridlay" "$top/front" "$no_undo/"
-sed 's/edit_journal//g; s/hit_index//g' "$top/crates.txt" >"$no_undo/crates.txt"
+sed 's/edit_journal//g' "$top/crates.txt" >"$no_undo/crates.txt"
 try env GRIDLAY_PROGRAM="$room/program" STUB="$stub" STUB_STATUS=3 "$no_undo/gridlay" --explain "$room/two.gridlay"
-wants "edits that did not come" err "set unset insert remove move content viewport"
+wants "edits that did not come" err "set unset insert remove move content viewport hit"
 lacks "edits that did not come are not told" grep -q "undo redo" "$room/err"
 rm "$stub/print"
 
@@ -85,9 +85,6 @@ later_told "redo 1" 5:6 nothing-to-redo "fewer edits than that are undone"
 later_told "undo 0" 5:6 bad-value "\`0\` is no number of edits"
 later_told "redo" 5:5 bad-value "the number of edits is missing"
 later_told "undo 1 2" 5:8 bad-value "after the number of edits the line ends"
-later_told "hit 1" 5:6 bad-value "\`hit\` has two numbers, X and Y"
-later_told "hit a 1" 5:5 bad-value "\`a\` is no number of px"
-later_told "hit 1 2 3" 5:9 bad-value "after \`hit X Y\` the line ends"
 
 # ---- each mistake of the table
 

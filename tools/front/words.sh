@@ -87,7 +87,7 @@ wants_same "--help through a link" "$room/out" "$room/help"
 later=$room/later
 mkdir -p "$later/view" "$later/tools"
 cp -R "$top/gridlay" "$top/front" "$later/"
-sed 's/^session:/session: doc_writer edit_journal hit_index/; $a doc_writer: doc_text\nedit_journal: doc_text\nhit_index: lunit' \
+sed 's/^session:/session: doc_writer edit_journal/; $a doc_writer: doc_text\nedit_journal: doc_text' \
     "$top/crates.txt" >"$later/crates.txt"
 # shellcheck disable=SC2016
 printf '#!/bin/sh\necho "the page of $1 by $GRIDLAY_PROGRAM"\n' >"$later/view/picture"
