@@ -189,6 +189,7 @@ kinds_kept n b (edit.Move named parent index at) t h m p =
 kinds_kept n b (edit.Content named new) t h m p =
     each_relabelled (IsLike n b) named.name (with_kind new) (λ x e q. λ f. other_name x.name n named.name (first_not (bytes_eq n named.name) _ m) f e) t p
 kinds_kept n b (edit.Viewport width height) t h m p = p
+kinds_kept n b (edit.Hit x y) t h m p = p
 
 -- ---- facts of each label
 

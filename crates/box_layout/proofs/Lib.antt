@@ -16,6 +16,7 @@ pub mod FlexAnswered
 pub mod FlexFits
 pub mod FlexNear
 mod FoundBoxes
+mod FoundRoots
 mod FoundWalks
 pub mod FrameWidths
 pub mod Framed

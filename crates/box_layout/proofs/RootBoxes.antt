@@ -18,7 +18,7 @@ use Rattle.tree_rules.specs.Queries.{is_container}
 use Rattle.tree_rules.specs.Whole.{kids_of, step}
 use Rattle.box_layout.specs.Asking.{frames_asked}
 use Rattle.box_layout.specs.BoxesSeen.{bare_boxes, boxes_seen, boxes_with}
-use Rattle.box_layout.specs.Paths.{AreKeptBelow, IsAllKept, first_asked}
+use Rattle.box_layout.specs.Paths.{AreKeptBelow, IsAllKept, IsPathKept, first_asked}
 
 -- ---- the root
 
@@ -86,11 +86,11 @@ first_of_root b root width height f container is =
     let before : List ToChild = (0, inline_query false []) ∷ (0, block_query false [] (root_inline r (root_width width r))) ∷ [] in
     Contains-append_right before (root_query width height s.label s.below) (0, frames_asked [] f.inline f.block) (asked_of_root b root width height f container is)
 
--- where all is kept, so is what it leads to
-pub kept_of_root : (b : BareTrees) (root : NodeId) (width height : ℤ) (f : Frame) (s : State) → top_numbers b ≡ root ∷ [] → f ≡ (root_framed width height (root_of (sight_at b root).label (sight_at b root).below)).frame
-    → IsAllKept b width height s → is_container (sight_at b root).label.kind ≡ true → AreKeptBelow b root (frames_asked [] f.inline f.block) s
-kept_of_root b root width height f s top is kept container =
-    λ m r passes. kept.path m r (record { root = root; top = top; first = frames_asked [] f.inline f.block; own = asked_of_root b root width height f container is; passes = passes })
+-- where the path is kept, so is what it leads to
+pub path_kept : (b : BareTrees) (root : NodeId) (width height : ℤ) (f : Frame) (s : State) → top_numbers b ≡ root ∷ [] → f ≡ (root_framed width height (root_of (sight_at b root).label (sight_at b root).below)).frame
+    → IsPathKept b width height s → is_container (sight_at b root).label.kind ≡ true → AreKeptBelow b root (frames_asked [] f.inline f.block) s
+path_kept b root width height f s top is kept container =
+    λ m r passes. kept m r (record { root = root; top = top; first = frames_asked [] f.inline f.block; own = asked_of_root b root width height f container is; passes = passes })
 
 -- ---- all of it
 
@@ -110,4 +110,4 @@ pub quiet_all : (b d : BareTrees) (root : NodeId) (width height : ℤ) (f : Fram
     → ((is_container (sight_at d root).label.kind ≡ true → AreKeptBelow d root (frames_asked [] f.inline f.block) t) → u ≡ t) → IsAllKept b width height s → u ≡ s
 quiet_all b d root width height f s t u same top is before quiet kept =
     quiet (λ container. subst (λ z. AreKeptBelow d root (frames_asked [] f.inline f.block) z) (sym (before kept)) (subst (λ z. AreKeptBelow z root (frames_asked [] f.inline f.block) s) (sym same)
-    (kept_of_root b root width height f s top is kept (subst (λ z. is_container (sight_at z root).label.kind ≡ true) same container)))) ∙ before kept
+    (path_kept b root width height f s top is kept.path (subst (λ z. is_container (sight_at z root).label.kind ≡ true) same container)))) ∙ before kept

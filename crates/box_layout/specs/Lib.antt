@@ -5,6 +5,7 @@ pub mod BothMargins
 pub mod Filling
 pub mod BoxesSeen
 pub mod FlexFrames
+pub mod FoundRoots
 pub mod GridFrames
 pub mod KidBoxes
 pub mod LastBoxes

@@ -1,13 +1,15 @@
 -- What laying out a whole tree asks of its nodes, by their numbers, and what it changes (own rule).
-use Rattle.std.specs.Prelude.{◌≡◌, ℕ, ◌++◌, ℤ, ◌⊎◌, true, false, List, [], ◌∷◌, Contains, Some, IsSome}
+use Rattle.std.specs.Prelude.{◌≡◌, ℕ, ◌++◌, ℤ, ◌⊎◌, true, false, List, [], ◌∷◌, Contains, None, Some, IsSome}
 use Rattle.layout_cache.specs.Kept.{answer_to}
 use Rattle.node_arena.specs.declared.number.NodeId.{NodeId}
 use Rattle.node_arena.specs.Numbers.{child_at, top_numbers}
+use Rattle.node_arena.specs.Plain.{Nodes}
 use Rattle.outside.specs.declared.event.Event.{Event}
 use Rattle.plain_tree.specs.Trees.{Trees}
 use Rattle.placing.specs.Children.{IsOutside}
 use Rattle.placing.specs.Nodes.{BareTrees, kids_at, sight_at}
-use Rattle.placing.specs.Walks.{State, Walk, bare_in, events_at, kept_in}
+use Rattle.placing.specs.Walks.{State, Walk, bare_in, events_at, kept_in, state}
+use Rattle.placing.specs.declared.node.Node.{Node}
 use Rattle.tree_rules.specs.AskedQueries.{ToChild, block_query, inline_query, leads_to, passes_from, root_query}
 use Rattle.tree_rules.specs.Boxes.{root_inline, root_of, root_width}
 use Rattle.tree_rules.specs.KeptAnswers.{IsAbsent}
@@ -64,6 +66,10 @@ pub record IsOnPath (b : BareTrees) (width height : ℤ) (m : NodeId) (q : Query
   pub passes : Passes b root first m q
 
 -- ---- what is kept
+
+-- what is kept in an arena alone
+abbrev pub kept_state : Nodes Node → State
+kept_state arena = state arena (record { measured = 0; added = 0; lost = false }) 0 None
 
 -- each container's list holds its question of the path
 abbrev pub IsPathKept : BareTrees → ℤ → ℤ → State → Type 0

@@ -1,14 +1,15 @@
 //! The boxes of a whole tree in a viewport.
 
-ghost use Rattle.std.specs.Prelude.{◌≡◌, [], false, OnOk, OnErr};
+ghost use Rattle.std.specs.Prelude.{◌≡◌, [], false, IfOk, OnOk, OnErr};
 ghost use Rattle.placing.specs.Kept.{kept_at, IsRight};
 ghost use Rattle.placing.specs.Nodes.{bare};
 ghost use Rattle.placing.specs.Ranges.{AreReadable};
 ghost use Rattle.placing.specs.Walks.{state, Walk};
 ghost use Rattle.box_layout.specs.BoxesSeen.{AreNear, bare_boxes};
+ghost use Rattle.box_layout.specs.FoundRoots.{IsRootFrame};
 ghost use Rattle.box_layout.specs.LastBoxes.{AreFound};
 ghost use Rattle.box_layout.specs.LeafHeights.{AreMeasured};
-ghost use Rattle.box_layout.specs.Paths.{IsAllKept, IsAsked, IsCutShort, IsPathKept};
+ghost use Rattle.box_layout.specs.Paths.{IsAllKept, IsAsked, IsCutShort, IsPathKept, kept_state};
 
 use crate::last_boxes::LastBoxes;
 use crate::root_frame::root_frame;
@@ -16,10 +17,21 @@ use crate::told::BoxSink;
 use crate::walk::boxes_of;
 use lunit::{Along, Area, Lu, NoMemory, Span, Steps};
 use node_arena::Arena;
-use outside::{Ruler, Tally};
-use placing::{Above, Node, root};
+use outside::{Ruler, Tally, WordRuler};
+use placing::{Above, Frame, Node, root};
 use std::alloc::Global;
 use std::sync::ledger::Ledger;
+
+/// The frame of the root of a tree in a viewport, as laying the tree out finds it.
+#[derive(Drop)]
+pub struct RootFrame {
+    /// The width of the viewport, in units of 1/64 px.
+    pub width: Lu,
+    /// Its height.
+    pub height: Lu,
+    /// What the root is given there, and its border box.
+    pub frame: Frame,
+}
 
 /// No area.
 const NO_AREA: Area = Area {
@@ -34,7 +46,8 @@ const NO_AREA: Area = Area {
 /// Each container is asked once for its frames; the answers that the nodes keep are taken as they are, and what is found is kept. Each
 /// leaf among the children of a grid whose frames are found then keeps its block size at the content width of its box. Where all of
 /// that is kept, nothing changes. The boxes of containers that have few below them are taken as they were found last, moved with these,
-/// where they still hold, and kept where not; once an answer went since its list was full, none of them are. `NoMemory` where memory is wanting; what was kept by then is right.
+/// where they still hold, and kept where not; once an answer went since its list was full, none of them are. Answers the frame that was
+/// found for the root; `NoMemory` where memory is wanting: what was kept by then is right.
 pub fn walk_boxes<T: BoxSink, R: Ruler, L: Ledger>(
     alloc: Global,
     tree: &mut Arena<Node>,
@@ -45,10 +58,11 @@ pub fn walk_boxes<T: BoxSink, R: Ruler, L: Ledger>(
     ruler: &mut R,
     tally: &mut Tally,
     passes: &mut Steps<L>,
-) -> Result<(), NoMemory>
+) -> Result<RootFrame, NoMemory>
     requires right { IsRight tree.old.tree }
     requires readable { AreReadable (bare tree.old.tree) }
     requires last { AreFound (bare tree.old.tree) (kept_at tree.old.tree) last.old }
+    ensures root { IfOk result (λ root. IsRootFrame (bare tree.old.tree) width height root) }
     ensures value { OnOk result (T.adds told.old told.new (bare_boxes width height (bare tree.old.tree))) }
     ensures near { OnOk result (AreNear (bare_boxes width height (bare tree.old.tree))) }
     ensures bare { bare tree.new.tree ≡ bare tree.old.tree }
@@ -68,7 +82,7 @@ pub fn walk_boxes<T: BoxSink, R: Ruler, L: Ledger>(
     done
 }
 
-/// The same, where what was found last may not hold once an answer went since its list was full.
+/// Hands over the boxes as [`walk_boxes`] does, where what was found last may not hold once an answer went since its list was full.
 fn boxes_of_tree<T: BoxSink, R: Ruler, L: Ledger>(
     alloc: Global,
     tree: &mut Arena<Node>,
@@ -79,10 +93,11 @@ fn boxes_of_tree<T: BoxSink, R: Ruler, L: Ledger>(
     ruler: &mut R,
     tally: &mut Tally,
     passes: &mut Steps<L>,
-) -> Result<(), NoMemory>
+) -> Result<RootFrame, NoMemory>
     requires right { IsRight tree.old.tree }
     requires readable { AreReadable (bare tree.old.tree) }
     requires last { AreFound (bare tree.old.tree) (kept_at tree.old.tree) last.old }
+    ensures root { IfOk result (λ root. IsRootFrame (bare tree.old.tree) width height root) }
     ensures value { OnOk result (T.adds told.old told.new (bare_boxes width height (bare tree.old.tree))) }
     ensures near { OnOk result (AreNear (bare_boxes width height (bare tree.old.tree))) }
     ensures bare { bare tree.new.tree ≡ bare tree.old.tree }
@@ -117,5 +132,56 @@ fn boxes_of_tree<T: BoxSink, R: Ruler, L: Ledger>(
         tally,
         passes,
     )?;
-    Ok(())
+    Ok(RootFrame {
+        width,
+        height,
+        frame,
+    })
+}
+
+/// Hands over the boxes of a tree as [`walk_boxes`] does, by the frame that it found for the root, where the containers still keep what
+/// they were asked for then. Nothing is asked anew, and nothing changes in the tree. `NoMemory` where memory is wanting.
+pub fn kept_boxes<T: BoxSink, L: Ledger>(
+    alloc: Global,
+    tree: &mut Arena<Node>,
+    root_frame: &RootFrame,
+    told: &mut T,
+    last: &mut LastBoxes,
+    passes: &mut Steps<L>,
+) -> Result<(), NoMemory>
+    requires right { IsRight tree.old.tree }
+    requires readable { AreReadable (bare tree.old.tree) }
+    requires last { AreFound (bare tree.old.tree) (kept_at tree.old.tree) last.old }
+    requires root { IsRootFrame (bare tree.old.tree) root_frame.now.width root_frame.now.height root_frame.now }
+    requires kept { IsPathKept (bare tree.old.tree) root_frame.now.width root_frame.now.height (kept_state tree.old) }
+    ensures value { OnOk result (T.adds told.old told.new (bare_boxes root_frame.now.width root_frame.now.height (bare tree.old.tree))) }
+    ensures near { OnOk result (AreNear (bare_boxes root_frame.now.width root_frame.now.height (bare tree.old.tree))) }
+    ensures same { tree.new ≡ tree.old }
+    ensures passes { passes.new ≡ passes.old }
+    ensures last { AreFound (bare tree.new.tree) (kept_at tree.new.tree) last.new }
+{
+    let id = root(tree);
+    let x = Along::of(0);
+    let y = Along::of(0);
+    let nothing = Above::Nothing;
+    let mut ruler = WordRuler::new();
+    let mut tally = Tally::new();
+    told.make_room(tree.len());
+    boxes_of(
+        alloc,
+        tree,
+        id,
+        &[],
+        &nothing,
+        &nothing,
+        NO_AREA,
+        &root_frame.frame,
+        x,
+        y,
+        told,
+        last,
+        &mut ruler,
+        &mut tally,
+        passes,
+    )
 }

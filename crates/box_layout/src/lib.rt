@@ -41,7 +41,7 @@ pub use grids::{OverTracks, frame_over};
 pub use items::{box_size, place_in_area};
 pub use last_boxes::LastBoxes;
 pub use laws::{flex_children_stand_near, frames_fit_below, frames_stand_near};
-pub use layout::walk_boxes;
+pub use layout::{RootFrame, kept_boxes, walk_boxes};
 pub use lines::flex_frames;
 pub use queries::frames_query;
 pub use root::{given_box, root_height, root_rect, root_width};

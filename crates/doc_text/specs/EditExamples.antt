@@ -1,5 +1,5 @@
 -- Edit lines, worked by hand. They hold by computation.
-use Rattle.std.specs.Prelude.{◌≡◌, refl, ℕ, pos, ◌==◌, Bool, true, false, ◌&&◌, List, [], ◌∷◌, Result, Ok, Err, None, codes}
+use Rattle.std.specs.Prelude.{◌≡◌, refl, ℕ, pos, negsuc, ◌==◌, Bool, true, false, ◌&&◌, List, [], ◌∷◌, Result, Ok, Err, None, codes}
 use Rattle.std.specs.FinMap as map
 use Rattle.text_scan.specs.declared.line.Fault.{Fault}
 use Rattle.text_scan.specs.declared.line.Line.{Line}
@@ -16,7 +16,7 @@ use Rattle.doc_text.specs.declared.edit.Edit.TheVariants as edit
 use Rattle.doc_text.specs.declared.edit.Named.{Named}
 use Rattle.doc_text.specs.declared.kind.Kind.TheVariants as kind
 use Rattle.doc_text.specs.Texts.{past, first_word, word_place, after_word, text_of}
-use Rattle.doc_text.specs.Tokens.{size_of_word}
+use Rattle.doc_text.specs.Tokens.{size_of_word, position_of_word}
 use Rattle.doc_text.specs.EditText.{edit_of}
 
 abbrev line : List ℕ → Line
@@ -54,9 +54,10 @@ faults = refl
 more_faults : others 2
     ((codes "move a", 5, 7) ∷ (codes "move a b", 9, 9) ∷ (codes "move a b 0 0", 9, 12) ∷ (codes "move a 1 0", 5, 8) ∷ (codes "content a", 7, 10) ∷ (codes "content a grid", 7, 11) ∷ (codes "content a leaf 1", 9, 17) ∷ (codes "content a leaf 1 1 { }", 9, 20)
     ∷ (codes "content a words 1 1 2 x", 9, 23) ∷ (codes "content a words 1 1 { }", 9, 21) ∷ (codes "content a leaf 1em 1", 9, 16) ∷ (codes "viewport 1", 9, 11) ∷ (codes "viewport 1 1 1", 9, 14) ∷ (codes "viewport -1 1", 9, 10)
-    ∷ (codes "viewport 1 1048577", 9, 12) ∷ (codes "unset a position", 11, 9) ∷ (codes "set a width: 1ex", 11, 14) ∷ [])
+    ∷ (codes "viewport 1 1048577", 9, 12) ∷ (codes "hit", 9, 4) ∷ (codes "hit 1", 9, 6) ∷ (codes "hit 1 ", 9, 6) ∷ (codes "hit 1 2 3", 9, 9) ∷ (codes "hit 1 x", 9, 7) ∷ (codes "hit 1em 1", 9, 5)
+    ∷ (codes "hit 1, 2", 9, 6) ∷ (codes "hit 1048576.1 0", 9, 5) ∷ (codes "hit 0 -1048577", 9, 7) ∷ (codes "hits 1 1", 20, 1) ∷ (codes "unset a position", 11, 9) ∷ (codes "set a width: 1ex", 11, 14) ∷ [])
     ≡ []
-unfolding property_rows properties_2 properties_3 properties_4 properties_5 properties_6 properties_7 properties_8 properties_9 properties_10 name_of line_number span_count size_of past first_word word_place after_word text_of size_of_word
+unfolding property_rows properties_2 properties_3 properties_4 properties_5 properties_6 properties_7 properties_8 properties_9 properties_10 name_of line_number span_count size_of past first_word word_place after_word text_of size_of_word position_of_word
 more_faults = refl
 
 set_one : edit_of 1 (line (codes " set a order: 2;")) ≡ Ok (edit.Set (named (codes "a") 6) ((prop.Order, record { value = value.Order (pos 2); units = [] }) ∷ []))
@@ -95,3 +96,12 @@ content_one = refl
 viewport_one : edit_of 1 (line (codes "viewport 0.5 1048576")) ≡ Ok (edit.Viewport (pos 32) (pos 67108864))
 unfolding past first_word word_place after_word text_of size_of_word
 viewport_one = refl
+
+-- a position may be below zero; what is finer than a unit is truncated toward zero
+hit_one : edit_of 1 (line (codes "hit 0.5 -1048576px")) ≡ Ok (edit.Hit (pos 32) (negsuc 67108863))
+unfolding past first_word word_place after_word text_of position_of_word
+hit_one = refl
+
+hit_between : edit_of 2 (line (codes " hit -0.02 +1.px # here")) ≡ Ok (edit.Hit (negsuc 0) (pos 64))
+unfolding past first_word word_place after_word text_of position_of_word
+hit_between = refl

@@ -19,7 +19,7 @@ use Rattle.doc_text.specs.declared.edit.Named.{Named}
 use Rattle.doc_text.specs.declared.kind.Kind.{Kind}
 use Rattle.doc_text.specs.Label.{DeclaredMap}
 use Rattle.doc_text.specs.Texts.{Word, Text, past, up_to, first_word, word_place, after_word, is_word, ◌>>=◌, end_of, text_of}
-use Rattle.doc_text.specs.Tokens.{name_first, size_first, index_first}
+use Rattle.doc_text.specs.Tokens.{name_first, size_first, position_first, index_first}
 use Rattle.doc_text.specs.NodeText.{is_semicolon, content_first, node_text}
 
 abbrev named_at : Place → Word × Text → Named × Text
@@ -112,6 +112,14 @@ viewport_edit text =
     end_of height.1 >>= λ _.
     Ok (edit.Viewport width.0 height.0)
 
+-- `hit X Y`
+abbrev pub hit_edit : Text → Result Edit Fault
+hit_edit text =
+    position_first text >>= λ x.
+    position_first x.1 >>= λ y.
+    end_of y.1 >>= λ _.
+    Ok (edit.Hit x.0 y.0)
+
 -- ---- a line
 
 -- the edit by its first word; 20, `unknown-edit`, at another
@@ -121,6 +129,7 @@ other_edit text =
     else if is_word (codes "move") text then move_edit (after_word text)
     else if is_word (codes "content") text then content_edit (after_word text)
     else if is_word (codes "viewport") text then viewport_edit (after_word text)
+    else if is_word (codes "hit") text then hit_edit (after_word text)
     else Err (fault_at 20 (word_place text))
 
 abbrev pub edit_in : ℕ → Text → Result Edit Fault

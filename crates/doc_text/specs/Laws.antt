@@ -22,6 +22,11 @@ pub record IsFirst (rows : List Row) (fault : Fault) : Type 0 where
   pub none : NoneComes before
   pub told : fault ≡ fault_at number at
 
+-- the edit is a change of the document; a hit asks which box lies under a point, and changes nothing
+abbrev pub IsChange : Edit → Type 0
+IsChange (edit.Hit x y) = ⊥
+IsChange e = ⊤
+
 -- an inserted node has the name that the edit gives it
 abbrev pub NamesItsNode : Edit → Type 0
 NamesItsNode (edit.Insert parent index at named node) = node.name ≡ named.name

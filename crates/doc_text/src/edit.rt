@@ -11,7 +11,8 @@ pub struct Named {
     pub at: Place,
 }
 
-/// An edit of a document, as a line of its script tells it. Nodes are named, not numbered.
+/// What a line of the script of a document tells: an edit, with nodes that are named, not numbered;
+/// or a question.
 #[derive(Drop)]
 pub enum Edit {
     /// The node has these properties, set one after another.
@@ -30,4 +31,6 @@ pub enum Edit {
     Content(Named, Kind),
     /// The viewport has this width and height.
     Viewport(Lu, Lu),
+    /// No change: which box lies under the point with this x and y, which may be below zero.
+    Hit(Lu, Lu),
 }

@@ -6,13 +6,13 @@ ghost use Rattle.track_text.specs.Gives.{Reads};
 ghost use Rattle.value_text.specs.Properties.{property_of};
 ghost use Rattle.doc_text.specs.Texts.{first_word};
 ghost use Rattle.doc_text.specs.NodeText.{is_semicolon};
-ghost use Rattle.doc_text.specs.EditText.{named_first, set_edit, props_of, props_first, unset_edit, bare_node, insert_edit, remove_edit, move_edit, content_edit, viewport_edit, other_edit, edit_in, edit_of, before_semicolon, after_semicolon};
+ghost use Rattle.doc_text.specs.EditText.{named_first, set_edit, props_of, props_first, unset_edit, bare_node, insert_edit, remove_edit, move_edit, content_edit, viewport_edit, hit_edit, other_edit, edit_in, edit_of, before_semicolon, after_semicolon};
 
 use crate::document::{Children, Plain};
 use crate::edit::{Edit, Named};
 use crate::node_text::{content_first, node_text};
 use crate::text::{Text, end_of, fault};
-use crate::token::{index_first, name_first, size_first};
+use crate::token::{index_first, name_first, position_first, size_first};
 use lunit::Sequence;
 use std::alloc::Global;
 use style_types::Prop;
@@ -165,7 +165,17 @@ fn viewport_edit(text: &Text) -> Result<Edit, ReadError>
     Ok(Edit::Viewport(width, height))
 }
 
-/// The edit of a text whose first word is one of the last four.
+/// `hit X Y`, after its first word.
+fn hit_edit(text: &Text) -> Result<Edit, ReadError>
+    ensures { Reads result (hit_edit text.now) }
+{
+    let (x, text) = position_first(text)?;
+    let (y, text) = position_first(&text)?;
+    end_of(&text)?;
+    Ok(Edit::Hit(x, y))
+}
+
+/// The edit of a text whose first word is one of the last five.
 fn other_edit(alloc: Global, text: &Text) -> Result<Edit, ReadError>
     ensures { Reads result (other_edit text.now) }
 {
@@ -178,6 +188,8 @@ fn other_edit(alloc: Global, text: &Text) -> Result<Edit, ReadError>
         content_edit(alloc, &rest)
     } else if word == b"viewport".as_slice() {
         viewport_edit(&rest)
+    } else if word == b"hit".as_slice() {
+        hit_edit(&rest)
     } else {
         Err(fault(UNKNOWN_EDIT, at))
     }
@@ -203,13 +215,16 @@ fn edit_in(alloc: Global, version: u8, text: &Text) -> Result<Edit, ReadError>
 ///
 /// The forms are `set NAME property: value`, with a last `;` or without; `unset NAME property`;
 /// `insert PARENT INDEX node-line`, without indentation; `remove NAME`; `move NAME PARENT INDEX`;
-/// `content NAME leaf W H` and `content NAME words LINE SPACE w1 w2 ..`; and `viewport W H`. An index is an integer from 0
-/// to 1,000,000. Names and indices have their places.
+/// `content NAME leaf W H` and `content NAME words LINE SPACE w1 w2 ..`; `viewport W H`; and
+/// `hit X Y`, which changes nothing. An index is an integer from 0 to 1,000,000. X and Y are
+/// numbers of a magnitude of at most 1,048,576, with or without `px`. Names and indices have their
+/// places.
 ///
-/// The fault is that of the line where it has one, 1 or 2; and else that of the leftmost part that has one: 20 at the first
-/// word where it is that of no edit, 5 at a name, 9 at an index or another number, 7 at a kind, 8 or 11 at a property, 10 at
-/// one that stands in the same braces before, 9 or 11 at a value, and 9 at what follows the end. What is missing is missing
-/// just past the last byte that counts. `NoMemory` where memory is wanting.
+/// The fault is that of the line where it has one, 1 or 2; and else that of the leftmost part that
+/// has one: 20 at the first word where it is that of no edit, 5 at a name, 9 at an index or another
+/// number, 7 at a kind, 8 or 11 at a property, 10 at one that stands in the same braces before, 9
+/// or 11 at a value, and 9 at what follows the end. What is missing is missing just past the last
+/// byte that counts. `NoMemory` where memory is wanting.
 pub fn read_edit(alloc: Global, line: &Line, version: u8) -> Result<Edit, ReadError>
     ensures { Reads result (edit_of version line.now) }
 {

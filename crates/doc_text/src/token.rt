@@ -1,10 +1,10 @@
 //! The names and numbers of a line.
 
-ghost use Rattle.std.specs.Prelude.{◌≡◌, IfSome, ◌≤ℤ◌, pos};
-ghost use Rattle.lunit.specs.Decimals.{read_number};
-ghost use Rattle.lunit.specs.Forms.{sizes};
+ghost use Rattle.std.specs.Prelude.{◌≡◌, ◌*◌, ◌≤◌, IfSome, ◌≤ℤ◌, pos};
+ghost use Rattle.lunit.specs.Decimals.{read_number, IsScale};
 ghost use Rattle.track_text.specs.Gives.{Reads};
-ghost use Rattle.doc_text.specs.Tokens.{name_of, size_of_word, index_of, name_first, size_first, index_first};
+ghost use Rattle.doc_text.specs.Tokens.{name_of, px_of_word, size_of_word, position_of_word, index_of};
+ghost use Rattle.doc_text.specs.Tokens.{name_first, size_first, position_first, index_first};
 
 use crate::text::{Text, fault};
 use lunit::{Lu, Name, NumberForm};
@@ -21,22 +21,44 @@ fn name_of(word: &[u8]) -> Option<Name>
 }
 
 #[tactic(auto, using(track_text::proofs::Limits::within_limits))]
-fn units_of(text: &[u8]) -> Option<Lu>
-    ensures { result ≡ read_number sizes text.now }
+/// The number of px of this form that the text is.
+fn units_of(form: NumberForm, text: &[u8]) -> Option<Lu>
+    requires scale { IsScale form.scale }
+    requires most { form.most * form.scale ≤ 67108864 }
+    ensures { result ≡ read_number form text.now }
 {
-    let units = NumberForm::SIZES.read(text)?;
+    let units = form.read(text)?;
     Some(Lu::of(units))
 }
 
+/// The number of px of this form that the word is, with or without `px`.
+fn px_of_word(form: NumberForm, word: &[u8]) -> Option<Lu>
+    requires scale { IsScale form.scale }
+    requires most { form.most * form.scale ≤ 67108864 }
+    ensures { result ≡ px_of_word form word.now }
+{
+    match before(b"px", word) {
+        Some(number) => units_of(form, number),
+        None => units_of(form, word),
+    }
+}
+
 #[tactic(auto, unfolding(crate::specs::Tokens::size_of_word))]
-/// The size of a viewport or a leaf that the word is: a number from 0 to 1,048,576 with or without `px`.
+/// The size of a viewport or a leaf that the word is: a number from 0 to 1,048,576 with or without
+/// `px`.
 pub(crate) fn size_of_word(word: &[u8]) -> Option<Lu>
     ensures { result ≡ size_of_word word.now }
 {
-    match before(b"px", word) {
-        Some(number) => units_of(number),
-        None => units_of(word),
-    }
+    px_of_word(NumberForm::SIZES, word)
+}
+
+#[tactic(auto, unfolding(crate::specs::Tokens::position_of_word))]
+/// The position along an axis that the word is: a number of a magnitude of at most 1,048,576 with or
+/// without `px`.
+fn position_of_word(word: &[u8]) -> Option<Lu>
+    ensures { result ≡ position_of_word word.now }
+{
+    px_of_word(NumberForm::LENGTHS, word)
 }
 
 /// The index that the word is: an integer from 0 to 1,000,000.
@@ -69,6 +91,17 @@ pub(crate) fn size_first<'a>(text: &Text<'a>) -> Result<(Lu, Text<'a>), ReadErro
     let (word, at, rest) = text.first();
     match size_of_word(word) {
         Some(size) => Ok((size, rest)),
+        None => Err(fault(BAD_VALUE, at)),
+    }
+}
+
+/// The position that comes first, and the text after it; fault 9 where none does.
+pub(crate) fn position_first<'a>(text: &Text<'a>) -> Result<(Lu, Text<'a>), ReadError>
+    ensures { Reads result (position_first text.now) }
+{
+    let (word, at, rest) = text.first();
+    match position_of_word(word) {
+        Some(position) => Ok((position, rest)),
         None => Err(fault(BAD_VALUE, at)),
     }
 }

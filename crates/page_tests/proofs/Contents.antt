@@ -13,7 +13,7 @@ use Rattle.doc_text.specs.declared.edit.Named.{Named}
 use Rattle.doc_text.specs.declared.kind.Kind.{Kind}
 use Rattle.doc_text.specs.Edits.{applied, edited, first_refusal, refusals, tree_of, with_kind, with_root}
 use Rattle.doc_text.specs.Label.{Label}
-use Rattle.doc_text.specs.Laws.{NamesItsNode}
+use Rattle.doc_text.specs.Laws.{IsChange, NamesItsNode}
 use Rattle.doc_text.specs.Named.{relabel, relabelled}
 use Rattle.doc_text.specs.Texts.{Word}
 use Rattle.doc_text.specs.Tokens.{size_of_word}
@@ -106,6 +106,17 @@ names_itself (edit.Remove named) h = absurd h
 names_itself (edit.Move named parent index at) h = absurd h
 names_itself (edit.Content named kind) h = tt
 names_itself (edit.Viewport width height) h = absurd h
+names_itself (edit.Hit x y) h = absurd h
+
+pub is_change : (e : Edit) → GivesContent e → IsChange e
+is_change (edit.Set named settings) h = absurd h
+is_change (edit.Unset named props) h = absurd h
+is_change (edit.Insert parent index at named node) h = absurd h
+is_change (edit.Remove named) h = absurd h
+is_change (edit.Move named parent index at) h = absurd h
+is_change (edit.Content named kind) h = tt
+is_change (edit.Viewport width height) h = absurd h
+is_change (edit.Hit x y) h = absurd h
 
 changed_valid : (e : Edit) (doc made : Doc) → GivesContent e → IsValid doc → edited e doc ≡ Ok made → IsValid made
 changed_valid (edit.Set named settings) doc made h v r = absurd h
@@ -115,6 +126,7 @@ changed_valid (edit.Remove named) doc made h v r = absurd h
 changed_valid (edit.Move named parent index at) doc made h v r = absurd h
 changed_valid (edit.Content named kind) doc made h v r = content_valid doc made named kind h v r
 changed_valid (edit.Viewport width height) doc made h v r = absurd h
+changed_valid (edit.Hit x y) doc made h v r = absurd h
 
 pub ready_changed : (e : Edit) (old new : Held) → edited e (document_of old) ≡ Ok (document_of new) → (IsRight old.nodes.tree → IsRight new.nodes.tree) → GivesContent e → IsReady old → IsReady new
 ready_changed e old new m r h ready = record { valid = changed_valid e (document_of old) (document_of new) h ready.valid m; right = r ready.right }

@@ -1,7 +1,7 @@
 //! What a grid keeps beside its answers: its context and the areas of its children.
 
 ghost use Rattle.std.specs.Prelude.{◌≡◌, ◌<◌, IfOk};
-ghost use Rattle.doc_text.specs.Laws.{NamesItsNode};
+ghost use Rattle.doc_text.specs.Laws.{IsChange, NamesItsNode};
 ghost use Rattle.placing.specs.Kept.{IsRight};
 
 use crate::pages::{laid_out, node_named, none_found, page_of};
@@ -45,17 +45,20 @@ static CASES: &[Case] = &[
 
 /// An edit that inserts nothing.
 fn change(edit: Edit) -> Result<Edit, Fail>
-    ensures { IfOk result NamesItsNode }
+    ensures change { IfOk result IsChange }
+    ensures named { IfOk result NamesItsNode }
 {
     match edit {
         Edit::Insert(_, _, _, _, _) => Err(Fail::new("a node is inserted")),
+        Edit::Hit(_, _) => Err(Fail::new("nothing is changed")),
         other => Ok(other),
     }
 }
 
 /// The edit of a line.
 fn edit_of(alloc: Global, text: &[u8]) -> Result<Edit, Fail>
-    ensures { IfOk result NamesItsNode }
+    ensures change { IfOk result IsChange }
+    ensures named { IfOk result NamesItsNode }
 {
     let bytes = Sequence::from_slice(alloc, text)?;
     let line = Line {

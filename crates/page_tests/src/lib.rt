@@ -11,6 +11,8 @@ mod boxes;
 #[cfg(test)]
 mod calls;
 #[cfg(test)]
+mod documents;
+#[cfg(test)]
 mod grids;
 #[cfg(test)]
 mod pages;

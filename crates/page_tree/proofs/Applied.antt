@@ -61,6 +61,7 @@ tops_changed (edit.Move named parent index at) t u one h =
     ap top_numbers h.is ∙ tops_restyled h.styles (moved h.id h.to h.index t) ∙ tops_grafted h.to h.index (tree_at h.id t) (removed h.id t) ∙ tops_removed h.id t one h.apart.low
 tops_changed (edit.Content named kind) t u one h = ap top_numbers h.is ∙ tops_restyled h.styles (replaced h.id h.value t) ∙ tops_mapped (λ k (v : Node). if same k h.id then h.value else v) t
 tops_changed (edit.Viewport width height) t u one h = ap top_numbers h
+tops_changed (edit.Hit x y) t u one h = absurd h
 
 -- ---- a number that is not there reaches nothing
 reached_alike : (f g above : NodeId → Bool) (grid felt : Bool) (s : NodeTrees) → ((k : NodeId) → 1 ≤ times k s → f k ≡ g k) → reached node_sub f above grid felt s ≡ reached node_sub g above grid felt s
@@ -99,6 +100,7 @@ marks_edit (edit.Remove named) t numbers h = h.each
 marks_edit (edit.Move named parent index at) t numbers h = h.each
 marks_edit (edit.Content named kind) t numbers h = h.each
 marks_edit (edit.Viewport width height) t numbers h = h.each
+marks_edit (edit.Hit x y) t numbers h = h.each
 
 each_any : (P : NodeId × Node → Type 0) (t : NodeTrees) → ((x : NodeId × Node) → P x) → EachNode P t
 each_any P leafless f = tt
@@ -174,6 +176,7 @@ module _ (t u : NodeTrees) (st : Stands t) (su : Stands u) where
         after = subst (EachNode (λ x. is_among x.0 r.numbers ≡ false)) (sym h) r.marked;
         nodes = subst (EachNode (IsFrom r.numbers false t)) (sym h) (own_nodes r.numbers false t st.distinct);
       }) r.is
+  left_by (edit.Hit x y) list h r = absurd h
 
 -- of a page
 pub page_left : (e : Edit) (old between new : Held) (list : List NodeId) → Stands old.nodes.tree → Stands between.nodes.tree → IsChanged e old.nodes.tree between.nodes.tree → IsReach e (trees_in old) old.nodes.tree list →

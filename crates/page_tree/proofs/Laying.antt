@@ -12,8 +12,12 @@ use Rattle.tree_rules.specs.Boxes.{boxes}
 use Rattle.tree_rules.specs.Documents.{computed_label, computed_trees}
 use Rattle.tree_rules.specs.Labels.{label_of as label_of_rules}
 use Rattle.placing.specs.declared.node.Node.{Node}
-use Rattle.placing.specs.Nodes.{NodeTrees, bare, bare_of, label_in, label_of_bare}
+use Rattle.placing.specs.Nodes.{BareTrees, NodeTrees, bare, bare_of, label_in, label_of_bare}
+use Rattle.placing.specs.Walks.{State}
 use Rattle.box_layout.specs.BoxesSeen.{bare_boxes}
+use Rattle.box_layout.specs.FoundRoots.{IsRootFrame}
+use Rattle.box_layout.specs.Paths.{IsPathKept}
+use Rattle.box_layout.specs.declared.layout.RootFrame.{RootFrame}
 use Rattle.page_tree.specs.Boxes.{boxes_of, declared_of, node_kind_of}
 use Rattle.page_tree.specs.Documents.{kind_of, label_of, plain_trees}
 use Rattle.page_tree.specs.Fonts.{AreStyled, HasStyle, IsStyled, root_font}
@@ -47,3 +51,14 @@ page_boxes h p = at h.nodes.tree p.rooted p.styled
 pub boxes_told : {T E : Type 0} (P : List Box → Type 0) (r : Result T E) (inside now : Held) → inside ≡ now → bare_boxes inside.width inside.height (bare inside.nodes.tree) ≡ boxes_of (document_of inside)
     → OnOk r (P (bare_boxes inside.width inside.height (bare inside.nodes.tree))) → OnOk r (P (boxes_of (document_of now)))
 boxes_told P r inside now same is = subst (λ (boxes : List Box). OnOk r (P boxes)) (is ∙ ap (λ (h : Held). boxes_of (document_of h)) same)
+
+-- ---- the viewport of a root's frame is that in which the frame was found
+pub root_framed : (b : BareTrees) (width height : ℤ) (r : RootFrame) → IsRootFrame b width height r → IsRootFrame b r.width r.height r
+root_framed b width height r f = subst (λ h. IsRootFrame b r.width h r) (sym f.down) (subst (λ w. IsRootFrame b w height r) (sym f.across) f)
+
+pub path_framed : (b : BareTrees) (width height : ℤ) (r : RootFrame) (s : State) → IsRootFrame b width height r → IsPathKept b width height s → IsPathKept b r.width r.height s
+path_framed b width height r s f kept = subst (λ h. IsPathKept b r.width h s) (sym f.down) (subst (λ w. IsPathKept b w height s) (sym f.across) kept)
+
+pub framed_told : {T E : Type 0} (P : List Box → Type 0) (r : Result T E) (page : Held) (root : RootFrame) → IsRootFrame (bare page.nodes.tree) page.width page.height root
+    → OnOk r (P (bare_boxes root.width root.height (bare page.nodes.tree))) → OnOk r (P (bare_boxes page.width page.height (bare page.nodes.tree)))
+framed_told P r page root f = subst (λ (boxes : List Box). OnOk r (P boxes)) (λ i. bare_boxes (f.across i) (f.down i) (bare page.nodes.tree))

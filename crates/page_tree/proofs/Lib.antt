@@ -4,6 +4,7 @@ pub mod Fonts
 pub mod Roots
 pub mod Filling
 pub mod Lookups
+pub mod Plains
 pub mod Refusals
 pub mod Values
 pub mod Removals

@@ -134,6 +134,7 @@ makes (edit.Remove named) w = false
 makes (edit.Move named parent index at) w = false
 makes (edit.Content named kind) w = false
 makes (edit.Viewport width height) w = false
+makes (edit.Hit x y) w = false
 
 abbrev Stood : Edit → NodeTrees → NodeId × Node → Type 0
 Stood e t x = IsSome (part_at t x.0) ⊎ (makes e x.1.name ≡ true)
@@ -168,6 +169,7 @@ all_stood e t u d h = by e h
         subst (EachNode (Stood (edit.Move named parent index at) t)) (sym h.is) (old (edit.Move named parent index at) (restyled h.styles (moved h.id h.to h.index t)) (each_styled P h.styles (moved h.id h.to h.index t) (λ x z p. p) (each_moved P h.id h.to h.index t own)))
     by (edit.Content named kind) h = subst (EachNode (Stood (edit.Content named kind) t)) (sym h.is) (old (edit.Content named kind) (restyled h.styles (replaced h.id h.value t)) (relabelled (λ n. IsSome (part_at t n)) h.id h.value h.styles t own))
     by (edit.Viewport width height) h = subst (EachNode (Stood (edit.Viewport width height) t)) (sym h) (old (edit.Viewport width height) t own)
+    by (edit.Hit x y) h = absurd h
 
 -- the numbers that are made are those of the made names
 name_made : (e : Edit) (w : NodeTrees) (n : NodeId) (v : Node) → value_at w n ≡ Some v → is_made e w n ≡ makes e v.name
@@ -178,6 +180,7 @@ name_made (edit.Remove named) w n v e = refl
 name_made (edit.Move named parent index at) w n v e = refl
 name_made (edit.Content named kind) w n v e = refl
 name_made (edit.Viewport width height) w n v e = refl
+name_made (edit.Hit x y) w n v e = refl
 
 -- a node of an edited tree that the edit did not make stood there before
 pub stood_before : (e : Edit) (t u w : NodeTrees) → IsDistinct t → IsChanged e t u → bare w ≡ bare u → (n : NodeId) → IsSome (part_at w n) → is_made e w n ≡ false → IsSome (part_at t n)

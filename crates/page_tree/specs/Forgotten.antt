@@ -27,3 +27,4 @@ is_made (edit.Remove named) t n = false
 is_made (edit.Move named parent index at) t n = false
 is_made (edit.Content named kind) t n = false
 is_made (edit.Viewport width height) t n = false
+is_made (edit.Hit x y) t n = false

@@ -2,6 +2,8 @@ pub mod Documents
 pub mod Registers
 pub mod Fonts
 pub mod Pages
+pub mod Plains
+pub mod RootFrames
 pub mod Filled
 pub mod Answered
 pub mod Boxes

@@ -64,6 +64,7 @@ MarksEdit (edit.Remove named) plain t numbers = IsMarking (λ w. bytes_eq w name
 MarksEdit (edit.Move named parent index at) plain t numbers = MarksMove named.name parent.name plain t numbers
 MarksEdit (edit.Content named new) plain t numbers = MarksContent new named.name plain t numbers
 MarksEdit (edit.Viewport width height) plain t numbers = IsMarking (λ w. false) t numbers
+MarksEdit (edit.Hit x y) plain t numbers = IsMarking (λ w. false) t numbers
 
 -- the numbers of the nodes that an edit of a tree reaches in it
 pub record IsReach (e : Edit) (plain : Trees Label) (t : NodeTrees) (list : List NodeId) : Type 0 where

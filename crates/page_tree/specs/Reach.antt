@@ -120,6 +120,7 @@ is_felt (edit.Remove named) t = true
 is_felt (edit.Move named parent index at) t = true
 is_felt (edit.Content named new) t = is_container new named.name t
 is_felt (edit.Viewport width height) t = false
+is_felt (edit.Hit x y) t = false
 
 -- a node whose properties are set or no longer set; its parent, where subgrids feel it; and all below it, where `font-size` is one of them
 abbrev pub is_marked_by : List Prop → Word → Trees Label → Word → Bool
@@ -139,6 +140,7 @@ is_marked (edit.Move named parent index at) t name =
     || (is_parent t named.name name || gets_other_font (font_in named.name t) (font_in parent.name t) (root_font_in t) (tree_at named.name t) name))
 is_marked (edit.Content named new) t name = bytes_eq name named.name || (is_container new named.name t && is_parent t named.name name)
 is_marked (edit.Viewport width height) t name = false
+is_marked (edit.Hit x y) t name = false
 
 -- the node of this name in a tree is reached by an edit of another
 abbrev pub reaches : Edit → Trees Label → Trees Label → Word → Bool

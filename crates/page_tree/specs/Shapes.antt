@@ -62,7 +62,7 @@ pub record MovesUnder (name parent : Word) (t u : NodeTrees) : Type 0 where
   pub under : RestylesUnder to styles id t
   pub is : u ≡ restyled styles (moved id to index t)
 
--- so for each edit
+-- so for each edit; a hit is no change
 abbrev pub IsChanged : Edit → NodeTrees → NodeTrees → Type 0
 IsChanged (edit.Set named settings) t u = Relabels named.name (with_set settings) t u
 IsChanged (edit.Unset named props) t u = Relabels named.name (with_unset props) t u
@@ -71,3 +71,4 @@ IsChanged (edit.Remove named) t u = Removes named.name t u
 IsChanged (edit.Move named parent index at) t u = MovesUnder named.name parent.name t u
 IsChanged (edit.Content named kind) t u = Relabels named.name (with_kind kind) t u
 IsChanged (edit.Viewport width height) t u = u ≡ t
+IsChanged (edit.Hit x y) t u = ⊥

@@ -6,7 +6,7 @@ ghost use Rattle.track_text.specs.Gives.{fault_at};
 ghost use Rattle.doc_text.specs.Edits.{edited, first_refusal, refusals, with_kind, with_set, with_unset, without_props};
 ghost use Rattle.doc_text.specs.NodeText.{with_settings};
 ghost use Rattle.doc_text.specs.declared.edit.Edit.TheVariants as edit;
-ghost use Rattle.doc_text.specs.Laws.{NamesItsNode};
+ghost use Rattle.doc_text.specs.Laws.{IsChange, NamesItsNode};
 ghost use Rattle.box_layout.specs.LastBoxes.{AreFound};
 ghost use Rattle.node_arena.specs.Numbers.{is_among};
 ghost use Rattle.placing.specs.Kept.{kept_at, IsRight};
@@ -41,15 +41,21 @@ struct Reached {
 }
 
 impl Page {
-    /// The document after an edit. The kept answers of the nodes that the edit reaches go, and no others; where all were right
-    /// all are right after it. What these nodes keep longer than their answers goes only where subgrids can feel the edit, but
-    /// for that of a node with new values, which is made anew.
+    /// The document after an edit. The kept answers of the nodes that the edit reaches go, and no
+    /// others; where all were right all are right after it. What these nodes keep longer than their
+    /// answers goes only where subgrids can feel the edit, but for that of a node with new values,
+    /// which is made anew.
     ///
-    /// `Refused` exactly where the definition of the edited document refuses the edit, with its fault, the first in the order
-    /// of refusals. `NoMemory` where memory is wanting. After either nothing is changed, and no kept answer is lost.
+    /// `Refused` exactly where the definition of the edited document refuses the edit, with its
+    /// fault, the first in the order of refusals. `NoMemory` where memory is wanting. After either
+    /// nothing is changed, and no kept answer is lost.
     ///
-    /// Of the boxes that were found last those of reached containers are forgotten, so that the others still hold.
+    /// A hit is no change, and is not applied.
+    ///
+    /// Of the boxes that were found last those of reached containers are forgotten, so that the
+    /// others still hold.
     pub fn apply(&mut self, edit: Edit, last: &mut LastBoxes) -> Result<(), EditError>
+        requires change { IsChange edit }
         requires named { NamesItsNode edit }
         requires last { AreFound (bare self.old.nodes.tree) (kept_at self.old.nodes.tree) last.old }
         ensures applies { Applies result (edited edit (document_of self.old)) self.old self.new }
@@ -111,7 +117,8 @@ impl Page {
 
     /// The document after an edit, with what the nodes keep, which may no longer be right.
     fn change(&mut self, edit: &Edit) -> Result<(), EditError>
-        requires { NamesItsNode edit.now }
+        requires change { IsChange edit.now }
+        requires named { NamesItsNode edit.now }
         ensures applies { Applies result (edited edit.now (document_of self.old)) self.old self.new }
         ensures changes { OnOk result (IsChanged edit.now self.old.nodes.tree self.new.nodes.tree) }
     {
@@ -128,6 +135,7 @@ impl Page {
                 self.set_viewport(*width, *height);
                 Ok(())
             }
+            Edit::Hit(_, _) => unreachable!(),
         }
     }
 

@@ -10,6 +10,7 @@ mod laws;
 mod lookup;
 mod node;
 mod page;
+mod plain;
 mod refusal;
 mod register;
 mod restyle;

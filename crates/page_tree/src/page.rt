@@ -25,15 +25,17 @@ ghost use Rattle.page_tree.specs.Documents.{kind_of, Becomes};
 ghost use Rattle.page_tree.specs.Filled.{filled, AreNew};
 ghost use Rattle.page_tree.specs.Moves.{AreApart};
 ghost use Rattle.page_tree.specs.Pages.{document_of, trees_in, IsAround, IsRoot, Stands, StandsUnder};
+ghost use Rattle.page_tree.specs.RootFrames.{IsRootOf, KeepsPath};
 ghost use Rattle.page_tree.specs.Registers.{Finds};
 ghost use Rattle.page_tree.specs.Shapes.{Inserts, MovesUnder, Relabels, Removes};
 
 use crate::font::{font_at, font_of_root, root_font};
 use crate::laws::valid_documents_are_readable;
 use crate::node::{made, node_kind};
+use crate::plain::plain_at;
 use crate::register::Register;
 use crate::restyle::{fonts_with, styles_below, styles_under};
-use box_layout::{BoxSink, LastBoxes};
+use box_layout::{BoxSink, LastBoxes, RootFrame};
 use doc_text::{Doc, MAX_CHILDREN, Plain, node_limit};
 use lunit::{Copied, Lu, Name, NoMemory, Steps};
 use node_arena::{Arena, NodeId};
@@ -222,11 +224,14 @@ impl Page {
         Ok(())
     }
 
-    /// Hands over the boxes of the document in its viewport, each with the name of its node, in document order, in units of 1/64 px (CSS
-    /// Grid 2, section 6; CSS Flexbox 1, section 9). Kept answers are taken, and what is found is kept; each of both is right. So it is
-    /// with the boxes of containers that were found last.
+    /// Hands over the boxes of the document in its viewport, each with the name of its node, in
+    /// document order, in units of 1/64 px (CSS Grid 2, section 6; CSS Flexbox 1, section 9). Kept
+    /// answers are taken, and what is found is kept; each of both is right. So it is with the boxes
+    /// of containers that were found last.
     ///
-    /// `NoMemory` where memory is wanting; what was kept by then is right, and the document is the same.
+    /// It answers the frame of the root, by which the boxes are found again while nothing is let
+    /// go. `NoMemory` where memory is wanting; what was kept by then is right, and the document is
+    /// the same.
     pub fn lay_out<T: BoxSink, R: Ruler, L: Ledger>(
         &mut self,
         told: &mut T,
@@ -234,10 +239,11 @@ impl Page {
         ruler: &mut R,
         tally: &mut Tally,
         passes: &mut Steps<L>,
-    ) -> Result<(), NoMemory>
+    ) -> Result<RootFrame, NoMemory>
         requires valid { IsValid (document_of self.old) }
         requires right { IsRight self.old.nodes.tree }
         requires last { AreFound (bare self.old.nodes.tree) (kept_at self.old.nodes.tree) last.old }
+        ensures root { IfOk result (λ root. IsRootOf self.old root) }
         ensures boxes { OnOk result (T.adds told.old told.new (boxes_of (document_of self.old))) }
         ensures near { OnOk result (AreNear (boxes_of (document_of self.old))) }
         ensures document { document_of self.new ≡ document_of self.old }
@@ -262,6 +268,48 @@ impl Page {
             tally,
             passes,
         )
+    }
+
+    /// Hands over the boxes as [`Page::lay_out`] does, by the frame that it found for the root and by
+    /// what the containers keep since. Nothing is asked anew, and nothing changes. `NoMemory` where
+    /// memory is wanting.
+    pub fn kept_boxes<T: BoxSink, L: Ledger>(
+        &mut self,
+        root_frame: &RootFrame,
+        told: &mut T,
+        last: &mut LastBoxes,
+        passes: &mut Steps<L>,
+    ) -> Result<(), NoMemory>
+        requires valid { IsValid (document_of self.old) }
+        requires right { IsRight self.old.nodes.tree }
+        requires last { AreFound (bare self.old.nodes.tree) (kept_at self.old.nodes.tree) last.old }
+        requires root { IsRootOf self.old root_frame.now }
+        requires kept { KeepsPath self.old }
+        ensures boxes { OnOk result (T.adds told.old told.new (boxes_of (document_of self.old))) }
+        ensures near { OnOk result (AreNear (boxes_of (document_of self.old))) }
+        ensures same { self.new ≡ self.old }
+        ensures passes { passes.new ≡ passes.old }
+        ensures last { AreFound (bare self.new.nodes.tree) (kept_at self.new.nodes.tree) last.new }
+    {
+        let _ = self.stands();
+        valid_documents_are_readable(self);
+        self.nodes
+            .kept_boxes(self.alloc, root_frame, told, last, passes)
+    }
+
+    /// The document. `NoMemory` where memory is wanting.
+    pub fn document(&self) -> Result<Doc, NoMemory>
+        ensures { IfOk result (λ doc. doc ≡ document_of self.now) }
+    {
+        let _ = self.stands();
+        let tree = self.tree();
+        let root = plain_at(self.alloc, tree, tree.root())?;
+        Ok(Doc {
+            version: self.version,
+            width: self.width,
+            height: self.height,
+            root,
+        })
     }
 
     /// Lets the answers of these nodes go. Takes no memory.

@@ -9,6 +9,7 @@ ghost use Rattle.node_arena.specs.Edits.{removed};
 ghost use Rattle.doc_text.specs.Growth.{holds};
 ghost use Rattle.placing.specs.Keeping.{without_answers, without_past};
 ghost use Rattle.box_layout.specs.BoxesSeen.{bare_boxes, AreNear};
+ghost use Rattle.box_layout.specs.FoundRoots.{IsRootFrame};
 ghost use Rattle.box_layout.specs.LastBoxes.{AreFound};
 ghost use Rattle.box_layout.specs.LeafHeights.{AreMeasured};
 ghost use Rattle.box_layout.specs.Paths.{IsAllKept, IsAsked, IsCutShort, IsPathKept};
@@ -19,10 +20,11 @@ ghost use Rattle.placing.specs.Nodes.{bare};
 ghost use Rattle.page_tree.specs.Documents.{plain_trees};
 ghost use Rattle.page_tree.specs.Registers.{AreNamed, Finds, HasName};
 ghost use Rattle.page_tree.specs.Restyled.{with_styles};
+ghost use Rattle.page_tree.specs.RootFrames.{boxes_in, IsKeptIn, IsRootIn};
 
 use crate::children::take_names;
 use crate::restyle::write_all;
-use box_layout::{BoxSink, LastBoxes, walk_boxes};
+use box_layout::{BoxSink, LastBoxes, RootFrame, kept_boxes, walk_boxes};
 use layout_cache::drop_reached;
 use lunit::{Lu, Name, NoMemory, Sequence, Steps};
 use node_arena::{Arena, NodeId};
@@ -167,8 +169,8 @@ impl Register {
         }
     }
 
-    /// Hands over the boxes of all nodes in a viewport of this size, in document order. What is kept is taken, and what is found is
-    /// kept.
+    /// Hands over the boxes of all nodes in a viewport of this size, in document order. What is kept
+    /// is taken, and what is found is kept.
     pub(crate) fn lay_out<T: BoxSink, R: Ruler, L: Ledger>(
         &mut self,
         alloc: Global,
@@ -179,10 +181,11 @@ impl Register {
         ruler: &mut R,
         tally: &mut Tally,
         passes: &mut Steps<L>,
-    ) -> Result<(), NoMemory>
+    ) -> Result<RootFrame, NoMemory>
         requires right { IsRight self.old.tree }
         requires readable { AreReadable (bare self.old.tree) }
         requires last { AreFound (bare self.old.tree) (kept_at self.old.tree) last.old }
+        ensures root { IfOk result (λ root. IsRootFrame (bare self.old.tree) width height root) }
         ensures value { OnOk result (T.adds told.old told.new (bare_boxes width height (bare self.old.tree))) }
         ensures near { OnOk result (AreNear (bare_boxes width height (bare self.old.tree))) }
         ensures bare { bare self.new.tree ≡ bare self.old.tree }
@@ -205,6 +208,30 @@ impl Register {
             tally,
             passes,
         )
+    }
+
+    /// Hands over the boxes as a layout does, by the frame that it found for the root, where nothing
+    /// was let go since. Nothing changes.
+    pub(crate) fn kept_boxes<T: BoxSink, L: Ledger>(
+        &mut self,
+        alloc: Global,
+        root_frame: &RootFrame,
+        told: &mut T,
+        last: &mut LastBoxes,
+        passes: &mut Steps<L>,
+    ) -> Result<(), NoMemory>
+        requires right { IsRight self.old.tree }
+        requires readable { AreReadable (bare self.old.tree) }
+        requires last { AreFound (bare self.old.tree) (kept_at self.old.tree) last.old }
+        requires root { IsRootIn self.old root_frame.now }
+        requires kept { IsKeptIn self.old root_frame.now }
+        ensures value { OnOk result (T.adds told.old told.new (boxes_in self.old root_frame.now)) }
+        ensures near { OnOk result (AreNear (boxes_in self.old root_frame.now)) }
+        ensures same { self.new ≡ self.old }
+        ensures passes { passes.new ≡ passes.old }
+        ensures last { AreFound (bare self.new.tree) (kept_at self.new.tree) last.new }
+    {
+        kept_boxes(alloc, &mut self.tree, root_frame, told, last, passes)
     }
 
     /// Lets the answers of these nodes go, and passes over a number that names no node. Takes no memory.

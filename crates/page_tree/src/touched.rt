@@ -413,6 +413,7 @@ pub(crate) fn marks_of(page: &Page, edit: &Edit) -> Result<Touched, NoMemory>
         Edit::Move(named, parent, _, _) => by_move(page, &named.name, &parent.name),
         Edit::Content(named, kind) => by_content(page, &named.name, kind),
         Edit::Viewport(_, _) => unmarked(page),
+        Edit::Hit(_, _) => unmarked(page),
     }
 }
 

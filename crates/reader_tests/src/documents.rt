@@ -90,16 +90,31 @@ fn is_move(edit: &Edit) -> bool {
     }
 }
 
-fn reads_as_move(alloc: Global, text: &[u8]) -> Result<bool, Fail> {
+/// The edit asks for the box at half a pixel left of the origin, as far below it as a point can lie.
+fn is_hit(edit: &Edit) -> bool {
+    match edit {
+        Edit::Hit(x, y) => (x.units(), y.units()) == (-32, 67_108_864),
+        _ => false,
+    }
+}
+
+/// The edit of the first line of a text.
+fn edit_of(alloc: Global, text: &[u8]) -> Result<Edit, Fail> {
     let lines = lines_of(alloc, Vec::from_slice(alloc, text)?)?;
     match lines.as_slice().first() {
-        Some(line) => Ok(is_move(&read_edit(alloc, line, 1)?)),
-        None => Ok(false),
+        Some(line) => Ok(read_edit(alloc, line, 1)?),
+        None => Err(Fail::new("no line")),
     }
 }
 
 #[test]
 fn an_edit_is_read_with_its_places(rt: HostRuntime) -> Result<(), Fail> {
-    assert!(rt; reads_as_move(rt.alloc(), b"move b main 2")?);
+    assert!(rt; is_move(&edit_of(rt.alloc(), b"move b main 2")?));
+    Ok(())
+}
+
+#[test]
+fn a_hit_is_read_with_its_point(rt: HostRuntime) -> Result<(), Fail> {
+    assert!(rt; is_hit(&edit_of(rt.alloc(), b"hit -0.5px 1048576")?));
     Ok(())
 }

@@ -1,16 +1,17 @@
 -- What follows of all bytes of an input from how a run ended.
-use Rattle.std.proofs.Common.{◌≡◌, ◌≢◌, refl, ap, sym, subst, ◌∙◌, ℕ, zero, suc, ◌≤◌, ◌<◌, Bool, true, false, List, [], ◌∷◌, ◌++◌, length, take, length-append, ◌⊎◌, inl, inr, Option, Some, None, Ok, Err, IfSome, arith}
+use Rattle.std.proofs.Common.{◌≡◌, ◌≢◌, refl, ap, sym, subst, ◌∙◌, ℕ, zero, suc, ◌≤◌, ◌<◌, Bool, true, false, List, [], ◌∷◌, ◌++◌, length, take, length-append, ◌⊎◌, inl, inr, Option, Some, None, Result, Ok, Err, IfSome, arith}
 use Rattle.std.proofs.lemmas.Bool.{false≢true}
 use Rattle.outside.specs.Told.{Adds, Loses, AddsPrefix}
 use Rattle.outside.specs.Faults.{Rose}
 use Rattle.outside.specs.declared.event.Event.{Event}
 use Rattle.text_scan.specs.declared.line.Line.{Line}
 use Rattle.text_scan.specs.Lines.{lines_of, whole_lines}
+use Rattle.text_scan.specs.declared.line.Fault.{Fault}
 use Rattle.doc_text.specs.declared.document.Doc.{Doc}
 use Rattle.session.specs.Boxes.{boxes_of}
 use Rattle.session.specs.Input.{limit, IsReadToEnd, IsFront}
 use Rattle.session.specs.Printing.{print}
-use Rattle.session.specs.Script.{has_end, before_end, after_end, document_of_lines, made_in, made_from, all_made, text_of, texts, is_refused}
+use Rattle.session.specs.Script.{has_end, before_end, after_end, document_of_lines, made_in, made_from, all_made, text_of, texts, has_fault, or_refused}
 use Rattle.session.specs.Outcome.{answer_of, document_in, out, verdict, early_lines, IsEarlyFault}
 use Rattle.session.specs.Runs.{IsSilent, WritesAll, WritesPrefix, Stands, IsWhole, IsEnded, EndsAll, EndsBad, EndsEarly, Judged, Runs, HasRun, Permits, PermitsOver, IsComplete, IsOverComplete, IsHeadline}
 use Rattle.session.specs.declared.status.Status.{Status}
@@ -24,7 +25,7 @@ use Rattle.session.specs.Written.{Writes, WritesFront}
 -- ---- the first lines of an input and all of them
 
 -- what more lines make comes behind
-from_more : (form : Made) (script rest : List Line) → (more : List Made) × (made_from form (script ++ rest) ≡ made_from form script ++ more)
+from_more : (form : Result Doc Fault) (script rest : List Line) → (more : List Made) × (made_from form (script ++ rest) ≡ made_from form script ++ more)
 from_more (Err fault) script rest = ([], refl)
 from_more (Ok doc) script rest = some_more (made_more doc script rest)
   where
@@ -45,20 +46,20 @@ prefix_front stats w w' l l' given all e f p = with_more (all_more given f.rest 
     with_more m = subst (λ (made : List Made). WritesFront stats w w' l l' 0 made) (sym m.1 ∙ ap all_made f.parts) (front_longer stats w w' l l' 0 (all_made given) m.0 p)
 
 -- the document that was read
-abbrev read_of : List Line → Made
+abbrev read_of : List Line → Result Doc Fault
 read_of lines = document_of_lines (before_end lines)
 
 same_front : (given all : List Line) → has_end given ≡ true → IsFront given all → read_of all ≡ read_of given
 same_front given all e f = ap read_of (sym f.parts) ∙ ap document_of_lines (before_more given f.rest e)
 
-bad_made : (given : List Line) → is_refused (read_of given) ≡ true → all_made given ≡ read_of given ∷ []
+bad_made : (given : List Line) → has_fault (read_of given) ≡ true → all_made given ≡ or_refused (read_of given) ∷ []
 bad_made given n = bad_from (read_of given) n
   where
-    bad_from : (made : Made) → is_refused made ≡ true → made_from made (after_end given) ≡ made ∷ []
+    bad_from : (made : Result Doc Fault) → has_fault made ≡ true → made_from made (after_end given) ≡ or_refused made ∷ []
     bad_from (Ok doc) n = absurd (false≢true n)
     bad_from (Err fault) n = refl
 
-bad_answer : (made : Made) (script : List Line) → is_refused made ≡ true → BadDocument ≡ answer_of made script
+bad_answer : (made : Result Doc Fault) (script : List Line) → has_fault made ≡ true → BadDocument ≡ answer_of made script
 bad_answer (Ok doc) script n = absurd (false≢true n)
 bad_answer (Err fault) script n = refl
 
@@ -102,12 +103,12 @@ module _ (stats : Bool) (told : List ℕ) (left' w w' : Option (List ℕ)) (l l'
       by_input (inl e) = same_front given (lines_of told) e.0 f
       by_input (inr i) = ap read_of (sym (lines_are taken given i))
 
-  bad_is : (taken : List ℕ) (given : List Line) → IsFront given (lines_of told) → EndsBad stats (Some told) left' w w' l l' taken given → is_refused (read_of (lines_of told)) ≡ true
-  bad_is taken given f p = ap is_refused (same_read taken given f p) ∙ p.answer
+  bad_is : (taken : List ℕ) (given : List Line) → IsFront given (lines_of told) → EndsBad stats (Some told) left' w w' l l' taken given → has_fault (read_of (lines_of told)) ≡ true
+  bad_is taken given f p = ap has_fault (same_read taken given f p) ∙ p.answer
 
   bad_out : (taken : List ℕ) (given : List Line) → IsFront given (lines_of told) → EndsBad stats (Some told) left' w w' l l' taken given → WritesAll stats w w' l l' (lines_of told)
   bad_out taken given f p =
-      subst (λ (m : List Made). Writes stats w w' l l' 0 m) (bad_made given p.answer ∙ ap (λ (m : Made). m ∷ []) (sym (same_read taken given f p)) ∙ sym (bad_made (lines_of told) (bad_is taken given f p))) p.output
+      subst (λ (m : List Made). Writes stats w w' l l' 0 m) (bad_made given p.answer ∙ ap (λ (m : Result Doc Fault). or_refused m ∷ []) (sym (same_read taken given f p)) ∙ sym (bad_made (lines_of told) (bad_is taken given f p))) p.output
 
   all_front : WritesAll stats w w' l l' (lines_of told) → WritesPrefix stats w w' l l' (lines_of told)
   all_front p = front_all stats w w' l l' 0 (all_made (lines_of told)) p
@@ -160,7 +161,7 @@ module _ (stats : Bool) (told : List ℕ) (left' w w' : Option (List ℕ)) (l l'
   early_fault taken given many p = by_input p.input
     where
       with_front : has_end given ≡ true → IsFront given (early_lines told) → IsEarlyFault (early_lines told)
-      with_front e f = (ap has_end (sym f.parts) ∙ has_more given f.rest e, ap is_refused (same_front given (early_lines told) e f) ∙ p.answer)
+      with_front e f = (ap has_end (sym f.parts) ∙ has_more given f.rest e, ap has_fault (same_front given (early_lines told) e f) ∙ p.answer)
 
       by_input : IsEnded (Some told) left' taken given → IsEarlyFault (early_lines told)
       by_input (inl e) = with_front e.0 (e.1 many)
@@ -168,7 +169,7 @@ module _ (stats : Bool) (told : List ℕ) (left' w w' : Option (List ℕ)) (l l'
 
   no_early_fault : (given : List Line) → given ≡ early_lines told → Stands stats w w' l l' given → ¬ IsEarlyFault (early_lines told)
   no_early_fault given g (inl s) fault = absurd (false≢true (sym s.0 ∙ ap has_end g ∙ fault.0))
-  no_early_fault given g (inr s) fault = absurd (false≢true (sym s.1 ∙ ap (λ (x : List Line). is_refused (read_of x)) g ∙ fault.1))
+  no_early_fault given g (inr s) fault = absurd (false≢true (sym s.1 ∙ ap (λ (x : List Line). has_fault (read_of x)) g ∙ fault.1))
 
   permitted_over : (status : Status) (taken : List ℕ) (given : List Line) → Loses (Some told) left' taken → IsFront given (lines_of told) → limit < length told → Judged stats (Some told) left' w w' l l' taken given status
       → PermitsOver (WritesAll stats w w' l l' (lines_of told)) told status
@@ -286,7 +287,7 @@ module _ (w w' : Option (List ℕ)) (l l' : Option (List Event)) where
 
 out_is : (told : List ℕ) (doc : Doc) → document_in told ≡ Ok doc → out told ≡ print 0 (boxes_of doc) ++ texts 1 (made_in doc (after_end (lines_of told)))
 unfolding text_of
-out_is told doc is = ap (λ (made : Made). texts 0 (made_from made (after_end (lines_of told)))) is
+out_is told doc is = ap (λ (made : Result Doc Fault). texts 0 (made_from made (after_end (lines_of told)))) is
 
 pub headline : (left w w' : Option (List ℕ)) (s s' k k' : ℕ) (status : Status) → IsComplete left (λ b. Adds w w' (out b)) s s' k k' status → IsHeadline left w w' s s' k k' status
 headline None w w' s s' k k' status p = tt

@@ -120,8 +120,11 @@ each_near [] p = tt
 each_near (b ∷ boxes) p =
     (record { x = near_abs b.1.x p.0.x; y = near_abs b.1.y p.0.y; width = near_abs b.1.width p.0.width; height = near_abs b.1.height p.0.height }, each_near boxes p.1)
 
+pub all_printable : (boxes : List Box) → AreNear boxes → All IsPrintableBox boxes
+all_printable boxes p = all_each IsPrintableBox boxes (each_near boxes p)
+
 pub printable : {T E : Type 0} (r : Result T E) (boxes : List Box) → OnOk r (AreNear boxes) → OnOk r (All IsPrintableBox boxes)
-printable (Ok x) boxes p = all_each IsPrintableBox boxes (each_near boxes p)
+printable (Ok x) boxes p = all_printable boxes p
 printable (Err e) boxes p = tt
 
 -- ---- the boxes

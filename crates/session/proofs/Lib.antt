@@ -7,6 +7,9 @@ pub mod Lain
 pub mod Laid
 pub mod Fronts
 pub mod Sound
+pub mod Points
+pub mod FewBoxes
+pub mod Grounds
 pub mod ToldEdits
 pub mod Validity
 pub mod EditLines

@@ -1,15 +1,15 @@
 -- What a ruler is told, of one thing that was made after another.
 use Rattle.std.proofs.Common.{◌≡◌, refl, ap, sym, subst, ◌∙◌, ℕ, ◌+◌, suc, List, [], ◌∷◌, ◌++◌, length, Option, Result, Ok, Err, append_assoc, append-nil, arith}
-use Rattle.text_scan.specs.declared.line.Fault.{Fault}
 use Rattle.outside.specs.Told.{Stays}
 use Rattle.outside.specs.declared.event.Event.{Event}
 use Rattle.outside.specs.declared.event.Event.TheVariants.{Begin}
 use Rattle.outside.proofs.Laws.{adds_none, adds_more, adds_stays}
 use Rattle.doc_text.specs.declared.document.Doc.{Doc}
 use Rattle.session.specs.Logs.{Tells, TellsAll, Logs, LogsFront, LogsFrom}
+use Rattle.session.specs.declared.said.Said.{Said}
 
 abbrev pub Made : Type 0
-Made = Result Doc Fault
+Made = Result Doc Said
 
 -- ---- events
 
@@ -31,13 +31,13 @@ tells_more k (first ∷ made) rest xs ys p q =
 least : ℕ → List Made → List Event
 least k [] = []
 least k (Ok doc ∷ made) = Begin k ∷ least (k + 1) made
-least k (Err fault ∷ made) = least (k + 1) made
+least k (Err said ∷ made) = least (k + 1) made
 
 tells_least : (k : ℕ) (made : List Made) → TellsAll k made (least k made)
 unfolding least
 tells_least k [] = refl
 tells_least k (Ok doc ∷ made) = record { first = Begin k ∷ []; later = least (k + 1) made; parts = refl; front = record { measured = []; parts = refl; each = tt }; back = tells_least (k + 1) made }
-tells_least k (Err fault ∷ made) = record { first = []; later = least (k + 1) made; parts = refl; front = refl; back = tells_least (k + 1) made }
+tells_least k (Err said ∷ made) = record { first = []; later = least (k + 1) made; parts = refl; front = refl; back = tells_least (k + 1) made }
 
 -- one thing that was made
 pub tells_one : (k : ℕ) (made : Made) (events : List Event) → Tells k made events → TellsAll k (made ∷ []) events
@@ -48,8 +48,8 @@ tells_one k made events p = record { first = events; later = []; parts = append-
 pub logs_none : (a : Option (List Event)) (k : ℕ) → Logs a a k []
 logs_none a k = record { events = []; added = adds_none a; told = refl }
 
-pub logs_refused : (a : Option (List Event)) (k : ℕ) (fault : Fault) → Logs a a k (Err fault ∷ [])
-logs_refused a k fault = record { events = []; added = adds_none a; told = tells_one k (Err fault) [] refl }
+pub logs_said : (a : Option (List Event)) (k : ℕ) (said : Said) → Logs a a k (Err said ∷ [])
+logs_said a k said = record { events = []; added = adds_none a; told = tells_one k (Err said) [] refl }
 
 pub front_none : (a : Option (List Event)) (k : ℕ) (made : List Made) → LogsFront a a k made
 front_none a k made = record { events = []; rest = least k made; added = adds_none a; told = tells_least k made }

@@ -10,7 +10,7 @@ use Rattle.doc_text.specs.declared.document.Doc.{Doc}
 use Rattle.doc_text.specs.declared.edit.Edit.{Edit}
 use Rattle.doc_text.specs.declared.edit.Edit.TheVariants as edit
 use Rattle.doc_text.specs.Edits.{applied, edited}
-use Rattle.doc_text.specs.Laws.{NamesItsNode}
+use Rattle.doc_text.specs.Laws.{IsChange, NamesItsNode}
 use Rattle.doc_text.proofs.Told.{ok-not-err, same-ok}
 use Rattle.value_text.specs.ValueText.{Settings}
 use Rattle.page_maker.specs.Making.{made_document, last_state}
@@ -161,6 +161,7 @@ change_told (edit.Remove named) h = absurd h
 change_told (edit.Move named parent index at) h = absurd h
 change_told (edit.Content named kind) h = h
 change_told (edit.Viewport width height) h = absurd h
+change_told (edit.Hit x y) h = absurd h
 
 change_named : (e : Edit) → IsToldChange e → NamesItsNode e
 change_named (edit.Set named settings) h = tt
@@ -170,6 +171,17 @@ change_named (edit.Remove named) h = tt
 change_named (edit.Move named parent index at) h = tt
 change_named (edit.Content named kind) h = tt
 change_named (edit.Viewport width height) h = tt
+change_named (edit.Hit x y) h = tt
+
+change_is : (e : Edit) → IsToldChange e → IsChange e
+change_is (edit.Set named settings) h = tt
+change_is (edit.Unset named props) h = tt
+change_is (edit.Insert parent index at named node) h = tt
+change_is (edit.Remove named) h = tt
+change_is (edit.Move named parent index at) h = tt
+change_is (edit.Content named kind) h = tt
+change_is (edit.Viewport width height) h = tt
+change_is (edit.Hit x y) h = absurd h
 
 module _ (nodes x : ℕ) (e : Edit) (is : e ≡ (edit_from nodes x).0) where
   pub told : (version : ℕ) → version ≡ 1 → IsToldEdit version e
@@ -177,6 +189,9 @@ module _ (nodes x : ℕ) (e : Edit) (is : e ≡ (edit_from nodes x).0) where
 
   pub named : NamesItsNode e
   named = change_named e (subst IsToldChange (sym is) (edit_told nodes x))
+
+  pub changes : IsChange e
+  changes = change_is e (subst IsToldChange (sym is) (edit_told nodes x))
 
   pub accepted : (doc : Doc) → 0 < nodes → IsMade nodes doc → edited e doc ≡ Ok (applied e doc)
   accepted doc some made = subst (λ (d : Edit). edited d doc ≡ Ok (applied d doc)) (sym is) (edit_stays nodes x doc some made).accepts

@@ -33,18 +33,19 @@ use Rattle.asked_pages.specs.AskedOf.{asked_of}
 use Rattle.asked_pages.specs.Leaves.{IsEmptied, PassesUp, has_leaf_by}
 use Rattle.sparing.specs.Sparing.{Touches}
 use Rattle.session.specs.Boxes.{boxes_of}
-use Rattle.session.specs.FaultNames.{fault_name}
+use Rattle.session.specs.Engine.{IsAsBefore, Makes}
 use Rattle.session.specs.Input.{HasGiven, HasGivenAll, Stops}
 use Rattle.session.specs.Laying.{Walks}
-use Rattle.session.specs.Printing.{Box, counts, print, refusal}
+use Rattle.session.specs.Printing.{Box, counts, print}
 use Rattle.session.specs.Replies.{AreExact, AreReplies, HasReplied, HasReply, IsIdle, Replies, RepliesFirst, RepliesFront, RepliesLines, RepliesTo, Reply, is_new, kept_in, texts_in, told_in}
 use Rattle.session.specs.Runs.{StopsWriting}
-use Rattle.session.specs.Script.{after_end, all_made, document_of_lines, made_from, made_in, made_of, text_of}
+use Rattle.session.specs.Script.{after_end, all_made, answer_to, document_of_lines, made_from, made_in, made_of, said_line, text_of}
 use Rattle.session.specs.Serving.{EndsFirst, HasReadText, HasText, IsLaid, last_doc}
 use Rattle.session.specs.Spares.{KeepsUntouched}
 use Rattle.session.specs.Standing.{Standing, doc_of}
 use Rattle.session.specs.Touched.{Agrees, touched_by, touched_lines}
 use Rattle.session.specs.Words.{IsUnserved}
+use Rattle.session.specs.declared.said.Said.{Said}
 use Rattle.session.specs.declared.status.Status.{Status}
 use Rattle.session.specs.declared.status.Status.TheVariants.{Done, BadDocument, SomeRefused, ReadFault, WriteFault, NoMemory, InputLimit, BadWords}
 use Rattle.session.specs.declared.text.Text.{Text}
@@ -119,14 +120,15 @@ module _ (stats : Bool) (touches : Touches) (l l' : Option (List Event)) (p p' k
   pub reply_same : (other : Made) → made ≡ other → HasReply stats touches l l' p p' k other text
   reply_same other e = subst (λ (m : Made). HasReply stats touches l l' p p' k m text) e r
 
-pub refusal_reply : (stats : Bool) (touches : Touches) (l : Option (List Event)) (p k : ℕ) (fault : Fault) (text : List ℕ) → text ≡ refusal k fault.place (fault_name fault.number) → HasReply stats touches l l p p k (Err fault) text
+pub said_reply : (stats : Bool) (touches : Touches) (l : Option (List Event)) (p k : ℕ) (said : Said) (text : List ℕ) → text ≡ said_line k said → HasReply stats touches l l p p k (Err said) text
 unfolding text_of
-refusal_reply stats touches l p k fault text t =
+said_reply stats touches l p k said text t =
     record { reply = record { text = text; told = []; kept = 0 }; is = record { text = t; told = refl; kept = refl }; text = refl; log = adds_none l; ticks = λ e. omega arith }
 
-pub refused_reply : (stats : Bool) (touches : Touches) (l : Option (List Event)) (p k : ℕ) (made : Made) (old new : Held) (fault : Fault) (text : List ℕ) → (made ≡ Err fault) × (new ≡ old) → text ≡ refusal k fault.place (fault_name fault.number)
-    → HasReply stats touches l l p p k made text
-refused_reply stats touches l p k made old new fault text e t = reply_same stats touches l l p p k (Err fault) text (refusal_reply stats touches l p k fault text t) made (sym e.0)
+pub unlaid_reply : (stats : Bool) (touches : Touches) (l : Option (List Event)) (p p' k : ℕ) (made : Made) (old new : Standing) (said : Said) (text : List ℕ) → (made ≡ Err said) × IsAsBefore old new → p' ≡ p → text ≡ said_line k said
+    → HasReply stats touches l l p p' k made text
+unlaid_reply stats touches l p p' k made old new said text e same t =
+    subst (λ (n : ℕ). HasReply stats touches l l p n k made text) (sym same) (reply_same stats touches l l p p k (Err said) text (said_reply stats touches l p k said text t) made (sym e.0))
 
 -- ---- a layout
 
@@ -205,7 +207,7 @@ edit_replies stats touches w w' l l' p p' k doc line e r = subst (λ (b : Bool).
 
 module _ (given : List Line) (doc : Doc) (k : ℕ) (bad : Bool) (laid : IsLaid given doc k bad) where
   all_given : all_made given ≡ Ok laid.first ∷ made_in laid.first (after_end given)
-  all_given = ap (λ (o : Made). made_from o (after_end given)) laid.read
+  all_given = ap (λ (o : Result Doc Fault). made_from o (after_end given)) laid.read
 
   pub later_number : 1 ≤ k
   later_number = omega (arith, laid.count, ap length all_given)
@@ -277,7 +279,7 @@ unread_replies stats w l p left left' given InputLimit s = inl (record { written
 unread_replies stats w l p left left' given BadWords s = tt
 
 -- it has a fault, or writing stopped
-pub refused_replies : (stats : Bool) (w w' : Option (List ℕ)) (l l' : Option (List Event)) (p p' : ℕ) (left : Option (List ℕ)) (made : Made) (status : Status) → EndsFirst stats w w' l l' made status → (status ≡ BadDocument → p' ≡ p) → RepliesTo stats w w' l l' p p' left status
+pub refused_replies : (stats : Bool) (w w' : Option (List ℕ)) (l l' : Option (List Event)) (p p' : ℕ) (left : Option (List ℕ)) (made : Result Doc Fault) (status : Status) → EndsFirst stats w w' l l' made status → (status ≡ BadDocument → p' ≡ p) → RepliesTo stats w w' l l' p p' left status
 refused_replies stats w w' l l' p p' left made Done s e = absurd s
 refused_replies stats w w' l l' p p' left made BadDocument s e = e refl
 refused_replies stats w w' l l' p p' left made SomeRefused s e = absurd s
@@ -316,7 +318,7 @@ alone_replies stats w w' l l' p p' left left' stream ended text t doc none read 
     once : all_made t.given ≡ Ok doc ∷ []
     once =
         ap (λ (lines : List Line). made_from (document_of_lines lines) (after_end t.given)) (before_none t.given t.unended)
-        ∙ ap (λ (m : Made). made_from m (after_end t.given)) (sym t.same ∙ read) ∙ ap (λ (lines : List Line). Ok doc ∷ made_in doc lines) (after_none t.given t.unended)
+        ∙ ap (λ (m : Result Doc Fault). made_from m (after_end t.given)) (sym t.same ∙ read) ∙ ap (λ (lines : List Line). Ok doc ∷ made_in doc lines) (after_none t.given t.unended)
 
     at : (b : Bool) → b ≡ false → HasText left left' stream ended t.given b → RepliesTo stats w w' l l' p p' left Done
     at true e h = absurd (false≢true (sym e))
@@ -374,9 +376,7 @@ on_any (Err e) p = p
 
 -- ---- an edit
 
-pub passes_next : (r : Result (Unit {0}) EditError) (e : Edit) (old new : Held) (line : Line) → edit_of (document_of old).version line ≡ Ok e → Applies r (edited e (document_of old)) old new
-    → OnOk r (PassesUp (is_touched e (document_of old) (document_of new)) (tree_of (document_of new))) → OnOk r (PassesUp (touched_by (document_of old) line) (tree_of (document_of new)))
-passes_next (Ok done) e old new line read made up = subst (λ (test : List ℕ → Bool). PassesUp test (tree_of (document_of new))) (touched_same (document_of old) (document_of new) line e read made) up
-passes_next (Err error) e old new line read made up = tt
-
-pub ruleset line_passing = (passes_next)
+pub passes_next : (said : Option Said) (e : Edit) (old new : Standing) (line : Line) → edit_of (doc_of old).version line ≡ Ok e → Makes said (answer_to e (doc_of old)) old new
+    → (said ≡ None → PassesUp (is_touched e (doc_of old) (doc_of new)) (tree_of (doc_of new))) → said ≡ None → PassesUp (touched_by (doc_of old) line) (tree_of (doc_of new))
+passes_next None e old new line read made up none = subst (λ (test : List ℕ → Bool). PassesUp test (tree_of (doc_of new))) (touched_same (doc_of old) (doc_of new) line e read made) (up none)
+passes_next (Some said) e old new line read made up none = absurd cc

@@ -1,7 +1,7 @@
 -- How a run goes from its document to its script, and how it ends.
-use Rattle.std.proofs.Common.{◌≡◌, refl, ap, sym, subst, ◌∙◌, ℕ, zero, suc, ◌+◌, ◌-◌, ◌≤◌, ◌<◌, ◌||◌, Bool, true, false, List, [], ◌∷◌, ◌++◌, length, take, ◌⊎◌, inl, inr, Option, Some, None, Ok, Err, IfSome, append_assoc, append-nil, arith, length-append}
+use Rattle.std.proofs.Common.{◌≡◌, refl, ap, sym, subst, ◌∙◌, ℕ, zero, suc, ◌+◌, ◌-◌, ◌≤◌, ◌<◌, ◌||◌, Bool, true, false, List, [], ◌∷◌, ◌++◌, length, take, ◌⊎◌, inl, inr, Option, Some, None, Result, Ok, Err, IfSome, append_assoc, append-nil, arith, length-append}
 use Rattle.std.proofs.lemmas.Bool.{false≢true}
-use Rattle.std.specs.Prelude.{if◌then◌else◌}
+use Rattle.std.specs.Prelude.{if◌then◌else◌, ⊤}
 use Rattle.text_scan.specs.declared.line.Line.{Line}
 use Rattle.text_scan.specs.Lines.{is_line_feed, has_line_feed, ends_line, whole_lines, split_lines, numbered, lines_of}
 use Rattle.text_scan.specs.Stream.{Stream, HasRead}
@@ -10,11 +10,12 @@ use Rattle.outside.specs.Faults.{HasCauseOf}
 use Rattle.outside.specs.Told.{Loses}
 use Rattle.outside.specs.declared.event.Event.{Event}
 use Rattle.outside.proofs.Laws.{stays_same}
+use Rattle.text_scan.specs.declared.line.Fault.{Fault}
 use Rattle.doc_text.specs.declared.document.Doc.{Doc}
 use Rattle.doc_text.specs.Documents.{document_of}
 use Rattle.session.specs.Written.{Writes, WritesFront}
 use Rattle.session.specs.Input.{limit, IsFront, AreFirst, HasLastPiece, HasGiven, HasGivenLine, HasGivenAll, Stops}
-use Rattle.session.specs.Script.{is_end_of_document, has_end, before_end, after_end, document_of_lines, made_in, made_from, all_made, is_refused, some_refused}
+use Rattle.session.specs.Script.{is_end_of_document, has_end, before_end, after_end, document_of_lines, made_in, made_from, all_made, has_fault, or_refused, some_refused}
 use Rattle.session.specs.Outcome.{answer_of, verdict_of, early_lines}
 use Rattle.session.specs.Runs.{StopsWriting, WritesAll, WritesPrefix, WritesFrom, Stands, HasEndInLast, IsWhole, IsEnded, EndsEarly, Judged, Runs}
 use Rattle.session.specs.Serving.{HasText, HasReadText, StopsInText, Answers, AnswersPrefix, EndsFirst, last_doc, HasAnswered, IsAt, ended}
@@ -67,18 +68,18 @@ just_whole : (lines : List Line) → has_end lines ≡ false → IsJust lines li
 just_whole lines o = record { before = before_none lines o; after = after_none lines o }
 
 module _ (given lines : List Line) (p : IsJust given lines) where
-  just_made : all_made given ≡ document_of_lines lines ∷ []
+  just_made : all_made given ≡ or_refused (document_of_lines lines) ∷ []
   just_made = ap (λ (l : List Line). made_from (document_of_lines l) (after_end given)) p.before ∙ ap (made_from (document_of_lines lines)) p.after ∙ one_made (document_of_lines lines)
     where
-      one_made : (made : Made) → made_from made [] ≡ made ∷ []
+      one_made : (read : Result Doc Fault) → made_from read [] ≡ or_refused read ∷ []
       one_made (Err fault) = refl
       one_made (Ok doc) = refl
 
   module _ (stats : Bool) (w w' : Option (List ℕ)) (l l' : Option (List Event)) where
-    wrote_first : Answers stats w w' l l' 0 (document_of_lines lines) → WritesAll stats w w' l l' given
+    wrote_first : Answers stats w w' l l' 0 (or_refused (document_of_lines lines)) → WritesAll stats w w' l l' given
     wrote_first a = subst (λ (m : List Made). Writes stats w w' l l' 0 m) (sym just_made) a
 
-    wrote_first_part : AnswersPrefix stats w w' l l' 0 (document_of_lines lines) → WritesPrefix stats w w' l l' given
+    wrote_first_part : AnswersPrefix stats w w' l l' 0 (or_refused (document_of_lines lines)) → WritesPrefix stats w w' l l' given
     wrote_first_part a = subst (λ (m : List Made). WritesFront stats w w' l l' 0 m) (sym just_made) a
 
 -- ---- the lines that are whole in the first bytes of a longer input
@@ -179,7 +180,7 @@ module _ (stats : Bool) (left left' w w' : Option (List ℕ)) (l l' : Option (Li
     where
       judged_first : (status : Status) → EndsFirst stats w w' l l' (document_of_lines lines) status → Judged stats left left' w w' l l' taken given status
       judged_first Done p = absurd p
-      judged_first BadDocument p = record { input = e; answer = ap (λ (l : List Line). is_refused (document_of_lines l)) j.before ∙ p.0; output = wrote_first given lines j stats w w' l l' p.1 }
+      judged_first BadDocument p = record { input = e; answer = ap (λ (l : List Line). has_fault (document_of_lines l)) j.before ∙ p.0; output = wrote_first given lines j stats w w' l l' p.1 }
       judged_first SomeRefused p = absurd p
       judged_first ReadFault p = absurd p
       judged_first WriteFault p = s (wrote_first_part given lines j stats w w' l l' p)
@@ -245,15 +246,15 @@ module _ (stats : Bool) (left left' w w' : Option (List ℕ)) (l l' : Option (Li
       let whole : IsWhole left left' t.bytes lines = is_whole left left' lines t in
       ends_first stats left left' w w' l l' t.bytes lines lines status (just_whole lines o) t.taken (whole_first left left' lines t) (inr whole) (λ q. inr (record { unended = o; input = whole; output = q })) p
 
-  first_answers : (doc : Doc) → document_of_lines lines ≡ Ok doc → Answers stats w w' l l' 0 (Ok doc) → Answers stats w w' l l' 0 (document_of_lines lines)
-  first_answers doc f a = subst (λ (made : Made). Answers stats w w' l l' 0 made) (sym f) a
+  first_answers : (doc : Doc) → document_of_lines lines ≡ Ok doc → Answers stats w w' l l' 0 (Ok doc) → Answers stats w w' l l' 0 (or_refused (document_of_lines lines))
+  first_answers doc f a = subst (λ (read : Result Doc Fault). Answers stats w w' l l' 0 (or_refused read)) (sym f) a
 
   ended_alone : (b : Bool) (doc : Doc) → b ≡ false → HasText left left' stream ended lines b → (document_of_lines lines ≡ Ok doc) × Answers stats w w' l l' 0 (Ok doc) → Runs stats left left' w w' l l' Done
   ended_alone true doc e t p = absurd (false≢true (sym e))
   ended_alone false doc e t p =
       let just : IsJust lines lines = just_whole lines o in
       all_answered stats left left' w w' l l' false lines t
-      (ap (λ (l : List Line). answer_of (document_of_lines l) (after_end lines)) just.before ∙ ap (λ (made : Made). answer_of made (after_end lines)) p.0 ∙ ap (answer_of (Ok doc)) just.after)
+      (ap (λ (l : List Line). answer_of (document_of_lines l) (after_end lines)) just.before ∙ ap (λ (read : Result Doc Fault). answer_of read (after_end lines)) p.0 ∙ ap (answer_of (Ok doc)) just.after)
       (wrote_first lines lines just stats w w' l l' (first_answers doc p.0 p.1))
 
   ended_at : (b : Bool) (doc : Doc) → b ≡ true → HasText left left' stream ended lines b → (document_of_lines lines ≡ Ok doc) × Answers stats w w' l l' 0 (Ok doc)
@@ -263,7 +264,7 @@ module _ (stats : Bool) (left left' w w' : Option (List ℕ)) (l l' : Option (Li
       let given = lines ++ t.last ∷ [] in
       let just : IsJust given lines = just_ended lines t.last o t.end in
       let nothing : made_in doc (after_end given) ≡ [] = ap (made_in doc) just.after in
-      let once : all_made given ≡ Ok doc ∷ [] = just_made given lines just ∙ ap (λ (made : Made). made ∷ []) p.0 in
+      let once : all_made given ≡ Ok doc ∷ [] = just_made given lines just ∙ ap (λ (read : Result Doc Fault). or_refused read ∷ []) p.0 in
       record {
         given = given;
         input = t.given.all;
@@ -287,7 +288,7 @@ module _ (stats : Bool) (left left' w w' : Option (List ℕ)) (l l' : Option (Li
 
   pub text_refused : (status : Status) → EndsFirst stats w w' l l' (document_of text.lines text.end) status → Runs stats left left' w w' l l' status
   text_refused status p =
-      ended_first stats left left' w w' l l' stream ended t.given t.unended text.has_script status t.input (subst (λ (made : Made). EndsFirst stats w w' l l' made status) t.same p)
+      ended_first stats left left' w w' l l' stream ended t.given t.unended text.has_script status t.input (subst (λ (read : Result Doc Fault). EndsFirst stats w w' l l' read status) t.same p)
 
   pub text_alone : (doc : Doc) → text.has_script ≡ false → (document_of text.lines text.end ≡ Ok doc) × Answers stats w w' l l' 0 (Ok doc) → Runs stats left left' w w' l l' Done
   text_alone doc e p = ended_alone stats left left' w w' l l' stream ended t.given t.unended text.has_script doc e t.input (read_ok doc p.0, p.1)
@@ -301,12 +302,12 @@ pub ruleset starting = (stopped_in_text, text_refused, text_alone, text_at)
 
 module _ (stats : Bool) (left left' w w' : Option (List ℕ)) (l l' : Option (List Event)) (given : List Line) (doc : Doc) (k : ℕ) (bad : Bool) (p : HasAnswered stats w w' l l' given doc k bad) where
   pub script_stopped : (status : Status) → Stops left left' given status → Runs stats left left' w w' l l' status
-  script_stopped status s = stopped stats left left' w w' l l' given status s (inr (p.laid.ended, ap is_refused p.laid.read, p.output))
+  script_stopped status s = stopped stats left left' w w' l l' given status s (inr (p.laid.ended, ap has_fault p.laid.read, p.output))
 
   pub script_ended : HasGivenAll left left' given → Runs stats left left' w w' l l' (ended bad)
   script_ended q =
       all_answered stats left left' w w' l l' bad given q
-      (ap (λ (made : Made). answer_of made (after_end given)) p.laid.read ∙ ap ended (sym p.laid.refused))
+      (ap (λ (read : Result Doc Fault). answer_of read (after_end given)) p.laid.read ∙ ap ended (sym p.laid.refused))
       p.output
 
 -- no stop of reading is a fault of writing
@@ -315,6 +316,23 @@ not_write_fault left now given status s e = absurd (subst (Stops left now given)
 
 pub unwritten_stop : (left now : Option (List ℕ)) (given : List Line) (status : Status) (before after : ℕ) → Stops left now given status → before ≤ after → HasCauseOf before after (status ≡ WriteFault)
 unwritten_stop left now given status before after s h = record { later = h; cause = λ e. not_write_fault left now given status s e }
+
+-- a run that was answered to its end had no fault
+abbrev IsNoFault : Status → Type 0
+IsNoFault ReadFault = ⊥
+IsNoFault WriteFault = ⊥
+IsNoFault status = ⊤
+
+ended_well : (refused : Bool) → IsNoFault (ended refused)
+ended_well true = tt
+ended_well false = tt
+
+module _ (refused : Bool) (status : Status) (is : status ≡ ended refused) (before after : ℕ) (h : before ≤ after) where
+  pub ended_read : HasCauseOf before after (status ≡ ReadFault)
+  ended_read = record { later = h; cause = λ e. absurd (subst IsNoFault (sym is ∙ e) (ended_well refused)) }
+
+  pub ended_written : HasCauseOf before after (status ≡ WriteFault)
+  ended_written = record { later = h; cause = λ e. absurd (subst IsNoFault (sym is ∙ e) (ended_well refused)) }
 
 pub few_answers : (left now : Option (List ℕ)) (given : List Line) (stream : Stream) (ended : Bool) (k : ℕ) → HasGiven left now given stream ended → k ≤ length given → k ≤ 67108864
 few_answers left now given stream ended k p h = omega (arith, given_few left now given stream ended p, h)

@@ -9,11 +9,13 @@ use Rattle.doc_text.specs.declared.document.Doc.{Doc}
 use Rattle.session.specs.Printing.{refusal}
 use Rattle.session.specs.Logs.{LogsFront}
 use Rattle.session.specs.Runs.{StopsWriting}
-use Rattle.session.specs.Script.{text_of}
+use Rattle.session.specs.Script.{or_refused, said_line, text_of}
 use Rattle.session.specs.FaultNames.{fault_name}
 use Rattle.session.specs.Serving.{Answers, AnswersPrefix, EndsFirst, Begins}
 use Rattle.session.specs.Written.{Prints}
 use Rattle.session.specs.Standing.{Standing, doc_of}
+use Rattle.session.specs.declared.said.Said.{Said}
+use Rattle.session.specs.declared.said.Said.TheVariants as saying
 use Rattle.session.specs.declared.status.Status.{Status}
 use Rattle.session.specs.declared.status.Status.TheVariants.{Done, BadDocument, SomeRefused, ReadFault, WriteFault, NoMemory, InputLimit, BadWords}
 use Rattle.session.proofs.Logs.{Made}
@@ -38,45 +40,45 @@ module _ (stats : Bool) where
 
   -- ---- the document, or its refusal
 
-  -- the line of a refusal
-  pub refusal_prints : (l : Option (List Event)) (k : ℕ) (fault : Fault) (text : List ℕ) → text ≡ refusal k fault.place (fault_name fault.number) → Prints stats l l k (Err fault) text
+  -- the line of what is said
+  pub said_prints : (l : Option (List Event)) (k : ℕ) (said : Said) (text : List ℕ) → text ≡ said_line k said → Prints stats l l k (Err said) text
   unfolding text_of
-  refusal_prints l k fault text t = record { told = []; log = adds_none l; each = (t, refl) }
+  said_prints l k said text t = record { told = []; log = adds_none l; each = (t, refl) }
 
   module _ (w w' : Option (List ℕ)) where
     pub document_refused : (fault : Fault) (text : List ℕ) (l : Option (List Event)) → text ≡ refusal 0 fault.place (fault_name fault.number) → Adds w w' text → EndsFirst stats w w' l l (Err fault) BadDocument
-    document_refused fault text l t p = (refl, text_all stats w w' l l 0 (Err fault) text (refusal_prints l 0 fault text t) p)
+    document_refused fault text l t p = (refl, text_all stats w w' l l 0 (Err (saying.Refused fault)) text (said_prints l 0 (saying.Refused fault) text t) p)
 
-    ends_prefix : (l l' : Option (List Event)) (made : Made) (status : Status) → StopsWriting status → AnswersPrefix stats w w' l l' 0 made → EndsFirst stats w w' l l' made status
-    ends_prefix l l' made Done s p = absurd s
-    ends_prefix l l' made BadDocument s p = absurd s
-    ends_prefix l l' made SomeRefused s p = absurd s
-    ends_prefix l l' made ReadFault s p = absurd s
-    ends_prefix l l' made WriteFault s p = p
-    ends_prefix l l' made NoMemory s p = p
-    ends_prefix l l' made InputLimit s p = absurd s
-    ends_prefix l l' made BadWords s p = absurd s
+    ends_prefix : (l l' : Option (List Event)) (read : Result Doc Fault) (status : Status) → StopsWriting status → AnswersPrefix stats w w' l l' 0 (or_refused read) → EndsFirst stats w w' l l' read status
+    ends_prefix l l' read Done s p = absurd s
+    ends_prefix l l' read BadDocument s p = absurd s
+    ends_prefix l l' read SomeRefused s p = absurd s
+    ends_prefix l l' read ReadFault s p = absurd s
+    ends_prefix l l' read WriteFault s p = p
+    ends_prefix l l' read NoMemory s p = p
+    ends_prefix l l' read InputLimit s p = absurd s
+    ends_prefix l l' read BadWords s p = absurd s
 
     pub document_refused_prefix : (fault : Fault) (text : List ℕ) (l : Option (List Event)) (status : Status) → text ≡ refusal 0 fault.place (fault_name fault.number)
         → StopsWriting status → AddsPrefix w w' text → EndsFirst stats w w' l l (Err fault) status
-    document_refused_prefix fault text l status t s p = ends_prefix l l (Err fault) status s (text_part stats w w' l l 0 (Err fault) text (refusal_prints l 0 fault text t) p)
+    document_refused_prefix fault text l status t s p = ends_prefix l l (Err fault) status s (text_part stats w w' l l 0 (Err (saying.Refused fault)) text (said_prints l 0 (saying.Refused fault) text t) p)
 
   pub not_refused : (w : Option (List ℕ)) (l : Option (List Event)) (fault : Fault) → EndsFirst stats w w l l (Err fault) NoMemory
-  not_refused w l fault = nothing w l 0 (Err fault)
+  not_refused w l fault = nothing w l 0 (Err (saying.Refused fault))
 
   module _ (w w' : Option (List ℕ)) (l l' : Option (List Event)) where
-    pub begins_laid : (made : Made) (doc : Doc) (r : Result Standing Status) → made ≡ Ok doc → IfOk r (λ engine. doc_of engine ≡ doc) → OnOk r (Answers stats w w' l l' 0 (Ok doc))
-        → OnErr r (AnswersPrefix stats w w' l l' 0 (Ok doc)) → IfErr r StopsWriting → Begins stats w w' l l' made r
-    begins_laid made doc (Ok engine) f e p q s = (f ∙ ap (λ (d : Doc). Ok d) (sym e), subst (λ (d : Doc). Answers stats w w' l l' 0 (Ok d)) (sym e) p)
-    begins_laid made doc (Err status) f e p q s =
-        ends_prefix w w' l l' made status s (subst (λ (o : Made). AnswersPrefix stats w w' l l' 0 o) (sym f) q)
+    pub begins_laid : (read : Result Doc Fault) (doc : Doc) (r : Result Standing Status) → read ≡ Ok doc → IfOk r (λ engine. doc_of engine ≡ doc) → OnOk r (Answers stats w w' l l' 0 (Ok doc))
+        → OnErr r (AnswersPrefix stats w w' l l' 0 (Ok doc)) → IfErr r StopsWriting → Begins stats w w' l l' read r
+    begins_laid read doc (Ok engine) f e p q s = (f ∙ ap (λ (d : Doc). Ok d) (sym e), subst (λ (d : Doc). Answers stats w w' l l' 0 (Ok d)) (sym e) p)
+    begins_laid read doc (Err status) f e p q s =
+        ends_prefix w w' l l' read status s (subst (λ (o : Result Doc Fault). AnswersPrefix stats w w' l l' 0 (or_refused o)) (sym f) q)
 
-  pub begins_refused : (w w' : Option (List ℕ)) (l : Option (List Event)) (made : Made) (fault : Fault) (status : Status) → made ≡ Err fault
-      → EndsFirst stats w w' l l (Err fault) status → Begins stats w w' l l made (Err status)
-  begins_refused w w' l made fault status f p = subst (λ (o : Made). EndsFirst stats w w' l l o status) (sym f) p
+  pub begins_refused : (w w' : Option (List ℕ)) (l : Option (List Event)) (read : Result Doc Fault) (fault : Fault) (status : Status) → read ≡ Err fault
+      → EndsFirst stats w w' l l (Err fault) status → Begins stats w w' l l read (Err status)
+  begins_refused w w' l read fault status f p = subst (λ (o : Result Doc Fault). EndsFirst stats w w' l l o status) (sym f) p
 
-  pub begins_not : (w : Option (List ℕ)) (l : Option (List Event)) (made : Made) → Begins stats w w l l made (Err NoMemory)
-  begins_not w l made = nothing w l 0 made
+  pub begins_not : (w : Option (List ℕ)) (l : Option (List Event)) (read : Result Doc Fault) → Begins stats w w l l read (Err NoMemory)
+  begins_not w l read = nothing w l 0 (or_refused read)
 
   -- ---- one edit
 

@@ -2,16 +2,12 @@
 use Rattle.std.proofs.Common.{◌≡◌, sym, subst, arith, ◌<◌, List, [], Contains, Result, Ok, Err}
 use Rattle.doc_text.specs.declared.document.Doc.{Doc}
 use Rattle.doc_text.specs.declared.edit.Edit.{Edit}
-use Rattle.std.specs.Prelude.{OnOk}
-use Rattle.doc_text.specs.Edits.{edited, tree_of}
+use Rattle.doc_text.specs.Edits.{edited}
 use Rattle.doc_text.specs.Laws.{NamesItsNode}
 use Rattle.doc_text.specs.Valid.{IsValid}
 use Rattle.page_tree.specs.Answered.{Applies}
 use Rattle.page_tree.specs.Pages.{Held, document_of}
-use Rattle.page_tree.specs.Reach.{is_touched}
 use Rattle.page_tree.specs.declared.error.EditError.{EditError}
-use Rattle.asked_pages.specs.Leaves.{PassesUp}
-use Rattle.asked_pages.proofs.Above.{touched_up}
 use Rattle.page_tree.specs.declared.error.EditError.TheVariants as error
 use Rattle.box_layout.specs.LastBoxes.{AreFound, Found}
 use Rattle.tree_rules.specs.declared.query.Query.{Query}
@@ -39,10 +35,5 @@ pub sound_next : (r : Result (Unit {0}) EditError) (e : Edit) (old new : Held) �
 sound_next (Ok done) e old new s n h p right = record { valid = edited_valid (document_of old) (document_of new) e s.valid n h p; right = right }
 sound_next (Err (error.Refused fault)) e old new s n h p right = subst IsSound (sym p.1) s
 sound_next (Err error.NoMemory) e old new s n h p right = subst IsSound (sym p) s
-
--- with a leaf that it touches the edit touches its parent
-pub passes_edit : (r : Result (Unit {0}) EditError) (e : Edit) (old new : Held) → IsSound old → NamesItsNode e → Applies r (edited e (document_of old)) old new → OnOk r (PassesUp (is_touched e (document_of old) (document_of new)) (tree_of (document_of new)))
-passes_edit (Ok done) e old new s n p = touched_up e (document_of old) (document_of new) s.valid.shaped n p
-passes_edit (Err error) e old new s n p = tt
 
 pub ruleset applying = (sound_next)

@@ -2,7 +2,6 @@
 use Rattle.std.proofs.Common.{◌≡◌, refl, ap, sym, subst, ◌∙◌, ℕ, Bool, List, [], ◌∷◌, ◌++◌, Option, Some, None, Result, Ok, Err, IfSome, append-nil}
 use Rattle.std.proofs.lemmas.Bool.{false≢true}
 use Rattle.std.specs.Prelude.{IsErr, OnOk, OnErr, if◌then◌else◌}
-use Rattle.text_scan.specs.declared.line.Fault.{Fault}
 use Rattle.text_scan.specs.declared.line.Line.{Line}
 use Rattle.text_scan.specs.Lines.{lines_of}
 use Rattle.outside.specs.Told.{Adds, Stays}
@@ -16,7 +15,6 @@ use Rattle.tree_rules.specs.Labels as rules
 use Rattle.tree_rules.specs.Queries.{is_container}
 use Rattle.doc_text.specs.declared.document.Doc.{Doc}
 use Rattle.doc_text.specs.declared.edit.Edit.{Edit}
-use Rattle.doc_text.specs.Edits.{edited}
 use Rattle.doc_text.specs.EditText.{edit_of}
 use Rattle.doc_text.specs.Named as plain
 use Rattle.placing.specs.declared.node.Node.{Node}
@@ -26,10 +24,7 @@ use Rattle.placing.specs.Nodes.{bare, label_of_bare, sight_at}
 use Rattle.placing.specs.Walks.{State, Walk, events_of, state}
 use Rattle.placing.proofs.Bares.{distinct_bare}
 use Rattle.box_layout.specs.Paths.{IsAsked, IsCutShort}
-use Rattle.page_tree.specs.Answered.{Applies}
 use Rattle.page_tree.specs.Pages.{Held, document_of}
-use Rattle.page_tree.specs.declared.error.EditError.{EditError}
-use Rattle.page_tree.specs.declared.error.EditError.TheVariants as error
 use Rattle.sparing.specs.Memory.{AreNamed, IsLeaf, Recalls}
 use Rattle.sparing.specs.Sparing.{Touches}
 use Rattle.sparing.proofs.Entries.{spared_more}
@@ -37,7 +32,10 @@ use Rattle.sparing.proofs.Layouts.{IsLeafAfter, edit_recalls, first_recalls, lay
 use Rattle.session.specs.Input.{AreFirst}
 use Rattle.page_tree.specs.Reach.{KeepsOn, KeepsOthers, is_touched}
 use Rattle.session.specs.Spares.{KeepsUntouched, Spares, SparesAfter, SparesDue, SparesFirst, SparesInput, SparesPage}
-use Rattle.session.specs.Standing.{Standing, IsSound}
+use Rattle.session.specs.Engine.{IsAsBefore, Makes}
+use Rattle.session.specs.Script.{answer_to}
+use Rattle.session.specs.Standing.{Standing, IsSound, doc_of}
+use Rattle.session.specs.declared.said.Said.{Said}
 use Rattle.session.specs.Touched.{Agrees, touched_by, touched_lines, touched_of, touched_to}
 use Rattle.session.proofs.Follows.{follows_all}
 use Rattle.session.proofs.LeafNames.{each_there, label_there, leaf_there, leaves_named}
@@ -174,18 +172,18 @@ pub spares_due : (touches : Touches) (before now : Option (List Event)) (k : ℕ
 spares_due touches before now k old new line p agrees kept = spares_due_by touches before now k old new (touched_by (document_of old) line) p agrees kept
 
 -- the line reads as this edit
-pub touched_same : (doc next : Doc) (line : Line) (e : Edit) → edit_of doc.version line ≡ Ok e → edited e doc ≡ Ok next → (λ (name : List ℕ). is_touched e doc next name) ≡ touched_by doc line
+pub touched_same : (doc next : Doc) (line : Line) (e : Edit) → edit_of doc.version line ≡ Ok e → answer_to e doc ≡ Ok next → (λ (name : List ℕ). is_touched e doc next name) ≡ touched_by doc line
 unfolding touched_by
 touched_same doc next line e read made = (λ i. λ (name : List ℕ). touched_to e doc (sym made i) name) ∙ (λ i. λ (name : List ℕ). touched_of doc (sym read i) name)
 
-pub edit_kept : (r : Result (Unit {0}) EditError) (old new : Held) (line : Line) (e : Edit) → edit_of (document_of old).version line ≡ Ok e → Applies r (edited e (document_of old)) old new → OnOk r (KeepsOthers e old new)
-    → OnOk r (KeepsUntouched (touched_by (document_of old) line) old new)
-edit_kept (Ok x) old new line e read made kept = subst (λ (f : List ℕ → Bool). KeepsUntouched f old new) (touched_same (document_of old) (document_of new) line e read made) kept
-edit_kept (Err x) old new line e read made kept = tt
+pub edit_kept : (said : Option Said) (old new : Standing) (line : Line) (e : Edit) → edit_of (doc_of old).version line ≡ Ok e → Makes said (answer_to e (doc_of old)) old new → (said ≡ None → KeepsOthers e old.page new.page)
+    → said ≡ None → KeepsUntouched (touched_by (doc_of old) line) old.page new.page
+edit_kept None old new line e read made kept none = subst (λ (f : List ℕ → Bool). KeepsUntouched f old.page new.page) (touched_same (doc_of old) (doc_of new) line e read made) (kept none)
+edit_kept (Some said) old new line e read made kept none = absurd cc
 
--- a refused edit leaves the page as it was
-pub refused_same : (r : Result Doc Fault) (fault : Fault) (old new : Held) → Applies (Err (error.Refused fault)) r old new → (touches : Touches) (before now : Option (List Event)) → SparesPage touches before now old → SparesPage touches before now new
-refused_same r fault old new a touches before now p = subst (SparesPage touches before now) (sym a.1) p
+-- where nothing is laid out the page is as it was
+pub said_same : (old new : Standing) → IsAsBefore old new → (touches : Touches) (before now : Option (List Event)) → SparesPage touches before now old.page → SparesPage touches before now new.page
+said_same old new a touches before now p = subst (SparesPage touches before now) (sym a.page) p
 
 -- ---- the whole input
 
@@ -205,4 +203,4 @@ input_none left before now h = record { given = []; first = none left; spared = 
     none None = tt
     none (Some b) = record { rest = lines_of b; parts = refl }
 
-pub ruleset sparing = (spares_some, spares_none, edit_kept)
+pub ruleset sparing = (spares_some, spares_none)

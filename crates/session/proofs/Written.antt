@@ -52,11 +52,11 @@ module _ (stats : Bool) where
           back = (told_least (k + 1) made).2;
         },
       )
-  told_least k (Err fault ∷ made) = (
-    text_of k (Err fault) ++ (told_least (k + 1) made).0,
+  told_least k (Err said ∷ made) = (
+    text_of k (Err said) ++ (told_least (k + 1) made).0,
     (told_least (k + 1) made).1,
     record {
-      text = text_of k (Err fault);
+      text = text_of k (Err said);
       texts = (told_least (k + 1) made).0;
       first = [];
       later = (told_least (k + 1) made).1;
@@ -84,10 +84,10 @@ module _ (stats : Bool) where
           back = (text_for (k + 1) made p.later p.back).1;
         },
       )
-  text_for k (Err fault ∷ made) es p = (
-    text_of k (Err fault) ++ (text_for (k + 1) made p.later p.back).0,
+  text_for k (Err said ∷ made) es p = (
+    text_of k (Err said) ++ (text_for (k + 1) made p.later p.back).0,
     record {
-      text = text_of k (Err fault);
+      text = text_of k (Err said);
       texts = (text_for (k + 1) made p.later p.back).0;
       first = p.first;
       later = p.later;
@@ -225,8 +225,8 @@ plain_told : (k : ℕ) (made : List Made) (xs : List ℕ) (es : List Event) → 
 plain_told k [] xs es p = p.0
 plain_told k (Ok doc ∷ made) xs es p =
     sym p.whole ∙ ap (λ (z : List ℕ). z ++ p.texts) (p.front.text ∙ append-nil (text_of k (Ok doc))) ∙ ap (λ (z : List ℕ). text_of k (Ok doc) ++ z) (plain_told (k + 1) made p.texts p.later p.back)
-plain_told k (Err fault ∷ made) xs es p =
-    sym p.whole ∙ ap (λ (z : List ℕ). z ++ p.texts) p.front.0 ∙ ap (λ (z : List ℕ). text_of k (Err fault) ++ z) (plain_told (k + 1) made p.texts p.later p.back)
+plain_told k (Err said ∷ made) xs es p =
+    sym p.whole ∙ ap (λ (z : List ℕ). z ++ p.texts) p.front.0 ∙ ap (λ (z : List ℕ). text_of k (Err said) ++ z) (plain_told (k + 1) made p.texts p.later p.back)
 
 pub plain_all : (w w' : Option (List ℕ)) (l l' : Option (List Event)) (k : ℕ) (made : List Made) → Writes false w w' l l' k made → Adds w w' (texts k made)
 plain_all w w' l l' k made p = subst (λ (x : List ℕ). Adds w w' x) (plain_told k made p.bytes p.told p.each) p.written

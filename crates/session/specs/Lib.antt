@@ -15,6 +15,7 @@ pub use Rattle.page_tree.specs.Boxes as DefinedBoxes
 pub use Rattle.page_tree.specs.Pages as Pages
 pub mod Printing
 pub mod Boxes
+pub mod Hits
 pub mod Words
 pub mod FaultNames
 pub mod Script

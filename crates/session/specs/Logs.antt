@@ -2,7 +2,6 @@
 use Rattle.std.specs.Prelude.{◌≡◌, ℕ, ◌+◌, Bool, true, false, ◌&&◌, ◌||◌, List, [], ◌∷◌, ◌++◌, Option, Result, Ok, Err, ⊤}
 use Rattle.std.specs.Str.{bytes_eq}
 use Rattle.plain_tree.specs.Trees.{Trees, leafless, tree}
-use Rattle.text_scan.specs.declared.line.Fault.{Fault}
 use Rattle.outside.specs.Told.{Adds}
 use Rattle.outside.specs.declared.event.Event.{Event}
 use Rattle.outside.specs.declared.event.Event.TheVariants.{Begin, Measured}
@@ -10,6 +9,7 @@ use Rattle.doc_text.specs.declared.document.Doc.{Doc}
 use Rattle.doc_text.specs.Documents.{is_leaf}
 use Rattle.doc_text.specs.Edits.{tree_of}
 use Rattle.doc_text.specs.Label.{Label}
+use Rattle.session.specs.declared.said.Said.{Said}
 
 -- ---- one layout
 
@@ -35,10 +35,10 @@ pub record IsLaying (k : ℕ) (doc : Doc) (events : List Event) : Type 0 where
 
 -- ---- all that was made
 
--- these events are told of what was made: of a refusal there are none
-abbrev pub Tells : ℕ → Result Doc Fault → List Event → Type 0
+-- these events are told of what was made: where nothing is laid out there are none
+abbrev pub Tells : ℕ → Result Doc Said → List Event → Type 0
 Tells k (Ok doc) events = IsLaying k doc events
-Tells k (Err fault) events = events ≡ []
+Tells k (Err said) events = events ≡ []
 
 -- events in two parts
 pub record InTwo (First Later : List Event → Type 0) (events : List Event) : Type 0 where
@@ -49,7 +49,7 @@ pub record InTwo (First Later : List Event → Type 0) (events : List Event) : T
   pub back : Later later
 
 -- the same of all that was made, in order and numbered from k on
-abbrev pub TellsAll : ℕ → List (Result Doc Fault) → List Event → Type 0
+abbrev pub TellsAll : ℕ → List (Result Doc Said) → List Event → Type 0
 TellsAll k [] events = events ≡ []
 TellsAll k (made ∷ rest) events = InTwo (Tells k made) (TellsAll (k + 1) rest) events
 
@@ -57,20 +57,20 @@ TellsAll k (made ∷ rest) events = InTwo (Tells k made) (TellsAll (k + 1) rest)
 
 module _ (before after : Option (List Event)) where
   -- it grew by all that is told of what was made
-  pub record Logs (k : ℕ) (made : List (Result Doc Fault)) : Type 0 where
+  pub record Logs (k : ℕ) (made : List (Result Doc Said)) : Type 0 where
     pub events : List Event
     pub added : Adds before after events
     pub told : TellsAll k made events
 
   -- it grew by a front of such events
-  pub record LogsFront (k : ℕ) (made : List (Result Doc Fault)) : Type 0 where
+  pub record LogsFront (k : ℕ) (made : List (Result Doc Said)) : Type 0 where
     pub events : List Event
     pub rest : List Event
     pub added : Adds before after events
     pub told : TellsAll k made (events ++ rest)
 
   -- it grew by all that is told of what is due, and then by a front of what is told behind that
-  pub record LogsFrom (owed made : List (Result Doc Fault)) : Type 0 where
+  pub record LogsFrom (owed made : List (Result Doc Said)) : Type 0 where
     pub done : List Event
     pub events : List Event
     pub rest : List Event

@@ -3,7 +3,6 @@ use Rattle.std.specs.Prelude.{◌≡◌, ℕ, zero, suc, ◌+◌, ◌-◌, ◌==
 use Rattle.outside.specs.Faults.{Rose}
 use Rattle.outside.specs.Told.{Adds, AddsPrefix}
 use Rattle.outside.specs.declared.event.Event.{Event}
-use Rattle.text_scan.specs.declared.line.Fault.{Fault}
 use Rattle.doc_text.specs.declared.document.Doc.{Doc}
 use Rattle.doc_text.specs.Edits.{applied}
 use Rattle.page_maker.specs.Making.{made_document, last_state}
@@ -16,6 +15,7 @@ use Rattle.session.specs.Logs.{Logs, LogsFront}
 use Rattle.session.specs.Printing.{Box}
 use Rattle.session.specs.Replies.{Replies}
 use Rattle.session.specs.Spares.{Spares}
+use Rattle.session.specs.declared.said.Said.{Said}
 use Rattle.session.specs.declared.status.Status.{Status}
 use Rattle.session.specs.declared.status.Status.TheVariants.{Done, WriteFault, NoMemory}
 
@@ -37,17 +37,17 @@ summary seed nodes = made_lines 0 (made_documents seed nodes)
 -- ---- what is told
 
 -- each of the documents is laid out
-abbrev pub all_laid : List Doc → List (Result Doc Fault)
+abbrev pub all_laid : List Doc → List (Result Doc Said)
 all_laid [] = []
 all_laid (doc ∷ docs) = Ok doc ∷ all_laid docs
 
 -- the nine of a seed and a number of nodes
-unfoldable pub made_layouts : ℕ → ℕ → List (Result Doc Fault)
+unfoldable pub made_layouts : ℕ → ℕ → List (Result Doc Said)
 made_layouts seed nodes = all_laid (made_documents seed nodes)
 
 -- These layouts were told, numbered from k on. Of each it holds what holds of a reply under `layout`: which leaves were measured, how many answers it kept, and how
 -- many passes it took. What is written of them stands apart.
-abbrev pub TellsLayouts : Touches → (events events' : Option (List Event)) → (passes passes' : ℕ) → ℕ → List (Result Doc Fault) → Type 0
+abbrev pub TellsLayouts : Touches → (events events' : Option (List Event)) → (passes passes' : ℕ) → ℕ → List (Result Doc Said) → Type 0
 TellsLayouts touches events events' passes passes' k made = Replies false None None events events' passes passes' touches k made
 
 -- ---- what the edits touch
@@ -105,7 +105,7 @@ unfoldable pub lines_left : ℕ → ℕ → Doc → ℕ → List ℕ
 lines_left count nodes doc x = made_lines (9 - count) (later (edited_from count nodes doc x))
 
 -- the layouts that are still to be made
-unfoldable pub layouts_left : ℕ → ℕ → Doc → ℕ → List (Result Doc Fault)
+unfoldable pub layouts_left : ℕ → ℕ → Doc → ℕ → List (Result Doc Said)
 layouts_left count nodes doc x = all_laid (later (edited_from count nodes doc x))
 
 -- the edit with this number touches what the one does that is drawn
@@ -119,15 +119,15 @@ AgreeDraws touches (suc count) k nodes doc x =
     AgreesDraw touches k nodes doc x × AgreeDraws touches count (k + 1) nodes (applied (edit_from nodes x).0 doc) (edit_from nodes x).1
 
 -- the log grew by what is told of the first layouts of a whole, numbered from `first` on; these are left, numbered from `next` on
-pub record LogsAllBut (before after : Option (List Event)) (first next : ℕ) (rest whole : List (Result Doc Fault)) : Type 0 where
-  pub done : List (Result Doc Fault)
+pub record LogsAllBut (before after : Option (List Event)) (first next : ℕ) (rest whole : List (Result Doc Said)) : Type 0 where
+  pub done : List (Result Doc Said)
   pub parts : done ++ rest ≡ whole
   pub number : first + length done ≡ next
   pub log : Logs before after first done
 
 -- the same, with what each layout measures, keeps and takes
-pub record TellsAllBut (touches : Touches) (before after : Option (List Event)) (passes passes' : ℕ) (first next : ℕ) (rest whole : List (Result Doc Fault)) : Type 0 where
-  pub done : List (Result Doc Fault)
+pub record TellsAllBut (touches : Touches) (before after : Option (List Event)) (passes passes' : ℕ) (first next : ℕ) (rest whole : List (Result Doc Said)) : Type 0 where
+  pub done : List (Result Doc Said)
   pub parts : done ++ rest ≡ whole
   pub number : first + length done ≡ next
   pub told : TellsLayouts touches before after passes passes' first done

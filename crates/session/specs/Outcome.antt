@@ -5,12 +5,12 @@ use Rattle.text_scan.specs.declared.line.Line.{Line}
 use Rattle.text_scan.specs.declared.line.Fault.{Fault}
 use Rattle.doc_text.specs.declared.document.Doc.{Doc}
 use Rattle.session.specs.Input.{limit}
-use Rattle.session.specs.Script.{has_end, before_end, after_end, document_of_lines, made_in, all_made, texts, is_refused, some_refused}
+use Rattle.session.specs.Script.{has_end, before_end, after_end, document_of_lines, made_in, all_made, texts, has_fault, some_refused}
 use Rattle.session.specs.declared.status.Status.{Status}
 use Rattle.session.specs.declared.status.Status.TheVariants.{Done, BadDocument, SomeRefused}
 
 -- what is written of lines: the boxes of the document and then, for each edit line, the boxes after it or the line of its
--- refusal; of lines that are no document the line of its refusal and nothing else
+-- refusal, and for a hit its line; of lines that are no document the line of its refusal and nothing else
 abbrev pub output_of : List Line → List ℕ
 output_of lines = texts 0 (all_made lines)
 
@@ -40,4 +40,4 @@ early_lines bytes = lines_of (whole_lines (take limit bytes))
 
 -- one of these ends the document, and the document before it has a fault
 abbrev pub IsEarlyFault : List Line → Type 0
-IsEarlyFault lines = (has_end lines ≡ true) × (is_refused (document_of_lines (before_end lines)) ≡ true)
+IsEarlyFault lines = (has_end lines ≡ true) × (has_fault (document_of_lines (before_end lines)) ≡ true)

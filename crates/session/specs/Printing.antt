@@ -1,5 +1,5 @@
--- The text that is written: boxes and refusals.
-use Rattle.std.specs.Prelude.{ℕ, ℤ, Bool, if◌then◌else◌, List, [], ◌∷◌, ◌++◌, ◌^◌, ◌≤◌, unsigned_abs, codes, decimal}
+-- The text that is written: boxes, refusals and hits.
+use Rattle.std.specs.Prelude.{ℕ, ℤ, Bool, if◌then◌else◌, List, [], ◌∷◌, ◌++◌, ◌^◌, ◌≤◌, unsigned_abs, Option, Some, None, codes, decimal}
 use Rattle.lunit.specs.declared.geometry.Rect.{Rect}
 use Rattle.lunit.specs.Printed.{printed}
 use Rattle.text_scan.specs.declared.line.Place.{Place}
@@ -39,6 +39,15 @@ print k boxes = layout_line k ++ box_lines boxes
 -- the line of a refusal: `refused k L:C name`, with the place in the input and the name of the fault (own rule)
 abbrev pub refusal : ℕ → Place → List ℕ → List ℕ
 refusal k place name = codes "refused " ++ decimal k ++ 32 ∷ decimal place.line ++ 58 ∷ decimal place.column ++ 32 ∷ name ++ 10 ∷ []
+
+-- the name of a box, or `-`, which is no name
+abbrev pub name_or_none : Option (List ℕ) → List ℕ
+name_or_none None = 45 ∷ []
+name_or_none (Some name) = name
+
+-- the line of a hit: `hit k NAME` with the name of the box under the point, or `hit k -` (own rule)
+abbrev pub hit_line : ℕ → Option (List ℕ) → List ℕ
+hit_line k found = codes "hit " ++ decimal k ++ 32 ∷ name_or_none found ++ 10 ∷ []
 
 -- the line of the counts of a layout: `stats M A`, how often leaves were measured and how many answers were kept (own rule)
 unfoldable pub stats_line : ℕ → ℕ → List ℕ

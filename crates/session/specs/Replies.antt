@@ -1,6 +1,5 @@
 -- What each reply of a run shows, to the document and to each edit line: its text, what the ruler is told, and how many answers the layout keeps (own rule).
 use Rattle.std.specs.Prelude.{◌≡◌, ℕ, ◌+◌, ◌*◌, ◌-◌, ◌^◌, ◌<◌, ◌≤◌, ◌==◌, ◌||◌, ◌⊎◌, Bool, true, List, [], ◌∷◌, ◌++◌, length, Option, Result, Ok, Err, IfSome, ⊤}
-use Rattle.text_scan.specs.declared.line.Fault.{Fault}
 use Rattle.text_scan.specs.declared.line.Line.{Line}
 use Rattle.text_scan.specs.Lines.{lines_of}
 use Rattle.outside.specs.Told.{Adds, Stays}
@@ -21,6 +20,7 @@ use Rattle.session.specs.Printing.{counts}
 use Rattle.session.specs.Script.{all_made, has_end, text_of}
 use Rattle.session.specs.Input.{AreFirst}
 use Rattle.session.specs.Standing.{doc_of}
+use Rattle.session.specs.declared.said.Said.{Said}
 use Rattle.session.specs.Touched.{FollowsLines, touched_lines}
 
 -- ---- replies
@@ -66,19 +66,19 @@ pub record IsLayout (stats : Bool) (touches : Touches) (k : ℕ) (doc : Doc) (r 
   pub least : containers_by (is_new touches k) (tree_of doc) ≤ r.kept
   pub most : AreFew (asked_of doc) → r.kept ≤ length (asked_of doc)
 
--- the reply that is a refusal
-pub record IsRefusal (k : ℕ) (fault : Fault) (r : Reply) : Type 0 where
-  pub text : r.text ≡ text_of k (Err fault)
+-- the reply that says why a line is refused, or which box lies under a point: nothing is told, and nothing kept
+pub record IsSaid (k : ℕ) (said : Said) (r : Reply) : Type 0 where
+  pub text : r.text ≡ text_of k (Err said)
   pub told : r.told ≡ []
   pub kept : r.kept ≡ 0
 
 -- the reply with the number k to what was made
-abbrev pub IsReply : Bool → Touches → ℕ → Result Doc Fault → Reply → Type 0
+abbrev pub IsReply : Bool → Touches → ℕ → Result Doc Said → Reply → Type 0
 IsReply stats touches k (Ok doc) r = IsLayout stats touches k doc r
-IsReply stats touches k (Err fault) r = IsRefusal k fault r
+IsReply stats touches k (Err said) r = IsSaid k said r
 
 -- the replies to all that was made, in order and numbered from k on
-abbrev pub AreReplies : Bool → Touches → ℕ → List (Result Doc Fault) → List Reply → Type 0
+abbrev pub AreReplies : Bool → Touches → ℕ → List (Result Doc Said) → List Reply → Type 0
 AreReplies stats touches k [] [] = ⊤
 AreReplies stats touches k [] (r ∷ replies) = ⊥
 AreReplies stats touches k (made ∷ rest) [] = ⊥
@@ -87,7 +87,7 @@ AreReplies stats touches k (made ∷ rest) (r ∷ replies) = IsReply stats touch
 -- ---- a sink, a log and passes
 
 -- the reply of a text was told, in at most four passes for each answer that was kept
-pub record HasReply (stats : Bool) (touches : Touches) (events events' : Option (List Event)) (passes passes' k : ℕ) (made : Result Doc Fault) (bytes : List ℕ) : Type 0 where
+pub record HasReply (stats : Bool) (touches : Touches) (events events' : Option (List Event)) (passes passes' k : ℕ) (made : Result Doc Said) (bytes : List ℕ) : Type 0 where
   pub reply : Reply
   pub is : IsReply stats touches k made reply
   pub text : reply.text ≡ bytes
@@ -96,7 +96,7 @@ pub record HasReply (stats : Bool) (touches : Touches) (events events' : Option 
 
 module _ (stats : Bool) (held held' : Option (List ℕ)) (events events' : Option (List Event)) (passes passes' : ℕ) where
   -- the replies to all that was made were written and told, in at most four passes for each answer that was kept
-  pub record Replies (touches : Touches) (k : ℕ) (made : List (Result Doc Fault)) : Type 0 where
+  pub record Replies (touches : Touches) (k : ℕ) (made : List (Result Doc Said)) : Type 0 where
     pub all : List Reply
     pub each : AreReplies stats touches k made all
     pub written : Adds held held' (texts_in all)
@@ -142,8 +142,8 @@ module _ (stats : Bool) (held held' : Option (List ℕ)) (events events' : Optio
 
   -- a front of all that is due was written and told
   pub record RepliesFront (lines : List Line) : Type 0 where
-    pub made : List (Result Doc Fault)
-    pub rest : List (Result Doc Fault)
+    pub made : List (Result Doc Said)
+    pub rest : List (Result Doc Said)
     pub parts : made ++ rest ≡ all_made lines
     pub replies : Replies (touched_lines lines) 0 made
 

@@ -5,14 +5,14 @@ use Rattle.outside.specs.Told.{Stays, Adds, Loses}
 use Rattle.outside.specs.declared.event.Event.{Event}
 use Rattle.text_scan.specs.declared.line.Line.{Line}
 use Rattle.text_scan.specs.Lines.{lines_of, whole_lines}
-use Rattle.text_scan.specs.declared.line.Fault.{Fault}
 use Rattle.doc_text.specs.declared.document.Doc.{Doc}
 use Rattle.session.specs.Boxes.{boxes_of}
 use Rattle.session.specs.Written.{Writes, WritesFront, WritesBehind}
 use Rattle.session.specs.Input.{limit, IsReadToEnd, IsFront, AreFirst, HasLastPiece}
 use Rattle.session.specs.Printing.{print}
-use Rattle.session.specs.Script.{has_end, before_end, after_end, document_of_lines, texts, made_in, all_made, is_refused}
+use Rattle.session.specs.Script.{has_end, before_end, after_end, document_of_lines, texts, made_in, all_made, has_fault}
 use Rattle.session.specs.Outcome.{document_in, verdict_of, verdict, early_lines, IsEarlyFault}
+use Rattle.session.specs.declared.said.Said.{Said}
 use Rattle.session.specs.declared.status.Status.{Status}
 use Rattle.session.specs.declared.status.Status.TheVariants.{Done, BadDocument, SomeRefused, ReadFault, WriteFault, NoMemory, InputLimit}
 
@@ -23,7 +23,7 @@ StopsWriting NoMemory = ⊤
 StopsWriting status = ⊥
 
 -- what is due for lines while more may come: nothing until one of them ends the document
-abbrev pub due_made : List Line → List (Result Doc Fault)
+abbrev pub due_made : List Line → List (Result Doc Said)
 due_made lines = if has_end lines then all_made lines else []
 
 -- nothing was written or told
@@ -46,7 +46,7 @@ module _ (stats : Bool) (held held' : Option (List ℕ)) (events events' : Optio
 
   -- what is due for the lines so far: all of it where one of them ends the document, which then has no fault, else nothing
   abbrev pub Stands : List Line → Type 0
-  Stands given = ((has_end given ≡ false) × IsSilent held held' events events') ⊎ ((has_end given ≡ true) × (is_refused (document_of_lines (before_end given)) ≡ false) × WritesAll given)
+  Stands given = ((has_end given ≡ false) × IsSilent held held' events events') ⊎ ((has_end given ≡ true) × (has_fault (document_of_lines (before_end given)) ≡ false) × WritesAll given)
 
 -- no line that is whole in the bytes before the last piece ends the document: a piece has at most 65,536 bytes
 pub record HasEndInLast (taken : List ℕ) : Type 0 where
@@ -76,7 +76,7 @@ module _ (stats : Bool) (left left' held held' : Option (List ℕ)) (events even
 
   pub record EndsBad (taken : List ℕ) (given : List Line) : Type 0 where
     pub input : IsEnded left left' taken given
-    pub answer : is_refused (document_of_lines (before_end given)) ≡ true
+    pub answer : has_fault (document_of_lines (before_end given)) ≡ true
     pub output : WritesAll stats held held' events events' given
 
   pub record EndsEarly (taken : List ℕ) (given : List Line) : Type 0 where

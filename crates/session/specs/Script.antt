@@ -8,11 +8,15 @@ use Rattle.text_scan.specs.declared.line.Place.{Place}
 use Rattle.text_scan.specs.Tokens.{is_skipped}
 use Rattle.doc_text.specs.declared.document.Doc.{Doc}
 use Rattle.doc_text.specs.Documents.{document_of}
+use Rattle.doc_text.specs.declared.edit.Edit.{Edit}
+use Rattle.doc_text.specs.declared.edit.Edit.TheVariants as edit
 use Rattle.doc_text.specs.Edits.{edited}
 use Rattle.doc_text.specs.EditText.{edit_of}
-use Rattle.doc_text.specs.Texts.{◌>>=◌}
 use Rattle.session.specs.Boxes.{boxes_of}
-use Rattle.session.specs.Printing.{print, refusal}
+use Rattle.session.specs.Hits.{box_under}
+use Rattle.session.specs.Printing.{hit_line, print, refusal}
+use Rattle.session.specs.declared.said.Said.{Said}
+use Rattle.session.specs.declared.said.Said.TheVariants as saying
 use Rattle.session.specs.FaultNames.{fault_name}
 
 -- ---- the parts of an input
@@ -43,45 +47,71 @@ end_of_lines lines = record { line = length lines + 1; column = 1 }
 unfoldable pub document_of_lines : List Line → Result Doc Fault
 document_of_lines lines = document_of lines (end_of_lines lines)
 
+-- the lines hold no document
+abbrev pub has_fault : Result Doc Fault → Bool
+has_fault (Ok doc) = false
+has_fault (Err fault) = true
+
 -- ---- what each edit line makes
 
--- what the line of an edit makes of a document: the edited one, or the fault of the line, or why the edit is refused
-unfoldable pub made_of : Doc → Line → Result Doc Fault
-made_of doc line = edit_of doc.version line >>= λ e. edited e doc
+-- A line makes a document, which is laid out; or nothing is laid out, and this is said of it.
 
--- a refused edit leaves the document as it was
-abbrev pub next_doc : Doc → Result Doc Fault → Doc
+-- a document, or why it is refused
+abbrev pub or_refused : Result Doc Fault → Result Doc Said
+or_refused (Ok doc) = Ok doc
+or_refused (Err fault) = Err (saying.Refused fault)
+
+-- what an edit makes of a document: the edited one, or why the edit is refused. Of a hit it is said which box of the document lies under the point
+abbrev pub answer_to : Edit → Doc → Result Doc Said
+answer_to (edit.Hit x y) doc = Err (saying.Found (box_under (boxes_of doc) x y))
+answer_to e doc = or_refused (edited e doc)
+
+-- what the line of an edit makes of a document, or the fault of the line
+unfoldable pub made_of : Doc → Line → Result Doc Said
+made_of doc line = elim (edit_of doc.version line) [ Err fault ↦ Err (saying.Refused fault) | Ok e ↦ answer_to e doc ]
+
+-- where nothing is laid out the document stays as it was
+abbrev pub next_doc : Doc → Result Doc Said → Doc
 next_doc doc (Ok next) = next
-next_doc doc (Err fault) = doc
+next_doc doc (Err said) = doc
 
 -- what each edit line makes, in order, each of the document that those before it left; lines that are skipped are no edits
-abbrev pub made_in : Doc → List Line → List (Result Doc Fault)
+abbrev pub made_in : Doc → List Line → List (Result Doc Said)
 made_in doc [] = []
 made_in doc (line ∷ lines) = if is_skipped line then made_in doc lines else made_of doc line ∷ made_in (next_doc doc (made_of doc line)) lines
 
 -- the same with the document in front, which is made first; one that has a fault is all that is made
-abbrev pub made_from : Result Doc Fault → List Line → List (Result Doc Fault)
-made_from (Err fault) script = Err fault ∷ []
+abbrev pub made_from : Result Doc Fault → List Line → List (Result Doc Said)
+made_from (Err fault) script = Err (saying.Refused fault) ∷ []
 made_from (Ok doc) script = Ok doc ∷ made_in doc script
 
-abbrev pub all_made : List Line → List (Result Doc Fault)
+abbrev pub all_made : List Line → List (Result Doc Said)
 all_made lines = made_from (document_of_lines (before_end lines)) (after_end lines)
 
 -- ---- what is written of it
 
--- the boxes of the document that was made, or the line of the refusal, with the number k
-unfoldable pub text_of : ℕ → Result Doc Fault → List ℕ
-text_of k (Ok doc) = print k (boxes_of doc)
-text_of k (Err fault) = refusal k fault.place (fault_name fault.number)
+-- the line of a refusal or of a hit, with the number k
+abbrev pub said_line : ℕ → Said → List ℕ
+said_line k (saying.Refused fault) = refusal k fault.place (fault_name fault.number)
+said_line k (saying.Found name) = hit_line k name
 
--- all of them, numbered from k on: the document has the number 0 and edit lines are counted from 1, refused ones too
-abbrev pub texts : ℕ → List (Result Doc Fault) → List ℕ
+-- the boxes of the document that was made, or what is said instead, with the number k
+unfoldable pub text_of : ℕ → Result Doc Said → List ℕ
+text_of k (Ok doc) = print k (boxes_of doc)
+text_of k (Err said) = said_line k said
+
+-- all of them, numbered from k on: the document has the number 0 and edit lines are counted from 1, refused ones and hits too
+abbrev pub texts : ℕ → List (Result Doc Said) → List ℕ
 texts k [] = []
 texts k (made ∷ rest) = text_of k made ++ texts (k + 1) rest
 
-abbrev pub is_refused : Result Doc Fault → Bool
-is_refused (Ok doc) = false
-is_refused (Err fault) = true
+abbrev pub is_refusal : Said → Bool
+is_refusal (saying.Refused fault) = true
+is_refusal (saying.Found name) = false
 
-abbrev pub some_refused : List (Result Doc Fault) → Bool
+abbrev pub is_refused : Result Doc Said → Bool
+is_refused (Ok doc) = false
+is_refused (Err said) = is_refusal said
+
+abbrev pub some_refused : List (Result Doc Said) → Bool
 some_refused made = list_any is_refused made

@@ -1,7 +1,6 @@
 -- Inputs with a script, and what their lines make. They hold by computation.
 use Rattle.std.specs.Prelude.{◌≡◌, refl, ℕ, pos, false, List, [], ◌∷◌, ◌++◌, Result, Ok, Err, codes}
 use Rattle.std.specs.FinMap as map
-use Rattle.text_scan.specs.declared.line.Fault.{Fault}
 use Rattle.text_scan.specs.Lines.{lines_of}
 use Rattle.part_rules.specs.declared.content.Content.TheVariants as content
 use Rattle.plain_tree.specs.Trees.{Trees, leafless, tree}
@@ -12,6 +11,8 @@ use Rattle.doc_text.specs.Texts.{past, first_word, word_place, after_word, text_
 use Rattle.doc_text.specs.Tokens.{size_of_word}
 use Rattle.session.specs.Script.{has_end, document_of_lines, made_of, all_made}
 use Rattle.session.specs.Outcome.{verdict}
+use Rattle.session.specs.declared.said.Said.{Said}
+use Rattle.session.specs.declared.said.Said.TheVariants as saying
 use Rattle.session.specs.declared.status.Status.TheVariants.{Done, BadDocument, SomeRefused}
 
 -- a document of five lines with the line that ends it
@@ -27,10 +28,10 @@ with_leaves leaves = record { version = 1; width = pos 19200; height = pos 12800
 abbrev alone : ℕ → ℕ → Doc
 alone width height = with_leaves (tree (leaf (codes "a") width height) leafless leafless)
 
-abbrev fault_at : ℕ → ℕ → ℕ → Result Doc Fault
-fault_at number line column = Err (record { number = number; place = record { line = line; column = column } })
+abbrev fault_at : ℕ → ℕ → ℕ → Result Doc Said
+fault_at number line column = Err (saying.Refused (record { number = number; place = record { line = line; column = column } }))
 
-abbrev makes : List ℕ → List (Result Doc Fault)
+abbrev makes : List ℕ → List (Result Doc Said)
 makes script = all_made (lines_of (one_leaf ++ script))
 
 no_edits : makes [] ≡ Ok (alone 640 1280) ∷ []

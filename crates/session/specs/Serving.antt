@@ -12,9 +12,10 @@ use Rattle.session.specs.Standing.{Standing, doc_of}
 use Rattle.session.specs.declared.text.Held.{Held}
 use Rattle.session.specs.declared.text.Text.{Text}
 use Rattle.session.specs.Input.{HasGiven, HasGivenLine, HasGivenAll, Stops}
-use Rattle.session.specs.Script.{is_end_of_document, has_end, before_end, after_end, document_of_lines, made_in, next_doc, all_made, is_refused, some_refused}
+use Rattle.session.specs.Script.{is_end_of_document, has_end, before_end, after_end, document_of_lines, made_in, next_doc, all_made, has_fault, or_refused, some_refused}
 use Rattle.session.specs.Runs.{WritesAll, Runs}
 use Rattle.session.specs.declared.answer.Progress.{Progress}
+use Rattle.session.specs.declared.said.Said.{Said}
 use Rattle.session.specs.declared.status.Status.{Status}
 use Rattle.session.specs.declared.status.Status.TheVariants.{Done, BadDocument, SomeRefused, WriteFault, NoMemory}
 
@@ -62,29 +63,29 @@ ReadsText before now stream ended (Err status) = StopsInText before now status
 
 module _ (stats : Bool) (held held' : Option (List ℕ)) (events events' : Option (List Event)) where
   -- the answer with the number k to what was made
-  abbrev pub Answers : ℕ → Result Doc Fault → Type 0
+  abbrev pub Answers : ℕ → Result Doc Said → Type 0
   Answers k made = Writes stats held held' events events' k (made ∷ [])
 
   -- a front of it
-  abbrev pub AnswersPrefix : ℕ → Result Doc Fault → Type 0
+  abbrev pub AnswersPrefix : ℕ → Result Doc Said → Type 0
   AnswersPrefix k made = WritesFront stats held held' events events' k (made ∷ [])
 
   -- the document has a fault, or writing stopped
   abbrev pub EndsFirst : Result Doc Fault → Status → Type 0
-  EndsFirst made BadDocument = (is_refused made ≡ true) × Answers 0 made
-  EndsFirst made WriteFault = AnswersPrefix 0 made
-  EndsFirst made NoMemory = AnswersPrefix 0 made
-  EndsFirst made status = ⊥
+  EndsFirst read BadDocument = (has_fault read ≡ true) × Answers 0 (or_refused read)
+  EndsFirst read WriteFault = AnswersPrefix 0 (or_refused read)
+  EndsFirst read NoMemory = AnswersPrefix 0 (or_refused read)
+  EndsFirst read status = ⊥
 
   -- the document was laid out, or the run ended there
   abbrev pub Begins : Result Doc Fault → Result Standing Status → Type 0
-  Begins made (Ok engine) = (made ≡ Ok (doc_of engine)) × Answers 0 (Ok (doc_of engine))
-  Begins made (Err status) = EndsFirst made status
+  Begins read (Ok engine) = (read ≡ Ok (doc_of engine)) × Answers 0 (Ok (doc_of engine))
+  Begins read (Err status) = EndsFirst read status
 
 -- ---- between two lines of the script
 
 -- the document after edits made all this
-abbrev pub last_doc : Doc → List (Result Doc Fault) → Doc
+abbrev pub last_doc : Doc → List (Result Doc Said) → Doc
 last_doc doc [] = doc
 last_doc doc (made ∷ rest) = last_doc (next_doc doc made) rest
 

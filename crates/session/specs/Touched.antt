@@ -5,22 +5,22 @@ use Rattle.text_scan.specs.declared.line.Fault.{Fault}
 use Rattle.text_scan.specs.Tokens.{is_skipped}
 use Rattle.doc_text.specs.declared.document.Doc.{Doc}
 use Rattle.doc_text.specs.declared.edit.Edit.{Edit}
-use Rattle.doc_text.specs.Edits.{edited}
 use Rattle.doc_text.specs.EditText.{edit_of}
 use Rattle.page_tree.specs.Reach.{is_touched}
-use Rattle.session.specs.Script.{before_end, after_end, document_of_lines, made_of, next_doc}
+use Rattle.session.specs.Script.{answer_to, before_end, after_end, document_of_lines, made_of, next_doc}
+use Rattle.session.specs.declared.said.Said.{Said}
 use Rattle.sparing.specs.Sparing.{Touches}
 
--- what an edit touches that made this of a document
-abbrev pub touched_to : Edit → Doc → Result Doc Fault → List ℕ → Bool
-touched_to e doc (Err fault) name = false
+-- what an edit touches that made this of a document: nothing where no layout follows it
+abbrev pub touched_to : Edit → Doc → Result Doc Said → List ℕ → Bool
+touched_to e doc (Err said) name = false
 touched_to e doc (Ok next) name = is_touched e doc next name
 
 abbrev pub touched_of : Doc → Result Edit Fault → List ℕ → Bool
 touched_of doc (Err fault) name = false
-touched_of doc (Ok e) name = touched_to e doc (edited e doc) name
+touched_of doc (Ok e) name = touched_to e doc (answer_to e doc) name
 
--- what the edit of a line touches; one that is refused touches nothing
+-- what the edit of a line touches; a refused one touches nothing, and so does a hit
 unfoldable pub touched_by : Doc → Line → List ℕ → Bool
 touched_by doc line name = touched_of doc (edit_of doc.version line) name
 

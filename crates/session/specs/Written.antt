@@ -1,6 +1,5 @@
 -- What is written of all that was made, and told of it: with the counts of each layout where these are wanted.
 use Rattle.std.specs.Prelude.{◌≡◌, ℕ, ◌+◌, Bool, List, [], ◌∷◌, ◌++◌, length, Option, Result, Ok, Err}
-use Rattle.text_scan.specs.declared.line.Fault.{Fault}
 use Rattle.outside.specs.Told.{Adds}
 use Rattle.outside.specs.declared.event.Event.{Event}
 use Rattle.outside.specs.declared.event.Event.TheVariants.{Begin}
@@ -9,8 +8,9 @@ use Rattle.placing.specs.Walks.{rising}
 use Rattle.session.specs.Logs.{AreMeasuring}
 use Rattle.session.specs.Printing.{counts}
 use Rattle.session.specs.Script.{text_of}
+use Rattle.session.specs.declared.said.Said.{Said}
 
--- ---- one layout, or one refusal
+-- ---- one layout, or what is said in its place
 
 -- a layout was written: its boxes and, where they are wanted, how often leaves were measured, up to 2^64 - 1, and how many
 -- answers were kept. The ruler was told that the layout began, and of each measuring
@@ -21,10 +21,10 @@ pub record IsLaidOut (stats : Bool) (k : ℕ) (doc : Doc) (bytes : List ℕ) (ev
   pub added : ℕ
   pub text : bytes ≡ text_of k (Ok doc) ++ counts stats (rising 0 (length measured)) added
 
--- the same of what was made: of a refusal its line is written, and nothing is told
-abbrev pub Told : Bool → ℕ → Result Doc Fault → List ℕ → List Event → Type 0
+-- the same of what was made: where nothing is laid out the line that says so is written, and nothing is told
+abbrev pub Told : Bool → ℕ → Result Doc Said → List ℕ → List Event → Type 0
 Told stats k (Ok doc) bytes events = IsLaidOut stats k doc bytes events
-Told stats k (Err fault) bytes events = (bytes ≡ text_of k (Err fault)) × (events ≡ [])
+Told stats k (Err said) bytes events = (bytes ≡ text_of k (Err said)) × (events ≡ [])
 
 -- ---- all that was made
 
@@ -40,21 +40,21 @@ pub record InParts (First Later : List ℕ → List Event → Type 0) (bytes : L
   pub back : Later texts later
 
 -- the same of all that was made, in order and numbered from k on
-abbrev pub ToldAll : Bool → ℕ → List (Result Doc Fault) → List ℕ → List Event → Type 0
+abbrev pub ToldAll : Bool → ℕ → List (Result Doc Said) → List ℕ → List Event → Type 0
 ToldAll stats k [] bytes events = (bytes ≡ []) × (events ≡ [])
 ToldAll stats k (made ∷ rest) bytes events = InParts (Told stats k made) (ToldAll stats (k + 1) rest) bytes events
 
 -- ---- a sink and a log
 
 -- the log grew by what is told of this, and these bytes are its text
-pub record Prints (stats : Bool) (events events' : Option (List Event)) (k : ℕ) (made : Result Doc Fault) (bytes : List ℕ) : Type 0 where
+pub record Prints (stats : Bool) (events events' : Option (List Event)) (k : ℕ) (made : Result Doc Said) (bytes : List ℕ) : Type 0 where
   pub told : List Event
   pub log : Adds events events' told
   pub each : Told stats k made bytes told
 
 module _ (stats : Bool) (held held' : Option (List ℕ)) (events events' : Option (List Event)) where
   -- all of it was written and told
-  pub record Writes (k : ℕ) (made : List (Result Doc Fault)) : Type 0 where
+  pub record Writes (k : ℕ) (made : List (Result Doc Said)) : Type 0 where
     pub bytes : List ℕ
     pub told : List Event
     pub written : Adds held held' bytes
@@ -62,7 +62,7 @@ module _ (stats : Bool) (held held' : Option (List ℕ)) (events events' : Optio
     pub each : ToldAll stats k made bytes told
 
   -- a front of such bytes was written, and a front of such events told
-  pub record WritesFront (k : ℕ) (made : List (Result Doc Fault)) : Type 0 where
+  pub record WritesFront (k : ℕ) (made : List (Result Doc Said)) : Type 0 where
     pub bytes : List ℕ
     pub bytes_left : List ℕ
     pub told : List Event
@@ -72,7 +72,7 @@ module _ (stats : Bool) (held held' : Option (List ℕ)) (events events' : Optio
     pub each : ToldAll stats k made (bytes ++ bytes_left) (told ++ told_left)
 
   -- all of what is due was, and then a front of what comes behind it
-  pub record WritesBehind (owed made : List (Result Doc Fault)) : Type 0 where
+  pub record WritesBehind (owed made : List (Result Doc Said)) : Type 0 where
     pub done : List ℕ
     pub bytes : List ℕ
     pub bytes_left : List ℕ

@@ -1,4 +1,4 @@
-ghost use Rattle.std.specs.Prelude.{◌≡◌, ◌≤◌, ◌∷◌, ◌++◌, [], ℕ, List, Option, Ok, Err, IfOk, IfErr, OnOk, OnErr, Bool, false, if◌then◌else◌};
+ghost use Rattle.std.specs.Prelude.{◌≡◌, ◌≤◌, ◌∷◌, ◌++◌, [], ℕ, List, Option, Ok, Err, IfOk, IfErr, OnOk, OnErr, Bool, false, true, if◌then◌else◌};
 ghost use Rattle.sparing.specs.Sparing.{Touches};
 ghost use Rattle.session.specs.Spares.{SparesAfter, SparesFirst, SparesPage};
 ghost use Rattle.session.specs.Touched.{Agrees};
@@ -32,7 +32,7 @@ pub(crate) struct Progress {
     pub(crate) engine: Engine,
     /// The number of the next edit.
     pub(crate) number: u32,
-    /// Whether an edit was refused.
+    /// Whether a line was refused.
     pub(crate) refused: bool,
 }
 
@@ -59,6 +59,7 @@ fn first_layout<K: Sink, R: Ruler, L: Ledger>(
 ) -> Result<Engine, Status>
     requires { IsValid doc }
     ensures engine { IfOk result (λ engine. doc_of engine ≡ doc) }
+    ensures laid { IfOk result (λ engine. engine.laid ≡ true) }
     ensures answers { OnOk result (Answers stats (K.written sink.old) (K.written sink.new) (R.log ruler.old) (R.log ruler.new) 0 (Ok doc)) }
     ensures prefix { OnErr result (AnswersPrefix stats (K.written sink.old) (K.written sink.new) (R.log ruler.old) (R.log ruler.new) 0 (Ok doc)) }
     ensures replies { (touches : Touches) → OnOk result (Replies stats (K.written sink.old) (K.written sink.new) (R.log ruler.old) (R.log ruler.new) passes.old passes.new touches 0 (Ok doc ∷ [])) }
@@ -88,7 +89,8 @@ fn refuse_document<K: Sink>(alloc: Global, fault: Fault, sink: &mut K) -> Status
 }
 
 #[tactic(auto, using(crate::proofs::Serving::beginning))]
-/// Answers the lines of the document, whose text ends at this place: lays it out, or writes the line of its refusal.
+/// Answers the lines of the document, whose text ends at this place: lays it out, or writes the
+/// line of its refusal.
 pub(crate) fn begin<K: Sink, R: Ruler, L: Ledger>(
     alloc: Global,
     stats: bool,
@@ -100,6 +102,7 @@ pub(crate) fn begin<K: Sink, R: Ruler, L: Ledger>(
 ) -> Result<Engine, Status>
     requires { AreShort lines.now }
     ensures begins { Begins stats (K.written sink.old) (K.written sink.new) (R.log ruler.old) (R.log ruler.new) (document_of lines.now end) result }
+    ensures laid { IfOk result (λ engine. engine.laid ≡ true) }
     ensures replies { (touches : Touches) → IfOk result (λ engine. Replies stats (K.written sink.old) (K.written sink.new) (R.log ruler.old) (R.log ruler.new) passes.old passes.new touches 0 (Ok (doc_of engine) ∷ [])) }
     ensures idle { result ≡ Err Status.BadDocument → passes.new ≡ passes.old }
     ensures spares { (touches : Touches) → SparesFirst touches (R.log ruler.old) (R.log ruler.new) result }
@@ -113,7 +116,7 @@ pub(crate) fn begin<K: Sink, R: Ruler, L: Ledger>(
 }
 
 #[tactic(auto, using(crate::proofs::Serving::edit_answering))]
-/// Writes the answer to the edit line with the number k, and says whether the edit was refused.
+/// Writes the answer to the edit line with the number k, and says whether the line was refused.
 fn write_answer<K: Sink, R: Ruler, L: Ledger>(
     alloc: Global,
     stats: bool,
@@ -124,7 +127,9 @@ fn write_answer<K: Sink, R: Ruler, L: Ledger>(
     ruler: &mut R,
     passes: &mut Steps<L>,
 ) -> Result<bool, Status>
-    requires { IsShort line.now }
+    requires laid { engine.old.laid ≡ true }
+    requires short { IsShort line.now }
+    ensures laid { OnOk result (engine.new.laid ≡ true) }
     ensures next { IfOk result (λ refused. (doc_of engine.new ≡ next_doc (doc_of engine.old) (made_of (doc_of engine.old) line.now)) × (refused ≡ is_refused (made_of (doc_of engine.old) line.now))) }
     ensures answers { OnOk result (Answers stats (K.written sink.old) (K.written sink.new) (R.log ruler.old) (R.log ruler.new) k (made_of (doc_of engine.old) line.now)) }
     ensures prefix { OnErr result (AnswersPrefix stats (K.written sink.old) (K.written sink.new) (R.log ruler.old) (R.log ruler.new) k (made_of (doc_of engine.old) line.now)) }
@@ -139,7 +144,8 @@ fn write_answer<K: Sink, R: Ruler, L: Ledger>(
 }
 
 #[tactic(auto, using(crate::proofs::Progress::line_answering))]
-/// Goes on by the next line of the script: writes the answer to an edit, and nothing for a line that is skipped.
+/// Goes on by the next line of the script: writes the answer to an edit, and nothing for a line
+/// that is skipped.
 pub(crate) fn handle_line<K: Sink, R: Ruler, L: Ledger>(
     alloc: Global,
     stats: bool,
@@ -150,7 +156,9 @@ pub(crate) fn handle_line<K: Sink, R: Ruler, L: Ledger>(
     passes: &mut Steps<L>,
 ) -> Result<(), Status>
     requires few { progress.old.number ≤ 67108864 }
+    requires laid { progress.old.engine.laid ≡ true }
     requires short { IsShort line.now }
+    ensures laid { OnOk result (progress.new.engine.laid ≡ true) }
     ensures ok { (held : Option (List ℕ)) (events : Option (List Event)) (given : List Line) → HasAnswered stats held (K.written sink.old) events (R.log ruler.old) given (doc_of progress.old.engine) progress.old.number progress.old.refused → OnOk result (HasAnswered stats held (K.written sink.new) events (R.log ruler.new) (given ++ line.now ∷ []) (doc_of progress.new.engine) progress.new.number progress.new.refused) }
     ensures err { (held : Option (List ℕ)) (events : Option (List Event)) (given : List Line) → HasAnswered stats held (K.written sink.old) events (R.log ruler.old) given (doc_of progress.old.engine) progress.old.number progress.old.refused → OnErr result (WritesFrom stats held (K.written sink.new) events (R.log ruler.new) given (given ++ line.now ∷ [])) }
     ensures replies { (touches : Touches) → 1 ≤ progress.old.number → (is_skipped line.now ≡ false → Agrees touches progress.old.number (doc_of progress.old.engine) line.now) → OnOk result (Replies stats (K.written sink.old) (K.written sink.new) (R.log ruler.old) (R.log ruler.new) passes.old passes.new touches progress.old.number (if is_skipped line.now then [] else made_of (doc_of progress.old.engine) line.now ∷ [])) }

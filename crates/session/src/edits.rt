@@ -1,4 +1,4 @@
-ghost use Rattle.std.specs.Prelude.{◌≡◌, ◌≤◌, ◌∷◌, [], List, Option, Ok, IfOk, OnOk, OnErr};
+ghost use Rattle.std.specs.Prelude.{◌≡◌, ◌≤◌, ◌∷◌, [], List, None, Option, Ok, true, IfOk, OnOk, OnErr};
 ghost use Rattle.outside.specs.declared.event.Event.{Event};
 ghost use Rattle.sparing.specs.Sparing.{Touches};
 ghost use Rattle.session.specs.Spares.{KeepsUntouched, SparesAfter, SparesDue, SparesPage};
@@ -6,21 +6,23 @@ ghost use Rattle.session.specs.Touched.{Agrees, touched_by};
 ghost use Rattle.doc_text.specs.Edits.{tree_of};
 ghost use Rattle.doc_text.specs.Valid.{IsShort};
 ghost use Rattle.asked_pages.specs.Leaves.{IsEmptied, PassesUp};
-ghost use Rattle.page_tree.specs.Answered.{Applies};
-ghost use Rattle.session.specs.Engine.{IsAnswered};
+ghost use Rattle.doc_text.specs.Laws.{NamesItsNode};
+ghost use Rattle.page_tree.specs.Reach.{is_touched, KeepsOthers};
+ghost use Rattle.session.specs.Engine.{IsAnswered, IsToldEdit, Makes};
 ghost use Rattle.session.specs.Logs.{LogsFront};
 ghost use Rattle.session.specs.Written.{Prints};
 ghost use Rattle.session.specs.Printing.{refusal};
 ghost use Rattle.session.specs.Replies.{is_new, HasReply};
-ghost use Rattle.session.specs.Script.{made_of};
+ghost use Rattle.session.specs.Script.{answer_to, made_of, said_line};
 ghost use Rattle.session.specs.Standing.{doc_of};
 ghost use Rattle.session.specs.FaultNames.{fault_name};
 
 use crate::engine::Engine;
 use crate::faults::fault_name;
-use crate::print::{BoxText, print_refusal};
+use crate::print::{BoxText, print_hit, print_refusal};
+use crate::said::Said;
 use crate::stats::append_counts;
-use doc_text::{ReadError, read_edit};
+use doc_text::{Edit, ReadError, read_edit};
 use lunit::{NoMemory, Steps};
 use outside::Ruler;
 use page_tree::EditError;
@@ -43,7 +45,8 @@ pub(crate) fn refusal_text(alloc: Global, k: u32, fault: Fault) -> Result<Vec<u8
 }
 
 #[tactic(auto, using(crate::proofs::Laid::laid_text, crate::proofs::Spares::sparing))]
-/// The text of the layout of an engine, with the number k, and with its counts where they are wanted.
+/// The text of the layout of an engine, with the number k, and with its counts where they are
+/// wanted.
 pub(crate) fn layout_text<R: Ruler, L: Ledger>(
     alloc: Global,
     stats: bool,
@@ -55,6 +58,7 @@ pub(crate) fn layout_text<R: Ruler, L: Ledger>(
     ensures prints { IfOk result (λ text. Prints stats (R.log ruler.old) (R.log ruler.new) k (Ok (doc_of engine.old)) text.items) }
     ensures err { OnErr result (LogsFront (R.log ruler.old) (R.log ruler.new) k (Ok (doc_of engine.old) ∷ [])) }
     ensures document { doc_of engine.new ≡ doc_of engine.old }
+    ensures laid { OnOk result (engine.new.laid ≡ true) }
     ensures replies { (touches : Touches) → IsEmptied (is_new touches k) engine.old.page → IfOk result (λ text. HasReply stats touches (R.log ruler.old) (R.log ruler.new) passes.old passes.new k (Ok (doc_of engine.old)) text.items) }
     ensures spares { (touches : Touches) (before : Option (List Event)) → SparesDue touches before (R.log ruler.old) k engine.old.page → SparesAfter touches before (R.log ruler.new) engine.new.page result }
 {
@@ -65,23 +69,67 @@ pub(crate) fn layout_text<R: Ruler, L: Ledger>(
     Ok(text)
 }
 
-#[tactic(auto, using(crate::proofs::EditLines::line_applying, crate::proofs::Spares::sparing, crate::proofs::Replies::line_passing))]
-/// Reads the edit that a line is, and applies it.
-fn apply_line(alloc: Global, engine: &mut Engine, line: &Line) -> Result<(), EditError>
-    requires { IsShort line.now }
-    ensures applies { Applies result (made_of (doc_of engine.old) line.now) engine.old.page engine.new.page }
-    ensures kept { OnOk result (KeepsUntouched (touched_by (doc_of engine.old) line.now) engine.old.page engine.new.page) }
-    ensures up { OnOk result (PassesUp (touched_by (doc_of engine.old) line.now) (tree_of (doc_of engine.new))) }
+/// The line that says of a line of the script what is said of it, with the number k.
+fn said_text(alloc: Global, k: u32, said: &Said) -> Result<Vec<u8>, NoMemory>
+    ensures { IfOk result (λ text. text.items ≡ said_line k said.now) }
+{
+    match said {
+        Said::Refused(fault) => refusal_text(alloc, k, *fault),
+        Said::Found(name) => print_hit(alloc, k, name),
+    }
+}
+
+#[tactic(auto, using(crate::proofs::EditLines::edit_applying))]
+/// Applies an edit, or answers a hit. What is said where the document is not changed; none where it
+/// is edited.
+fn apply_edit<L: Ledger>(
+    engine: &mut Engine,
+    edit: Edit,
+    passes: &mut Steps<L>,
+) -> Result<Option<Said>, NoMemory>
+    requires laid { engine.old.laid ≡ true }
+    requires named { NamesItsNode edit }
+    requires told { IsToldEdit (doc_of engine.old).version edit }
+    ensures makes { IfOk result (λ said. Makes said (answer_to edit (doc_of engine.old)) engine.old engine.new) }
+    ensures kept { IfOk result (λ said. said ≡ None → KeepsOthers edit engine.old.page engine.new.page) }
+    ensures up { IfOk result (λ said. said ≡ None → PassesUp (is_touched edit (doc_of engine.old) (doc_of engine.new)) (tree_of (doc_of engine.new))) }
+    ensures passes { passes.new ≡ passes.old }
+{
+    match edit {
+        Edit::Hit(x, y) => Ok(Some(Said::Found(engine.hit(x, y, passes)?))),
+        edit => match engine.apply(edit) {
+            Ok(()) => Ok(None),
+            Err(EditError::Refused(fault)) => Ok(Some(Said::Refused(fault))),
+            Err(EditError::NoMemory) => Err(NoMemory),
+        },
+    }
+}
+
+#[tactic(auto, using(crate::proofs::EditLines::line_applying))]
+/// Reads the edit or the hit that a line is, and applies the edit or answers the hit.
+fn apply_line<L: Ledger>(
+    alloc: Global,
+    engine: &mut Engine,
+    line: &Line,
+    passes: &mut Steps<L>,
+) -> Result<Option<Said>, NoMemory>
+    requires laid { engine.old.laid ≡ true }
+    requires short { IsShort line.now }
+    ensures makes { IfOk result (λ said. Makes said (made_of (doc_of engine.old) line.now) engine.old engine.new) }
+    ensures kept { IfOk result (λ said. said ≡ None → KeepsUntouched (touched_by (doc_of engine.old) line.now) engine.old.page engine.new.page) }
+    ensures up { IfOk result (λ said. said ≡ None → PassesUp (touched_by (doc_of engine.old) line.now) (tree_of (doc_of engine.new))) }
+    ensures passes { passes.new ≡ passes.old }
 {
     match read_edit(alloc, line, engine.version()) {
-        Ok(edit) => engine.apply(edit),
-        Err(ReadError::Fault(fault)) => Err(EditError::Refused(fault)),
-        Err(ReadError::NoMemory) => Err(EditError::NoMemory),
+        Ok(edit) => apply_edit(engine, edit, passes),
+        Err(ReadError::Fault(fault)) => Ok(Some(Said::Refused(fault))),
+        Err(ReadError::NoMemory) => Err(NoMemory),
     }
 }
 
 #[tactic(auto, using(crate::proofs::EditLines::answering))]
-/// The answer to the edit line with the number k, which is applied, or refused.
+/// The answer to the edit line with the number k, which is applied, or refused; or which asks for a
+/// box.
 pub(crate) fn answer_to_edit<R: Ruler, L: Ledger>(
     alloc: Global,
     stats: bool,
@@ -91,22 +139,24 @@ pub(crate) fn answer_to_edit<R: Ruler, L: Ledger>(
     ruler: &mut R,
     passes: &mut Steps<L>,
 ) -> Result<Answer, NoMemory>
-    requires { IsShort line.now }
+    requires laid { engine.old.laid ≡ true }
+    requires short { IsShort line.now }
     ensures answered { IfOk result (λ answer. IsAnswered (made_of (doc_of engine.old) line.now) (doc_of engine.old) (doc_of engine.new) answer.refused) }
+    ensures laid { OnOk result (engine.new.laid ≡ true) }
     ensures prints { IfOk result (λ answer. Prints stats (R.log ruler.old) (R.log ruler.new) k (made_of (doc_of engine.old) line.now) answer.text.items) }
     ensures err { OnErr result (LogsFront (R.log ruler.old) (R.log ruler.new) k (made_of (doc_of engine.old) line.now ∷ [])) }
     ensures replies { (touches : Touches) → 1 ≤ k → Agrees touches k (doc_of engine.old) line.now → IfOk result (λ answer. HasReply stats touches (R.log ruler.old) (R.log ruler.new) passes.old passes.new k (made_of (doc_of engine.old) line.now) answer.text.items) }
     ensures spares { (touches : Touches) (before : Option (List Event)) → Agrees touches k (doc_of engine.old) line.now → SparesPage touches before (R.log ruler.old) engine.old.page → SparesAfter touches before (R.log ruler.new) engine.new.page result }
 {
-    match apply_line(alloc, engine, line) {
-        Ok(()) => Ok(Answer {
+    match apply_line(alloc, engine, line, passes) {
+        Ok(None) => Ok(Answer {
             text: layout_text(alloc, stats, engine, k, ruler, passes)?,
             refused: false,
         }),
-        Err(EditError::Refused(fault)) => Ok(Answer {
-            text: refusal_text(alloc, k, fault)?,
-            refused: true,
+        Ok(Some(said)) => Ok(Answer {
+            text: said_text(alloc, k, &said)?,
+            refused: said.is_refusal(),
         }),
-        Err(EditError::NoMemory) => Err(NoMemory),
+        Err(error) => Err(error),
     }
 }

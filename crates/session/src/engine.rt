@@ -1,4 +1,4 @@
-ghost use Rattle.std.specs.Prelude.{◌≡◌, ◌+◌, ◌-◌, ◌^◌, ◌≤◌, ◌∷◌, [], List, Option, Ok, min, IfOk, OnOk, OnErr};
+ghost use Rattle.std.specs.Prelude.{◌≡◌, ◌+◌, ◌-◌, ◌^◌, ◌≤◌, ◌∷◌, [], List, Option, Ok, false, true, min, IfOk, OnOk, OnErr};
 ghost use Rattle.outside.specs.declared.event.Event.{Event};
 ghost use Rattle.placing.specs.Keeping.{KeepsNone};
 ghost use Rattle.sparing.specs.Sparing.{Touches};
@@ -6,11 +6,12 @@ ghost use Rattle.page_tree.specs.Reach.{is_touched, KeepsOthers};
 ghost use Rattle.asked_pages.specs.Leaves.{PassesUp};
 ghost use Rattle.session.specs.Spares.{SparesDue, SparesAfter};
 ghost use Rattle.doc_text.specs.Edits.{edited, tree_of};
-ghost use Rattle.doc_text.specs.Laws.{NamesItsNode};
+ghost use Rattle.doc_text.specs.Laws.{IsChange, NamesItsNode};
 ghost use Rattle.doc_text.specs.Valid.{IsValid};
 ghost use Rattle.page_tree.specs.Answered.{Applies};
 ghost use Rattle.session.specs.Boxes.{boxes_of};
 ghost use Rattle.session.specs.Engine.{IsToldEdit};
+ghost use Rattle.session.specs.Hits.{box_under};
 ghost use Rattle.session.specs.Laying.{IsQuiet, LaysOut, Keeps, KeepsAll, KeepsMore, KeepsPath, Walks};
 ghost use Rattle.std.specs.List.{All};
 ghost use Rattle.session.specs.Logs.{LogsFront};
@@ -18,22 +19,27 @@ ghost use Rattle.session.specs.Printing.{IsPrintableBox};
 ghost use Rattle.session.specs.Standing.{doc_of};
 
 use crate::laying::lay_out;
-use box_layout::{BoxList, BoxSink, LastBoxes};
+use crate::pointed::{PointedBoxes, kept_boxes};
+use box_layout::{BoxList, BoxSink, LastBoxes, RootFrame};
 use doc_text::{Doc, Edit};
-use lunit::{Name, NoMemory, Rect, Sequence, Steps};
+use lunit::{Lu, Name, NoMemory, Rect, Sequence, Steps};
 use outside::{Ruler, Tally};
 use page_tree::{EditError, Page};
 use std::alloc::Global;
 use std::marker::Model;
 use std::sync::ledger::Ledger;
 
-/// A valid document that is edited and laid out. Every answer that its nodes keep is right, and so are the boxes of containers that
-/// were found last, which contracts do not see.
+/// A valid document that is edited and laid out. Every answer that its nodes keep is right, and so
+/// are the boxes of containers that were found last, which contracts do not see.
 #[derive(Drop)]
 pub struct Engine {
     page: Page,
     last: LastBoxes,
     calls: u32,
+    // The frame of the root, where the document was laid out since it was made or changed.
+    root: Option<RootFrame>,
+    // The boxes of the document, once a point was asked for.
+    pointed: Option<PointedBoxes>,
 }
 
 impl Model for Engine {
@@ -43,13 +49,19 @@ impl Model for Engine {
 
     ghost coded = { standing_code };
 
-    ghost view = { λ a. record { page = a.page; calls = a.calls } };
+    ghost use Rattle.std.specs.Prelude.{IfSome, is_some};
 
+    ghost view = { λ a. record { page = a.page; calls = a.calls; laid = is_some a.root } };
+
+    ghost use Rattle.std.specs.Prelude.{◌≡◌};
     ghost use Rattle.box_layout.specs.LastBoxes.{AreFound};
+    ghost use Rattle.page_tree.specs.Pages.{document_of};
     ghost use Rattle.placing.specs.Kept.{kept_at};
     ghost use Rattle.placing.specs.Nodes.{bare};
+    ghost use Rattle.session.specs.Boxes.{boxes_of};
+    ghost use Rattle.session.specs.Standing.{IsLaidBy};
 
-    ghost invariant = { λ a. IsSound a.page × AreFound (bare a.page.nodes.tree) (kept_at a.page.nodes.tree) a.last };
+    ghost invariant = { λ a. IsSound a.page × (AreFound (bare a.page.nodes.tree) (kept_at a.page.nodes.tree) a.last × (IfSome a.root (IsLaidBy a.page) × IfSome a.pointed (λ boxes. boxes ≡ boxes_of (document_of a.page)))) };
 }
 
 /// The boxes of a document, in document order, and what it took to lay it out.
@@ -74,11 +86,13 @@ pub(crate) struct Counted {
 
 impl Engine {
     #[tactic(auto, using(crate::proofs::Sound::beginning))]
-    /// The engine of a valid document, as every document is that is read. No answer is kept yet. Or `NoMemory`.
+    /// The engine of a valid document, as every document is that is read. No answer is kept yet. Or
+    /// `NoMemory`.
     pub fn new(alloc: Global, doc: Doc) -> Result<Engine, NoMemory>
         requires { IsValid doc }
         ensures document { IfOk result (λ engine. doc_of engine ≡ doc) }
         ensures calls { IfOk result (λ engine. engine.calls ≡ 0) }
+        ensures laid { IfOk result (λ engine. engine.laid ≡ false) }
         ensures none { IfOk result (λ engine. KeepsNone engine.page.nodes.tree) }
     {
         let page = Page::new(alloc, &doc)?;
@@ -87,6 +101,8 @@ impl Engine {
             page,
             last,
             calls: 0,
+            root: None,
+            pointed: None,
         })
     }
 
@@ -104,25 +120,36 @@ impl Engine {
         self.page.version()
     }
 
-    #[tactic(auto, using(crate::proofs::Sound::applying))]
-    /// Applies an edit or refuses it. Its values, contents and sizes are ones that a text of the version tells, as those of
-    /// every edit that is read, and an inserted node has the name that the edit gives it.
+    #[tactic(auto, using(crate::proofs::Sound::applying, crate::proofs::Grounds::staying))]
+    /// Applies an edit or refuses it. Its values, contents and sizes are ones that a text of the
+    /// version tells, as those of every edit that is read, and an inserted node has the name that
+    /// the edit gives it.
     ///
-    /// `Refused` comes exactly where the definition of the edited document refuses the edit: 21 where a name names no node,
-    /// 22 where the root is removed or moved, 23 where a node is moved below itself, 24 where an index is past the last
-    /// child, 6 where a name is there, 12 where a node would stand on level 65, 13 where there would be too many nodes, 14
-    /// where a leaf would have children; the first of these. After that and after `NoMemory` the document and all answers
-    /// that are kept are as before. An edit that touches a leaf of the document after it touches its parent too.
+    /// `Refused` comes exactly where the definition of the edited document refuses the edit: 21
+    /// where a name names no node, 22 where the root is removed or moved, 23 where a node is moved
+    /// below itself, 24 where an index is past the last child, 6 where a name is there, 12 where a
+    /// node would stand on level 65, 13 where there would be too many nodes, 14 where a leaf would
+    /// have children; the first of these. After that and after `NoMemory` the document and all
+    /// answers that are kept are as before. An edit that touches a leaf of the document after it
+    /// touches its parent too.
+    ///
+    /// A hit is no edit: [`Engine::hit`] answers it.
     pub fn apply(&mut self, edit: Edit) -> Result<(), EditError>
+        requires change { IsChange edit }
         requires named { NamesItsNode edit }
         requires told { IsToldEdit (doc_of self.old).version edit }
         ensures applies { Applies result (edited edit (doc_of self.old)) self.old.page self.new.page }
         ensures kept { OnOk result (KeepsOthers edit self.old.page self.new.page) }
         ensures up { OnOk result (PassesUp (is_touched edit (doc_of self.old) (doc_of self.new)) (tree_of (doc_of self.new))) }
         ensures calls { self.new.calls ≡ min (self.old.calls + 1) (2 ^ 32 - 1) }
+        ensures changed { OnOk result (self.new.laid ≡ false) }
+        ensures unchanged { OnErr result (self.new.laid ≡ self.old.laid) }
     {
         self.calls = self.calls.saturating_add(1);
-        self.page.apply(edit, &mut self.last)
+        self.page.apply(edit, &mut self.last)?;
+        self.root = None;
+        self.pointed = None;
+        Ok(())
     }
 
     #[tactic(auto, using(crate::proofs::Laid::laying, crate::proofs::Walks::walking))]
@@ -140,6 +167,7 @@ impl Engine {
         ensures stopped { OnErr result (LogsFront (R.log ruler.old) (R.log ruler.new) k (Ok (doc_of self.old) ∷ [])) }
         ensures document { doc_of self.new ≡ doc_of self.old }
         ensures calls { self.new.calls ≡ self.old.calls }
+        ensures done { OnOk result (self.new.laid ≡ true) }
         ensures kept { IfOk result (λ counted. Keeps self.old.page self.new.page 0 counted.added passes.old passes.new) }
         ensures kept_some { OnErr result (KeepsMore self.old.page self.new.page) }
         ensures walks { IfOk result (λ counted. Walks k self.old.page self.new.page (R.log ruler.old) (R.log ruler.new) counted.measured counted.added passes.old passes.new) }
@@ -149,18 +177,22 @@ impl Engine {
     {
         let page = &mut self.page;
         let last = &mut self.last;
+        self.root = None;
+        self.pointed = None;
         ruler.begin(k)?;
         let mut tally = Tally::new();
-        lay_out(page, told, last, ruler, &mut tally, passes)?;
+        let root = lay_out(page, told, last, ruler, &mut tally, passes)?;
+        self.root = Some(root);
         Ok(Counted {
             measured: tally.measured,
             added: tally.added,
         })
     }
 
-    /// Lays the document out: the ruler is told that the layout with the number `k` begins, and then measures leaves. Or
-    /// `NoMemory`; then a front of that was told. The document is as before, and every answer that is kept is right. Each one that
-    /// is added answers a question that laying out the document can ask.
+    /// Lays the document out: the ruler is told that the layout with the number `k` begins, and
+    /// then measures leaves. Or `NoMemory`; then a front of that was told. The document is as
+    /// before, and every answer that is kept is right. Each one that is added answers a question
+    /// that laying out the document can ask.
     pub fn layout<R: Ruler, L: Ledger>(
         &mut self,
         k: u32,
@@ -173,6 +205,7 @@ impl Engine {
         ensures stopped { OnErr result (LogsFront (R.log ruler.old) (R.log ruler.new) k (Ok (doc_of self.old) ∷ [])) }
         ensures document { doc_of self.new ≡ doc_of self.old }
         ensures calls { self.new.calls ≡ self.old.calls }
+        ensures done { OnOk result (self.new.laid ≡ true) }
         ensures kept { IfOk result (λ layout. Keeps self.old.page self.new.page 0 layout.added passes.old passes.new) }
         ensures kept_some { OnErr result (KeepsMore self.old.page self.new.page) }
         ensures walks { IfOk result (λ layout. Walks k self.old.page self.new.page (R.log ruler.old) (R.log ruler.new) layout.measured layout.added passes.old passes.new) }
@@ -187,5 +220,46 @@ impl Engine {
             measured: counted.measured,
             added: counted.added,
         })
+    }
+
+    /// The boxes of a document that was laid out, by what is kept of its layout. Or `NoMemory`.
+    fn found_boxes<L: Ledger>(&mut self, passes: &mut Steps<L>) -> Result<PointedBoxes, NoMemory>
+        requires laid { self.old.laid ≡ true }
+        ensures boxes { IfOk result (λ boxes. boxes ≡ boxes_of (doc_of self.old)) }
+        ensures same { self.new ≡ self.old }
+        ensures passes { passes.new ≡ passes.old }
+    {
+        match &self.root {
+            Some(root) => kept_boxes(&mut self.page, root, &mut self.last, passes),
+            None => Err(NoMemory),
+        }
+    }
+
+    /// The name of the box under a point, in units of 1/64 px, of a document that was laid out
+    /// since it was made or changed: of the last one in document order that contains the point.
+    /// That is where the point lies from the left edge of the border box up to, not including, the
+    /// right one, and from the upper edge up to the lower one. None where no box does.
+    ///
+    /// It is answered by what is kept of the layout: nothing is found anew, no ruler is asked, and
+    /// nothing changes. `NoMemory` at want of memory, which the first call after a layout takes
+    /// alone.
+    pub fn hit<L: Ledger>(
+        &mut self,
+        x: Lu,
+        y: Lu,
+        passes: &mut Steps<L>,
+    ) -> Result<Option<Name>, NoMemory>
+        requires laid { self.old.laid ≡ true }
+        ensures found { IfOk result (λ name. name ≡ box_under (boxes_of (doc_of self.old)) x y) }
+        ensures same { self.new ≡ self.old }
+        ensures passes { passes.new ≡ passes.old }
+    {
+        if let Some(boxes) = &self.pointed {
+            return Ok(boxes.under(x, y));
+        }
+        let boxes = self.found_boxes(passes)?;
+        let name = boxes.under(x, y);
+        self.pointed = Some(boxes);
+        Ok(name)
     }
 }

@@ -1,6 +1,6 @@
 //! One layout of a held document.
 
-ghost use Rattle.std.specs.Prelude.{◌≡◌, List, Option, OnOk, OnErr};
+ghost use Rattle.std.specs.Prelude.{◌≡◌, List, Option, IfOk, OnOk, OnErr};
 ghost use Rattle.box_layout.specs.Paths.{IsAllKept, IsPathKept};
 ghost use Rattle.box_layout.specs.LastBoxes.{AreFound};
 ghost use Rattle.placing.specs.Kept.{kept_at};
@@ -14,17 +14,17 @@ ghost use Rattle.session.specs.Boxes.{boxes_of};
 ghost use Rattle.page_tree.specs.Pages.{document_of};
 ghost use Rattle.session.specs.Laying.{Measures, KeepsMore, Keeps, WalksPage};
 ghost use Rattle.session.specs.Printing.{IsPrintableBox};
-ghost use Rattle.session.specs.Standing.{IsSound};
+ghost use Rattle.session.specs.Standing.{IsLaidBy, IsSound};
 
 use asked_pages::layouts_of_pages;
-use box_layout::{BoxSink, LastBoxes};
+use box_layout::{BoxSink, LastBoxes, RootFrame};
 use lunit::{NoMemory, Steps};
 use outside::{Ruler, Tally};
 use page_tree::Page;
 use std::sync::ledger::Ledger;
 
-/// Lays a document out and hands its boxes over. Its values stay as they are, and every answer that a node keeps stays right, after
-/// want of memory too.
+/// Lays a document out and hands its boxes over. Its values stay as they are, and every answer that
+/// a node keeps stays right, after want of memory too.
 pub(crate) fn lay_out<T: BoxSink, R: Ruler, L: Ledger>(
     page: &mut Page,
     told: &mut T,
@@ -32,12 +32,13 @@ pub(crate) fn lay_out<T: BoxSink, R: Ruler, L: Ledger>(
     ruler: &mut R,
     tally: &mut Tally,
     passes: &mut Steps<L>,
-) -> Result<(), NoMemory>
+) -> Result<RootFrame, NoMemory>
     requires sound { IsSound page.old }
     requires last { AreFound (bare page.old.nodes.tree) (kept_at page.old.nodes.tree) last.old }
     ensures sound { IsSound page.new }
     ensures last { AreFound (bare page.new.nodes.tree) (kept_at page.new.nodes.tree) last.new }
     ensures document { document_of page.new ≡ document_of page.old }
+    ensures root { IfOk result (λ root. IsLaidBy page.new root) }
     ensures boxes { OnOk result (T.adds told.old told.new (boxes_of (document_of page.old))) }
     ensures printable { OnOk result (All IsPrintableBox (boxes_of (document_of page.old))) }
     ensures measures { Measures (document_of page.old) (R.log ruler.old) (R.log ruler.new) tally.old.measured tally.new.measured }

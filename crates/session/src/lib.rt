@@ -1,5 +1,5 @@
-//! The top call of the layout tool: it reads a document, lays it out and prints its boxes, and again after each edit. Or it
-//! lays out a document that it generates.
+//! The top call of the layout tool: it reads a document, lays it out and prints its boxes, and
+//! again after each edit. Or it lays out a document that it generates.
 #![tactic(auto)]
 
 mod answer;
@@ -10,7 +10,9 @@ mod faults;
 mod input;
 mod laying;
 mod made;
+mod pointed;
 mod print;
+mod said;
 mod serve;
 mod stats;
 mod status;

@@ -7,7 +7,7 @@ ghost use Rattle.outside.specs.Told.{Adds, AddsPrefix};
 ghost use Rattle.outside.specs.declared.event.Event.{Event};
 ghost use Rattle.sparing.specs.Sparing.{Touches};
 ghost use Rattle.doc_text.specs.Edits.{applied, edited, tree_of};
-ghost use Rattle.doc_text.specs.Laws.{NamesItsNode};
+ghost use Rattle.doc_text.specs.Laws.{IsChange, NamesItsNode};
 ghost use Rattle.page_maker.specs.Scripts.{edit_from};
 ghost use Rattle.page_maker.specs.Standing.{IsMade};
 ghost use Rattle.asked_pages.specs.Leaves.{IsEmptied, PassesUp};
@@ -35,8 +35,8 @@ use std::alloc::Global;
 use std::sync::ledger::Ledger;
 
 #[tactic(auto, using(crate::proofs::Making::small_boxes), unfolding(crate::specs::Made::made_line))]
-/// The line `made k C S` of these boxes: C is their number, and S the sum of x + 3y + 5 * width + 7 * height in units of
-/// 1/64 px over all of them, modulo 2^64 and at least 0.
+/// The line `made k C S` of these boxes: C is their number, and S the sum of x + 3y + 5 * width + 7
+/// * height in units of 1/64 px over all of them, modulo 2^64 and at least 0.
 fn line_of(alloc: Global, k: u32, boxes: &[(Name, Rect)]) -> Result<Vec<u8>, NoMemory>
     requires { All IsPrintableBox boxes.now }
     ensures { IfOk result (λ text. text.items ≡ made_line k boxes.now) }
@@ -98,6 +98,7 @@ fn write_line<K: Sink, R: Ruler, L: Ledger>(
 #[tactic(auto, using(crate::proofs::Making::applying))]
 /// Applies an edit that is not refused.
 fn apply(engine: &mut Engine, edit: Edit) -> Result<(), NoMemory>
+    requires change { IsChange edit }
     requires named { NamesItsNode edit }
     requires told { IsToldEdit (doc_of engine.old).version edit }
     requires accepted { edited edit (doc_of engine.old) ≡ Ok (applied edit (doc_of engine.old)) }
@@ -163,8 +164,8 @@ fn write_edits<K: Sink, R: Ruler, L: Ledger>(
 }
 
 #[tactic(auto, using(crate::proofs::Making::summary_laws))]
-/// Lays out the document of so many nodes that is drawn from a seed, and again after each of its eight edits, and writes
-/// the line of each layout.
+/// Lays out the document of so many nodes that is drawn from a seed, and again after each of its
+/// eight edits, and writes the line of each layout.
 fn write_summary<K: Sink, R: Ruler, L: Ledger>(
     alloc: Global,
     seed: u64,
@@ -190,8 +191,8 @@ fn write_summary<K: Sink, R: Ruler, L: Ledger>(
     write_edits(alloc, &mut engine, &mut draws, nodes, sink, ruler, passes)
 }
 
-/// The run under `make`: writes the line `made k C S` of the document that is drawn from the seed, with the number 0, and
-/// of each of its eight edits. Nothing is read.
+/// The run under `make`: writes the line `made k C S` of the document that is drawn from the seed,
+/// with the number 0, and of each of its eight edits. Nothing is read.
 pub(crate) fn make<K: Sink, R: Ruler, L: Ledger>(
     alloc: Global,
     seed: u64,

@@ -1,7 +1,7 @@
 ghost use Rattle.std.specs.Prelude.{◌≡◌, ◌++◌, OnOk, IfOk, decimal};
 ghost use Rattle.std.specs.List.{All};
 ghost use Rattle.session.specs.BoxLines.{lines_join, lines_none};
-ghost use Rattle.session.specs.Printing.{IsPrintableBox, box_line, box_lines, layout_line, print, refusal};
+ghost use Rattle.session.specs.Printing.{IsPrintableBox, box_line, box_lines, hit_line, layout_line, name_or_none, print, refusal};
 
 use crate::box_text::{ROOM, put_box};
 use box_layout::BoxSink;
@@ -92,8 +92,8 @@ impl BoxSink for BoxText {
     }
 }
 
-/// The text of a layout with its number k: a line `layout k`, then for each box in order a line `name x y width height`
-/// in px, each line with a line feed. Or `NoMemory`.
+/// The text of a layout with its number k: a line `layout k`, then for each box in order a line
+/// `name x y width height` in px, each line with a line feed. Or `NoMemory`.
 pub fn print_boxes(alloc: Global, k: u32, boxes: &[(Name, Rect)]) -> Result<Vec<u8>, NoMemory>
     requires { All IsPrintableBox boxes.now }
     ensures { IfOk result (λ text. text.items ≡ print k boxes.now) }
@@ -106,7 +106,8 @@ pub fn print_boxes(alloc: Global, k: u32, boxes: &[(Name, Rect)]) -> Result<Vec<
     Ok(out.into_text())
 }
 
-/// The line of a refusal: `refused k L:C name` and a line feed, with the place and the name of the fault. Or `NoMemory`.
+/// The line of a refusal: `refused k L:C name` and a line feed, with the place and the name of the
+/// fault. Or `NoMemory`.
 pub(crate) fn print_refusal(
     alloc: Global,
     k: u32,
@@ -124,6 +125,29 @@ pub(crate) fn print_refusal(
     append_number(&mut out, place.column)?;
     append(&mut out, b" ")?;
     append(&mut out, name)?;
+    append(&mut out, b"\n")?;
+    Ok(out)
+}
+
+/// What is written of a box that was found: its name, or `-`.
+fn name_or_none(found: &Option<Name>) -> &[u8]
+    ensures { result.now ≡ name_or_none found.now }
+{
+    match found {
+        Some(name) => name.bytes(),
+        None => b"-",
+    }
+}
+
+/// The line of a hit: `hit k NAME` or `hit k -`, and a line feed. Or `NoMemory`.
+pub(crate) fn print_hit(alloc: Global, k: u32, found: &Option<Name>) -> Result<Vec<u8>, NoMemory>
+    ensures { IfOk result (λ text. text.items ≡ hit_line k found.now) }
+{
+    let mut out = Vec::new(alloc);
+    append(&mut out, b"hit ")?;
+    append_number(&mut out, k)?;
+    append(&mut out, b" ")?;
+    append(&mut out, name_or_none(found))?;
     append(&mut out, b"\n")?;
     Ok(out)
 }

@@ -1,4 +1,4 @@
-ghost use Rattle.std.specs.Prelude.{◌≡◌, ◌≤◌, ◌+◌, Err, false, IfOk, OnOk, OnErr};
+ghost use Rattle.std.specs.Prelude.{◌≡◌, ◌≤◌, ◌+◌, Err, false, true, IfOk, OnOk, OnErr};
 ghost use Rattle.outside.specs.Faults.{HasCauseOf};
 ghost use Rattle.text_scan.specs.Stream.{empty_stream};
 ghost use Rattle.session.specs.Input.{limit, most_asked, to_go};
@@ -18,7 +18,8 @@ use std::alloc::Global;
 use std::sync::ledger::Ledger;
 
 #[tactic(auto, using(crate::proofs::Running::starting))]
-/// Reads the document and lays it out. Gives how far the run is where a script follows, or else how it ended.
+/// Reads the document and lays it out. Gives how far the run is where a script follows, or else how
+/// it ended.
 fn start<S: Source, K: Sink, R: Ruler, L: Ledger>(
     alloc: Global,
     stats: bool,
@@ -34,6 +35,7 @@ fn start<S: Source, K: Sink, R: Ruler, L: Ledger>(
     ensures spares { (touches : Touches) → SparesStart touches (R.log ruler.old) (R.log ruler.new) result }
     ensures replies { RepliesStart stats (K.written sink.old) (K.written sink.new) (R.log ruler.old) (R.log ruler.new) passes.old passes.new (S.left source.old) result }
     ensures one { IfOk result (λ progress. progress.number ≡ 1) }
+    ensures laid { IfOk result (λ progress. progress.engine.laid ≡ true) }
     ensures count { OnOk result (reader.new.lines.fed ≡ reader.new.count) }
     ensures within { OnOk result (reader.new.count ≤ limit) }
     ensures asked { OnOk result (S.asked source.new + to_go reader.new.count reader.new.ended ≤ S.asked source.old + to_go reader.old.count reader.old.ended) }

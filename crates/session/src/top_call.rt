@@ -56,8 +56,9 @@ fn served(alloc: Global, words: &[String]) -> Result<Command, Status>
 }
 
 /// The top call. Under the word `layout` it reads a document and the script of edits that follows a line `---`. It writes
-/// the boxes of the document, and then for each edit line, numbered from 1, the boxes of the edited document or the line of the
-/// refusal; a refused edit changes nothing. Each line is answered as soon as it is whole, before more is read.
+/// the boxes of the document, and then for each line of the script, numbered from 1, the boxes of the edited document or the line
+/// of the refusal; a refused edit changes nothing. For a line `hit X Y` it writes the name of the last box that contains the point,
+/// or that none does, and lays out nothing. Each line is answered as soon as it is whole, before more is read.
 ///
 /// Under `layout --stats` a line `stats M A` follows each layout: M events of measuring after its begin, and A answers that it
 /// kept, each of these up to 2^64 - 1.

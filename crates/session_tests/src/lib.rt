@@ -1,5 +1,6 @@
-//! Tests of the top call, as tables of whole runs worked by hand: what is written for documents and scripts, failing devices,
-//! limits, and what the ruler is asked. They stand above `session`, so that it is not proved twice.
+//! Tests of the top call, as tables of whole runs worked by hand: what is written for documents and
+//! scripts, failing devices, limits, and what the ruler is asked. They stand above `session`, so
+//! that it is not proved twice.
 #![tactic(auto)]
 
 #[cfg(test)]
@@ -16,6 +17,8 @@ mod flexes;
 mod fonts;
 #[cfg(test)]
 mod grids;
+#[cfg(test)]
+mod hits;
 #[cfg(test)]
 mod limits;
 #[cfg(test)]

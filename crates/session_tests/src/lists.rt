@@ -1,7 +1,7 @@
 //! The kept answers that go with an edit: those of the nodes that it reaches, and no others.
 
 ghost use Rattle.std.specs.Prelude.{◌≡◌, ◌<◌, IfOk, OnOk};
-ghost use Rattle.doc_text.specs.Laws.{NamesItsNode};
+ghost use Rattle.doc_text.specs.Laws.{IsChange, NamesItsNode};
 ghost use Rattle.doc_text.specs.Valid.{AreShort};
 ghost use Rattle.box_layout.specs.LastBoxes.{AreFound};
 ghost use Rattle.placing.specs.Kept.{kept_at};
@@ -24,7 +24,8 @@ use std::test::Fail;
 use text_scan::{Line, Place};
 use value_text::read_decl;
 
-/// A grid, a leaf, and a grid that takes over two columns of 50 px, in which a grid takes over both again.
+/// A grid, a leaf, and a grid that takes over two columns of 50 px, in which a grid takes over both
+/// again.
 static LINES: &[&[u8]] = &[
     b"gridlay 1",
     b"viewport 300 100",
@@ -41,8 +42,9 @@ enum Inline {
     Halves,
 }
 
-/// A question that each layout asks: the frames of a container, or the height of a leaf in its area. The counts are those of the
-/// grids that the node sees; the height that a container is given is in px.
+/// A question that each layout asks: the frames of a container, or the height of a leaf in its
+/// area. The counts are those of the grids that the node sees; the height that a container is given
+/// is in px.
 struct Asked {
     name: &'static [u8],
     ask: Ask,
@@ -89,7 +91,8 @@ static ASKED: &[Asked] = &[
     },
 ];
 
-/// A declaration that is set, and the nodes whose answers go; an edit of the viewport, where no node is named.
+/// A declaration that is set, and the nodes whose answers go; an edit of the viewport, where no
+/// node is named.
 struct Row {
     name: &'static [u8],
     declaration: &'static [u8],
@@ -243,7 +246,8 @@ fn laid_out<L: Ledger>(alloc: Global, passes: &mut Steps<L>) -> Result<Page, Fai
 }
 
 fn edit(alloc: Global, row: &Row) -> Result<Edit, Fail>
-    ensures { IfOk result NamesItsNode }
+    ensures change { IfOk result IsChange }
+    ensures named { IfOk result NamesItsNode }
 {
     if row.name.is_empty() {
         return Ok(Edit::Viewport(px(10), px(10)));

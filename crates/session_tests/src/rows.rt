@@ -4,14 +4,15 @@ use crate::cards::check_cards;
 use crate::limits::check_long_lines;
 use crate::runs::{BYTEWISE, Devices, WHOLE, run_text};
 use crate::words::check_words;
-use crate::{faults, flexes, fonts, grids, scripts, subgrids};
+use crate::{faults, flexes, fonts, grids, hits, scripts, subgrids};
 use lunit::NoMemory;
 use session::Status;
 use std::alloc::Global;
 use std::process::Abort;
 use std::test::Fail;
 
-/// A run under the word `layout`: what it shows, the input, and the status and the output that are due.
+/// A run under the word `layout`: what it shows, the input, and the status and the output that are
+/// due.
 pub(crate) struct Row {
     pub(crate) shows: &'static str,
     pub(crate) input: &'static [u8],
@@ -42,6 +43,7 @@ fn runs_are_as_worked_by_hand(rt: HostRuntime) -> Result<(), Fail> {
         flexes::ROWS,
         fonts::ROWS,
         scripts::ROWS,
+        hits::ROWS,
         faults::ROWS,
     ];
     for rows in subjects {

@@ -10,6 +10,7 @@ use Rattle.box_layout.specs.LastBoxes.{AreFound}
 use Rattle.box_layout.specs.LeafHeights.{MeasuresBelow}
 use Rattle.box_layout.specs.Paths.{AreKeptBelow, IsAllKept, IsChildLaid, IsChildPart}
 use Rattle.box_layout.proofs.BelowSteps.{child_same, part_same}
+use Rattle.box_layout.proofs.FoundRoots.{root_found}
 use Rattle.box_layout.proofs.FoundWalks.{still_found}
 use Rattle.box_layout.proofs.KeptPaths.{path_of_root}
 use Rattle.box_layout.proofs.LaidWalks.{cut_boxes, walk_boxes}
@@ -90,3 +91,6 @@ returns-in_err-boxes_of-clause-last g c =
 pub returns-clause-last : goal.returns-clause-last
 returns-clause-last g c =
     subst (λ (z : BareTrees). c.boxes_of.new.tally.lost ≡ false → AreFound z (kept_at c.boxes_of.new.tree.tree) c.boxes_of.new.last) c.root_frame.ensures.bare c.boxes_of.ensures.last
+
+pub returns-clause-root : goal.returns-clause-root
+returns-clause-root g c = root_found (bare c.args.tree.now.tree) c.root-id.result c.args.width c.args.height c.in_ok-frame.frame c.root-id.ensures.root c.in_ok-frame.ensures.child c.in_ok-frame.ensures.value c.in_ok-frame.ensures.fits c.in_ok-frame.ensures.near

@@ -8,4 +8,4 @@ pub returns : goal.returns
 returns c =
     let units = c.in_ok-units.units in
     let bound = c.in_ok-units.ensures.bound in
-    ap Some (c.of.ensures ∙ ap clamp (omega (arith, ints)) ∙ within_limits units 67108864 bound (omega arith)) ∙ c.in_ok-units.ensures.value
+    ap Some (c.of.ensures ∙ ap clamp (omega (arith, ints)) ∙ within_limits units _ bound c.requires.most) ∙ c.in_ok-units.ensures.value

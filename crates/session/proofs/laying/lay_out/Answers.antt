@@ -7,6 +7,7 @@ use Rattle.placing.specs.declared.node.Node.{Node}
 use Rattle.std.specs.List.{All}
 use Rattle.session.specs.Printing.{IsPrintableBox}
 use Rattle.session.proofs.Spares.{spares_laid}
+use Rattle.session.proofs.Grounds.{laid_by}
 use Rattle.session.proofs.Lain.{measures, keeps, keeps_some, printable, hidden, walks_page}
 use Rattle.session.proofs.laying.lay_out.Goals as goal
 
@@ -37,3 +38,7 @@ returns-clause-spares g c touches before p =
 pub returns-clause-walked : goal.returns-clause-walked
 returns-clause-walked g c =
     walks_page c.args.page.now c.lay_out.new.self c.args.tally.now c.lay_out.new.tally c.args.passes.now c.lay_out.new.passes (g.R.Ruler.log c.args.ruler.now) (g.R.Ruler.log c.lay_out.new.ruler) c.root.result (ap (λ (a : Nodes Node). top_numbers a.tree) (sym c.tree.ensures) ∙ c.root.ensures.root) c.lay_out.result c.lay_out.ensures.laid c.lay_out.ensures.right c.lay_out.ensures.paths c.lay_out.ensures.leaves c.layouts_of_pages.ensures.bounded c.requires.sound.valid
+
+pub returns-clause-root : goal.returns-clause-root
+returns-clause-root g c =
+    laid_by c.args.page.now c.lay_out.new.self c.lay_out.new.tally c.lay_out.new.passes (g.R.Ruler.log c.lay_out.new.ruler) c.lay_out.ensures.bare c.lay_out.ensures.document c.lay_out.result c.lay_out.ensures.root c.lay_out.ensures.paths

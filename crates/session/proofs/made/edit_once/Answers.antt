@@ -1,7 +1,10 @@
 use Rattle.session.specs.Standing.{doc_of}
 use Rattle.session.proofs.Draws.{due_after, emptied_after}
-use Rattle.session.proofs.Making.{told, named, accepted, still_made, on_ok, on_both, on_three}
+use Rattle.session.proofs.Making.{changes, told, named, accepted, still_made, on_ok, on_both, on_three}
 use Rattle.session.proofs.made.edit_once.Goals as goal
+
+pub apply-requires-clause-change : goal.apply-requires-clause-change
+apply-requires-clause-change c = changes c.args.nodes c.args.draws.now.state c.in_ok-edit.edit c.in_ok-edit.ensures.edit
 
 pub apply-requires-clause-named : goal.apply-requires-clause-named
 apply-requires-clause-named c = named c.args.nodes c.args.draws.now.state c.in_ok-edit.edit c.in_ok-edit.ensures.edit

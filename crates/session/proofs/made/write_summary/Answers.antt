@@ -1,5 +1,5 @@
 use Rattle.std.proofs.Common.{◌≡◌, ◌∙◌}
-use Rattle.outside.proofs.Laws.{prefix_none, prefix_after}
+use Rattle.outside.proofs.Laws.{prefix_none, prefix_after, prefix_longer}
 use Rattle.page_maker.specs.Making.{made_document}
 use Rattle.session.specs.Boxes.{boxes_of}
 use Rattle.session.specs.Made.{made_layouts, made_line, layouts_left, lines_left, summary, touched_made}
@@ -30,6 +30,15 @@ returns-in_err-engine-clause-stopped g c = any_err c.from_residual-in_err-engine
 
 pub returns-in_err-engine-clause-spares : goal.returns-in_err-engine-clause-spares
 returns-in_err-engine-clause-spares g c = spares_none (touched_made c.args.seed c.args.nodes) (g.R.Ruler.log c.args.ruler.now)
+
+pub returns-in_err-write_line-clause-err : goal.returns-in_err-write_line-clause-err
+returns-in_err-write_line-clause-err g c =
+    let doc = doc_of c.in_ok-engine.engine in
+    let now = doc_of c.write_line.new.engine in
+    any_err c.from_residual-in_err-write_line.result
+    (prefix_longer (g.K.Sink.written c.args.sink.now) (g.K.Sink.written c.write_line.new.sink) (made_line 0 (boxes_of doc)) (lines_left 8 c.args.nodes now c.in_ok-doc.draws.state) (summary c.args.seed c.args.nodes)
+    c.in_err-write_line.ensures.err
+    (summary_of c.args.seed c.args.nodes doc now c.in_ok-doc.draws.state (c.in_ok-engine.ensures.document ∙ c.in_ok-doc.ensures.document) c.write_line.ensures.document c.in_ok-doc.ensures.draws))
 
 pub returns-in_err-write_line-clause-stopped : goal.returns-in_err-write_line-clause-stopped
 returns-in_err-write_line-clause-stopped g c =

@@ -2,7 +2,7 @@ use Rattle.std.proofs.Common.{subst, sym, arith, rules, ◌++◌, ◌∷◌, []}
 use Rattle.session.specs.Runs.{Runs}
 use Rattle.session.specs.declared.status.Status.{Status}
 use Rattle.session.proofs.Texts.{line_given, end_given}
-use Rattle.session.proofs.Running.{part_written, script_stopped, script_ended, few_answers, closer, unwritten_stop}
+use Rattle.session.proofs.Running.{closer, ended_read, ended_written, few_answers, part_written, script_ended, script_stopped, unwritten_stop}
 use Rattle.session.specs.Standing.{doc_of}
 use Rattle.session.proofs.Follows.{agrees_line, follows_given}
 use Rattle.session.proofs.Pieces.{first_given}
@@ -54,6 +54,7 @@ loop-line-preserved g c =
           (c.loop-line.invariant.replied touches (follows_given touches at.given (doc_of c.loop-line.progress.engine) c.loop-line.progress.number c.loop-line.progress.refused at.answered.laid c.in-Ok-Some.line f))
           (c.in-Ok-handle_line.ensures.replies touches (later_number at.given (doc_of c.loop-line.progress.engine) c.loop-line.progress.number c.loop-line.progress.refused at.answered.laid)
           (agrees_line touches at.given (doc_of c.loop-line.progress.engine) c.loop-line.progress.number c.loop-line.progress.refused at.answered.laid c.in-Ok-Some.line f));
+      laid = search rules;
       count = search rules;
       within = search rules;
       read = search rules;
@@ -150,6 +151,7 @@ loop-line-init g c =
       at = at;
       spared = λ touches f. c.in-Ok.ensures.spares touches;
       replied = first_replies at.given (doc_of c.in-Ok.progress.engine) c.in-Ok.progress.number c.in-Ok.progress.refused at.answered.laid c.args.stats (g.K.Sink.written c.args.sink.now) (g.K.Sink.written c.start.new.sink) (g.R.Ruler.log c.args.ruler.now) (g.R.Ruler.log c.start.new.ruler) c.args.passes.now c.start.new.passes c.in-Ok.ensures.one c.in-Ok.ensures.replies;
+      laid = search rules;
       count = search rules;
       within = search rules;
       read = search rules;
@@ -170,3 +172,14 @@ returns-in-Ok-None-clause-asked g c = omega (arith, c.loop-line.invariant.asked,
 
 pub returns-in-Err-next_line-clause-asked : goal.returns-in-Err-next_line-clause-asked
 returns-in-Err-next_line-clause-asked g c = omega (arith, c.loop-line.invariant.asked, c.in-Err-next_line.ensures.asked_last)
+
+-- ---- no fault where all lines were answered
+
+pub returns-in-Ok-None-clause-read : goal.returns-in-Ok-None-clause-read
+returns-in-Ok-None-clause-read g c =
+    ended_read c.loop-line.progress.refused c.ended.result c.ended.ensures (g.S.Source.faults c.args.source.now) (g.S.Source.faults c.next_line.new.source)
+    (omega (arith, c.loop-line.invariant.read, c.in-Ok-None.ensures.cause.later))
+
+pub returns-in-Ok-None-clause-write : goal.returns-in-Ok-None-clause-write
+returns-in-Ok-None-clause-write g c =
+    ended_written c.loop-line.progress.refused c.ended.result c.ended.ensures (g.K.Sink.faults c.args.sink.now) (g.K.Sink.faults c.loop-line.sink) c.loop-line.invariant.written

@@ -1,6 +1,7 @@
-use Rattle.std.specs.Prelude.{OnOk}
+use Rattle.std.specs.Prelude.{IfOk, OnOk}
 use Rattle.placing.specs.Walks.{state}
 use Rattle.box_layout.specs.BoxesSeen.{AreNear}
+use Rattle.box_layout.specs.FoundRoots.{IsRootFrame}
 use Rattle.box_layout.specs.LastBoxes.{AreFound}
 use Rattle.box_layout.specs.LeafHeights.{AreMeasured}
 use Rattle.box_layout.specs.Paths.{IsPathKept}
@@ -45,3 +46,6 @@ returns-clause-leaves g c =
 
 pub lay_out-requires-clause-last : goal.lay_out-requires-clause-last
 lay_out-requires-clause-last g c = subst (λ (h : Held). AreFound (bare h.nodes.tree) (kept_at h.nodes.tree) c.args.last.now) (sym c.self.view_is) c.requires.last
+
+pub returns-clause-root : goal.returns-clause-root
+returns-clause-root g c = subst (λ (h : Held). IfOk c.lay_out.result (λ root. IsRootFrame (bare h.nodes.tree) h.width h.height root)) c.self.view_is c.lay_out.ensures.root

@@ -1,5 +1,5 @@
 use Rattle.std.proofs.Common.{subst, sym}
-use Rattle.std.specs.Prelude.{OnOk}
+use Rattle.std.specs.Prelude.{IfOk, OnOk}
 use Rattle.node_arena.specs.Plain.{Nodes}
 use Rattle.placing.specs.declared.node.Node.{Node}
 use Rattle.placing.specs.Kept.{kept_at}
@@ -8,6 +8,7 @@ use Rattle.placing.specs.Walks.{state}
 use Rattle.std.specs.BTreeMap.{get}
 use Rattle.std.specs.Ordering.{nat_cmp}
 use Rattle.std.specs.Cmp.Lexicographic.{slice_cmp}
+use Rattle.box_layout.specs.FoundRoots.{IsRootFrame}
 use Rattle.box_layout.specs.LastBoxes.{AreFound}
 use Rattle.box_layout.specs.LeafHeights.{AreMeasured}
 use Rattle.box_layout.specs.Paths.{IsPathKept}
@@ -27,3 +28,6 @@ returns-clause-leaves g c =
 
 pub walk_boxes-requires-clause-last : goal.walk_boxes-requires-clause-last
 walk_boxes-requires-clause-last g c = subst (λ (n : Nodes Node). AreFound (bare n.tree) (kept_at n.tree) c.args.last.now) (sym c.self.view_is) c.requires.last
+
+pub returns-clause-root : goal.returns-clause-root
+returns-clause-root g c = subst (λ (n : Nodes Node). IfOk c.walk_boxes.result (λ root. IsRootFrame (bare n.tree) c.args.width c.args.height root)) c.self.view_is c.walk_boxes.ensures.root
