@@ -2,6 +2,7 @@
 //! that measures leaves and may keep a log. Each is a trait, with forms in memory for tests and proofs, and forms over std.
 #![tactic(auto)]
 
+mod again;
 mod event;
 mod memory;
 mod over_std;

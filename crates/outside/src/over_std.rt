@@ -4,7 +4,7 @@ ghost use Rattle.outside.specs.Faults.{HasCause, HasCauseOf, counted, one_more};
 ghost use Rattle.outside.specs.Reading.{Reads, IsZeroAtEnd};
 ghost use Rattle.outside.specs.Writing.{Writes, IsPartOf};
 
-use crate::{Failed, Sink, SinkError, Source};
+use crate::{Failed, Sink, SinkError, Source, again};
 use std::io::{Read, Write};
 
 /// A source over a reader of std. It tells what is left where the reader does.
@@ -37,7 +37,8 @@ impl<R: Read> Source for StdSource<R> {
 
     ghost asked = { λ s. s.asked };
 
-    /// Counts as a fault each error of the reader, and nothing else: the end of input is none.
+    /// Counts as a fault each error of the reader, and nothing else: the end of input is none. A read
+    /// that the system interrupts counts only after 1,000 further tries in a row.
     fn read_piece(&mut self, room: &mut [u8]) -> Result<usize, Failed>
         ensures within { IfOk result (λ n. n ≤ length room.new) }
         ensures bytes { Reads (R.remaining self.old.reader) (R.remaining self.new.reader) result room.new }
@@ -47,7 +48,7 @@ impl<R: Read> Source for StdSource<R> {
         ensures counted { self.new.faults ≡ counted self.old.faults result }
     {
         self.asked = self.asked.saturating_add(1);
-        match self.reader.read(room) {
+        match again::read(&mut self.reader, room) {
             Ok(count) => Ok(count),
             Err(_) => {
                 self.faults = self.faults.saturating_add(1);
@@ -90,8 +91,9 @@ impl<W: Write> Sink for StdSink<W> {
 
     ghost faults = { λ s. s.faults };
 
-    /// Counts each error of the writer, also of its flush, and a piece that is not empty of which it takes nothing; nothing else.
-    /// Never answers `NoMemory`.
+    /// Counts each error of the writer, also of its flush, and a piece that is not empty of which it
+    /// takes nothing; nothing else. A write or flush that the system interrupts counts only after
+    /// 1,000 further tries in a row. Never answers `NoMemory`.
     fn write_piece(&mut self, piece: &[u8]) -> Result<usize, SinkError>
         ensures part { IfOk result (λ n. IsPartOf n piece.now) }
         ensures bytes { Writes None None result piece.now }
@@ -100,10 +102,10 @@ impl<W: Write> Sink for StdSink<W> {
         ensures sure { result ≢ Err SinkError.NoMemory }
         ensures passed_on { IfOk result (λ n. Appends (W.contents self.old.writer) (W.contents self.new.writer) (take n piece.now)) }
     {
-        match self.writer.write(piece) {
+        match again::write(&mut self.writer, piece) {
             Ok(0) if !piece.is_empty() => Err(self.fail()),
             Ok(count) => {
-                if self.writer.flush().is_err() {
+                if again::flush(&mut self.writer).is_err() {
                     return Err(self.fail());
                 }
                 Ok(count)
