@@ -276,6 +276,8 @@ explain_unknown_edit() {
         delete | del | rm | erase) found=remove ;;
         change | style | update) found='set' ;;
         resize) found=viewport ;;
+        back | revert | rollback) found=undo ;;
+        again | repeat) found=redo ;;
         click | pick | point) found=hit ;;
         /) say_so "a comment begins with \`#\`" ; return ;;
         *) found=$(nearest "$token" "${edit_words[@]}") ;;
@@ -340,8 +342,8 @@ explain_fault() {
         root) say_so "\`$token\` is the root, which stays where it is" ;;
         cycle) explain_cycle ;;
         bad-index) explain_bad_index ;;
-        nothing-to-undo) say_so "fewer edits than that were made, or all of them are undone" ;;
-        nothing-to-redo) say_so "fewer edits than that are undone; an edit after \`undo\` leaves nothing to redo" ;;
+        nothing-to-undo) say_so "fewer than $token edits can be taken back: refused ones, those that are taken back and each \`hit\` do not count" ;;
+        nothing-to-redo) say_so "fewer than $token edits are taken back, and a new edit after \`undo\` leaves nothing to redo" ;;
         *) say_so "docs/FORMAT.md tells what this fault is" ;;
     esac
 }

@@ -216,7 +216,7 @@ explain_bad_number() {
                 return ;;
             content) before=("${before[@]:1}") ;;
             undo | redo)
-                explain_count ${#before[@]}
+                explain_count "${before[0]}" ${#before[@]}
                 return ;;
             hit)
                 explain_point $((${#before[@]} - 1))
@@ -245,14 +245,14 @@ explain_index() {
     fi
 }
 
-# explain_count WORDS: the number after `undo` or `redo`, after so many words.
+# explain_count WORD WORDS: the number after `undo` or `redo`, after so many words.
 explain_count() {
-    if [ "$1" -gt 1 ]; then
+    if [ "$2" -gt 1 ]; then
         say_so "after the number of edits the line ends"
     elif [ -z "$token" ]; then
-        say_so "the number of edits is missing: a whole number from 1 to 1000000"
+        say_so "the number of edits is missing: \`$1 1\` is for one edit, and there can be up to 1000000"
     else
-        say_so "\`$token\` is no number of edits: it is a whole number from 1 to 1000000"
+        say_so "\`${token:0:40}\` is no number of edits: it is a whole number from 1 to 1000000"
     fi
 }
 

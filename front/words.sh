@@ -1,5 +1,5 @@
 # shellcheck shell=bash
-# The words of the script `gridlay`: which there are in this checkout, and how a call of each looks.
+# The words of the script `gridlay`: which there are in this checkout, and how a call of each looks; and the words of edits.
 
 # (more than one file reads this one)
 [ -z "${edit_words-}" ] || return 0
@@ -77,13 +77,10 @@ nearest() {
 
 # ---- the words of gridlay
 
-# The one place that says what comes with which part of the checkout: edits by the crate that makes them, words by the crate or
-# by the file that answers them.
-edit_words=(set unset insert remove move content viewport)
-! stands_on edit_journal || edit_words+=(undo redo)
-edit_words+=(hit)
+# The words with which a line after `---` can begin.
+edit_words=(set unset insert remove move content viewport undo redo hit)
 
-# Words of the script, and of them those that are here.
+# The words of `gridlay`, and of them those that are here: what answers some of them may be missing in a checkout.
 all_words=(layout make check write picture play library)
 is_here() {
     case $1 in

@@ -137,7 +137,7 @@ write_page() {
     cat "$view/page/editor.html" "$view/page/viewer.html"
     data_block made "$work/made"
     data_block engine "$out/engine.wasm.gz"
-    for example in cards toolbar form hit first edits; do
+    for example in cards toolbar form hit undo first edits; do
         data_block "example-$example" "$top/examples/$example.gridlay" | sed "s/^<script /&data-example=\"$example\" /"
     done
     printf '<script type="text/plain" id="worker">\n'

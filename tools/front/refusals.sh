@@ -57,34 +57,12 @@ else
     skip "a terminal: the command script is not here"
 fi
 
-# the edits that are told are those that the program has: ones that came, and those of this checkout
 printf 'refused 1 7:1 unknown-edit\n' >"$stub/print"
-later_program --explain "$room/two.gridlay"
-wants "edits that came" err "set unset insert remove move content viewport undo redo hit: did you mean \`undo\`?"
-no_undo=$room/before
-mkdir "$no_undo"
-cp -R "$top/gridlay" "$top/front" "$no_undo/"
-sed 's/edit_journal//g' "$top/crates.txt" >"$no_undo/crates.txt"
-try env GRIDLAY_PROGRAM="$room/program" STUB="$stub" STUB_STATUS=3 "$no_undo/gridlay" --explain "$room/two.gridlay"
-wants "edits that did not come" err "set unset insert remove move content viewport hit"
-lacks "edits that did not come are not told" grep -q "undo redo" "$room/err"
+with_program --explain "$room/two.gridlay"
+wants "the edits that there are" err "set unset insert remove move content viewport undo redo hit: did you mean \`undo\`?"
 rm "$stub/print"
-
-# the faults and numbers of edits that come later
 # shellcheck source=../../front/explain.sh
 . "$top/front/explain.sh"
-# later_told EDIT PLACE FAULT TEXT: what is said of an edit in line 5
-later_told() {
-    printf 'gridlay 1\nviewport 1 1\nmain grid\n---\n%s\n' "$1" >"$room/mistake"
-    explain_refusal mistake "$room/mistake" 1 "$2" "$3" >"$room/err" 2>&1
-    wants "$1" err "$4"
-    wants "$1: its place" err "mistake:$2: $3 (edit 1)"
-}
-later_told "undo 3" 5:6 nothing-to-undo "fewer edits than that were made"
-later_told "redo 1" 5:6 nothing-to-redo "fewer edits than that are undone"
-later_told "undo 0" 5:6 bad-value "\`0\` is no number of edits"
-later_told "redo" 5:5 bad-value "the number of edits is missing"
-later_told "undo 1 2" 5:8 bad-value "after the number of edits the line ends"
 
 # ---- each mistake of the table
 

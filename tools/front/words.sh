@@ -83,11 +83,11 @@ ln -s "$fresh/gridlay" "$room/link"
 try env -i PATH="$room/bin" HOME="$room" "$room/link" --help
 wants_same "--help through a link" "$room/out" "$room/help"
 
-# words and edits that come with other parts of the checkout
+# words that come with other parts of the checkout
 later=$room/later
 mkdir -p "$later/view" "$later/tools"
 cp -R "$top/gridlay" "$top/front" "$later/"
-sed 's/^session:/session: doc_writer edit_journal/; $a doc_writer: doc_text\nedit_journal: doc_text' \
+sed 's/^session:/session: doc_writer/; $a doc_writer: doc_text' \
     "$top/crates.txt" >"$later/crates.txt"
 # shellcheck disable=SC2016
 printf '#!/bin/sh\necho "the page of $1 by $GRIDLAY_PROGRAM"\n' >"$later/view/picture"

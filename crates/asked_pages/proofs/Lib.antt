@@ -3,3 +3,4 @@ mod AskedOf
 mod Distinct
 mod GridLeaves
 mod Pages
+pub mod Stays

@@ -3,4 +3,4 @@
 
 mod laws;
 
-pub use laws::{edits_touch_parents, layouts_of_pages};
+pub use laws::{changes_touch_parents, edits_touch_parents, layouts_of_pages};

@@ -17,7 +17,7 @@ insert_back parent i y t h = left_graft parent i y.name (alone y) t (own_name y.
 
 -- ---- a node that was moved
 
-top_held : (t : Trees Label) (name : Word) → has_top t name ≡ true → holds t name ≡ true
+pub top_held : (t : Trees Label) (name : Word) → has_top t name ≡ true → holds t name ≡ true
 top_held leafless name h = h
 top_held (tree x below after) name h = by_name (bytes_eq x.name name) h (top_held after name)
   where
@@ -41,29 +41,29 @@ put_back name (tree x below after) d h = by_name (bytes_eq x.name name) refl h (
         let far = apart_back below after d.1.1.0 name (top_held after name k) in
         rw (no_tree name below far, unchanged name nothing below far) (ap (tree x below) (f k))
 
-child_held : (name parent : Word) (index : ℕ) (t : Trees Label) → StandsAt name parent index t → holds t name ≡ true
+pub child_held : (name parent : Word) (index : ℕ) (t : Trees Label) → StandsAt name parent index t → holds t name ≡ true
 child_held name parent index leafless h = absurd h
 child_held name parent index (tree x below after) (inl h) = or_right (bytes_eq x.name name) _ (or_left _ _ (top_held below name h.1.0))
 child_held name parent index (tree x below after) (inr (inl h)) = or_right (bytes_eq x.name name) _ (or_left _ _ (child_held name parent index below h))
 child_held name parent index (tree x below after) (inr (inr h)) = or_right (bytes_eq x.name name) _ (or_right (holds below name) _ (child_held name parent index after h))
 
-parent_held : (name parent : Word) (index : ℕ) (t : Trees Label) → StandsAt name parent index t → holds t parent ≡ true
+pub parent_held : (name parent : Word) (index : ℕ) (t : Trees Label) → StandsAt name parent index t → holds t parent ≡ true
 parent_held name parent index leafless h = absurd h
 parent_held name parent index (tree x below after) (inl h) = or_left _ _ (ap (λ (n : Word). bytes_eq n parent) h.0 ∙ own_name parent)
 parent_held name parent index (tree x below after) (inr (inl h)) = or_right (bytes_eq x.name parent) _ (or_left _ _ (parent_held name parent index below h))
 parent_held name parent index (tree x below after) (inr (inr h)) = or_right (bytes_eq x.name parent) _ (or_right (holds below parent) _ (parent_held name parent index after h))
 
 -- where a node stands below, or after, the first of the trees
-tree_below : (name : Word) (x : Label) (below after : Trees Label) → bytes_eq x.name name ≡ false → holds after name ≡ false → tree_at name (tree x below after) ≡ tree_at name below
+pub tree_below : (name : Word) (x : Label) (below after : Trees Label) → bytes_eq x.name name ≡ false → holds after name ≡ false → tree_at name (tree x below after) ≡ tree_at name below
 tree_below name x below after e f = rw (e, no_tree name after f) (joined-leafless (tree_at name below))
 
-removed_below : (name : Word) (x : Label) (below after : Trees Label) → bytes_eq x.name name ≡ false → holds after name ≡ false → removed name (tree x below after) ≡ tree x (removed name below) after
+pub removed_below : (name : Word) (x : Label) (below after : Trees Label) → bytes_eq x.name name ≡ false → holds after name ≡ false → removed name (tree x below after) ≡ tree x (removed name below) after
 removed_below name x below after e f = rw e (ap (tree x (removed name below)) (unchanged name nothing after f))
 
-tree_after : (name : Word) (x : Label) (below after : Trees Label) → bytes_eq x.name name ≡ false → holds below name ≡ false → tree_at name (tree x below after) ≡ tree_at name after
+pub tree_after : (name : Word) (x : Label) (below after : Trees Label) → bytes_eq x.name name ≡ false → holds below name ≡ false → tree_at name (tree x below after) ≡ tree_at name after
 tree_after name x below after e f = rw (e, no_tree name below f) refl
 
-removed_after : (name : Word) (x : Label) (below after : Trees Label) → bytes_eq x.name name ≡ false → holds below name ≡ false → removed name (tree x below after) ≡ tree x below (removed name after)
+pub removed_after : (name : Word) (x : Label) (below after : Trees Label) → bytes_eq x.name name ≡ false → holds below name ≡ false → removed name (tree x below after) ≡ tree x below (removed name after)
 removed_after name x below after e f = rw e (ap (λ (t : Trees Label). tree x t (removed name after)) (unchanged name nothing below f))
 
 graft_here : (parent : Word) (i : ℕ) (new : Trees Label) (x : Label) (below after : Trees Label) → bytes_eq x.name parent ≡ true → grafted parent i new (tree x below after) ≡ tree x (put_at i new below) after
@@ -80,7 +80,7 @@ graft_after parent i new x below after e f = rw e (ap (λ (t : Trees Label). tre
 both_same : (parent : Word) (i : ℕ) (new other s t : Trees Label) → new ≡ other → s ≡ t → grafted parent i new s ≡ grafted parent i other t
 both_same parent i new other s t e f = λ j. grafted parent i (e j) (f j)
 
-graft_back : (name parent : Word) (index : ℕ) (t : Trees Label) → IsDistinct t → StandsAt name parent index t → grafted parent index (tree_at name t) (removed name t) ≡ t
+pub graft_back : (name parent : Word) (index : ℕ) (t : Trees Label) → IsDistinct t → StandsAt name parent index t → grafted parent index (tree_at name t) (removed name t) ≡ t
 graft_back name parent index leafless d h = absurd h
 graft_back name parent index (tree x below after) d (inl h) =
     let held = top_held below name h.1.0 in

@@ -159,6 +159,8 @@ trees_shaped (edit.Content named kind) doc s n a =
     relabel_shaped named.name (with_kind kind) (λ _. refl) doc.version (tree_of doc) s
     (each_named named.name _ (tree_of doc) s.distinct (may_be kind (tree_at named.name (tree_of doc)) (not_there _ _ a.1.1.1.1.1.1.1.0)))
 trees_shaped (edit.Viewport width height) doc s n a = s
+trees_shaped (edit.Undo times at) doc s n a = s
+trees_shaped (edit.Redo times at) doc s n a = s
 trees_shaped (edit.Hit x y) doc s n a = s
 
 pub edited_shaped : (e : Edit) (doc made : Doc) → IsShaped doc.version (tree_of doc) → NamesItsNode e → edited e doc ≡ Ok made → IsShaped made.version (tree_of made)

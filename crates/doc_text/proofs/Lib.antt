@@ -16,3 +16,4 @@ pub mod Told
 pub mod Kept
 pub mod Validity
 pub mod Undone
+pub mod TakenBack

@@ -27,26 +27,26 @@ use Rattle.doc_text.proofs.Kept.{none_comes, not_there}
 -- ---- the root of an edited document is that of the document
 
 -- one tree, with this label at its root
-record IsOne (x : Label) (trees : Trees Label) : Type 0 where
+pub record IsOne (x : Label) (trees : Trees Label) : Type 0 where
   pub below : Trees Label
   pub is : trees ≡ tree x below leafless
 
-one_graft : (parent : Word) (i : ℕ) (new : Trees Label) (x : Label) (below : Trees Label) → IsOne x (grafted parent i new (tree x below leafless))
+pub one_graft : (parent : Word) (i : ℕ) (new : Trees Label) (x : Label) (below : Trees Label) → IsOne x (grafted parent i new (tree x below leafless))
 one_graft parent i new x below = by_name (bytes_eq x.name parent)
   where
     by_name : (e : Bool) → IsOne x (cond e (tree x (put_at i new below) leafless) (tree x (grafted parent i new below) leafless))
     by_name true = record { below = put_at i new below; is = refl }
     by_name false = record { below = grafted parent i new below; is = refl }
 
-tree_with : (doc : Doc) (x : Label) (trees : Trees Label) → IsOne x trees → tree_of (with_root doc (doc.width, doc.height) trees) ≡ trees
+pub tree_with : (doc : Doc) (x : Label) (trees : Trees Label) → IsOne x trees → tree_of (with_root doc (doc.width, doc.height) trees) ≡ trees
 tree_with doc x trees one = subst (λ (t : Trees Label). tree_of (with_root doc (doc.width, doc.height) t) ≡ t) (sym one.is) refl
 
 -- the document whose tree is put back
-with_own : (doc : Doc) (trees : Trees Label) (x : Label) → IsOne x trees → with_root (with_root doc (doc.width, doc.height) trees) ((with_root doc (doc.width, doc.height) trees).width, (with_root doc (doc.width, doc.height) trees).height) (tree_of doc) ≡ doc
+pub with_own : (doc : Doc) (trees : Trees Label) (x : Label) → IsOne x trees → with_root (with_root doc (doc.width, doc.height) trees) ((with_root doc (doc.width, doc.height) trees).width, (with_root doc (doc.width, doc.height) trees).height) (tree_of doc) ≡ doc
 with_own doc trees x one =
     subst (λ (t : Trees Label). with_root (with_root doc (doc.width, doc.height) t) ((with_root doc (doc.width, doc.height) t).width, (with_root doc (doc.width, doc.height) t).height) (tree_of doc) ≡ doc) (sym one.is) refl
 
-root_name : (doc : Doc) (x : Label) (trees : Trees Label) → IsOne x trees → (with_root doc (doc.width, doc.height) trees).root.name ≡ x.name
+pub root_name : (doc : Doc) (x : Label) (trees : Trees Label) → IsOne x trees → (with_root doc (doc.width, doc.height) trees).root.name ≡ x.name
 root_name doc x trees one = subst (λ (t : Trees Label). (with_root doc (doc.width, doc.height) t).root.name ≡ x.name) (sym one.is) refl
 
 -- ---- what was put is there
@@ -69,16 +69,16 @@ graft_held parent i new (tree x below after) m h k = by_name (bytes_eq x.name pa
     by_name true k b a = or_right (bytes_eq x.name m) _ (or_left _ _ (put_held i new below m h))
     by_name false k b a = by_part (holds below parent) refl k b a
 
-there : (b : Bool) (at : Place) → where_ (not b) at ≡ None → b ≡ true
+pub there : (b : Bool) (at : Place) → where_ (not b) at ≡ None → b ≡ true
 there true at e = refl
 there false at e = absurd (not_both true refl (not_there true at e))
 
 -- ---- an edit that is not refused
-record Accepts (e : Edit) (doc made : Doc) : Type 0 where
+pub record Accepts (e : Edit) (doc made : Doc) : Type 0 where
   pub none : NoneComes (refusals doc e)
   pub is : applied e doc ≡ made
 
-accepts : (e : Edit) (doc made : Doc) → edited e doc ≡ Ok made → Accepts e doc made
+pub accepts : (e : Edit) (doc made : Doc) → edited e doc ≡ Ok made → Accepts e doc made
 accepts e doc made h = by_refusal (first_refusal (refusals doc e)) refl h
   where
     by_refusal : (o : Option Fault) → first_refusal (refusals doc e) ≡ o → ◌≡◌ {A = Result Doc Fault} (elim o [ Some fault ↦ Err fault | None ↦ Ok (applied e doc) ]) (Ok made) → Accepts e doc made
@@ -119,7 +119,7 @@ insert_undone parent named other index at node doc made same again h =
 -- ---- a node that is moved
 
 -- what is there and not in the tree that goes is left
-still_left : (name : Word) (t : Trees Label) (m : Word) → holds t m ≡ true → holds (tree_at name t) m ≡ false → holds (removed name t) m ≡ true
+pub still_left : (name : Word) (t : Trees Label) (m : Word) → holds t m ≡ true → holds (tree_at name t) m ≡ false → holds (removed name t) m ≡ true
 still_left name leafless m h k = absurd (not_both false h refl)
 still_left name (tree x below after) m h k = by_name (bytes_eq x.name name) k (still_left name below m) (still_left name after m)
   where
@@ -141,11 +141,11 @@ still_left name (tree x below after) m h k = by_name (bytes_eq x.name name) k (s
         let parts = or_parts (holds (tree_at name below) m) (holds (tree_at name after) m) (sym (holds-joined (tree_at name below) (tree_at name after) m) ∙ k) in
         by_part (bytes_eq x.name m) (holds below m) (holds after m) (holds (removed name below) m) (holds (removed name after) m) h (λ f. b f parts.0) (λ f. a f parts.1)
 
-neither : (one other : Option Place) → or_where one other ≡ None → (one ≡ None) × (other ≡ None)
+pub neither : (one other : Option Place) → or_where one other ≡ None → (one ≡ None) × (other ≡ None)
 neither None other e = (refl, e)
 neither (Some at) other e = absurd (none-some at (sym e))
 
-one_moved : (name parent : Word) (i : ℕ) (x : Label) (below : Trees Label) → bytes_eq x.name name ≡ false → IsOne x (moved name parent i (tree x below leafless))
+pub one_moved : (name parent : Word) (i : ℕ) (x : Label) (below : Trees Label) → bytes_eq x.name name ≡ false → IsOne x (moved name parent i (tree x below leafless))
 one_moved name parent i x below e =
     subst (λ (b : Bool). IsOne x (grafted parent i (tree_at name (tree x below leafless)) (cond b leafless (tree x (removed name below) leafless)))) (sym e)
     (one_graft parent i (tree_at name (tree x below leafless)) x (removed name below))

@@ -55,7 +55,9 @@ more_faults : others 2
     ((codes "move a", 5, 7) ∷ (codes "move a b", 9, 9) ∷ (codes "move a b 0 0", 9, 12) ∷ (codes "move a 1 0", 5, 8) ∷ (codes "content a", 7, 10) ∷ (codes "content a grid", 7, 11) ∷ (codes "content a leaf 1", 9, 17) ∷ (codes "content a leaf 1 1 { }", 9, 20)
     ∷ (codes "content a words 1 1 2 x", 9, 23) ∷ (codes "content a words 1 1 { }", 9, 21) ∷ (codes "content a leaf 1em 1", 9, 16) ∷ (codes "viewport 1", 9, 11) ∷ (codes "viewport 1 1 1", 9, 14) ∷ (codes "viewport -1 1", 9, 10)
     ∷ (codes "viewport 1 1048577", 9, 12) ∷ (codes "hit", 9, 4) ∷ (codes "hit 1", 9, 6) ∷ (codes "hit 1 ", 9, 6) ∷ (codes "hit 1 2 3", 9, 9) ∷ (codes "hit 1 x", 9, 7) ∷ (codes "hit 1em 1", 9, 5)
-    ∷ (codes "hit 1, 2", 9, 6) ∷ (codes "hit 1048576.1 0", 9, 5) ∷ (codes "hit 0 -1048577", 9, 7) ∷ (codes "hits 1 1", 20, 1) ∷ (codes "unset a position", 11, 9) ∷ (codes "set a width: 1ex", 11, 14) ∷ [])
+    ∷ (codes "hit 1, 2", 9, 6) ∷ (codes "hit 1048576.1 0", 9, 5) ∷ (codes "hit 0 -1048577", 9, 7) ∷ (codes "hits 1 1", 20, 1)
+    ∷ (codes "undo", 9, 5) ∷ (codes "undo 0", 9, 6) ∷ (codes "redo -1", 9, 6) ∷ (codes "undo 1000001", 9, 6) ∷ (codes "redo 1.0", 9, 6) ∷ (codes "undo x", 9, 6) ∷ (codes "undo 1 2", 9, 8) ∷ (codes "undo1", 20, 1)
+    ∷ (codes "unset a position", 11, 9) ∷ (codes "set a width: 1ex", 11, 14) ∷ [])
     ≡ []
 unfolding property_rows properties_2 properties_3 properties_4 properties_5 properties_6 properties_7 properties_8 properties_9 properties_10 name_of line_number span_count size_of past first_word word_place after_word text_of size_of_word position_of_word
 more_faults = refl
@@ -105,3 +107,12 @@ hit_one = refl
 hit_between : edit_of 2 (line (codes " hit -0.02 +1.px # here")) ≡ Ok (edit.Hit (negsuc 0) (pos 64))
 unfolding past first_word word_place after_word text_of position_of_word
 hit_between = refl
+
+-- how many edits are taken back stands at its own place
+undo_one : edit_of 1 (line (codes " undo 1000000 # all")) ≡ Ok (edit.Undo 1000000 (place 7))
+unfolding past first_word word_place after_word text_of
+undo_one = refl
+
+redo_one : edit_of 2 (line (codes "redo 1")) ≡ Ok (edit.Redo 1 (place 6))
+unfolding past first_word word_place after_word text_of
+redo_one = refl

@@ -19,7 +19,7 @@ use Rattle.doc_text.specs.declared.edit.Named.{Named}
 use Rattle.doc_text.specs.declared.kind.Kind.{Kind}
 use Rattle.doc_text.specs.Label.{DeclaredMap}
 use Rattle.doc_text.specs.Texts.{Word, Text, past, up_to, first_word, word_place, after_word, is_word, ◌>>=◌, end_of, text_of}
-use Rattle.doc_text.specs.Tokens.{name_first, size_first, position_first, index_first}
+use Rattle.doc_text.specs.Tokens.{name_first, size_first, position_first, index_first, times_first}
 use Rattle.doc_text.specs.NodeText.{is_semicolon, content_first, node_text}
 
 abbrev named_at : Place → Word × Text → Named × Text
@@ -120,17 +120,38 @@ hit_edit text =
     end_of y.1 >>= λ _.
     Ok (edit.Hit x.0 y.0)
 
+-- `undo N`
+abbrev pub undo_edit : Text → Result Edit Fault
+undo_edit text =
+    times_first text >>= λ times.
+    end_of times.1 >>= λ _.
+    Ok (edit.Undo times.0 (word_place text))
+
+-- `redo N`
+abbrev pub redo_edit : Text → Result Edit Fault
+redo_edit text =
+    times_first text >>= λ times.
+    end_of times.1 >>= λ _.
+    Ok (edit.Redo times.0 (word_place text))
+
 -- ---- a line
 
--- the edit by its first word; 20, `unknown-edit`, at another
+-- what changes no document of itself, by its first word; 20, `unknown-edit`, at another
+abbrev pub asked_edit : Text → Result Edit Fault
+asked_edit text =
+    if is_word (codes "undo") text then undo_edit (after_word text)
+    else if is_word (codes "redo") text then redo_edit (after_word text)
+    else if is_word (codes "hit") text then hit_edit (after_word text)
+    else Err (fault_at 20 (word_place text))
+
+-- the edit by its first word
 abbrev pub other_edit : Text → Result Edit Fault
 other_edit text =
     if is_word (codes "remove") text then remove_edit (after_word text)
     else if is_word (codes "move") text then move_edit (after_word text)
     else if is_word (codes "content") text then content_edit (after_word text)
     else if is_word (codes "viewport") text then viewport_edit (after_word text)
-    else if is_word (codes "hit") text then hit_edit (after_word text)
-    else Err (fault_at 20 (word_place text))
+    else asked_edit text
 
 abbrev pub edit_in : ℕ → Text → Result Edit Fault
 edit_in version text =

@@ -47,6 +47,8 @@ unknown_name doc (edit.Remove named) = no_node (tree_of doc) named
 unknown_name doc (edit.Move named parent index at) = or_where (no_node (tree_of doc) named) (no_node (tree_of doc) parent)
 unknown_name doc (edit.Content named kind) = no_node (tree_of doc) named
 unknown_name doc (edit.Viewport width height) = None
+unknown_name doc (edit.Undo times at) = None
+unknown_name doc (edit.Redo times at) = None
 unknown_name doc (edit.Hit x y) = None
 
 abbrev pub is_root : Doc → Named → Option Place
@@ -162,6 +164,8 @@ edited_trees (edit.Remove named) trees = removed named.name trees
 edited_trees (edit.Move named parent index at) trees = moved named.name parent.name index trees
 edited_trees (edit.Content named kind) trees = relabelled named.name (with_kind kind) trees
 edited_trees (edit.Viewport width height) trees = trees
+edited_trees (edit.Undo times at) trees = trees
+edited_trees (edit.Redo times at) trees = trees
 edited_trees (edit.Hit x y) trees = trees
 
 abbrev pub size_after : Edit → ℤ × ℤ → ℤ × ℤ

@@ -1,10 +1,11 @@
 -- What is said of edits.
-use Rattle.std.specs.Prelude.{◌≡◌, ℕ, List, [], ◌∷◌, ◌++◌, Some, None, ⊤}
+use Rattle.std.specs.Prelude.{◌≡◌, ℕ, List, [], ◌∷◌, ◌++◌, Some, None, Result, Ok, Err, ⊤}
 use Rattle.text_scan.specs.declared.line.Fault.{Fault}
 use Rattle.track_text.specs.Gives.{fault_at}
 use Rattle.doc_text.specs.declared.edit.Edit.{Edit}
 use Rattle.doc_text.specs.declared.edit.Edit.TheVariants as edit
 use Rattle.doc_text.specs.Edits.{Row}
+use Rattle.doc_text.specs.Histories.{History}
 use Rattle.text_scan.specs.declared.line.Place.{Place}
 
 -- none of the rows comes
@@ -22,10 +23,22 @@ pub record IsFirst (rows : List Row) (fault : Fault) : Type 0 where
   pub none : NoneComes before
   pub told : fault ≡ fault_at number at
 
--- the edit is a change of the document; a hit asks which box lies under a point, and changes nothing
+-- The edit is a change of the document by itself. What undo and redo make of it is told by what was done before; a hit asks which
+-- box lies under a point.
 abbrev pub IsChange : Edit → Type 0
+IsChange (edit.Undo times at) = ⊥
+IsChange (edit.Redo times at) = ⊥
 IsChange (edit.Hit x y) = ⊥
 IsChange e = ⊤
+
+abbrev pub AreChanges : List Edit → Type 0
+AreChanges [] = ⊤
+AreChanges (e ∷ es) = IsChange e × AreChanges es
+
+-- the document, and those that stood before it, are those of the first history
+abbrev pub IsBack : History → Result History Fault → Type 0
+IsBack h (Ok made) = (made.past ≡ h.past) × (made.doc ≡ h.doc)
+IsBack h (Err fault) = ⊥
 
 -- an inserted node has the name that the edit gives it
 abbrev pub NamesItsNode : Edit → Type 0

@@ -12,6 +12,8 @@ pub mod Documents
 pub mod Named
 pub mod Edits
 pub mod Valid
+pub mod Histories
 pub mod Laws
 pub mod DocumentExamples
 pub mod EditExamples
+pub mod HistoryExamples

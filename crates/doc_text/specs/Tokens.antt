@@ -32,6 +32,13 @@ at_least_zero z = if int_le (pos 0) z then Some (unsigned_abs z) else None
 abbrev pub index_of : Word → Option ℕ
 index_of word = bind (integer_of word) at_least_zero
 
+abbrev pub at_least_one : ℤ → Option ℕ
+at_least_one z = if int_le (pos 1) z then Some (unsigned_abs z) else None
+
+-- how many edits are taken back or made again, from 1 to 1,000,000 (own rule)
+abbrev pub times_of : Word → Option ℕ
+times_of word = bind (integer_of word) at_least_one
+
 -- 5, `bad-name`, where no name comes first; 9, `bad-value`, where no such number does
 abbrev pub name_first : Text → Result (Word × Text) Fault
 name_first text = due 5 text (name_of (first_word text))
@@ -44,3 +51,6 @@ position_first text = due 9 text (position_of_word (first_word text))
 
 abbrev pub index_first : Text → Result (ℕ × Text) Fault
 index_first text = due 9 text (index_of (first_word text))
+
+abbrev pub times_first : Text → Result (ℕ × Text) Fault
+times_first text = due 9 text (times_of (first_word text))

@@ -8,7 +8,8 @@ use std::alloc::Global;
 use std::marker::Model;
 use style_types::Declared;
 
-/// A document: the version of the language, 1 or 2, the size of the viewport, and the tree of nodes.
+/// A document: the version of the language, 1 or 2, the size of the viewport, and the tree of
+/// nodes.
 #[derive(Drop)]
 pub struct Doc {
     pub version: u8,

@@ -6,13 +6,17 @@ ghost use Rattle.track_text.specs.Gives.{Reads};
 ghost use Rattle.value_text.specs.Properties.{property_of};
 ghost use Rattle.doc_text.specs.Texts.{first_word};
 ghost use Rattle.doc_text.specs.NodeText.{is_semicolon};
-ghost use Rattle.doc_text.specs.EditText.{named_first, set_edit, props_of, props_first, unset_edit, bare_node, insert_edit, remove_edit, move_edit, content_edit, viewport_edit, hit_edit, other_edit, edit_in, edit_of, before_semicolon, after_semicolon};
+ghost use Rattle.doc_text.specs.EditText.{named_first, set_edit, props_of, props_first, unset_edit};
+ghost use Rattle.doc_text.specs.EditText.{bare_node, insert_edit, remove_edit, move_edit};
+ghost use Rattle.doc_text.specs.EditText.{content_edit, viewport_edit, hit_edit, undo_edit, redo_edit};
+ghost use Rattle.doc_text.specs.EditText.{asked_edit, other_edit, edit_in, edit_of};
+ghost use Rattle.doc_text.specs.EditText.{before_semicolon, after_semicolon};
 
 use crate::document::{Children, Plain};
 use crate::edit::{Edit, Named};
 use crate::node_text::{content_first, node_text};
 use crate::text::{Text, end_of, fault};
-use crate::token::{index_first, name_first, position_first, size_first};
+use crate::token::{index_first, name_first, position_first, size_first, times_first};
 use lunit::Sequence;
 use std::alloc::Global;
 use style_types::Prop;
@@ -175,11 +179,48 @@ fn hit_edit(text: &Text) -> Result<Edit, ReadError>
     Ok(Edit::Hit(x, y))
 }
 
-/// The edit of a text whose first word is one of the last five.
+/// `undo N`, after its first word.
+fn undo_edit(text: &Text) -> Result<Edit, ReadError>
+    ensures { Reads result (undo_edit text.now) }
+{
+    let (_, at, _) = text.first();
+    let (times, text) = times_first(text)?;
+    end_of(&text)?;
+    Ok(Edit::Undo(times, at))
+}
+
+/// `redo N`, after its first word.
+fn redo_edit(text: &Text) -> Result<Edit, ReadError>
+    ensures { Reads result (redo_edit text.now) }
+{
+    let (_, at, _) = text.first();
+    let (times, text) = times_first(text)?;
+    end_of(&text)?;
+    Ok(Edit::Redo(times, at))
+}
+
+/// The edit of a text whose first word is one of the last three, which change no document of
+/// themselves.
+fn asked_edit(text: &Text) -> Result<Edit, ReadError>
+    ensures { Reads result (asked_edit text.now) }
+{
+    let (word, at, rest) = text.first();
+    if word == b"undo".as_slice() {
+        undo_edit(&rest)
+    } else if word == b"redo".as_slice() {
+        redo_edit(&rest)
+    } else if word == b"hit".as_slice() {
+        hit_edit(&rest)
+    } else {
+        Err(fault(UNKNOWN_EDIT, at))
+    }
+}
+
+/// The edit of a text whose first word is none of the first three.
 fn other_edit(alloc: Global, text: &Text) -> Result<Edit, ReadError>
     ensures { Reads result (other_edit text.now) }
 {
-    let (word, at, rest) = text.first();
+    let (word, _, rest) = text.first();
     if word == b"remove".as_slice() {
         remove_edit(&rest)
     } else if word == b"move".as_slice() {
@@ -188,10 +229,8 @@ fn other_edit(alloc: Global, text: &Text) -> Result<Edit, ReadError>
         content_edit(alloc, &rest)
     } else if word == b"viewport".as_slice() {
         viewport_edit(&rest)
-    } else if word == b"hit".as_slice() {
-        hit_edit(&rest)
     } else {
-        Err(fault(UNKNOWN_EDIT, at))
+        asked_edit(text)
     }
 }
 
@@ -215,10 +254,10 @@ fn edit_in(alloc: Global, version: u8, text: &Text) -> Result<Edit, ReadError>
 ///
 /// The forms are `set NAME property: value`, with a last `;` or without; `unset NAME property`;
 /// `insert PARENT INDEX node-line`, without indentation; `remove NAME`; `move NAME PARENT INDEX`;
-/// `content NAME leaf W H` and `content NAME words LINE SPACE w1 w2 ..`; `viewport W H`; and
-/// `hit X Y`, which changes nothing. An index is an integer from 0 to 1,000,000. X and Y are
-/// numbers of a magnitude of at most 1,048,576, with or without `px`. Names and indices have their
-/// places.
+/// `content NAME leaf W H` and `content NAME words LINE SPACE w1 w2 ..`; `viewport W H`; `undo N`
+/// and `redo N`; and `hit X Y`, which changes nothing. An index is an integer from 0 to 1,000,000,
+/// N one from 1 to 1,000,000. X and Y are numbers of a magnitude of at most 1,048,576, with or
+/// without `px`. Names, indices and N have their places.
 ///
 /// The fault is that of the line where it has one, 1 or 2; and else that of the leftmost part that
 /// has one: 20 at the first word where it is that of no edit, 5 at a name, 9 at an index or another

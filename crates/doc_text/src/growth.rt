@@ -146,8 +146,8 @@ fn pushed(path: Sequence<Plain>, level: usize, node: Plain) -> Result<Sequence<P
 /// The tree so far. Contracts see it as a list of trees, of which there is at most one.
 #[derive(Drop)]
 pub(crate) struct Growth {
-    // The last node of each level, from the root down to the last node of all. Of the children of each the last is not
-    // there: it is the next of these.
+    // The last node of each level, from the root down to the last node of all. Of the children of
+    // each the last is not there: it is the next of these.
     path: Sequence<Plain>,
     names: BTreeSet<Name>,
     count: usize,
@@ -221,7 +221,8 @@ impl Growth {
     }
 
     #[tactic(auto, using(crate::proofs::Opening::within_path))]
-    /// Whether a node of this name may stand on this level as the next one; else fault 6, 12, 13, 14 or 15 at its place.
+    /// Whether a node of this name may stand on this level as the next one; else fault 6, 12, 13,
+    /// 14 or 15 at its place.
     pub(crate) fn standing(
         &self,
         version: u8,

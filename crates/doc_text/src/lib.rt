@@ -1,5 +1,5 @@
-//! Documents and edits: their types, the readers of whole documents and of edit lines in both versions of the language,
-//! and the definition of the edited document.
+//! Documents and edits: their types, the readers of whole documents and of edit lines in both
+//! versions of the language, and the definition of the edited document.
 #![tactic(auto)]
 
 mod document;
@@ -19,7 +19,8 @@ pub use edit_text::read_edit;
 pub use growth::{MAX_CHILDREN, MAX_LEVELS, node_limit};
 pub use kind::Kind;
 pub use laws::{
-    edits_keep_documents_valid, move_undoes_move, refusals_come_in_order, remove_undoes_insert,
+    edits_keep_documents_valid, move_undoes_move, redo_undoes_undo, refusals_come_in_order,
+    remove_undoes_insert, undo_undoes_edits,
 };
 pub use part_rules::Content;
 pub use read::read_doc;

@@ -106,7 +106,8 @@ fn words_first<'a>(alloc: Global, text: &Text<'a>) -> Result<(Kind, Text<'a>), R
     Ok((Kind::Leaf(Content::Words { line, space, words }), text))
 }
 
-/// The content of a leaf that comes first, and the text after it; fault 7 where neither of its words does.
+/// The content of a leaf that comes first, and the text after it; fault 7 where neither of its
+/// words does.
 pub(crate) fn content_first<'a>(
     alloc: Global,
     text: &Text<'a>,
@@ -240,7 +241,8 @@ fn end_of_first(bytes: &[u8]) -> usize
 }
 
 #[tactic(auto, using(crate::proofs::Cuts::cutting))]
-/// The declarations after `{`, and the text after `}`; fault 9 at the end of the line where that is missing.
+/// The declarations after `{`, and the text after `}`; fault 9 at the end of the line where that is
+/// missing.
 fn with_braces<'a>(
     alloc: Global,
     version: u8,

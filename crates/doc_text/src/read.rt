@@ -224,20 +224,21 @@ fn read_headed(alloc: Global, lines: &[Line], end: Place) -> Result<Doc, ReadErr
 }
 
 #[tactic(auto, using(crate::proofs::Validity::reads_valid))]
-/// Reads the lines of the text of a document, which ends at the place `end`, that of its line `---` or column 1 of the line
-/// after the last (own rule).
+/// Reads the lines of the text of a document, which ends at the place `end`, that of its line `---`
+/// or column 1 of the line after the last (own rule).
 ///
-/// Lines that are skipped do not count. The first line is `gridlay 1` or `gridlay 2`, which tells the version of the
-/// language, the second `viewport W H`. Each further line is a node, indented by two spaces for each level below the root:
-/// a name, a kind with its numbers, and declarations in braces, which may be left out. Its parent is the last node before it
-/// on the level above.
+/// Lines that are skipped do not count. The first line is `gridlay 1` or `gridlay 2`, which tells
+/// the version of the language, the second `viewport W H`. Each further line is a node, indented by
+/// two spaces for each level below the root: a name, a kind with its numbers, and declarations in
+/// braces, which may be left out. Its parent is the last node before it on the level above.
 ///
-/// The fault is that of the first line that has one: 1 or 2 where the line has one of these, and else that of its leftmost
-/// part that has one, and of several there the one of the least number. 3 comes at a header line, 4 after the spaces of an
-/// indentation, 5 at a name that is none, 6, 12, 13, 14 and 15 at a name that may not stand there, 7 at a kind, 8, 10 and 11
-/// at a property, 9 and 11 at a value, and 9 at a number or at what follows the end. What is missing is missing just past the
-/// last byte that counts. Where all lines read, 3 comes at `end` where a header line is missing, and else 16 there where no
-/// node is there. `NoMemory` where memory is wanting.
+/// The fault is that of the first line that has one: 1 or 2 where the line has one of these, and
+/// else that of its leftmost part that has one, and of several there the one of the least number. 3
+/// comes at a header line, 4 after the spaces of an indentation, 5 at a name that is none, 6, 12,
+/// 13, 14 and 15 at a name that may not stand there, 7 at a kind, 8, 10 and 11 at a property, 9 and
+/// 11 at a value, and 9 at a number or at what follows the end. What is missing is missing just
+/// past the last byte that counts. Where all lines read, 3 comes at `end` where a header line is
+/// missing, and else 16 there where no node is there. `NoMemory` where memory is wanting.
 pub fn read_doc(alloc: Global, lines: &[Line], end: Place) -> Result<Doc, ReadError>
     ensures document { Reads result (document_of lines.now end) }
     ensures valid { AreShort lines.now → IfOk result (λ doc. IsValid doc) }

@@ -55,7 +55,8 @@ fn word_length(bytes: &[u8]) -> usize
     first_separator(bytes).unwrap_or(bytes.len())
 }
 
-/// The length of the token that the bytes begin with; 0 where they begin with a space, or there are none.
+/// The length of the token that the bytes begin with; 0 where they begin with a space, or there are
+/// none.
 fn front_length(bytes: &[u8]) -> usize
     ensures length { result ≡ front_length bytes.now }
     ensures within { result ≤ length bytes.now }
@@ -218,7 +219,8 @@ impl<'a> Text<'a> {
     }
 
     #[tactic(auto, unfolding(crate::specs::Texts::first_word, crate::specs::Texts::word_place, crate::specs::Texts::after_word))]
-    /// The first token, its place, and the text after it. Where no token is left the word is empty and stands at the end.
+    /// The first token, its place, and the text after it. Where no token is left the word is empty
+    /// and stands at the end.
     pub(crate) fn first(&self) -> (&'a [u8], Place, Text<'a>)
         ensures word { result.0.now ≡ first_word self.now }
         ensures place { result.1 ≡ word_place self.now }

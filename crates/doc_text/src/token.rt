@@ -4,7 +4,8 @@ ghost use Rattle.std.specs.Prelude.{◌≡◌, ◌*◌, ◌≤◌, IfSome, ◌�
 ghost use Rattle.lunit.specs.Decimals.{read_number, IsScale};
 ghost use Rattle.track_text.specs.Gives.{Reads};
 ghost use Rattle.doc_text.specs.Tokens.{name_of, px_of_word, size_of_word, position_of_word, index_of};
-ghost use Rattle.doc_text.specs.Tokens.{name_first, size_first, position_first, index_first};
+ghost use Rattle.doc_text.specs.Tokens.{times_of, name_first, size_first, position_first};
+ghost use Rattle.doc_text.specs.Tokens.{index_first, times_first};
 
 use crate::text::{Text, fault};
 use lunit::{Lu, Name, NumberForm};
@@ -53,8 +54,8 @@ pub(crate) fn size_of_word(word: &[u8]) -> Option<Lu>
 }
 
 #[tactic(auto, unfolding(crate::specs::Tokens::position_of_word))]
-/// The position along an axis that the word is: a number of a magnitude of at most 1,048,576 with or
-/// without `px`.
+/// The position along an axis that the word is: a number of a magnitude of at most 1,048,576 with
+/// or without `px`.
 fn position_of_word(word: &[u8]) -> Option<Lu>
     ensures { result ≡ position_of_word word.now }
 {
@@ -67,6 +68,18 @@ fn index_of(word: &[u8]) -> Option<u32>
 {
     let number = integer_of(word)?;
     if number >= 0 {
+        Some(number.unsigned_abs())
+    } else {
+        None
+    }
+}
+
+/// How many edits the word says: an integer from 1 to 1,000,000.
+fn times_of(word: &[u8]) -> Option<u32>
+    ensures { result ≡ times_of word.now }
+{
+    let number = integer_of(word)?;
+    if number >= 1 {
         Some(number.unsigned_abs())
     } else {
         None
@@ -113,6 +126,17 @@ pub(crate) fn index_first<'a>(text: &Text<'a>) -> Result<(u32, Text<'a>), ReadEr
     let (word, at, rest) = text.first();
     match index_of(word) {
         Some(index) => Ok((index, rest)),
+        None => Err(fault(BAD_VALUE, at)),
+    }
+}
+
+/// The number of edits that comes first, and the text after it; fault 9 where none does.
+pub(crate) fn times_first<'a>(text: &Text<'a>) -> Result<(u32, Text<'a>), ReadError>
+    ensures { Reads result (times_first text.now) }
+{
+    let (word, at, rest) = text.first();
+    match times_of(word) {
+        Some(times) => Ok((times, rest)),
         None => Err(fault(BAD_VALUE, at)),
     }
 }

@@ -106,6 +106,8 @@ names_itself (edit.Remove named) h = absurd h
 names_itself (edit.Move named parent index at) h = absurd h
 names_itself (edit.Content named kind) h = tt
 names_itself (edit.Viewport width height) h = absurd h
+names_itself (edit.Undo times at) h = absurd h
+names_itself (edit.Redo times at) h = absurd h
 names_itself (edit.Hit x y) h = absurd h
 
 pub is_change : (e : Edit) → GivesContent e → IsChange e
@@ -116,6 +118,8 @@ is_change (edit.Remove named) h = absurd h
 is_change (edit.Move named parent index at) h = absurd h
 is_change (edit.Content named kind) h = tt
 is_change (edit.Viewport width height) h = absurd h
+is_change (edit.Undo times at) h = absurd h
+is_change (edit.Redo times at) h = absurd h
 is_change (edit.Hit x y) h = absurd h
 
 changed_valid : (e : Edit) (doc made : Doc) → GivesContent e → IsValid doc → edited e doc ≡ Ok made → IsValid made
@@ -126,6 +130,8 @@ changed_valid (edit.Remove named) doc made h v r = absurd h
 changed_valid (edit.Move named parent index at) doc made h v r = absurd h
 changed_valid (edit.Content named kind) doc made h v r = content_valid doc made named kind h v r
 changed_valid (edit.Viewport width height) doc made h v r = absurd h
+changed_valid (edit.Undo times at) doc made h v r = absurd h
+changed_valid (edit.Redo times at) doc made h v r = absurd h
 changed_valid (edit.Hit x y) doc made h v r = absurd h
 
 pub ready_changed : (e : Edit) (old new : Held) → edited e (document_of old) ≡ Ok (document_of new) → (IsRight old.nodes.tree → IsRight new.nodes.tree) → GivesContent e → IsReady old → IsReady new

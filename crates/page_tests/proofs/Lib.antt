@@ -2,3 +2,4 @@ mod Readied
 mod Made
 mod Asking
 mod Contents
+mod Stepped

@@ -17,7 +17,8 @@ use std::sync::ledger::{Blank, Ledger};
 use std::test::Fail;
 use text_scan::Line;
 
-/// An edit line, and whether the grid `main` keeps its context and the areas of its children over it.
+/// An edit line, and whether the grid `main` keeps its context and the areas of its children over
+/// it.
 type Case<'a> = (&'a [u8], bool);
 
 /// The lines of a document.
@@ -30,7 +31,8 @@ static PAGE: &[&[u8]] = &[
     b"    c words 10 2 30 30",
 ];
 
-/// Contents, sizes and the viewport say nothing of lines and areas; values that place items, and children that come or go, do.
+/// Contents, sizes and the viewport say nothing of lines and areas; values that place items, and
+/// children that come or go, do.
 static CASES: &[Case] = &[
     (b"content a leaf 50 30", true),
     (b"content c words 10 2 30 30 30", true),
@@ -50,13 +52,15 @@ fn change(edit: Edit) -> Result<Edit, Fail>
 {
     match edit {
         Edit::Insert(_, _, _, _, _) => Err(Fail::new("a node is inserted")),
-        Edit::Hit(_, _) => Err(Fail::new("nothing is changed")),
+        Edit::Undo(_, _) | Edit::Redo(_, _) | Edit::Hit(_, _) => {
+            Err(Fail::new("nothing is changed"))
+        }
         other => Ok(other),
     }
 }
 
 /// The edit of a line.
-fn edit_of(alloc: Global, text: &[u8]) -> Result<Edit, Fail>
+pub(crate) fn edit_of(alloc: Global, text: &[u8]) -> Result<Edit, Fail>
     ensures change { IfOk result IsChange }
     ensures named { IfOk result NamesItsNode }
 {
@@ -69,7 +73,8 @@ fn edit_of(alloc: Global, text: &[u8]) -> Result<Edit, Fail>
     change(read_edit(alloc, &line, 1)?)
 }
 
-/// Whether `main`, which has one repetition in each axis, keeps its context and the areas of its children.
+/// Whether `main`, which has one repetition in each axis, keeps its context and the areas of its
+/// children.
 fn keeps_areas(page: &Page) -> Result<bool, Fail>
     requires { IsRight page.now.nodes.tree }
 {

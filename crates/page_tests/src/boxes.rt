@@ -13,7 +13,8 @@ use std::sync::ledger::{Blank, Ledger};
 use std::test::Fail;
 use text_scan::Line;
 
-/// A node, and its border box in units of 1/64 px: the place of its left upper corner, its width and its height.
+/// A node, and its border box in units of 1/64 px: the place of its left upper corner, its width
+/// and its height.
 pub(crate) type Placed<'a> = (&'a [u8], i64, i64, i64, i64);
 
 /// The lines of a document, and its boxes.
@@ -103,103 +104,10 @@ static TRACKS: &[Case] = &[
             (b"b", 7040, 0, 12160, 1920),
         ],
     ),
-    // each fraction ends at a whole unit of 1/64 px
-    (
-        &[
-            b"gridlay 1",
-            b"viewport 100 50",
-            b"main grid { grid-template-columns: 1fr 1fr 1fr }",
-            b"  a leaf 0 10",
-            b"  b leaf 0 10",
-            b"  c leaf 0 10",
-        ],
-        &[
-            (b"main", 0, 0, 6400, 640),
-            (b"a", 0, 0, 2133, 640),
-            (b"b", 2133, 0, 2133, 640),
-            (b"c", 4266, 0, 2134, 640),
-        ],
-    ),
-    // a fraction is at least the size of its item
-    (
-        &[
-            b"gridlay 1",
-            b"viewport 100 50",
-            b"main grid { grid-template-columns: 1fr 1fr }",
-            b"  a leaf 80 10",
-            b"  b leaf 0 10",
-        ],
-        &[
-            (b"main", 0, 0, 6400, 640),
-            (b"a", 0, 0, 5120, 640),
-            (b"b", 5120, 0, 1280, 640),
-        ],
-    ),
-    // two tracks share the odd unit of an item over both
-    (
-        &[
-            b"gridlay 1",
-            b"viewport 300 50",
-            b"main grid { grid-template-columns: auto auto; justify-content: start }",
-            b"  a leaf 100.015625 10 { grid-column: 1 / 3 }",
-            b"  b leaf 0 10",
-            b"  c leaf 0 10",
-        ],
-        &[
-            (b"main", 0, 0, 19200, 1280),
-            (b"a", 0, 0, 6401, 640),
-            (b"b", 0, 640, 3201, 640),
-            (b"c", 3201, 640, 3200, 640),
-        ],
-    ),
-    // words in a track of at most 80 px
-    (
-        &[
-            b"gridlay 1",
-            b"viewport 300 100",
-            b"main grid { grid-template-columns: fit-content(80px); justify-content: start }",
-            b"  w words 20 4 60 60",
-        ],
-        &[(b"main", 0, 0, 19200, 2560), (b"w", 0, 0, 5120, 2560)],
-    ),
 ];
 
 /// Places of items.
 static PLACES: &[Case] = &[
-    // no place before the last item is taken
-    (
-        &[
-            b"gridlay 1",
-            b"viewport 300 100",
-            b"main grid { grid-template-columns: 100px 100px 100px }",
-            b"  a leaf 0 10 { grid-column: span 2 }",
-            b"  b leaf 0 10 { grid-column: span 2 }",
-            b"  c leaf 0 10",
-        ],
-        &[
-            (b"main", 0, 0, 19200, 1280),
-            (b"a", 0, 0, 12800, 640),
-            (b"b", 0, 640, 12800, 640),
-            (b"c", 12800, 640, 6400, 640),
-        ],
-    ),
-    // and where it is
-    (
-        &[
-            b"gridlay 1",
-            b"viewport 300 100",
-            b"main grid { grid-template-columns: 100px 100px 100px; grid-auto-flow: dense }",
-            b"  a leaf 0 10 { grid-column: span 2 }",
-            b"  b leaf 0 10 { grid-column: span 2 }",
-            b"  c leaf 0 10",
-        ],
-        &[
-            (b"main", 0, 0, 19200, 1280),
-            (b"a", 0, 0, 12800, 640),
-            (b"b", 0, 640, 12800, 640),
-            (b"c", 12800, 0, 6400, 640),
-        ],
-    ),
     // a place after 9,999 taken columns
     (
         &[
@@ -214,105 +122,6 @@ static PLACES: &[Case] = &[
             (b"a", 0, 0, 639_872, 640),
             (b"b", 639_936, 0, 0, 640),
         ],
-    ),
-    // lines in the wrong order, and two spans
-    (
-        &[
-            b"gridlay 1",
-            b"viewport 300 100",
-            b"main grid { grid-template-columns: 100px 100px; grid-auto-columns: 50px }",
-            b"  a leaf 0 10 { grid-column: 3 / 1 }",
-            b"  b leaf 0 10 { grid-column: 2 / 2 }",
-            b"  c leaf 0 10 { grid-column: span 2 / span 3 }",
-            b"  d leaf 0 10 { grid-column: -1 }",
-        ],
-        &[
-            (b"main", 0, 0, 19200, 1920),
-            (b"a", 0, 0, 12800, 640),
-            (b"b", 6400, 640, 6400, 640),
-            (b"c", 0, 1280, 12800, 640),
-            (b"d", 12800, 1280, 3200, 640),
-        ],
-    ),
-];
-
-/// Tracks that collapse, named areas, and a grid without children.
-static REPEATS: &[Case] = &[
-    // two of three tracks collapse with their gutters
-    (
-        &[
-            b"gridlay 1",
-            b"viewport 350 50",
-            b"main grid { grid-template-columns: repeat(auto-fit, 100px); column-gap: 10px; justify-content: center }",
-            b"  a leaf 0 10",
-        ],
-        &[(b"main", 0, 0, 22400, 640), (b"a", 8000, 0, 6400, 640)],
-    ),
-    // the middle track collapses with one gutter
-    (
-        &[
-            b"gridlay 1",
-            b"viewport 350 50",
-            b"main grid { grid-template-columns: repeat(auto-fit, 100px); column-gap: 10px; grid-auto-columns: 50px; grid-auto-rows: 10px }",
-            b"  a leaf 0 10",
-            b"  b leaf 0 10 { grid-column: 3 }",
-        ],
-        &[
-            (b"main", 0, 0, 22400, 640),
-            (b"a", 0, 0, 6400, 640),
-            (b"b", 7040, 0, 6400, 640),
-        ],
-    ),
-    // named areas
-    (
-        &[
-            b"gridlay 1",
-            b"viewport 300 50",
-            b"main grid { grid-template-columns: 50px 70px; grid-template-areas: \"h h\" \"n m\"; grid-auto-columns: 1px; grid-auto-rows: 10px }",
-            b"  x leaf 1 1 { grid-area: m }",
-            b"  y leaf 1 1 { grid-area: h }",
-        ],
-        &[
-            (b"main", 0, 0, 19200, 1280),
-            (b"x", 3200, 640, 4480, 640),
-            (b"y", 0, 0, 7680, 640),
-        ],
-    ),
-    // no children
-    (
-        &[b"gridlay 1", b"viewport 300 200", b"main grid"],
-        &[(b"main", 0, 0, 19200, 0)],
-    ),
-];
-
-/// Tracks and items that are aligned.
-static ALIGNED: &[Case] = &[
-    // the rest of the width lies between three tracks
-    (
-        &[
-            b"gridlay 1",
-            b"viewport 100 50",
-            b"main grid { grid-template-columns: 10px 10px 10px; justify-content: space-between }",
-            b"  a leaf 0 10",
-            b"  b leaf 0 10",
-            b"  c leaf 0 10",
-        ],
-        &[
-            (b"main", 0, 0, 6400, 640),
-            (b"a", 0, 0, 640, 640),
-            (b"b", 2880, 0, 640, 640),
-            (b"c", 5760, 0, 640, 640),
-        ],
-    ),
-    // a centred item whose width is a percentage of its area, in a centred row
-    (
-        &[
-            b"gridlay 1",
-            b"viewport 101 100",
-            b"main grid { grid-template-columns: 50%; height: 50px; align-content: center; padding: 5px }",
-            b"  a leaf 10 10 { justify-self: center; width: 20% }",
-        ],
-        &[(b"main", 0, 0, 6464, 3840), (b"a", 1485, 1600, 582, 640)],
     ),
 ];
 
@@ -331,59 +140,6 @@ static SUBGRIDS: &[Case] = &[
             (b"main", 0, 0, 19200, 640),
             (b"s", 0, 0, 13440, 640),
             (b"p", 7360, 0, 6080, 640),
-        ],
-    ),
-    // a subgrid with a padding
-    (
-        &[
-            b"gridlay 1",
-            b"viewport 300 100",
-            b"main grid { grid-template-columns: auto auto; justify-content: start }",
-            b"  s grid { grid-column: span 2; grid-template-columns: subgrid; padding-left: 10px }",
-            b"    p leaf 20 10",
-            b"    q leaf 30 10",
-        ],
-        &[
-            (b"main", 0, 0, 19200, 640),
-            (b"s", 0, 0, 3840, 640),
-            (b"p", 640, 0, 1280, 640),
-            (b"q", 1920, 0, 1920, 640),
-        ],
-    ),
-    // a name that a subgrid has from the grid above its own
-    (
-        &[
-            b"gridlay 1",
-            b"viewport 300 100",
-            b"main grid { grid-template-columns: [a] 50px [b] 50px [a] 50px [b] 50px }",
-            b"  b leaf 10 10",
-            b"  s grid { grid-column: span 2; grid-template-columns: subgrid }",
-            b"    t grid { grid-column: 1 / -1; grid-template-columns: subgrid }",
-            b"      p leaf 5 5 { grid-column: b }",
-        ],
-        &[
-            (b"main", 0, 0, 19200, 640),
-            (b"b", 0, 0, 3200, 640),
-            (b"s", 3200, 0, 6400, 640),
-            (b"t", 3200, 0, 6400, 640),
-            (b"p", 3200, 0, 3200, 640),
-        ],
-    ),
-    // the last line of a name in repeated tracks
-    (
-        &[
-            b"gridlay 1",
-            b"viewport 350 100",
-            b"main flex",
-            b"  g grid { flex-grow: 1; grid-template-columns: repeat(auto-fill, [a] 100px) [z] }",
-            b"    s grid { grid-column: 1 / -1; grid-template-columns: subgrid }",
-            b"      p leaf 10 10 { grid-column: -1 a }",
-        ],
-        &[
-            (b"main", 0, 0, 22400, 640),
-            (b"g", 0, 0, 22400, 640),
-            (b"s", 0, 0, 19200, 640),
-            (b"p", 12800, 0, 6400, 640),
         ],
     ),
 ];
@@ -407,110 +163,11 @@ static FLEXES: &[Case] = &[
             (b"c", 0, 1600, 2560, 640),
         ],
     ),
-    // items that can't shrink below their content
-    (
-        &[
-            b"gridlay 1",
-            b"viewport 60 50",
-            b"main flex",
-            b"  a leaf 40 10",
-            b"  b leaf 40 10",
-        ],
-        &[
-            (b"main", 0, 0, 3840, 640),
-            (b"a", 0, 0, 2560, 640),
-            (b"b", 2560, 0, 2560, 640),
-        ],
-    ),
-    // and two that can
-    (
-        &[
-            b"gridlay 1",
-            b"viewport 60 50",
-            b"main flex",
-            b"  a leaf 40 10 { min-width: 0px }",
-            b"  b leaf 40 10 { min-width: 0px }",
-        ],
-        &[
-            (b"main", 0, 0, 3840, 640),
-            (b"a", 0, 0, 1920, 640),
-            (b"b", 1920, 0, 1920, 640),
-        ],
-    ),
-    // a quarter of the rest
-    (
-        &[
-            b"gridlay 1",
-            b"viewport 100 50",
-            b"main flex",
-            b"  b leaf 0 10 { flex: 0.25 1 0px }",
-        ],
-        &[(b"main", 0, 0, 6400, 640), (b"b", 0, 0, 1600, 640)],
-    ),
-    // a maximum leaves the rest to the other
-    (
-        &[
-            b"gridlay 1",
-            b"viewport 100 50",
-            b"main flex",
-            b"  a leaf 0 10 { flex: 1 1 0px; max-width: 30px }",
-            b"  b leaf 0 10 { flex: 1 1 0px }",
-        ],
-        &[
-            (b"main", 0, 0, 6400, 640),
-            (b"a", 0, 0, 1920, 640),
-            (b"b", 1920, 0, 4480, 640),
-        ],
-    ),
-    // a column, with a width of half of it
-    (
-        &[
-            b"gridlay 1",
-            b"viewport 100 100",
-            b"main flex { flex-direction: column; height: 100px; row-gap: 10px }",
-            b"  a words 10 5 40 40 40",
-            b"  b leaf 0 0 { flex-grow: 1; width: 50% }",
-        ],
-        &[
-            (b"main", 0, 0, 6400, 6400),
-            (b"a", 0, 0, 6400, 1280),
-            (b"b", 0, 1920, 3200, 4480),
-        ],
-    ),
-];
-
-/// Lengths by the sizes of fonts.
-static FONTS: &[Case] = &[
-    // lengths by the sizes of fonts
-    (
-        &[
-            b"gridlay 2",
-            b"viewport 300 100",
-            b"main grid { font-size: 20px; grid-template-columns: 2em 1rem; column-gap: 0.5em }",
-            b"  a leaf 0 10 { font-size: 0.5em; margin-left: 1em }",
-            b"  b leaf 0 10",
-        ],
-        &[
-            (b"main", 0, 0, 19200, 640),
-            (b"a", 640, 0, 1920, 640),
-            (b"b", 3200, 0, 1280, 640),
-        ],
-    ),
-    // 0.3 em are 4.796875 px
-    (
-        &[
-            b"gridlay 2",
-            b"viewport 300 100",
-            b"main grid",
-            b"  p leaf 0 10 { width: 0.3em; justify-self: start }",
-        ],
-        &[(b"main", 0, 0, 19200, 640), (b"p", 0, 0, 307, 640)],
-    ),
 ];
 
 #[test]
 fn documents_have_their_boxes(rt: HostRuntime) -> Result<(), Fail> {
-    let all = [TRACKS, PLACES, REPEATS, ALIGNED, SUBGRIDS, FLEXES, FONTS];
+    let all = [TRACKS, PLACES, SUBGRIDS, FLEXES];
     are_laid_out::<Brand>(&rt, rt.alloc(), Blank::new(1), &all)
 }
 

@@ -38,8 +38,8 @@ enum Asked<'a> {
     Frames(u32, u32, &'a [Sides]),
 }
 
-/// The lines of a document; a node on its way down from the root, by places in document order; the counts of repetitions above it,
-/// the topmost grid first; and what is asked.
+/// The lines of a document; a node on its way down from the root, by places in document order; the
+/// counts of repetitions above it, the topmost grid first; and what is asked.
 type Case<'a> = (&'a [&'a [u8]], &'a [usize], &'a [(u32, u32)], Asked<'a>);
 
 #[tactic(auto, unfolding(lunit::specs::Units::clamp))]
@@ -306,18 +306,6 @@ static PLAIN: &[Case] = &[
         Frames(19200, 1920, &[(0, 0, 6400, 1920), (7040, 0, 12160, 1920)]),
     ),
     (TWO_COLUMNS, &[1], &[], Height(12160, 1920)),
-    // one word, or both with 4 px between them
-    (
-        &[
-            b"gridlay 1",
-            b"viewport 300 100",
-            b"main grid { grid-template-columns: auto; justify-content: start }",
-            b"  w words 20 4 60 60",
-        ],
-        &[],
-        &[],
-        Widths(3840, 7936),
-    ),
 ];
 
 /// Subgrids.
@@ -335,21 +323,8 @@ static SUBGRIDS: &[Case] = &[
         &[(1, 1)],
         Columns(&[(0, 2, 0, 0, Known(0)), (1, 2, 320, 320, Content(0, 320, 0))]),
     ),
-    // the last line a of three
-    (
-        &[
-            b"gridlay 1",
-            b"viewport 350 100",
-            b"main flex",
-            b"  g grid { flex-grow: 1; grid-template-columns: repeat(auto-fill, [a] 100px) [z] }",
-            b"    s grid { grid-column: 1 / -1; grid-template-columns: subgrid }",
-            b"      p leaf 10 10 { grid-column: -1 a }",
-        ],
-        &[0, 0],
-        &[(3, 1)],
-        Columns(&[(0, 3, 0, 0, Known(0)), (2, 3, 640, 640, Content(640, 0, 0))]),
-    ),
-    // a card: one line of words, three lines in 230 px, and a footer; its gaps are 16 px less than those of the grid
+    // a card: one line of words, three lines in 230 px, and a footer; its gaps are 16 px less than
+    // those of the grid
     (
         &[
             b"gridlay 1",

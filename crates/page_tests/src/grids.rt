@@ -12,13 +12,15 @@ use std::alloc::Global;
 use std::process::Abort;
 use std::test::Fail;
 
-/// A subgrid above or at a grid: its span, and its gap, the gap above it, and its margins, borders and paddings at both sides, in units.
+/// A subgrid above or at a grid: its span, and its gap, the gap above it, and its margins, borders
+/// and paddings at both sides, in units.
 type Lent = (i32, i32, i64, i64, i64, i64);
 
 /// A line of a name: the name, the so-manyth of its lines, and its coordinate.
 type NamedLine<'a> = (&'a [u8], i32, i32);
 
-/// What a grid has in one axis: its tracks, its gap in units, the subgrids from it up where it is one, and lines of names.
+/// What a grid has in one axis: its tracks, its gap in units, the subgrids from it up where it is
+/// one, and lines of names.
 enum Side<'a> {
     Own(u32, i64, &'a [NamedLine<'a>]),
     Shared(u32, i64, &'a [Lent], &'a [NamedLine<'a>]),
@@ -30,8 +32,8 @@ const BARE: Side<'static> = Own(0, 0, &[]);
 /// The place of a child in document order, and the start and end of its columns and of its rows.
 type Cells = (usize, (i32, i32), (i32, i32));
 
-/// A grid, with the counts of repetitions on its chain, the topmost grid first and its own last; what it then has in both axes; its
-/// children in their areas; and all its tracks.
+/// A grid, with the counts of repetitions on its chain, the topmost grid first and its own last;
+/// what it then has in both axes; its children in their areas; and all its tracks.
 type Found<'a> = (
     &'a [u8],
     &'a [(u32, u32)],
@@ -74,7 +76,8 @@ fn are_levels(levels: &[Level], wants: &[Lent]) -> bool {
     true
 }
 
-/// Whether the line of a name lies there. The last line is looked up as an end, since nothing begins there.
+/// Whether the line of a name lies there. The last line is looked up as an end, since nothing
+/// begins there.
 fn has_line(side: &AxisContext, line: &NamedLine) -> Result<bool, Fail> {
     let (name, number, at) = *line;
     let named = LineValue::Line(number, Some(Name::read(name)?));
@@ -193,7 +196,8 @@ fn all_hold(rt: &impl Abort, alloc: Global, cases: &[Case]) -> Result<(), Fail> 
 
 /// Names of a grid that two subgrids have.
 static LENT: &[Case] = &[
-    // s stands over the second and the third column, and t over all of s: their names are those of the lines there
+    // s stands over the second and the third column, and t over all of s: their names are those of
+    // the lines there
     (
         &[
             b"gridlay 1",
@@ -245,167 +249,17 @@ static LENT: &[Case] = &[
             ),
         ],
     ),
-    // b takes two columns, so s stands over the two last ones: their names are a, b
-    (
-        &[
-            b"gridlay 1",
-            b"viewport 300 100",
-            b"main grid { grid-template-columns: [a] 50px [b] 50px [a] 50px [b] 50px }",
-            b"  b leaf 10 10 { grid-column: 1 / 3 }",
-            b"  s grid { grid-column: span 2; grid-template-columns: subgrid }",
-            b"    t grid { grid-column: 1 / -1; grid-template-columns: subgrid }",
-            b"      p leaf 5 5 { grid-column: b }",
-        ],
-        &[
-            (
-                b"s",
-                &[(1, 1), (1, 1)],
-                Shared(2, 0, &[(2, 4, 0, 0, 0, 0)], &[(b"a", 1, 0), (b"b", 1, 1)]),
-                BARE,
-                &[(0, (0, 2), (0, 1))],
-                ((0, 2), (0, 1)),
-            ),
-            (
-                b"t",
-                &[(1, 1), (1, 1), (1, 1)],
-                Shared(
-                    2,
-                    0,
-                    &[(0, 2, 0, 0, 0, 0), (2, 4, 0, 0, 0, 0)],
-                    &[(b"a", 1, 0), (b"b", 1, 1)],
-                ),
-                BARE,
-                &[(0, (1, 2), (0, 1))],
-                ((0, 2), (0, 1)),
-            ),
-        ],
-    ),
-];
-
-/// Names in repeated tracks.
-static REPEATED: &[Case] = &[
-    // the line -1 a, by three repeated tracks, by two, and by the one of a grid whose width is not known
-    (
-        &[
-            b"gridlay 1",
-            b"viewport 350 100",
-            b"main flex",
-            b"  g grid { flex-grow: 1; grid-template-columns: repeat(auto-fill, [a] 100px) [z] }",
-            b"    s grid { grid-column: 1 / -1; grid-template-columns: subgrid }",
-            b"      p leaf 10 10 { grid-column: -1 a }",
-        ],
-        &[
-            (
-                b"g",
-                &[(3, 1)],
-                Own(
-                    3,
-                    0,
-                    &[(b"a", 1, 0), (b"a", -1, 2), (b"a", 3, 2), (b"z", 1, 3)],
-                ),
-                BARE,
-                &[(0, (0, 3), (0, 1))],
-                ((0, 3), (0, 1)),
-            ),
-            (
-                b"s",
-                &[(3, 1), (1, 1)],
-                Shared(
-                    3,
-                    0,
-                    &[(0, 3, 0, 0, 0, 0)],
-                    &[(b"a", 1, 0), (b"a", -1, 2), (b"a", 3, 2), (b"z", 1, 3)],
-                ),
-                BARE,
-                &[(0, (2, 3), (0, 1))],
-                ((0, 3), (0, 1)),
-            ),
-            (
-                b"g",
-                &[(2, 1)],
-                Own(
-                    2,
-                    0,
-                    &[(b"a", 1, 0), (b"a", -1, 1), (b"a", 2, 1), (b"z", 1, 2)],
-                ),
-                BARE,
-                &[(0, (0, 2), (0, 1))],
-                ((0, 2), (0, 1)),
-            ),
-            (
-                b"s",
-                &[(2, 1), (1, 1)],
-                Shared(
-                    2,
-                    0,
-                    &[(0, 2, 0, 0, 0, 0)],
-                    &[(b"a", 1, 0), (b"a", -1, 1), (b"a", 2, 1), (b"z", 1, 2)],
-                ),
-                BARE,
-                &[(0, (1, 2), (0, 1))],
-                ((0, 2), (0, 1)),
-            ),
-            (
-                b"s",
-                &[(1, 1), (1, 1)],
-                Shared(
-                    1,
-                    0,
-                    &[(0, 1, 0, 0, 0, 0)],
-                    &[(b"a", 1, 0), (b"a", -1, 0), (b"z", 1, 1)],
-                ),
-                BARE,
-                &[(0, (0, 1), (0, 1))],
-                ((0, 1), (0, 1)),
-            ),
-        ],
-    ),
 ];
 
 #[test]
 fn names_are_seen_in_subgrids(rt: HostRuntime) -> Result<(), Fail> {
-    for cases in [LENT, REPEATED] {
-        all_hold(&rt, rt.alloc(), cases)?;
-    }
-    Ok(())
+    all_hold(&rt, rt.alloc(), LENT)
 }
 
-/// Gaps, and named areas.
-static GAPS: &[Case] = &[
-    // gaps of 10 px, and of 20 px in the subgrid
-    (
-        &[
-            b"gridlay 1",
-            b"viewport 300 50",
-            b"main grid { grid-template-columns: [a] 100px [b] 100px [c]; column-gap: 10px }",
-            b"  s grid { grid-column: a / c; grid-template-columns: subgrid; column-gap: 20px }",
-            b"    p leaf 0 10 { grid-column: b / c }",
-        ],
-        &[
-            (
-                b"main",
-                &[(1, 1)],
-                Own(2, 640, &[(b"a", 1, 0), (b"b", 1, 1), (b"c", 1, 2)]),
-                BARE,
-                &[(0, (0, 2), (0, 1))],
-                ((0, 2), (0, 1)),
-            ),
-            (
-                b"s",
-                &[(1, 1), (1, 1)],
-                Shared(
-                    2,
-                    1280,
-                    &[(0, 2, 1280, 640, 0, 0)],
-                    &[(b"a", 1, 0), (b"b", 1, 1), (b"c", 1, 2)],
-                ),
-                BARE,
-                &[(0, (1, 2), (0, 1))],
-                ((0, 2), (0, 1)),
-            ),
-        ],
-    ),
-    // two columns and no row in the templates, and two by two cells: h over the first row, n and m below it
+/// Named areas.
+static AREAS: &[Case] = &[
+    // two columns and no row in the templates, and two by two cells: h over the first row, n and m
+    // below it
     (
         &[
             b"gridlay 1",
@@ -467,28 +321,11 @@ static FITTED: &[Case] = &[
             ((0, 3), (0, 1)),
         )],
     ),
-    // the same with one item: the tracks that collapse are tracks of the grid
-    (
-        &[
-            b"gridlay 1",
-            b"viewport 350 50",
-            b"main grid { grid-template-columns: repeat(auto-fit, 100px); column-gap: 10px; justify-content: center }",
-            b"  a leaf 0 10",
-        ],
-        &[(
-            b"main",
-            &[(3, 1)],
-            Own(3, 640, &[]),
-            BARE,
-            &[(0, (0, 1), (0, 1))],
-            ((0, 3), (0, 1)),
-        )],
-    ),
 ];
 
 #[test]
-fn gaps_areas_and_repeats_are_seen(rt: HostRuntime) -> Result<(), Fail> {
-    for cases in [GAPS, FITTED] {
+fn areas_and_repeats_are_seen(rt: HostRuntime) -> Result<(), Fail> {
+    for cases in [AREAS, FITTED] {
         all_hold(&rt, rt.alloc(), cases)?;
     }
     Ok(())

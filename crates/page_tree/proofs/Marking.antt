@@ -1,14 +1,14 @@
 -- The numbers that are found are those of the marked names.
 use Rattle.std.proofs.Common.{◌≡◌, ℕ, ℤ, ◌≤◌, ◌<◌, ◌+◌, Bool, true, false, not, ◌&&◌, List, [], ◌∷◌, ◌++◌, map, Option, Some, None, Result, Ok, Err, IsSome, refl, sym, ap, subst, ◌∙◌, arith, inl, inr}
-use Rattle.std.specs.Prelude.{◌||◌, ◌⊎◌, IfOk, OnOk, if◌then◌else◌, slice_get}
+use Rattle.std.specs.Prelude.{◌||◌, ◌⊎◌, IfOk, OnOk, if◌then◌else◌}
 use Rattle.std.specs.List.{list_any}
 use Rattle.std.specs.Ordering.{int_eq}
 use Rattle.std.specs.Str.{bytes_eq}
 use Rattle.std.proofs.lemmas.Bool.{or_parts}
 use Rattle.std.proofs.lemmas.List.{append_assoc, append-nil}
-use Rattle.plain_tree.specs.Trees.{leafless, tree, size_of}
+use Rattle.plain_tree.specs.Trees.{Trees, leafless, tree, size_of}
 use Rattle.node_arena.specs.declared.number.NodeId.{NodeId}
-use Rattle.node_arena.specs.Numbers.{EachNode, IsChild, IsDistinct, Part, below_at, below_of, is_among, number_of, parent_at, part_at, same, second, times, tops, value_at, value_of, way_up, whole_of}
+use Rattle.node_arena.specs.Numbers.{EachNode, IsChild, IsDistinct, Part, below_at, below_of, is_among, parent_at, part_at, same, second, times, value_at, value_of, way_up}
 use Rattle.node_arena.proofs.Edited.{each_tree, tree_is}
 use Rattle.node_arena.proofs.Parts.{each_weaker}
 use Rattle.node_arena.proofs.Same.{After, Below, Here, by_place, cond_no, one_no, one_yes, same_from, same_is}
@@ -21,20 +21,25 @@ use Rattle.page_tree.specs.Fonts.{root_font}
 use Rattle.style_types.specs.declared.declared.DeclaredValue.{DeclaredValue}
 use Rattle.style_types.specs.declared.prop.Prop.{Prop}
 use Rattle.doc_text.specs.Growth.{holds}
+use Rattle.doc_text.specs.Label.{Label}
 use Rattle.doc_text.specs.Named.{has_top}
 use Rattle.doc_text.specs.Named as doc
 use Rattle.doc_text.specs.Texts.{Word}
+use Rattle.doc_text.proofs.Grown.{not_true}
+use Rattle.edit_journal.specs.Changes.{Values}
 use Rattle.placing.specs.declared.node.Node.{Node}
 use Rattle.placing.specs.Nodes.{NodeTrees}
 use Rattle.reach_frame.proofs.Frame.{not_both}
 use Rattle.reach_frame.proofs.Marked.{among_append}
 use Rattle.page_tree.specs.Documents.{plain_trees}
+use Rattle.page_tree.specs.Filled.{AreNew}
 use Rattle.page_tree.specs.Marking.{AddsMarked, AreMarked, IsNextBelow, numbers_below}
 use Rattle.page_tree.specs.Reach.{font_below, font_in, gets_other_font, has_other_font, is_parent}
 use Rattle.page_tree.specs.Registers.{AreNamed, Finds, Tells}
+use Rattle.page_tree.proofs.Locals.{own_names}
 use Rattle.page_tree.proofs.Lookups.{found_tree}
 use Rattle.page_tree.proofs.Reaching.{each_with}
-use Rattle.page_tree.proofs.Restyled.{from_top}
+use Rattle.page_tree.proofs.Removals.{next_is}
 
 -- ---- lists
 turn_same : (a b : NodeId) → same a b ≡ same b a
@@ -129,7 +134,7 @@ no_parent (tree x below after) id name w h z =
         own true e = absurd (omega (arith, z, one_yes (same y.0 id) e))
         own false e = e
 
-no_tops : (s : NodeTrees) (id : NodeId) (name : Word) → Tells id name s → times id s ≡ 0 → has_top (plain_trees s) name ≡ false
+pub no_tops : (s : NodeTrees) (id : NodeId) (name : Word) → Tells id name s → times id s ≡ 0 → has_top (plain_trees s) name ≡ false
 no_tops leafless id name h z = refl
 no_tops (tree y under later) id name h z = (λ i. if (sym h.0 ∙ own (same y.0 id) refl) i then true else has_top (plain_trees later) name) ∙ no_tops later id name h.1.1 (omega (arith, z))
   where
@@ -321,20 +326,18 @@ fonts_marked t name id v e p r n d h there = at (part_at t id) refl h.live
 
 -- ---- one child after another
 pub next_below : (old new root : ℤ) (t : NodeTrees) (n : NodeId) (i : ℕ) (c : NodeId) (v : Node) (old_font new_font : ℤ) → IsChild t n i c → Some v ≡ value_at t c → old_font ≡ font_of old root v.declared → new_font ≡ font_of new root v.declared → IsNextBelow old new root t n i c old_font new_font
-next_below old new root t n i c v old_font new_font h e f g = at (slice_get (tops (below_at t n)) i) refl h.number h.whole
+next_below old new root t n i c v old_font new_font h e f g =
+    let is = next_is t n i c v h e in
+    let same_node : v ≡ is.value = some_is v is.value (e ∙ is.there) in
+    record {
+      value = is.value;
+      next = is.next;
+      old_is = ap (λ (w : Node). font_of old root w.declared) (sym same_node) ∙ sym f;
+      new_is = ap (λ (w : Node). font_of new root w.declared) (sym same_node) ∙ sym g;
+    }
   where
-    at : (o : Option (NodeId × Part Node)) → slice_get (tops (below_at t n)) i ≡ o → number_of o ≡ Some c → part_at t c ≡ whole_of o → IsNextBelow old new root t n i c old_font new_font
-    at None q m w = absurd cc
-    at (Some top) q m w =
-        let number : top.0 ≡ c = cc in
-        let value : Some v ≡ Some top.1.0 = e ∙ ap value_of w in
-        let same_value : v ≡ top.1.0 = cc in
-        record {
-          value = v;
-          next = from_top (below_at t n) i top q ∙ (λ j. tree (number j, sym same_value j) (sym (ap below_of w) j) (from_tree (i + 1) (below_at t n)));
-          old_is = sym f;
-          new_is = sym g;
-        }
+    some_is : (a b : Node) → Some a ≡ Some b → a ≡ b
+    some_is a b q = cc
 
 pub below_smaller : (old new root : ℤ) (t : NodeTrees) (n : NodeId) (i : ℕ) (c : NodeId) (old_font new_font : ℤ) → IsNextBelow old new root t n i c old_font new_font → size_of (below_at t c) < size_of (below_at t n)
 below_smaller old new root t n i c old_font new_font h = omega (arith, from_size (below_at t n) i, ap size_of h.next)
@@ -357,10 +360,20 @@ next_numbers all old new root t n i c old_font new_font found pushed after whole
     rest : List NodeId
     rest = numbers_below all old new root (from_tree (i + 1) (below_at t n))
 
--- ---- settings
-pub any_setting : (f : Prop → Bool) (settings : List (Prop × DeclaredValue)) → list_any (λ (s : Prop × DeclaredValue). f s.0) settings ≡ list_any f (map (λ (s : Prop × DeclaredValue). s.0) settings)
-any_setting f [] = refl
-any_setting f (s ∷ settings) = ap (λ b. f s.0 || b) (any_setting f settings)
+-- ---- values
+pub any_value : (f : Prop → Bool) (values : Values) → list_any (λ (v : Prop × Option DeclaredValue). f v.0) values ≡ list_any f (map (λ (v : Prop × Option DeclaredValue). v.0) values)
+any_value f [] = refl
+any_value f (v ∷ values) = ap (λ b. f v.0 || b) (any_value f values)
+
+-- ---- trees that are new
+pub brought_marked : (parent : Word) (new : Trees Label) (t : NodeTrees) (numbers : List NodeId) → AreNew new (plain_trees t) → AreMarked (λ w. bytes_eq w parent) t numbers → AreMarked (λ w. bytes_eq w parent || holds new w) t numbers
+brought_marked parent new t numbers fresh m =
+    each_with (λ x. holds (plain_trees t) x.1.name ≡ true) (λ x. is_among x.0 numbers ≡ bytes_eq x.1.name parent) (λ x. is_among x.0 numbers ≡ (bytes_eq x.1.name parent || holds new x.1.name)) t
+    (λ x h e. e ∙ or_none (bytes_eq x.1.name parent) (holds new x.1.name) (not_true (holds new x.1.name) (λ g. not_both (holds (plain_trees t) x.1.name) h (fresh x.1.name g)))) (own_names t) m
+  where
+    or_none : (a b : Bool) → b ≡ false → a ≡ (a || b)
+    or_none true b e = refl
+    or_none false b e = sym e
 
 pub all_numbers_found : (all : Bool) (before after root : ℤ) (t : NodeTrees) (n : NodeId) (i : ℕ) (found whole : List NodeId) → from_tree i (below_at t n) ≡ leafless → found ++ numbers_below all before after root (from_tree i (below_at t n)) ≡ whole → found ≡ whole
 all_numbers_found all before after root t n i found whole e w = sym (append-nil found) ∙ sym (ap (λ u. found ++ numbers_below all before after root u) e) ∙ w

@@ -28,7 +28,7 @@ use Rattle.doc_text.specs.Named as doc
 use Rattle.doc_text.proofs.Grown.{not_both}
 use Rattle.placing.specs.declared.node.Node.{Node}
 use Rattle.placing.specs.Nodes.{NodeTrees}
-use Rattle.page_tree.specs.Answered.{or_later}
+use Rattle.page_tree.specs.Rows.{or_later}
 use Rattle.page_tree.specs.Documents.{plain_trees}
 use Rattle.page_tree.specs.Fonts.{HasFont, HasFontBelow, root_font, root_font_of}
 use Rattle.page_tree.specs.Moves.{AreApart, place_refusal}

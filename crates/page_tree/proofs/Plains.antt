@@ -3,10 +3,9 @@ use Rattle.std.proofs.Common.{◌≡◌, ℕ, zero, suc, ◌+◌, List, [], ◌�
 use Rattle.plain_tree.specs.Trees.{Trees, leafless, tree, joined, count_of}
 use Rattle.plain_tree.proofs.Laws.{joined-leafless}
 use Rattle.node_arena.specs.declared.number.NodeId.{NodeId}
-use Rattle.node_arena.specs.Numbers.{IsChild, Part, below_at, below_of, number_of, part_at, top_numbers, tops, value_at, value_of, whole_of}
+use Rattle.node_arena.specs.Numbers.{Part, below_at, below_of, part_at, top_numbers, value_at, value_of}
 use Rattle.node_arena.proofs.Same.{part_here, same_from}
 use Rattle.layout_cache.specs.Reach.{from_tree}
-use Rattle.std.specs.Prelude.{slice_get}
 use Rattle.doc_text.specs.declared.document.Plain.{Plain}
 use Rattle.doc_text.specs.declared.kind.Kind.{Kind}
 use Rattle.doc_text.specs.Documents.{plain_of}
@@ -17,37 +16,12 @@ use Rattle.placing.specs.declared.node.Node.{Node}
 use Rattle.placing.specs.Nodes.{NodeTrees}
 use Rattle.page_tree.specs.Documents.{kind_of, label_of, plain_trees}
 use Rattle.page_tree.specs.Pages.{plain_root}
-use Rattle.page_tree.specs.Plains.{IsPlainAt, IsTreeAt}
+use Rattle.page_tree.specs.Places.{IsPlainAt}
+use Rattle.page_tree.specs.Registers.{IsNext}
 use Rattle.page_tree.proofs.Reaching.{there_in}
 use Rattle.page_tree.proofs.Removals.{next_smaller}
 
-from_top : (u : NodeTrees) (i : ℕ) (top : NodeId × Part Node) → slice_get (tops u) i ≡ Some top → from_tree i u ≡ tree (top.0, top.1.0) top.1.1 (from_tree (i + 1) u)
-from_top leafless i top e = absurd cc
-from_top (tree x below after) zero top e =
-    let is : (x.0, (x.1, below)) ≡ top = some_is _ top e in
-    λ i. tree ((is i).0, (is i).1.0) (is i).1.1 after
-  where
-    some_is : (a b : NodeId × Part Node) → Some a ≡ Some b → a ≡ b
-    some_is a b q = cc
-from_top (tree x below after) (suc i) top e =
-    from_top after i top e ∙ ap (tree (top.0, top.1.0) top.1.1) (ap (λ k. from_tree k after) (add-one i) ∙ sym (ap (λ k. from_tree k (tree x below after)) (add-one (suc i))))
-
-pub tree_is : (t : NodeTrees) (n : NodeId) (i : ℕ) (c : NodeId) (v : Node) → IsChild t n i c → Some v ≡ value_at t c → IsTreeAt t n i c
-tree_is t n i c v h e = at (slice_get (tops (below_at t n)) i) refl h.number h.whole
-  where
-    at : (o : Option (NodeId × Part Node)) → slice_get (tops (below_at t n)) i ≡ o → number_of o ≡ Some c → part_at t c ≡ whole_of o → IsTreeAt t n i c
-    at None f g w = absurd cc
-    at (Some top) f g w =
-        let number : top.0 ≡ c = cc in
-        let value : Some v ≡ Some top.1.0 = e ∙ ap value_of w in
-        let same_value : v ≡ top.1.0 = cc in
-        record {
-          value = v;
-          there = sym e;
-          next = from_top (below_at t n) i top f ∙ (λ j. tree (number j, sym same_value j) (sym (ap below_of w) j) (from_tree (i + 1) (below_at t n)));
-        }
-
-pub tree_live : (t : NodeTrees) (n : NodeId) (i : ℕ) (c : NodeId) → IsTreeAt t n i c → IsSome (part_at t c)
+pub tree_live : (t : NodeTrees) (n : NodeId) (i : ℕ) (c : NodeId) → IsNext t n i c → IsSome (part_at t c)
 tree_live t n i c h = there_in t c h.value h.there
 
 pub ruleset falls_there = (next_smaller, tree_live)
@@ -57,7 +31,7 @@ pub ruleset falls_there = (next_smaller, tree_live)
 pub children_end : (t : NodeTrees) (n : NodeId) (i : ℕ) (done : Trees Label) → from_tree i (below_at t n) ≡ leafless → joined done (plain_trees (from_tree i (below_at t n))) ≡ plain_trees (below_at t n) → done ≡ plain_trees (below_at t n)
 children_end t n i done e h = sym (joined-leafless done) ∙ sym (ap (λ s. joined done (plain_trees s)) e) ∙ h
 
-pub next_plain : (t : NodeTrees) (n : NodeId) (i : ℕ) (c : NodeId) (node : Plain) (done now : Trees Label) → IsTreeAt t n i c → IsPlainAt t c node → now ≡ joined done (trees_of (node ∷ [])) → joined done (plain_trees (from_tree i (below_at t n))) ≡ plain_trees (below_at t n) →
+pub next_plain : (t : NodeTrees) (n : NodeId) (i : ℕ) (c : NodeId) (node : Plain) (done now : Trees Label) → IsNext t n i c → IsPlainAt t c node → now ≡ joined done (trees_of (node ∷ [])) → joined done (plain_trees (from_tree i (below_at t n))) ≡ plain_trees (below_at t n) →
     joined now (plain_trees (from_tree (i + 1) (below_at t n))) ≡ plain_trees (below_at t n)
 next_plain t n i c node done now h is e f =
     ap (λ s. joined s (plain_trees (from_tree (i + 1) (below_at t n)))) e ∙ sym (joined_again done (trees_of (node ∷ [])) (plain_trees (from_tree (i + 1) (below_at t n))))

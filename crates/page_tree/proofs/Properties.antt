@@ -1,4 +1,4 @@
--- Edits of the values and of the content of a node, as changes of the numbered tree.
+-- Other values and another kind of a node, as changes of the numbered tree.
 use Rattle.std.proofs.Common.{◌≡◌, ℤ, Bool, true, false, not, ◌&&◌, List, [], ◌∷◌, map, Option, Some, None, IsSome, cond, refl, sym, ap, ◌∙◌, inl, inr}
 use Rattle.std.specs.Prelude.{◌||◌, ◌⊎◌}
 use Rattle.std.specs.FinMap as finmap
@@ -17,21 +17,21 @@ use Rattle.style_types.specs.Computed.{DeclaredMap, computed_style, computed_val
 use Rattle.style_types.specs.Order.{prop_cmp, prop_cmp_total, prop_cmp-IsAntisymmetric}
 use Rattle.style_types.specs.Styles.{StyleMap, value_of as value_in}
 use Rattle.style_types.specs.Table.{class_in_table, initial}
+use Rattle.style_types.specs.declared.declared.DeclaredValue.{DeclaredValue}
 use Rattle.style_types.specs.declared.prop.Class.{Class}
 use Rattle.style_types.specs.declared.prop.Class.TheVariants as class
 use Rattle.style_types.specs.declared.prop.Prop.{Prop}
 use Rattle.style_types.specs.declared.prop.Prop.TheVariants as prop
 use Rattle.tree_rules.specs.Chains.{is_grid_kind, sibling_of}
 use Rattle.tree_rules.specs.Labels.{areas_in, flow_in, grid_of, length_in, line_in, margin_in, order_in, size_in, sizes_in, template_in}
-use Rattle.value_text.specs.ValueText.{Settings}
 use Rattle.doc_text.specs.declared.kind.Kind.{Kind}
 use Rattle.doc_text.specs.declared.kind.Kind.TheVariants as kind
 use Rattle.doc_text.specs.Documents.{is_leaf}
-use Rattle.doc_text.specs.Edits.{is_leaf_top, with_kind, without_props}
+use Rattle.doc_text.specs.Edits.{is_leaf_top, with_kind}
 use Rattle.doc_text.specs.Growth.{holds}
 use Rattle.doc_text.specs.Label.{Label}
 use Rattle.doc_text.specs.Named as doc
-use Rattle.doc_text.specs.NodeText.{with_settings}
+use Rattle.edit_journal.specs.Changes.{Values, with_style, with_value, with_values}
 use Rattle.doc_text.specs.Texts.{Word}
 use Rattle.doc_text.proofs.Grown.{own_name}
 use Rattle.placing.specs.declared.node.Node.{Node}
@@ -58,17 +58,15 @@ module _ (f : Prop → Bool) (p : Prop) (here : f p ≡ true) where
       at true e = absurd (not_both (f p) here (ap f (tells_apart prop_cmp-IsAntisymmetric p q e) ∙ none))
       at false e = e
 
-  pub settings_left : (settings : Settings) (m : DeclaredMap) → list_any f (map (λ s. s.0) settings) ≡ false → finmap.get (with_settings settings m) p ≡ finmap.get m p
-  settings_left [] m h = refl
-  settings_left (s ∷ settings) m h =
-      let parts = or_parts (f s.0) (list_any f (map (λ s. s.0) settings)) h in
-      settings_left settings (finmap.insert m s.0 s.1) parts.1 ∙ finmap.get-insert prop_cmp_total m s.0 s.1 p ∙ ap (λ b. cond b (Some s.1) (finmap.get m p)) (apart s.0 parts.0)
+  one_left : (q : Prop) (o : Option DeclaredValue) (m : DeclaredMap) → f q ≡ false → finmap.get (with_value q o m) p ≡ finmap.get m p
+  one_left q None m none = finmap.get-remove prop_cmp_total m q p ∙ ap (λ b. cond b None (finmap.get m p)) (apart q none)
+  one_left q (Some v) m none = finmap.get-insert prop_cmp_total m q v p ∙ ap (λ b. cond b (Some v) (finmap.get m p)) (apart q none)
 
-  pub props_left : (props : List Prop) (m : DeclaredMap) → list_any f props ≡ false → finmap.get (without_props props m) p ≡ finmap.get m p
-  props_left [] m h = refl
-  props_left (q ∷ props) m h =
-      let parts = or_parts (f q) (list_any f props) h in
-      props_left props (finmap.remove m q) parts.1 ∙ finmap.get-remove prop_cmp_total m q p ∙ ap (λ b. cond b None (finmap.get m p)) (apart q parts.0)
+  pub values_left : (values : Values) (m : DeclaredMap) → list_any f (map (λ v. v.0) values) ≡ false → finmap.get (with_values values m) p ≡ finmap.get m p
+  values_left [] m h = refl
+  values_left (v ∷ values) m h =
+      let parts = or_parts (f v.0) (list_any f (map (λ v. v.0) values)) h in
+      values_left values (with_value v.0 v.1 m) parts.1 ∙ one_left v.0 v.1 m parts.0
 
 -- where grid-class values are the same
 pub grid_by : (a b : StyleMap) → ((p : Prop) → is_felt_property p ≡ true → value_in a p ≡ value_in b p) → grid_of a ≡ grid_of b
@@ -149,30 +147,32 @@ any_weaker (p ∷ props) e = at (is_font_property p) refl e (any_weaker props)
     at false f e more = or_right _ _ (more (sym (ap (λ b. b || have_font props) f) ∙ e))
 
 -- ---- properties set, or no longer set
-module _ (t u : NodeTrees) (d : IsDistinct t) (one : count_of t ≡ 1) (old : IsStyled t) (new : IsStyled u) (name : Word) (props : List Prop) (made : DeclaredMap → DeclaredMap)
-    (left : (f : Prop → Bool) (p : Prop) → f p ≡ true → (m : DeclaredMap) → list_any f props ≡ false → finmap.get (made m) p ≡ finmap.get m p) (ts : List NodeId)
-    (h : Relabels name (λ l. record l { style = made l.style }) t u) (before : EachNode (λ x. is_among x.0 ts ≡ is_marked_by props name (plain_trees t) x.1.name) t) where
+module _ (t u : NodeTrees) (d : IsDistinct t) (one : count_of t ≡ 1) (old : IsStyled t) (new : IsStyled u) (name : Word) (values : Values) (ts : List NodeId)
+    (h : Relabels name (with_style values) t u) (before : EachNode (λ x. is_among x.0 ts ≡ is_marked_by (map (λ v. v.0) values) name (plain_trees t) x.1.name) t) where
+  abbrev props : List Prop
+  props = map (λ v. v.0) values
+
   abbrev marks : Word → Bool
   marks = is_marked_by props name (plain_trees t)
 
   abbrev touched : NodeId → Bool
   touched n = is_among n ts
 
-  labels : (v : Node) → value_at t h.id ≡ Some v → ◌≡◌ {A = Label} (record { name = v.name; kind = kind_of v.kind; style = made v.declared }) (label_of h.value)
-  labels v e = each_at (λ x. same x.0 h.id ≡ true → ◌≡◌ {A = Label} (record { name = x.1.name; kind = kind_of x.1.kind; style = made x.1.declared }) (label_of h.value)) t h.id v h.label e (same_refl h.id)
+  labels : (v : Node) → value_at t h.id ≡ Some v → ◌≡◌ {A = Label} (record { name = v.name; kind = kind_of v.kind; style = with_values values v.declared }) (label_of h.value)
+  labels v e = each_at (λ x. same x.0 h.id ≡ true → ◌≡◌ {A = Label} (record { name = x.1.name; kind = kind_of x.1.kind; style = with_values values x.1.declared }) (label_of h.value)) t h.id v h.label e (same_refl h.id)
 
-  declared_is : (v : Node) → value_at t h.id ≡ Some v → made v.declared ≡ h.value.declared
+  declared_is : (v : Node) → value_at t h.id ≡ Some v → with_values values v.declared ≡ h.value.declared
   declared_is v e = ap (λ (l : Label). l.style) (labels v e)
 
   fonts_by : (f : Prop → Bool) → f prop.FontSize ≡ true → list_any f props ≡ false → SameFonts touched (are_felt props) h.id h.value h.styles t d
-  fonts_by f g none em rem v e = ap (font_or em rem) (ap (λ (m : DeclaredMap). finmap.get m prop.FontSize) (sym (declared_is v e)) ∙ left f prop.FontSize g v.declared none)
+  fonts_by f g none em rem v e = ap (font_or em rem) (ap (λ (m : DeclaredMap). finmap.get m prop.FontSize) (sym (declared_is v e)) ∙ values_left f prop.FontSize g values v.declared none)
 
   face_left : are_felt props ≡ false → SameFace touched (are_felt props) h.id h.value h.styles t d
   face_left none f r v style e was is =
       face_of (record h.value { style = style }) v (sym (ap (λ (l : Label). l.name) (labels v e))) (kind_grid h.value.kind ∙ ap (λ (l : Label). is_grid l.kind) (sym (labels v e)) ∙ sym (kind_grid v.kind))
       (ap grid_of is
       ∙ grid_by (computed_style f r h.value.declared) (computed_style f r v.declared)
-      (λ p felt. computed_left f r h.value.declared v.declared p (ap (λ (m : DeclaredMap). finmap.get m p) (sym (declared_is v e)) ∙ left is_felt_property p felt v.declared none))
+      (λ p felt. computed_left f r h.value.declared v.declared p (ap (λ (m : DeclaredMap). finmap.get m p) (sym (declared_is v e)) ∙ values_left is_felt_property p felt values v.declared none))
       ∙ sym (ap grid_of was))
 
   all_below : have_font props ≡ true → AllBelow touched (are_felt props) h.id h.value h.styles t d
@@ -190,16 +190,16 @@ module _ (t u : NodeTrees) (d : IsDistinct t) (one : count_of t ≡ 1) (old : Is
           ∙ or_right (bytes_eq q.0.name name) _ (or_right (are_felt props && is_parent (plain_trees t) name q.0.name) _
           (both font (ap (λ s. holds s q.0.name) (by_tree (part_at t h.id) refl h.found.live) ∙ holds_at (below_at t h.id) k q.0 (ap value_of e))))
 
-  pub props_change : IsChange ts (are_felt props) marks t u
-  props_change =
-      relabel_change t u d one old new name (λ l. record l { style = made l.style }) (are_felt props) ts marks h (λ l. refl) before (or_left (bytes_eq name name) _ (own_name name))
+  pub style_change : IsChange ts (are_felt props) marks t u
+  style_change =
+      relabel_change t u d one old new name (with_style values) (are_felt props) ts marks h (λ l. refl) before (or_left (bytes_eq name name) _ (own_name name))
       (λ g. touched_parent t name h.id ts marks before h.found.tells (λ w e. or_right (bytes_eq w name) _ (or_left _ _ (both g e)))) face_left (at (have_font props) refl)
     where
       at : (b : Bool) → have_font props ≡ b → SameFonts touched (are_felt props) h.id h.value h.styles t d ⊎ AllBelow touched (are_felt props) h.id h.value h.styles t d
       at true e = inr (all_below e)
       at false e = inl (fonts_by is_font_property refl e)
 
--- ---- another content
+-- ---- another kind
 leaf_no_grid : (k : Kind) → is_leaf k ≡ true → is_grid k ≡ false
 leaf_no_grid kind.Grid e = absurd (not_both true refl (sym e))
 leaf_no_grid kind.Flex e = refl
@@ -214,27 +214,27 @@ module _ (t u : NodeTrees) (d : IsDistinct t) (one : count_of t ≡ 1) (old : Is
   abbrev felt : Bool
   felt = is_container other name (plain_trees t)
 
-  abbrev content_marks : Word → Bool
-  content_marks w = bytes_eq w name || (felt && is_parent (plain_trees t) name w)
+  abbrev kind_marks : Word → Bool
+  kind_marks w = bytes_eq w name || (felt && is_parent (plain_trees t) name w)
 
-  abbrev content_touched : NodeId → Bool
-  content_touched n = is_among n ts
+  abbrev kind_touched : NodeId → Bool
+  kind_touched n = is_among n ts
 
-  content_labels : (v : Node) → value_at t h.id ≡ Some v → ◌≡◌ {A = Label} (record { name = v.name; kind = other; style = v.declared }) (label_of h.value)
-  content_labels v e = each_at (λ x. same x.0 h.id ≡ true → ◌≡◌ {A = Label} (record { name = x.1.name; kind = other; style = x.1.declared }) (label_of h.value)) t h.id v h.label e (same_refl h.id)
+  kind_labels : (v : Node) → value_at t h.id ≡ Some v → ◌≡◌ {A = Label} (record { name = v.name; kind = other; style = v.declared }) (label_of h.value)
+  kind_labels v e = each_at (λ x. same x.0 h.id ≡ true → ◌≡◌ {A = Label} (record { name = x.1.name; kind = other; style = x.1.declared }) (label_of h.value)) t h.id v h.label e (same_refl h.id)
 
-  content_fonts : SameFonts content_touched felt h.id h.value h.styles t d
-  content_fonts em rem v e = ap (λ (l : Label). font_or em rem (finmap.get l.style prop.FontSize)) (sym (content_labels v e))
+  kind_fonts : SameFonts kind_touched felt h.id h.value h.styles t d
+  kind_fonts em rem v e = ap (λ (l : Label). font_or em rem (finmap.get l.style prop.FontSize)) (sym (kind_labels v e))
 
-  content_face : felt ≡ false → SameFace content_touched felt h.id h.value h.styles t d
-  content_face none f r v style e was is =
+  kind_face : felt ≡ false → SameFace kind_touched felt h.id h.value h.styles t d
+  kind_face none f r v style e was is =
       let leaves = and_parts (is_leaf other) (is_leaf_top (doc.tree_at name (plain_trees t))) (not_not (is_leaf other && is_leaf_top (doc.tree_at name (plain_trees t))) none) in
       let own : is_grid (kind_of v.kind) ≡ false = leaf_no_grid (kind_of v.kind) (found_leaf t name h.id v h.found (sym e) ∙ leaves.1) in
-      face_of (record h.value { style = style }) v (sym (ap (λ (l : Label). l.name) (content_labels v e)))
-      (kind_grid h.value.kind ∙ ap (λ (l : Label). is_grid l.kind) (sym (content_labels v e)) ∙ leaf_no_grid other leaves.0 ∙ sym own ∙ sym (kind_grid v.kind))
-      (ap grid_of (is ∙ ap (λ (l : Label). computed_style f r l.style) (sym (content_labels v e)) ∙ sym was))
+      face_of (record h.value { style = style }) v (sym (ap (λ (l : Label). l.name) (kind_labels v e)))
+      (kind_grid h.value.kind ∙ ap (λ (l : Label). is_grid l.kind) (sym (kind_labels v e)) ∙ leaf_no_grid other leaves.0 ∙ sym own ∙ sym (kind_grid v.kind))
+      (ap grid_of (is ∙ ap (λ (l : Label). computed_style f r l.style) (sym (kind_labels v e)) ∙ sym was))
 
-  pub content_change : IsChange ts felt content_marks t u
-  content_change =
-      relabel_change t u d one old new name (with_kind other) felt ts content_marks h (λ l. refl) before (or_left (bytes_eq name name) _ (own_name name))
-      (λ g. touched_parent t name h.id ts content_marks before h.found.tells (λ w e. or_right (bytes_eq w name) _ (both g e))) content_face (inl content_fonts)
+  pub kind_change : IsChange ts felt kind_marks t u
+  kind_change =
+      relabel_change t u d one old new name (with_kind other) felt ts kind_marks h (λ l. refl) before (or_left (bytes_eq name name) _ (own_name name))
+      (λ g. touched_parent t name h.id ts kind_marks before h.found.tells (λ w e. or_right (bytes_eq w name) _ (both g e))) kind_face (inl kind_fonts)

@@ -4,6 +4,8 @@ use Rattle.std.specs.Prelude.{nat_le, nat_lt}
 use Rattle.std.proofs.Math.Dec.{leb-suc-suc}
 use Rattle.text_scan.specs.declared.line.Fault.{Fault}
 use Rattle.text_scan.specs.declared.line.Place.{Place}
+use Rattle.style_types.specs.declared.prop.Prop.{Prop}
+use Rattle.value_text.specs.ValueText.{Settings}
 use Rattle.plain_tree.specs.Trees.{Trees, leafless, tree, count_of, size_of}
 use Rattle.placing.specs.Nodes.{NodeTrees}
 use Rattle.doc_text.specs.declared.document.Plain.{Plain}
@@ -13,8 +15,7 @@ use Rattle.doc_text.specs.Documents.{node_limit}
 use Rattle.doc_text.specs.declared.document.Doc.{Doc}
 use Rattle.doc_text.specs.declared.edit.Edit.{Edit}
 use Rattle.doc_text.specs.declared.kind.Kind.{Kind}
-use Rattle.doc_text.specs.Edits.{applied, child_count, edited, edited_trees, first_refusal, is_leaf_top, passes_children, passes_levels, refusals, size_after, tree_of, with_root}
-use Rattle.doc_text.proofs.Kept.{none_comes, not_there}
+use Rattle.doc_text.specs.Edits.{applied, child_count, edited, first_refusal, is_leaf_top, passes_children, passes_levels, refusals, tree_of, with_root}
 use Rattle.doc_text.specs.Growth.{holds}
 use Rattle.doc_text.specs.Label.{Label}
 use Rattle.doc_text.specs.Named.{tree_at}
@@ -23,7 +24,7 @@ use Rattle.std.specs.Str.{bytes_eq}
 use Rattle.node_arena.specs.declared.number.NodeId.{NodeId}
 use Rattle.node_arena.specs.Numbers.{same, top_numbers}
 use Rattle.page_tree.specs.Registers.{Finds, Tells}
-use Rattle.page_tree.specs.Answered.{or_later}
+use Rattle.page_tree.specs.Rows.{or_later}
 use Rattle.page_tree.specs.Documents.{plain_trees}
 use Rattle.page_tree.specs.Pages.{Held, document_of, plain_root, trees_in}
 
@@ -53,53 +54,32 @@ insert_told h one parent index at named node a b c d e f p q r s t u =
     (λ i. or_later (p i) 21 parent.at (or_later (q i) 24 at (or_later (r i) 6 named.at (or_later (s i) 12 named.at (or_later (t i) 13 named.at (or_later (u i) 14 parent.at None))))))
     ∙ ap (λ z. insert_rows h.version z parent index at named) (sym (whole h one))
 
--- ---- an edit that is not refused
-with_root_is : (doc : Doc) (size : ℤ × ℤ) (t : NodeTrees) → count_of t ≡ 1 → with_root doc size (plain_trees t) ≡ record { version = doc.version; width = size.0; height = size.1; root = plain_root (plain_trees t) }
+-- ---- a document of one root
+pub with_root_is : (doc : Doc) (size : ℤ × ℤ) (t : NodeTrees) → count_of t ≡ 1 → with_root doc size (plain_trees t) ≡ record { version = doc.version; width = size.0; height = size.1; root = plain_root (plain_trees t) }
 with_root_is doc size leafless e = absurd (omega (arith, e))
 with_root_is doc size (tree x below after) e = refl
-
-pub applied_is : (e : Edit) (old new : Held) → count_of old.nodes.tree ≡ 1 → count_of new.nodes.tree ≡ 1 → trees_in new ≡ edited_trees e (trees_in old) → new.version ≡ old.version → (size : ℤ × ℤ) → size_after e (old.width, old.height) ≡ size → new.width ≡ size.0 → new.height ≡ size.1 →
-    applied e (document_of old) ≡ document_of new
-applied_is e old new one still trees version size is width height =
-    (λ i. with_root (document_of old) (is i) ((ap (edited_trees e) (whole old one) ∙ sym trees) i))
-    ∙ with_root_is (document_of old) size new.nodes.tree still
-    ∙ (λ i. record { version = sym version i; width = sym width i; height = sym height i; root = plain_root (trees_in new) })
 
 abbrev answer : Edit → Doc → Option Fault → Result Doc Fault
 answer e doc o = elim o [ Some fault ↦ Err fault | None ↦ Ok (applied e doc) ]
 
--- it is the edited document
 pub not_refused : (e : Edit) (doc made : Doc) → first_refusal (refusals doc e) ≡ None → applied e doc ≡ made → edited e doc ≡ Ok made
 not_refused e doc made none is = ap (answer e doc) none ∙ ap Ok is
 
 pub refused : (e : Edit) (doc : Doc) (fault : Fault) → first_refusal (refusals doc e) ≡ Some fault → edited e doc ≡ Err fault
 refused e doc fault some = ap (answer e doc) some
 
--- the new name of an insert is new
-pub insert_fresh : (h : Held) → count_of h.nodes.tree ≡ 1 → (parent : Named) (index : ℕ) (at : Place) (named : Named) (node : Plain) → first_refusal (refusals (document_of h) (edit.Insert parent index at named node)) ≡ None → holds (trees_in h) named.name ≡ false
-insert_fresh h one parent index at named node none =
-    let all = none_comes (refusals (document_of h) (edit.Insert parent index at named node)) none in
-    ap (λ u. holds u named.name) (sym (whole h one)) ∙ not_there (holds (tree_of (document_of h)) named.name) named.at all.1.1.1.1.0
-
--- the parent of an insert is there
-pub insert_known : (h : Held) → count_of h.nodes.tree ≡ 1 → (parent : Named) (index : ℕ) (at : Place) (named : Named) (node : Plain) → first_refusal (refusals (document_of h) (edit.Insert parent index at named node)) ≡ None → holds (trees_in h) parent.name ≡ true
-insert_known h one parent index at named node none =
-    let all = none_comes (refusals (document_of h) (edit.Insert parent index at named node)) none in
-    ap (λ u. holds u parent.name) (sym (whole h one)) ∙ not_not (holds (tree_of (document_of h)) parent.name) (not_there (not (holds (tree_of (document_of h)) parent.name)) parent.at all.0)
-  where
-    not_not : (b : Bool) → not b ≡ false → b ≡ true
-    not_not true e = refl
-    not_not false e = sym e
-
 -- ---- a name that must name a node
 pub unknown : (h : Held) → count_of h.nodes.tree ≡ 1 → (named : Named) (later : Option Fault) → false ≡ holds (trees_in h) named.name → or_later (not (holds (tree_of (document_of h)) named.name)) 21 named.at later ≡ Some (fault_at 21 named.at)
 unknown h one named later e = ap (λ b. or_later (not b) 21 named.at later) (ap (λ u. holds u named.name) (whole h one) ∙ sym e)
 
+pub set_told : (h : Held) → count_of h.nodes.tree ≡ 1 → (named : Named) (settings : Settings) (o : Option Fault) → o ≡ or_later (not (holds (trees_in h) named.name)) 21 named.at None → o ≡ first_refusal (refusals (document_of h) (edit.Set named settings))
+set_told h one named settings o e = e ∙ ap (λ t. or_later (not (holds t named.name)) 21 named.at None) (sym (whole h one))
+
+pub unset_told : (h : Held) → count_of h.nodes.tree ≡ 1 → (named : Named) (props : List Prop) (o : Option Fault) → o ≡ or_later (not (holds (trees_in h) named.name)) 21 named.at None → o ≡ first_refusal (refusals (document_of h) (edit.Unset named props))
+unset_told h one named props o e = e ∙ ap (λ t. or_later (not (holds t named.name)) 21 named.at None) (sym (whole h one))
+
 pub known : (h : Held) → count_of h.nodes.tree ≡ 1 → (named : Named) (later : Option Fault) → true ≡ holds (trees_in h) named.name → or_later (not (holds (tree_of (document_of h)) named.name)) 21 named.at later ≡ later
 known h one named later e = ap (λ b. or_later (not b) 21 named.at later) (ap (λ u. holds u named.name) (whole h one) ∙ sym e)
-
-pub parent_told : (h : Held) → count_of h.nodes.tree ≡ 1 → (named : Named) (b : Bool) → b ≡ nat_lt 0 (child_count named.name (trees_in h)) → or_later (nat_lt 0 (child_count named.name (tree_of (document_of h)))) 14 named.at None ≡ or_later b 14 named.at None
-parent_told h one named b e = ap (λ u. or_later (nat_lt 0 (child_count named.name u)) 14 named.at None) (whole h one) ∙ ap (λ z. or_later z 14 named.at None) (sym e)
 
 abbrev content_rows : Trees Label → Named → Option Fault
 content_rows t named = or_later (not (holds t named.name)) 21 named.at (or_later (nat_lt 0 (child_count named.name t)) 14 named.at None)

@@ -1,27 +1,28 @@
 -- A tree less, and the names in it.
 use Rattle.std.proofs.Common.{◌≡◌, ℕ, zero, suc, ◌+◌, ◌<◌, ◌≤◌, ℤ, Bool, true, false, ◌||◌, List, [], ◌∷◌, Option, Some, None, IsSome, cond, length, refl, sym, ap, subst, ◌∙◌, arith, inl, inr}
-use Rattle.std.specs.Prelude.{◌⊎◌, ◌&&◌}
+use Rattle.std.specs.Prelude.{◌⊎◌, ◌&&◌, slice_get}
 use Rattle.std.proofs.lemmas.Bool.{cases_Bool}
 use Rattle.std.specs.Str.{bytes_eq}
 use Rattle.plain_tree.specs.Trees.{leafless, tree, joined, count_of, height_of, size_of}
 use Rattle.node_arena.specs.declared.number.NodeId.{NodeId}
-use Rattle.node_arena.specs.Numbers.{IsChild, Part, below_at, below_of, one, part_at, same, times, top_numbers, value_at}
+use Rattle.node_arena.specs.Numbers.{IsChild, Part, below_at, below_of, number_of, one, part_at, same, times, top_numbers, tops, value_at, value_of, whole_of}
 use Rattle.node_arena.specs.Edits.{nothing, removed, tree_at}
 use Rattle.node_arena.specs.Faults.{is_top}
 use Rattle.node_arena.proofs.Same.{cond_no, cond_yes, same_is, same_refl}
 use Rattle.node_arena.proofs.Edited.{each_tree, edited_here, edited_not, summed, summed_joined, times_summed, tree_is}
 use Rattle.node_arena.proofs.Standing.{way_height}
 use Rattle.layout_cache.specs.Reach.{from_tree}
-use Rattle.layout_cache.proofs.Reaches.{child_falls, next_child}
+use Rattle.layout_cache.proofs.Reaches.{from_size}
 use Rattle.style_types.specs.Computed.{font_of}
 use Rattle.doc_text.specs.Growth.{holds}
-use Rattle.doc_text.proofs.Grown.{not_both, own_name, same_name}
+use Rattle.doc_text.proofs.Grown.{not_both}
 use Rattle.placing.specs.declared.node.Node.{Node}
 use Rattle.placing.specs.Nodes.{NodeTrees}
 use Rattle.page_tree.specs.Documents.{plain_trees}
 use Rattle.page_tree.specs.Fonts.{AreStyled, IsStyled, root_font}
 use Rattle.page_tree.specs.Registers.{HasName, IsNext, IsRegister, Without, named, told}
 use Rattle.page_tree.proofs.Registers.{named_summed, named_there}
+use Rattle.page_tree.proofs.Restyled.{from_top}
 
 -- ---- what is taken out and what is left add up
 pub parts_sum : (w : NodeId × Node → ℕ) (n : NodeId) (t : NodeTrees) → summed w (removed n t) + summed w (tree_at n t) ≡ summed w t
@@ -106,10 +107,22 @@ removed_registered find again id t r w =
 
 -- ---- the child of an index
 pub next_is : (t : NodeTrees) (n : NodeId) (i : ℕ) (c : NodeId) (v : Node) → IsChild t n i c → Some v ≡ value_at t c → IsNext t n i c
-next_is t n i c v h e = record { value = v; there = sym e; next = next_child (λ w. bytes_eq w.name v.name) t n i c v true h e (sym (own_name v.name)) }
+next_is t n i c v h e = at (slice_get (tops (below_at t n)) i) refl h.number h.whole
+  where
+    at : (o : Option (NodeId × Part Node)) → slice_get (tops (below_at t n)) i ≡ o → number_of o ≡ Some c → part_at t c ≡ whole_of o → IsNext t n i c
+    at None q m w = absurd cc
+    at (Some top) q m w =
+        let number : top.0 ≡ c = cc in
+        let value : Some v ≡ Some top.1.0 = e ∙ ap value_of w in
+        let same_value : v ≡ top.1.0 = cc in
+        record {
+          value = v;
+          there = sym e;
+          next = from_top (below_at t n) i top q ∙ (λ j. tree (number j, sym same_value j) (sym (ap below_of w) j) (from_tree (i + 1) (below_at t n)));
+        }
 
 pub next_smaller : (t : NodeTrees) (n : NodeId) (i : ℕ) (c : NodeId) → IsNext t n i c → size_of (below_at t c) < size_of (below_at t n)
-next_smaller t n i c h = child_falls (λ w. bytes_eq w.name h.value.name) t n i c true h.next
+next_smaller t n i c h = omega (arith, from_size (below_at t n) i, ap size_of h.next)
 
 pub ruleset falls = (next_smaller)
 
@@ -120,8 +133,7 @@ pub next_names : (t : NodeTrees) (n : NodeId) (i : ℕ) (c : NodeId) (name : Lis
 next_names t n i c name old between new h e f =
     ap (λ o. cond (holds (plain_trees (from_tree (i + 1) (below_at t n))) name) None o) (f ∙ ap (λ o. cond (holds (plain_trees (below_at t c)) name) None o) e)
     ∙ three (bytes_eq h.value.name name) (holds (plain_trees (below_at t c)) name) (holds (plain_trees (from_tree (i + 1) (below_at t n))) name)
-    ∙ ap (λ m. cond (bytes_eq m name || (holds (plain_trees (below_at t c)) name || holds (plain_trees (from_tree (i + 1) (below_at t n))) name)) None old) (sym (same_name h.next.value.name h.value.name h.next.is))
-    ∙ ap (λ u. cond (holds (plain_trees u) name) None old) (sym h.next.next)
+    ∙ ap (λ u. cond (holds (plain_trees u) name) None old) (sym h.next)
   where
     three : (a b r : Bool) → cond r None (cond b None (cond a None old)) ≡ cond (a || (b || r)) None old
     three true true true = refl

@@ -1,4 +1,4 @@
--- A move, as a change of the numbered tree.
+-- A node that is shifted, as a change of the numbered tree.
 use Rattle.std.proofs.Common.{◌≡◌, ℕ, ℤ, zero, suc, ◌+◌, ◌≤◌, Bool, true, false, not, ◌&&◌, List, ◌∷◌, Option, Some, None, IsSome, is_some, refl, sym, ap, subst, ◌∙◌, arith, inl, inr}
 use Rattle.std.specs.Prelude.{◌||◌, slice_get}
 use Rattle.std.specs.Ordering.{int_eq}
@@ -37,7 +37,7 @@ use Rattle.page_tree.specs.Fonts.{AreStyled, HasFont, HasFontBelow, HasStyle, Is
 use Rattle.page_tree.specs.Reach.{font_below, font_in, gets_other_font, has_other_font, is_parent, root_font_in}
 use Rattle.page_tree.specs.Registers.{Tells}
 use Rattle.page_tree.specs.Restyled.{Styles, restyled, styled_from}
-use Rattle.page_tree.specs.Shapes.{MovesUnder}
+use Rattle.page_tree.specs.Shapes.{Shifts}
 use Rattle.page_tree.proofs.Fonts.{none_below}
 use Rattle.page_tree.proofs.Locals.{own_nodes, touched_number, touched_parent}
 use Rattle.page_tree.proofs.Lookups.{found_tree}
@@ -165,7 +165,7 @@ own_font id q (tree x below leafless) one d e a = by_place x below id here inner
           below = own.below;
         }
 
--- ---- styles and moves
+-- ---- styles of what is moved
 restyled_tree : (styles : Styles) (n : NodeId) (t : NodeTrees) → restyled styles (tree_at n t) ≡ tree_at n (restyled styles t)
 restyled_tree styles n leafless = refl
 restyled_tree styles n (tree x below after) = at (same x.0 n) refl (restyled_tree styles n below) (restyled_tree styles n after)
@@ -249,7 +249,7 @@ each_moved P id to i t h =
     each_edited P to (graft i (tree_at id t)) (removed id t) (λ x below p b. (p, (each_put P i (tree_at id t) below (each_tree id P t h) b, tt)))
     (each_edited P id nothing t (λ x below p b. tt) h)
 
--- subgrids feel a move, so that nothing is asked of the values of a node that stood there
+-- subgrids feel the change, so that nothing is asked of the values of a node that stood there
 from_styled : (ts : List NodeId) (t : NodeTrees) (x : NodeId × Node) (z : StyleMap) → IsFrom ts true t x → IsFrom ts true t (x.0, record x.1 { style = z })
 from_styled ts t x z (inl new) = inl new
 from_styled ts t x z (inr old) = inr (old.0, (old.1.0, (old.1.1.0, (old.1.1.1.0, (old.1.1.1.1.0, (old.1.1.1.1.1.0, (old.1.1.1.1.1.1.0, λ f. absurd (not_both true refl f))))))))
@@ -259,15 +259,15 @@ left_faces styles leafless h = refl
 left_faces styles (tree x below after) h =
     λ i. sibling_of (label_of_bare (record { name = x.1.name; kind = x.1.kind; declared = x.1.declared; style = h 0 (x.0, (x.1, below)) refl x.1.style i })) ∷ left_faces styles after (λ j top e. h (suc j) top e) i
 
-module _ (t u : NodeTrees) (d : IsDistinct t) (one : count_of t ≡ 1) (old : IsStyled t) (name parent : Word) (ts : List NodeId) (h : MovesUnder name parent t u) where
+module _ (t u : NodeTrees) (d : IsDistinct t) (one : count_of t ≡ 1) (old : IsStyled t) (name parent : Word) (index : ℕ) (ts : List NodeId) (h : Shifts name parent index t u) where
   abbrev plain : Trees Label
   plain = plain_trees t
 
-  abbrev move_marks : Word → Bool
-  move_marks w = bytes_eq w name || (bytes_eq w parent || (is_parent plain name w || gets_other_font (font_in name plain) (font_in parent plain) (root_font_in plain) (doc.tree_at name plain) w))
+  abbrev shift_marks : Word → Bool
+  shift_marks w = bytes_eq w name || (bytes_eq w parent || (is_parent plain name w || gets_other_font (font_in name plain) (font_in parent plain) (root_font_in plain) (doc.tree_at name plain) w))
 
-  abbrev move_touched : NodeId → Bool
-  move_touched n = is_among n ts
+  abbrev shift_touched : NodeId → Bool
+  shift_touched n = is_among n ts
 
   abbrev lot : NodeTrees
   lot = tree_at h.id t
@@ -275,15 +275,15 @@ module _ (t u : NodeTrees) (d : IsDistinct t) (one : count_of t ≡ 1) (old : Is
   abbrev new_styles : NodeTrees
   new_styles = restyled h.styles t
 
-  module _ (before : EachNode (λ x. is_among x.0 ts ≡ move_marks x.1.name) t) (q : Part Node) (e : part_at t h.id ≡ Some q) where
-    itself : move_touched h.id ≡ true
-    itself = touched_number t name h.id ts move_marks before h.apart.found (or_left (bytes_eq name name) _ (own_name name))
+  module _ (before : EachNode (λ x. is_among x.0 ts ≡ shift_marks x.1.name) t) (q : Part Node) (e : part_at t h.id ≡ Some q) where
+    itself : shift_touched h.id ≡ true
+    itself = touched_number t name h.id ts shift_marks before h.apart.found (or_left (bytes_eq name name) _ (own_name name))
 
-    upper : move_touched h.to ≡ true
-    upper = touched_number t parent h.to ts move_marks before h.apart.onto (or_right (bytes_eq parent name) _ (or_left (bytes_eq parent parent) _ (own_name parent)))
+    upper : shift_touched h.to ≡ true
+    upper = touched_number t parent h.to ts shift_marks before h.apart.onto (or_right (bytes_eq parent name) _ (or_left (bytes_eq parent parent) _ (own_name parent)))
 
-    up : (k : NodeId) (j : ℕ) → child_at t k j ≡ Some h.id → move_touched k ≡ true
-    up = touched_parent t name h.id ts move_marks before h.apart.found.tells (λ w g. or_right (bytes_eq w name) _ (or_right (bytes_eq w parent) _ (or_left _ _ g)))
+    up : (k : NodeId) (j : ℕ) → child_at t k j ≡ Some h.id → shift_touched k ≡ true
+    up = touched_parent t name h.id ts shift_marks before h.apart.found.tells (λ w g. or_right (bytes_eq w name) _ (or_right (bytes_eq w parent) _ (or_left _ _ g)))
 
     lot_is : lot ≡ tree (h.id, q.0) q.1 leafless
     lot_is = tree_is h.id t q (d h.id) e
@@ -305,13 +305,13 @@ module _ (t u : NodeTrees) (d : IsDistinct t) (one : count_of t ≡ 1) (old : Is
         let k = found_tree t name h.id q h.apart.found e in
         λ i. gets_other_font (f i) (g i) (root_named t i) (k i) w
 
-    apart_below : StaysApart move_touched true (styled move_touched move_marks h.styles) q.1
+    apart_below : StaysApart shift_touched true (styled shift_touched shift_marks h.styles) q.1
     apart_below =
-        inside move_touched move_marks h.styles own.font new_font (root_font_of t) q.1 (λ w g. or_right (bytes_eq w name) _ (or_right (bytes_eq w parent) _ (or_right _ _ (told w ∙ g))))
-        (subst (EachNode (λ x. is_among x.0 ts ≡ move_marks x.1.name)) lot_is (each_tree h.id (λ x. is_among x.0 ts ≡ move_marks x.1.name) t before)).1.0 own.below new_below
+        inside shift_touched shift_marks h.styles own.font new_font (root_font_of t) q.1 (λ w g. or_right (bytes_eq w name) _ (or_right (bytes_eq w parent) _ (or_right _ _ (told w ∙ g))))
+        (subst (EachNode (λ x. is_among x.0 ts ≡ shift_marks x.1.name)) lot_is (each_tree h.id (λ x. is_among x.0 ts ≡ shift_marks x.1.name) t before)).1.0 own.below new_below
 
     -- outside
-    not_in_lot : (n : NodeId) (j : ℕ) (top : NodeId × Part Node) (p : Part Node) → part_at t n ≡ Some p → move_touched n ≡ false → times n lot ≡ 0 → slice_get (tops p.1) j ≡ Some top → times top.0 lot ≡ 0
+    not_in_lot : (n : NodeId) (j : ℕ) (top : NodeId × Part Node) (p : Part Node) → part_at t n ≡ Some p → shift_touched n ≡ false → times n lot ≡ 0 → slice_get (tops p.1) j ≡ Some top → times top.0 lot ≡ 0
     not_in_lot n j top p f calm z g = at (times top.0 lot) refl (same h.id top.0) refl
       where
         child : child_at t n j ≡ Some top.0
@@ -319,7 +319,7 @@ module _ (t u : NodeTrees) (d : IsDistinct t) (one : count_of t ≡ 1) (old : Is
 
         at : (m : ℕ) → times top.0 lot ≡ m → (c : Bool) → same h.id top.0 ≡ c → times top.0 lot ≡ 0
         at zero r c k = r
-        at (suc m) r true k = absurd (not_both (move_touched n) (up n j (child ∙ ap Some (sym (same_is h.id top.0 k)))) calm)
+        at (suc m) r true k = absurd (not_both (shift_touched n) (up n j (child ∙ ap Some (sym (same_is h.id top.0 k)))) calm)
         at (suc m) r false k =
             let way : is_among h.id (way_up t top.0) ≡ true = within_way t h.id top.0 q e (d top.0) (omega (arith, r, ap (times top.0) lot_is)) in
             let not : same top.0 h.id ≡ false = turned top.0 h.id k in
@@ -333,55 +333,55 @@ module _ (t u : NodeTrees) (d : IsDistinct t) (one : count_of t ≡ 1) (old : Is
                 by true c = absurd (not_both (same b a) (same_from b a (sym (same_is a b c))) g)
                 by false c = c
 
-    at_number : (n : NodeId) (p : Part Node) → part_at t n ≡ Some p → AtNode move_touched true (styled move_touched move_marks h.styles) n p
+    at_number : (n : NodeId) (p : Part Node) → part_at t n ≡ Some p → AtNode shift_touched true (styled shift_touched shift_marks h.styles) n p
     at_number n p f = at (times n lot) refl (same h.id n) refl
       where
-        at : (m : ℕ) → times n lot ≡ m → (c : Bool) → same h.id n ≡ c → AtNode move_touched true (styled move_touched move_marks h.styles) n p
+        at : (m : ℕ) → times n lot ≡ m → (c : Bool) → same h.id n ≡ c → AtNode shift_touched true (styled shift_touched shift_marks h.styles) n p
         at zero z c k =
-            let label : label_at (styled move_touched move_marks h.styles n p.0) ≡ label_at p.0 = (λ i. label_of_bare (record { name = p.0.name; kind = p.0.kind; declared = p.0.declared; style = h.under.new.apart n z p.0.style i })) in
+            let label : label_at (styled shift_touched shift_marks h.styles n p.0) ≡ label_at p.0 = (λ i. label_of_bare (record { name = p.0.name; kind = p.0.kind; declared = p.0.declared; style = h.under.new.apart n z p.0.style i })) in
             (λ calm. label, λ calm. (ap sibling_of label, left_faces h.styles p.1 (λ j top g z2. h.under.new.apart top.0 (not_in_lot n j top p f calm z g) z2)))
         at (suc m) z true k =
-            let mine : move_touched n ≡ true = ap move_touched (sym (same_is h.id n k)) ∙ itself in
-            (λ calm. absurd (not_both (move_touched n) mine calm), λ calm. absurd (not_both (move_touched n) mine calm))
+            let mine : shift_touched n ≡ true = ap shift_touched (sym (same_is h.id n k)) ∙ itself in
+            (λ calm. absurd (not_both (shift_touched n) mine calm), λ calm. absurd (not_both (shift_touched n) mine calm))
         at (suc m) z false k =
-            at_node move_touched true (styled move_touched move_marks h.styles) q.1 n p apart_below
+            at_node shift_touched true (styled shift_touched shift_marks h.styles) q.1 n p apart_below
             (sym (part_within t h.id n q e (d n) (omega (arith, z, ap (times n) lot_is, one_no (same h.id n) k))) ∙ f)
 
-    first : IsLocal move_touched true (bare t) (bare new_styles)
-    first = values_at move_touched true (styled move_touched move_marks h.styles) t at_number
+    first : IsLocal shift_touched true (bare t) (bare new_styles)
+    first = values_at shift_touched true (styled shift_touched shift_marks h.styles) t at_number
 
     there : 1 ≤ times h.to (removed h.id new_styles)
-    there = omega (arith, ap (times h.to) (restyled_removed h.styles h.id t), times_mapped (styled move_touched move_marks h.styles) h.to (removed h.id t), once_left t name parent h.id h.to h.apart)
+    there = omega (arith, ap (times h.to) (restyled_removed h.styles h.id t), times_mapped (styled shift_touched shift_marks h.styles) h.to (removed h.id t), once_left t name parent h.id h.to h.apart)
 
-    then_ : IsLocal move_touched true (bare new_styles) (bare (moved h.id h.to h.index new_styles))
+    then_ : IsLocal shift_touched true (bare new_styles) (bare (moved h.id h.to index new_styles))
     then_ =
-        move_local move_touched h.id h.to h.index new_styles (distinct_mapped (styled move_touched move_marks h.styles) t d) itself (λ k j g. up k j (sym (child_mapped (styled move_touched move_marks h.styles) t k j) ∙ g)) upper there
-        (styled move_touched move_marks h.styles h.id q.0, restyled h.styles q.1) (part_mapped (styled move_touched move_marks h.styles) t h.id ∙ ap (part_by (styled move_touched move_marks h.styles) h.id) e)
+        move_local shift_touched h.id h.to index new_styles (distinct_mapped (styled shift_touched shift_marks h.styles) t d) itself (λ k j g. up k j (sym (child_mapped (styled shift_touched shift_marks h.styles) t k j) ∙ g)) upper there
+        (styled shift_touched shift_marks h.styles h.id q.0, restyled h.styles q.1) (part_mapped (styled shift_touched shift_marks h.styles) t h.id ∙ ap (part_by (styled shift_touched shift_marks h.styles) h.id) e)
 
-    stays : (n : NodeId) → IsLive (bare new_styles) n → IsLive (bare (moved h.id h.to h.index new_styles)) n
+    stays : (n : NodeId) → IsLive (bare new_styles) n → IsLive (bare (moved h.id h.to index new_styles)) n
     stays n live =
-        live_bare (moved h.id h.to h.index new_styles) n
-        ∙ part_some (moved h.id h.to h.index new_styles) n (omega (arith, all, parts_times n h.id new_styles, grafted_times h.to h.index (tree_at h.id new_styles) (removed h.id new_styles) n there (omega (arith, few h.to, parts_times h.to h.id new_styles))))
+        live_bare (moved h.id h.to index new_styles) n
+        ∙ part_some (moved h.id h.to index new_styles) n (omega (arith, all, parts_times n h.id new_styles, grafted_times h.to index (tree_at h.id new_styles) (removed h.id new_styles) n there (omega (arith, few h.to, parts_times h.to h.id new_styles))))
       where
         all : 1 ≤ times n new_styles
         all = part_there new_styles n (sym (live_bare new_styles n) ∙ live)
 
         few : (k : NodeId) → times k new_styles ≤ 1
-        few = distinct_mapped (styled move_touched move_marks h.styles) t d
+        few = distinct_mapped (styled shift_touched shift_marks h.styles) t d
 
-    move_at : IsChange ts true move_marks t u
-    move_at =
+    shift_at : IsChange ts true shift_marks t u
+    shift_at =
         record {
-          local = subst (λ b. IsLocal move_touched true (bare t) (bare b)) (sym (h.is ∙ restyled_moved h.styles h.id h.to h.index t))
-              (composed move_touched true (bare t) (bare new_styles) (bare (moved h.id h.to h.index new_styles)) first then_ stays);
+          local = subst (λ b. IsLocal shift_touched true (bare t) (bare b)) (sym (h.is ∙ restyled_moved h.styles h.id h.to index t))
+              (composed shift_touched true (bare t) (bare new_styles) (bare (moved h.id h.to index new_styles)) first then_ stays);
           before = before;
-          after = subst (EachNode (λ x. is_among x.0 ts ≡ move_marks x.1.name)) (sym h.is) (each_styled (λ x. is_among x.0 ts ≡ move_marks x.1.name) h.styles (moved h.id h.to h.index t) (λ x z p. p) (each_moved (λ x. is_among x.0 ts ≡ move_marks x.1.name) h.id h.to h.index t before));
-          nodes = subst (EachNode (IsFrom ts true t)) (sym h.is) (each_styled (IsFrom ts true t) h.styles (moved h.id h.to h.index t) (from_styled ts t) (each_moved (IsFrom ts true t) h.id h.to h.index t (own_nodes ts true t d)));
+          after = subst (EachNode (λ x. is_among x.0 ts ≡ shift_marks x.1.name)) (sym h.is) (each_styled (λ x. is_among x.0 ts ≡ shift_marks x.1.name) h.styles (moved h.id h.to index t) (λ x z p. p) (each_moved (λ x. is_among x.0 ts ≡ shift_marks x.1.name) h.id h.to index t before));
+          nodes = subst (EachNode (IsFrom ts true t)) (sym h.is) (each_styled (IsFrom ts true t) h.styles (moved h.id h.to index t) (from_styled ts t) (each_moved (IsFrom ts true t) h.id h.to index t (own_nodes ts true t d)));
         }
 
-  pub move_change : EachNode (λ x. is_among x.0 ts ≡ move_marks x.1.name) t → IsChange ts true move_marks t u
-  move_change before = at (part_at t h.id) refl h.apart.found.live
+  pub shift_change : EachNode (λ x. is_among x.0 ts ≡ shift_marks x.1.name) t → IsChange ts true shift_marks t u
+  shift_change before = at (part_at t h.id) refl h.apart.found.live
     where
-      at : (o : Option (Part Node)) → part_at t h.id ≡ o → IsSome o → IsChange ts true move_marks t u
+      at : (o : Option (Part Node)) → part_at t h.id ≡ o → IsSome o → IsChange ts true shift_marks t u
       at None f l = absurd cc
-      at (Some q) f l = move_at before q f
+      at (Some q) f l = shift_at before q f

@@ -1,7 +1,6 @@
--- The boxes of a container that no edit reached are still those that were found last.
+-- The boxes of a container that no change reached are still those that were found last.
 use Rattle.std.proofs.Common.{◌≡◌, ℕ, ℤ, ◌≤◌, Bool, true, false, List, ◌∷◌, Option, Some, None, IsSome, is_some, refl, sym, ap, subst, ◌∙◌, arith, inl, inr}
 use Rattle.std.specs.Prelude.{◌⊎◌, Contains, if◌then◌else◌}
-use Rattle.std.specs.Str.{bytes_eq}
 use Rattle.plain_tree.specs.Trees.{leafless, tree}
 use Rattle.node_arena.specs.declared.number.NodeId.{NodeId}
 use Rattle.node_arena.specs.Edits.{graft, moved, nothing}
@@ -11,10 +10,13 @@ use Rattle.node_arena.proofs.Parts.{each_weaker, numbered}
 use Rattle.node_arena.proofs.Same.{part_some, part_there}
 use Rattle.layout_cache.specs.Kept.{answer_to}
 use Rattle.layout_cache.specs.Reach.{reached_by}
-use Rattle.doc_text.specs.declared.edit.Edit.{Edit}
-use Rattle.doc_text.specs.declared.edit.Edit.TheVariants as edit
+use Rattle.doc_text.specs.Edits.{with_kind}
+use Rattle.doc_text.specs.Growth.{holds}
+use Rattle.doc_text.specs.Label.{Label}
 use Rattle.doc_text.specs.Texts.{Word}
-use Rattle.doc_text.proofs.Grown.{own_name}
+use Rattle.edit_journal.specs.declared.change.Change.{Change}
+use Rattle.edit_journal.specs.declared.change.Change.TheVariants as change
+use Rattle.edit_journal.specs.Changes.{tree_of_node, with_style}
 use Rattle.tree_rules.specs.AskedQueries.{passes_from}
 use Rattle.tree_rules.specs.Answers.{Box}
 use Rattle.tree_rules.specs.Chains.{above_of}
@@ -34,11 +36,13 @@ use Rattle.reach_frame.proofs.CalmBelow.{child_not_found}
 use Rattle.reach_frame.proofs.Frame.{not_both, same_child}
 use Rattle.reach_frame.proofs.Rooted.{rooted}
 use Rattle.reach_frame.proofs.Unreached.{node_sub, same_sight}
-use Rattle.page_tree.specs.Forgotten.{has_name, is_made}
+use Rattle.page_tree.specs.Forgotten.{has_name_in, is_brought}
+use Rattle.page_tree.specs.Documents.{plain_trees}
 use Rattle.page_tree.specs.Left.{left_in}
 use Rattle.page_tree.specs.Restyled.{Styles, restyled}
-use Rattle.page_tree.specs.Shapes.{IsChanged}
+use Rattle.page_tree.specs.Shapes.{IsChanged, Relabels}
 use Rattle.page_tree.proofs.Reaching.{IsChange, IsWhole, bare_left, each_at, height_left, kept_calm, there_in, times_left, tops_left}
+use Rattle.page_tree.proofs.Locals.{own_names}
 use Rattle.page_tree.proofs.Relabels.{each_mapped}
 use Rattle.page_tree.proofs.Shifted.{each_moved, each_styled}
 
@@ -125,65 +129,61 @@ module _ (ts : List NodeId) (grid : Bool) (marks : Word → Bool) (root : NodeId
           subst (λ l. IsSome (answer_to r l)) (sym (kept_same m before.1)) (was.paths m r before.0)
 
 -- ---- which nodes stood there before
--- the name is that of a node that the edit made
-abbrev makes : Edit → Word → Bool
-makes (edit.Set named settings) w = false
-makes (edit.Unset named props) w = false
-makes (edit.Insert parent index at named node) w = bytes_eq w named.name
-makes (edit.Remove named) w = false
-makes (edit.Move named parent index at) w = false
-makes (edit.Content named kind) w = false
-makes (edit.Viewport width height) w = false
-makes (edit.Hit x y) w = false
+-- the name is that of a node that the change brought
+abbrev brings : Change → Word → Bool
+brings (change.Style name values) w = false
+brings (change.Take name) w = false
+brings (change.Bring parent index node) w = holds (tree_of_node node) w
+brings (change.Shift name parent index) w = false
+brings (change.Kind name kind) w = false
+brings (change.View width height) w = false
 
-abbrev Stood : Edit → NodeTrees → NodeId × Node → Type 0
-Stood e t x = IsSome (part_at t x.0) ⊎ (makes e x.1.name ≡ true)
+abbrev Stood : Change → NodeTrees → NodeId × Node → Type 0
+Stood e t x = IsSome (part_at t x.0) ⊎ (brings e x.1.name ≡ true)
 
 -- a fact of numbers alone
 module _ (P : NodeId → Type 0) where
   relabelled : (id : NodeId) (v : Node) (styles : Styles) (t : NodeTrees) → EachNode (λ x. P x.0) t → EachNode (λ x. P x.0) (restyled styles (replaced id v t))
   relabelled id v styles t own = each_styled (λ x. P x.0) styles (replaced id v t) (λ x z p. p) (each_mapped (λ x. P x.0) (λ k (w : Node). if same k id then v else w) t own)
 
-all_stood : (e : Edit) (t u : NodeTrees) → IsDistinct t → IsChanged e t u → EachNode (Stood e t) u
+all_stood : (e : Change) (t u : NodeTrees) → IsDistinct t → IsChanged e t u → EachNode (Stood e t) u
 all_stood e t u d h = by e h
   where
     own : EachNode (λ x. IsSome (part_at t x.0)) t
     own = each_weaker (λ x. value_at t x.0 ≡ Some x.1) (λ x. IsSome (part_at t x.0)) t (λ x e. there_in t x.0 x.1 e) (numbered t d).each
 
-    old : (e : Edit) (s : NodeTrees) → EachNode (λ x. IsSome (part_at t x.0)) s → EachNode (Stood e t) s
+    old : (e : Change) (s : NodeTrees) → EachNode (λ x. IsSome (part_at t x.0)) s → EachNode (Stood e t) s
     old e s each = each_weaker (λ x. IsSome (part_at t x.0)) (Stood e t) s (λ x l. inl l) each
 
-    by : (e : Edit) → IsChanged e t u → EachNode (Stood e t) u
-    by (edit.Set named settings) h = subst (EachNode (Stood (edit.Set named settings) t)) (sym h.is) (old (edit.Set named settings) (restyled h.styles (replaced h.id h.value t)) (relabelled (λ n. IsSome (part_at t n)) h.id h.value h.styles t own))
-    by (edit.Unset named props) h = subst (EachNode (Stood (edit.Unset named props) t)) (sym h.is) (old (edit.Unset named props) (restyled h.styles (replaced h.id h.value t)) (relabelled (λ n. IsSome (part_at t n)) h.id h.value h.styles t own))
-    by (edit.Insert parent index at named node) h =
-        let P : NodeId × Node → Type 0 = Stood (edit.Insert parent index at named node) t in
-        let new : P (h.id, h.value) = inr (ap (λ w. bytes_eq w named.name) h.named ∙ own_name named.name) in
-        subst (EachNode P) (sym h.is)
-        (each_edited P h.upper (graft h.index (tree (h.id, h.value) leafless leafless)) t (λ x below p b. (p, (each_put P h.index (tree (h.id, h.value) leafless leafless) below (new, (tt, tt)) b, tt))) (old (edit.Insert parent index at named node) t own))
-    by (edit.Remove named) h =
-        let P : NodeId × Node → Type 0 = Stood (edit.Remove named) t in
-        subst (EachNode P) (sym h.is) (each_edited P h.id nothing t (λ x below p b. tt) (old (edit.Remove named) t own))
-    by (edit.Move named parent index at) h =
+    valued : (e : Change) (name : Word) (f : Label → Label) → Relabels name f t u → EachNode (Stood e t) u
+    valued e name f h = subst (EachNode (Stood e t)) (sym h.is) (old e (restyled h.styles (replaced h.id h.value t)) (relabelled (λ n. IsSome (part_at t n)) h.id h.value h.styles t own))
+
+    by : (e : Change) → IsChanged e t u → EachNode (Stood e t) u
+    by (change.Style name values) h = valued (change.Style name values) name (with_style values) h
+    by (change.Take name) h =
+        let P : NodeId × Node → Type 0 = Stood (change.Take name) t in
+        subst (EachNode P) (sym h.is) (each_edited P h.id nothing t (λ x below p b. tt) (old (change.Take name) t own))
+    by (change.Bring parent index node) h =
+        let P : NodeId × Node → Type 0 = Stood (change.Bring parent index node) t in
+        let new : EachNode P h.new = each_weaker (λ x. holds (plain_trees h.new) x.1.name ≡ true) P h.new (λ x m. inr (ap (λ s. holds s x.1.name) (sym h.plain) ∙ m)) (own_names h.new) in
+        subst (EachNode P) (sym h.is) (each_edited P h.upper (graft index h.new) t (λ x below p b. (p, (each_put P index h.new below new b, tt))) (old (change.Bring parent index node) t own))
+    by (change.Shift name parent index) h =
         let P : NodeId × Node → Type 0 = λ x. IsSome (part_at t x.0) in
-        subst (EachNode (Stood (edit.Move named parent index at) t)) (sym h.is) (old (edit.Move named parent index at) (restyled h.styles (moved h.id h.to h.index t)) (each_styled P h.styles (moved h.id h.to h.index t) (λ x z p. p) (each_moved P h.id h.to h.index t own)))
-    by (edit.Content named kind) h = subst (EachNode (Stood (edit.Content named kind) t)) (sym h.is) (old (edit.Content named kind) (restyled h.styles (replaced h.id h.value t)) (relabelled (λ n. IsSome (part_at t n)) h.id h.value h.styles t own))
-    by (edit.Viewport width height) h = subst (EachNode (Stood (edit.Viewport width height) t)) (sym h) (old (edit.Viewport width height) t own)
-    by (edit.Hit x y) h = absurd h
+        subst (EachNode (Stood (change.Shift name parent index) t)) (sym h.is) (old (change.Shift name parent index) (restyled h.styles (moved h.id h.to index t)) (each_styled P h.styles (moved h.id h.to index t) (λ x z p. p) (each_moved P h.id h.to index t own)))
+    by (change.Kind name kind) h = valued (change.Kind name kind) name (with_kind kind) h
+    by (change.View width height) h = subst (EachNode (Stood (change.View width height) t)) (sym h) (old (change.View width height) t own)
 
--- the numbers that are made are those of the made names
-name_made : (e : Edit) (w : NodeTrees) (n : NodeId) (v : Node) → value_at w n ≡ Some v → is_made e w n ≡ makes e v.name
-name_made (edit.Set named settings) w n v e = refl
-name_made (edit.Unset named props) w n v e = refl
-name_made (edit.Insert parent index at named node) w n v e = ap (has_name named.name) e
-name_made (edit.Remove named) w n v e = refl
-name_made (edit.Move named parent index at) w n v e = refl
-name_made (edit.Content named kind) w n v e = refl
-name_made (edit.Viewport width height) w n v e = refl
-name_made (edit.Hit x y) w n v e = refl
+-- the numbers that are brought are those of the brought names
+name_brought : (e : Change) (w : NodeTrees) (n : NodeId) (v : Node) → value_at w n ≡ Some v → is_brought e w n ≡ brings e v.name
+name_brought (change.Style name values) w n v e = refl
+name_brought (change.Take name) w n v e = refl
+name_brought (change.Bring parent index node) w n v e = ap (has_name_in (tree_of_node node)) e
+name_brought (change.Shift name parent index) w n v e = refl
+name_brought (change.Kind name kind) w n v e = refl
+name_brought (change.View width height) w n v e = refl
 
--- a node of an edited tree that the edit did not make stood there before
-pub stood_before : (e : Edit) (t u w : NodeTrees) → IsDistinct t → IsChanged e t u → bare w ≡ bare u → (n : NodeId) → IsSome (part_at w n) → is_made e w n ≡ false → IsSome (part_at t n)
+-- a node of a changed tree that the change did not bring stood there before
+pub stood_before : (e : Change) (t u w : NodeTrees) → IsDistinct t → IsChanged e t u → bare w ≡ bare u → (n : NodeId) → IsSome (part_at w n) → is_brought e w n ≡ false → IsSome (part_at t n)
 stood_before e t u w d h alike n live old = at (value_at w n) (value_at u n) refl refl (some_value w live) (some_value u (sym (live_bare u n) ∙ ap (λ (b : BareTrees). is_some (part_at b n)) (sym alike) ∙ live_bare w n ∙ live))
   where
     some_value : (s : NodeTrees) → IsSome (part_at s n) → IsSome (value_at s n)
@@ -196,13 +196,13 @@ stood_before e t u w d h alike n live old = at (value_at w n) (value_at u n) ref
     some_bare : (a b : Bare) → Some a ≡ Some b → a ≡ b
     some_bare a b e = cc
 
-    stood : (v : Node) → makes e v.name ≡ false → Stood e t (n, v) → IsSome (part_at t n)
+    stood : (v : Node) → brings e v.name ≡ false → Stood e t (n, v) → IsSome (part_at t n)
     stood v f (inl l) = l
-    stood v f (inr m) = absurd (not_both (makes e v.name) m f)
+    stood v f (inr m) = absurd (not_both (brings e v.name) m f)
 
     at : (o p : Option Node) → value_at w n ≡ o → value_at u n ≡ p → IsSome o → IsSome p → IsSome (part_at t n)
     at None p f g l m = absurd cc
     at (Some a) None f g l m = absurd cc
     at (Some a) (Some b) f g l m =
         let name = ap (λ (v : Bare). v.name) (some_bare (bare_of a) (bare_of b) (bare_there w n a (sym f) ∙ ap (λ (s : BareTrees). value_at s n) alike ∙ sym (bare_there u n b (sym g)))) in
-        stood b (ap (makes e) (sym name) ∙ sym (name_made e w n a f) ∙ old) (each_at (Stood e t) u n b (all_stood e t u d h) g)
+        stood b (ap (brings e) (sym name) ∙ sym (name_brought e w n a f) ∙ old) (each_at (Stood e t) u n b (all_stood e t u d h) g)

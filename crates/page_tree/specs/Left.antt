@@ -1,4 +1,4 @@
--- What an edit leaves of what nodes keep (own rule).
+-- What a change leaves of what nodes keep (own rule).
 use Rattle.std.specs.Prelude.{Bool, List, if◌then◌else◌}
 use Rattle.layout_cache.specs.Reach.{forgets}
 use Rattle.node_arena.specs.declared.number.NodeId.{NodeId}
@@ -7,7 +7,7 @@ use Rattle.placing.specs.declared.node.Node.{Node}
 use Rattle.placing.specs.Keeping.{without_answers, without_past}
 use Rattle.placing.specs.Nodes.{NodeTrees}
 
--- Trees in which these nodes keep no answers; and where subgrids feel the edit, nothing longer than these either.
+-- Trees in which these nodes keep no answers; and where subgrids feel the change, nothing longer than these either.
 abbrev pub left_in : Bool → List NodeId → NodeTrees → NodeTrees
 left_in felt ns t = if felt then forgets without_past ns (forgets without_answers ns t) else forgets without_answers ns t
 

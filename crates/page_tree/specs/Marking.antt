@@ -1,4 +1,4 @@
--- The numbers of the nodes that an edit marks.
+-- The numbers of the nodes that a change marks.
 use Rattle.std.specs.Prelude.{◌≡◌, ℕ, ℤ, ◌+◌, Bool, true, false, map, ◌||◌, ◌&&◌, not, List, [], ◌∷◌, ◌++◌, if◌then◌else◌}
 use Rattle.std.specs.Ordering.{int_eq}
 use Rattle.plain_tree.specs.Trees.{Trees, leafless, tree}
@@ -10,10 +10,13 @@ use Rattle.layout_cache.specs.Reach.{from_tree, reached_by}
 use Rattle.tree_rules.specs.Chains.{has_subgrid, is_grid_kind}
 use Rattle.tree_rules.specs.Labels.{grid_of}
 use Rattle.std.specs.Str.{bytes_eq}
-use Rattle.doc_text.specs.declared.edit.Edit.{Edit}
+use Rattle.doc_text.specs.declared.document.Plain.{Plain}
 use Rattle.doc_text.specs.declared.kind.Kind.{Kind}
-use Rattle.doc_text.specs.declared.edit.Edit.TheVariants as edit
+use Rattle.doc_text.specs.Growth.{holds}
 use Rattle.doc_text.specs.Named.{tree_at}
+use Rattle.edit_journal.specs.declared.change.Change.{Change}
+use Rattle.edit_journal.specs.declared.change.Change.TheVariants as change
+use Rattle.edit_journal.specs.Changes.{tree_of_node}
 use Rattle.doc_text.specs.Label.{Label}
 use Rattle.page_tree.specs.Reach.{font_in, gets_other_font, is_container, is_felt, is_marked, is_marked_by, is_parent, root_font_in}
 use Rattle.placing.specs.declared.node.Node.{Node}
@@ -45,29 +48,27 @@ pub record IsNextBelow (old new root : ℤ) (t : NodeTrees) (n : NodeId) (index 
   pub old_is : font_of old root value.declared ≡ old_font
   pub new_is : font_of new root value.declared ≡ new_font
 
--- so of two names; of a node that is moved; and of a node that gets another content
-pub record MarksTwo (first second : Word) (t : NodeTrees) (numbers : List NodeId) : Type 0 where
-  pub each : AreMarked (λ w. bytes_eq w first || bytes_eq w second) t numbers
+-- so of what a change brings; of a node that is shifted; and of a node that gets another kind
+pub record MarksBrought (parent : Word) (node : Plain) (t : NodeTrees) (numbers : List NodeId) : Type 0 where
+  pub each : AreMarked (λ w. bytes_eq w parent || holds (tree_of_node node) w) t numbers
 
-pub record MarksMove (name parent : Word) (plain : Trees Label) (t : NodeTrees) (numbers : List NodeId) : Type 0 where
+pub record MarksShift (name parent : Word) (plain : Trees Label) (t : NodeTrees) (numbers : List NodeId) : Type 0 where
   pub each : AreMarked (λ w. bytes_eq w name || (bytes_eq w parent || (is_parent plain name w || gets_other_font (font_in name plain) (font_in parent plain) (root_font_in plain) (tree_at name plain) w))) t numbers
 
-pub record MarksContent (new : Kind) (name : Word) (plain : Trees Label) (t : NodeTrees) (numbers : List NodeId) : Type 0 where
+pub record MarksKind (new : Kind) (name : Word) (plain : Trees Label) (t : NodeTrees) (numbers : List NodeId) : Type 0 where
   pub each : AreMarked (λ w. bytes_eq w name || (is_container new name plain && is_parent plain name w)) t numbers
 
--- these numbers are those of the nodes that an edit marks
-abbrev pub MarksEdit : Edit → Trees Label → NodeTrees → List NodeId → Type 0
-MarksEdit (edit.Set named settings) plain t numbers = IsMarking (is_marked_by (map (λ s. s.0) settings) named.name plain) t numbers
-MarksEdit (edit.Unset named props) plain t numbers = IsMarking (is_marked_by props named.name plain) t numbers
-MarksEdit (edit.Insert parent index at named node) plain t numbers = MarksTwo parent.name named.name t numbers
-MarksEdit (edit.Remove named) plain t numbers = IsMarking (λ w. bytes_eq w named.name || (true && is_parent plain named.name w)) t numbers
-MarksEdit (edit.Move named parent index at) plain t numbers = MarksMove named.name parent.name plain t numbers
-MarksEdit (edit.Content named new) plain t numbers = MarksContent new named.name plain t numbers
-MarksEdit (edit.Viewport width height) plain t numbers = IsMarking (λ w. false) t numbers
-MarksEdit (edit.Hit x y) plain t numbers = IsMarking (λ w. false) t numbers
+-- these numbers are those of the nodes that a change marks
+abbrev pub MarksChange : Change → Trees Label → NodeTrees → List NodeId → Type 0
+MarksChange (change.Style name values) plain t numbers = IsMarking (is_marked_by (map (λ v. v.0) values) name plain) t numbers
+MarksChange (change.Take name) plain t numbers = IsMarking (λ w. bytes_eq w name || (true && is_parent plain name w)) t numbers
+MarksChange (change.Bring parent index node) plain t numbers = MarksBrought parent node t numbers
+MarksChange (change.Shift name parent index) plain t numbers = MarksShift name parent plain t numbers
+MarksChange (change.Kind name new) plain t numbers = MarksKind new name plain t numbers
+MarksChange (change.View width height) plain t numbers = IsMarking (λ w. false) t numbers
 
--- the numbers of the nodes that an edit of a tree reaches in it
-pub record IsReach (e : Edit) (plain : Trees Label) (t : NodeTrees) (list : List NodeId) : Type 0 where
+-- the numbers of the nodes that a change of a tree reaches in it
+pub record IsReach (c : Change) (plain : Trees Label) (t : NodeTrees) (list : List NodeId) : Type 0 where
   pub numbers : List NodeId
-  pub marked : AreMarked (is_marked e plain) t numbers
-  pub is : list ≡ reached_by (λ (v : Node). is_grid_kind v.kind && has_subgrid (grid_of v.style)) t numbers (is_felt e plain)
+  pub marked : AreMarked (is_marked c plain) t numbers
+  pub is : list ≡ reached_by (λ (v : Node). is_grid_kind v.kind && has_subgrid (grid_of v.style)) t numbers (is_felt c plain)

@@ -7,7 +7,7 @@ use Rattle.doc_text.specs.declared.edit.Named.{Named}
 use Rattle.doc_text.specs.Edits.{child_count, is_leaf_top, passes_children, passes_levels}
 use Rattle.doc_text.specs.Label.{Label}
 use Rattle.doc_text.specs.Named.{removed, tree_at}
-use Rattle.page_tree.specs.Answered.{or_later}
+use Rattle.page_tree.specs.Rows.{or_later}
 use Rattle.node_arena.specs.declared.number.NodeId.{NodeId}
 use Rattle.node_arena.specs.Faults.{is_top}
 use Rattle.node_arena.specs.Numbers.{is_among, way_up}

@@ -15,12 +15,11 @@ use Rattle.doc_text.specs.View.{label_of as plain_label}
 use Rattle.style_types.specs.Computed.{font_of}
 use Rattle.node_arena.specs.declared.number.NodeId.{NodeId}
 use Rattle.node_arena.specs.Numbers.{EachNode, IsDistinct, value_at}
-use Rattle.placing.specs.Keeping.{HoldsNone, KeepsNone}
 use Rattle.placing.specs.Nodes.{NodeTrees}
-use Rattle.placing.specs.Told.{no_past}
 use Rattle.page_tree.specs.Documents.{label_of, plain_trees}
 use Rattle.page_tree.specs.Fonts.{HasFont, HasStyle, IsStyled, root_font_of}
 use Rattle.page_tree.specs.Registers.{AreNamed}
+use Rattle.page_tree.specs.Shapes.{IsBegun}
 
 -- the version of the language, the viewport, and the arena of the nodes
 pub record Held : Type 0 where
@@ -65,21 +64,20 @@ pub record IsAround (old new : Held) : Type 0 where
   pub width : new.width ≡ old.width
   pub height : new.height ≡ old.height
 
--- the document of a root alone
-pub record IsRoot (doc : Doc) (h : Held) : Type 0 where
+-- a root alone, of the number `id`, for the root of a document
+pub record IsRoot (doc : Doc) (id : NodeId) (h : Held) : Type 0 where
   pub version : h.version ≡ doc.version
   pub width : h.width ≡ doc.width
   pub height : h.height ≡ doc.height
-  pub nodes : trees_in h ≡ tree (plain_label doc.root) leafless leafless
-  pub kept : KeepsNone h.nodes.tree
-  pub past : HoldsNone h.nodes.tree
+  pub value : Node
+  pub label : label_of value ≡ plain_label doc.root
+  pub begun : IsBegun value
+  pub nodes : h.nodes.tree ≡ tree (id, value) leafless leafless
 
 -- a node as it stands under another
 pub record StandsUnder (parent : NodeId) (t : NodeTrees) (plain : Plain) (v : Node) : Type 0 where
   pub label : label_of v ≡ plain_label plain
-  pub kept : v.kept ≡ []
-  pub past : v.past ≡ no_past
-  pub turn : v.turn ≡ 1
+  pub begun : IsBegun v
   pub font : ℤ
   pub has : HasFont font parent t
   pub style : HasStyle (font_of font (root_font_of t) v.declared) (root_font_of t) v

@@ -1,4 +1,4 @@
--- Which nodes an accepted edit reaches, by their names: all that it can change for layout, and so the nodes whose kept answers go (own rule).
+-- Which nodes a change reaches, by their names: all that it can change for layout, and so the nodes whose kept answers go (own rule).
 use Rattle.std.specs.Prelude.{◌≡◌, refl, ℤ, Bool, true, false, not, ◌&&◌, ◌||◌, List, [], ◌∷◌, map, Option, Some, None, if◌then◌else◌, codes}
 use Rattle.std.specs.List.{list_any}
 use Rattle.std.specs.Ordering.{int_eq}
@@ -17,7 +17,6 @@ use Rattle.tree_rules.specs.Documents.{first_font}
 use Rattle.tree_rules.specs.Labels.{template_in}
 use Rattle.doc_text.specs.declared.document.Doc.{Doc}
 use Rattle.doc_text.specs.declared.edit.Edit.{Edit}
-use Rattle.doc_text.specs.declared.edit.Edit.TheVariants as edit
 use Rattle.doc_text.specs.declared.kind.Kind.{Kind}
 use Rattle.doc_text.specs.declared.kind.Kind.TheVariants as kind
 use Rattle.doc_text.specs.Documents.{is_leaf}
@@ -26,6 +25,10 @@ use Rattle.doc_text.specs.Growth.{holds}
 use Rattle.doc_text.specs.Label.{Label}
 use Rattle.doc_text.specs.Named.{below_at, has_top, tree_at}
 use Rattle.doc_text.specs.Texts.{Word}
+use Rattle.edit_journal.specs.declared.change.Change.{Change}
+use Rattle.edit_journal.specs.declared.change.Change.TheVariants as change
+use Rattle.edit_journal.specs.Changes.{tree_of_node}
+use Rattle.edit_journal.specs.Steps.{forward_of}
 use Rattle.node_arena.specs.declared.number.NodeId.{NodeId}
 use Rattle.node_arena.specs.Numbers.{EachNode, value_at}
 use Rattle.placing.specs.declared.node.Node.{Node}
@@ -82,7 +85,7 @@ abbrev pub gets_other_font : ℤ → ℤ → ℤ → Trees Label → Word → Bo
 gets_other_font old parent root leafless name = false
 gets_other_font old parent root (tree x below after) name = has_other_font old (font_of parent root x.style) root below name
 
--- ---- what an edit changes
+-- ---- what a change marks
 
 abbrev pub is_content_class : Class → Bool
 is_content_class class.Content = true
@@ -111,55 +114,59 @@ have_font props = list_any is_font_property props
 abbrev pub is_container : Kind → Word → Trees Label → Bool
 is_container new name t = not (is_leaf new && is_leaf_top (tree_at name t))
 
--- subgrids feel the edit
-abbrev pub is_felt : Edit → Trees Label → Bool
-is_felt (edit.Set named settings) t = are_felt (map (λ s. s.0) settings)
-is_felt (edit.Unset named props) t = are_felt props
-is_felt (edit.Insert parent index at named node) t = true
-is_felt (edit.Remove named) t = true
-is_felt (edit.Move named parent index at) t = true
-is_felt (edit.Content named new) t = is_container new named.name t
-is_felt (edit.Viewport width height) t = false
-is_felt (edit.Hit x y) t = false
+-- subgrids feel the change
+abbrev pub is_felt : Change → Trees Label → Bool
+is_felt (change.Style name values) t = are_felt (map (λ v. v.0) values)
+is_felt (change.Take name) t = true
+is_felt (change.Bring parent index node) t = true
+is_felt (change.Shift name parent index) t = true
+is_felt (change.Kind name new) t = is_container new name t
+is_felt (change.View width height) t = false
 
 -- a node whose properties are set or no longer set; its parent, where subgrids feel it; and all below it, where `font-size` is one of them
 abbrev pub is_marked_by : List Prop → Word → Trees Label → Word → Bool
 is_marked_by props node t name =
     bytes_eq name node || ((are_felt props && is_parent t node name) || (have_font props && holds (below_at node t) name))
 
--- The nodes that an edit of these trees marks: the edited node; where subgrids feel the edit, its parent, of a move the old and the new one; and the nodes below it
--- whose font size is declared anew, or is another where it is moved to.
-abbrev pub is_marked : Edit → Trees Label → Word → Bool
-is_marked (edit.Set named settings) t name = is_marked_by (map (λ s. s.0) settings) named.name t name
-is_marked (edit.Unset named props) t name = is_marked_by props named.name t name
-is_marked (edit.Insert parent index at named node) t name = bytes_eq name parent.name || bytes_eq name named.name
-is_marked (edit.Remove named) t name = bytes_eq name named.name || is_parent t named.name name
-is_marked (edit.Move named parent index at) t name =
-    bytes_eq name named.name
-    || (bytes_eq name parent.name
-    || (is_parent t named.name name || gets_other_font (font_in named.name t) (font_in parent.name t) (root_font_in t) (tree_at named.name t) name))
-is_marked (edit.Content named new) t name = bytes_eq name named.name || (is_container new named.name t && is_parent t named.name name)
-is_marked (edit.Viewport width height) t name = false
-is_marked (edit.Hit x y) t name = false
+-- The nodes that a change of these trees marks: the node that it names, and all that it brings; where subgrids feel it, the parent, of a node that is shifted the old
+-- and the new one; and the nodes below it whose font size is declared anew, or is another where it is shifted to.
+abbrev pub is_marked : Change → Trees Label → Word → Bool
+is_marked (change.Style node values) t name = is_marked_by (map (λ v. v.0) values) node t name
+is_marked (change.Take node) t name = bytes_eq name node || is_parent t node name
+is_marked (change.Bring parent index node) t name = bytes_eq name parent || holds (tree_of_node node) name
+is_marked (change.Shift node parent index) t name =
+    bytes_eq name node
+    || (bytes_eq name parent
+    || (is_parent t node name || gets_other_font (font_in node t) (font_in parent t) (root_font_in t) (tree_at node t) name))
+is_marked (change.Kind node new) t name = bytes_eq name node || (is_container new node t && is_parent t node name)
+is_marked (change.View width height) t name = false
 
--- the node of this name in a tree is reached by an edit of another
-abbrev pub reaches : Edit → Trees Label → Trees Label → Word → Bool
-reaches e old t name = is_reached (λ x. bytes_eq x.name name) (λ x. is_marked e old x.name) is_subgrid_node (is_felt e old) false t
+-- the node of this name in a tree is reached by a change of another
+abbrev pub reaches : Change → Trees Label → Trees Label → Word → Bool
+reaches c old t name = is_reached (λ x. bytes_eq x.name name) (λ x. is_marked c old x.name) is_subgrid_node (is_felt c old) false t
 
--- the edit reaches the node of this name in the document before it or in that after it; an inserted node is reached
+-- the change reaches the node of this name in the document before it or in that after it; a node that it brings is reached
+abbrev pub touches : Change → Doc → Doc → Word → Bool
+touches c old new name = reaches c (tree_of old) (tree_of old) name || reaches c (tree_of old) (tree_of new) name
+
+-- an edit touches what the change that it makes touches
 abbrev pub is_touched : Edit → Doc → Doc → Word → Bool
-is_touched e old new name = reaches e (tree_of old) (tree_of old) name || reaches e (tree_of old) (tree_of new) name
+is_touched e = touches (forward_of e)
 
 -- ---- what is kept
 
--- A node after an edit keeps nothing where its name is touched; and else it stood in the old tree under this name and number, was of this kind, and keeps what it kept there.
+-- A node after a change keeps nothing where its name is touched; and else it stood in the old tree under this name and number, was of this kind, and keeps what it kept
+-- there.
 pub record KeepsOn (touched : Bool) (old : NodeTrees) (x : NodeId × Node) : Type 0 where
   pub kept : x.1.kept ≡ (if touched then [] else kept_at old x.0)
   pub stood : touched ≡ false → (v : Node) × ((value_at old x.0 ≡ Some v) × ((v.name ≡ x.1.name) × (v.kind ≡ x.1.kind)))
 
--- so each node of a page after an edit
+-- so each node of a page after a change, and after an edit
+abbrev pub LeavesOthers : Change → Held → Held → Type 0
+LeavesOthers c old new = EachNode (λ x. KeepsOn (touches c (document_of old) (document_of new) x.1.name) old.nodes.tree x) new.nodes.tree
+
 abbrev pub KeepsOthers : Edit → Held → Held → Type 0
-KeepsOthers e old new = EachNode (λ x. KeepsOn (is_touched e (document_of old) (document_of new) x.1.name) old.nodes.tree x) new.nodes.tree
+KeepsOthers e = LeavesOthers (forward_of e)
 
 -- ---- worked rows, over names alone: a grid `main` with a leaf `b` and the subgrid `s`, in which `t` is a subgrid with a leaf `p`
 

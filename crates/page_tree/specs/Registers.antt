@@ -4,8 +4,8 @@ use Rattle.std.specs.Str.{bytes_eq}
 use Rattle.plain_tree.specs.Trees.{leafless, tree}
 use Rattle.doc_text.specs.Growth.{holds}
 use Rattle.node_arena.specs.declared.number.NodeId.{NodeId}
-use Rattle.node_arena.specs.Numbers.{EachNode, IsDistinct, one, part_at, same, times, value_at}
-use Rattle.layout_cache.specs.Reach.{NextChild}
+use Rattle.node_arena.specs.Numbers.{EachNode, IsDistinct, below_at, one, part_at, same, times, value_at}
+use Rattle.layout_cache.specs.Reach.{from_tree}
 use Rattle.placing.specs.declared.node.Node.{Node}
 use Rattle.placing.specs.Nodes.{NodeTrees}
 use Rattle.page_tree.specs.Documents.{plain_trees}
@@ -48,8 +48,8 @@ HasName id name t = EachNode (λ x. same x.0 id ≡ true → x.1.name ≡ name) 
 abbrev pub Without : NodeTrees → (List ℕ → Option NodeId) → (List ℕ → Option NodeId) → Type 0
 Without gone old new = (name : List ℕ) → new name ≡ (if holds (plain_trees gone) name then None else old name)
 
--- the child of this index is the node of this number
+-- the child of this index is the node of this number, before those after it
 pub record IsNext (t : NodeTrees) (n : NodeId) (index : ℕ) (c : NodeId) : Type 0 where
   pub value : Node
   pub there : value_at t c ≡ Some value
-  pub next : NextChild (λ v. bytes_eq v.name value.name) t n index c true
+  pub next : from_tree index (below_at t n) ≡ tree (c, value) (below_at t c) (from_tree (index + 1) (below_at t n))

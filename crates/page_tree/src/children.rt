@@ -10,7 +10,6 @@ ghost use Rattle.node_arena.specs.Faults.{is_top};
 ghost use Rattle.node_arena.specs.Numbers.{below_at, value_at};
 ghost use Rattle.layout_cache.specs.Reach.{from_tree};
 ghost use Rattle.placing.specs.declared.node.Node.{Node};
-ghost use Rattle.page_tree.specs.Plains.{IsTreeAt};
 ghost use Rattle.page_tree.specs.Registers.{IsNext, Without};
 
 use lunit::Name;
@@ -22,7 +21,6 @@ use std::collections::BTreeMap;
 pub(crate) fn child_at(tree: &Arena<Node>, id: NodeId, index: usize) -> Option<NodeId>
     ensures none { IfNone result (from_tree index (below_at tree.now.tree id) ≡ leafless) }
     ensures some { IfSome result (IsNext tree.now.tree id index) }
-    ensures whole { IfSome result (IsTreeAt tree.now.tree id index) }
 {
     match tree.child(id, index) {
         Some(child) => match tree.get(child) {

@@ -37,7 +37,8 @@ pub(crate) fn root_font(tree: &Arena<Node>) -> Lu
     }
 }
 
-/// The font size of a node, where that of the root is known: what its values and those above it declare (CSS Fonts 4, 2.5).
+/// The font size of a node, where that of the root is known: what its values and those above it
+/// declare (CSS Fonts 4, 2.5).
 pub(crate) fn font_at(tree: &Arena<Node>, root: Lu, id: NodeId) -> Lu
     requires root { root ≡ root_font_of tree.now.tree }
     requires live { IsSome (part_at tree.now.tree id) }

@@ -6,7 +6,7 @@ ghost use Rattle.doc_text.specs.Edits.{child_count, is_leaf_top};
 ghost use Rattle.doc_text.specs.Growth.{holds};
 ghost use Rattle.doc_text.specs.Documents.{is_leaf};
 ghost use Rattle.doc_text.specs.Named.{level_of, tree_at};
-ghost use Rattle.page_tree.specs.Answered.{or_later};
+ghost use Rattle.page_tree.specs.Rows.{or_later};
 ghost use Rattle.page_tree.specs.Documents.{kind_of};
 ghost use Rattle.page_tree.specs.Pages.{trees_in};
 

@@ -1,6 +1,7 @@
 //! Nodes as the arena holds them.
 
-ghost use Rattle.std.specs.Prelude.{◌≡◌, [], IfOk};
+ghost use Rattle.std.specs.Prelude.{◌≡◌, [], IfOk, IsSome, Some};
+ghost use Rattle.node_arena.specs.Numbers.{part_at, value_at};
 ghost use Rattle.style_types.specs.Computed.{computed_style};
 ghost use Rattle.placing.specs.Told.{no_past};
 ghost use Rattle.page_tree.specs.Documents.{kind_of};
@@ -8,6 +9,7 @@ ghost use Rattle.page_tree.specs.Documents.{kind_of};
 use doc_text::Kind;
 use layout_cache::Kept;
 use lunit::{Copied, Lu, Name, NoMemory};
+use node_arena::{Arena, NodeId};
 use placing::{Node, NodeKind, Past};
 use std::alloc::Global;
 use style_types::Declared;
@@ -55,4 +57,15 @@ pub(crate) fn made(
         turn,
         past: Past::new(),
     })
+}
+
+/// The node of a number that names one.
+pub(crate) fn node_of(tree: &Arena<Node>, id: NodeId) -> &Node
+    requires { IsSome (part_at tree.now.tree id) }
+    ensures { Some result.now ≡ value_at tree.now.tree id }
+{
+    match tree.get(id) {
+        Some(node) => node,
+        None => unreachable!(),
+    }
 }

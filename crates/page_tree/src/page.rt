@@ -1,14 +1,14 @@
 //! A document as the engine holds it.
 
-ghost use Rattle.std.specs.Prelude.{◌≡◌, [], true, false, Ok, Some, IfOk, OnOk, OnErr, IsSome};
-ghost use Rattle.plain_tree.specs.Trees.{leafless, tree};
+ghost use Rattle.std.specs.Prelude.{◌≡◌, [], ⊤, false, Ok, Some, IfOk, IsOk, OnOk, OnErr, IsSome};
+ghost use Rattle.plain_tree.specs.Trees.{leafless};
+ghost use Rattle.node_arena.specs.Edits.{removed};
 ghost use Rattle.node_arena.specs.Faults.{is_top};
 ghost use Rattle.node_arena.specs.Numbers.{part_at};
-ghost use Rattle.doc_text.specs.Edits.{edited, tree_of};
-ghost use Rattle.doc_text.specs.declared.edit.Edit.TheVariants as edit;
+ghost use Rattle.doc_text.specs.Edits.{tree_of};
 ghost use Rattle.doc_text.specs.Growth.{holds};
 ghost use Rattle.doc_text.specs.Label.{Label};
-ghost use Rattle.doc_text.specs.Named.{inserted, moved, relabelled, removed, IsDistinct};
+ghost use Rattle.doc_text.specs.Named.{IsDistinct};
 ghost use Rattle.doc_text.specs.View.{label_of};
 ghost use Rattle.box_layout.specs.BoxesSeen.{AreNear};
 ghost use Rattle.box_layout.specs.LastBoxes.{AreFound};
@@ -17,17 +17,19 @@ ghost use Rattle.box_layout.specs.Paths.{IsAllKept, IsAsked, IsCutShort, IsPathK
 ghost use Rattle.doc_text.specs.Valid.{IsValid};
 ghost use Rattle.placing.specs.Walks.{state, Walk};
 ghost use Rattle.layout_cache.specs.Reach.{all_forgot};
-ghost use Rattle.placing.specs.Keeping.{without_answers, without_past, HoldsNone, KeepsNone};
+ghost use Rattle.placing.specs.Keeping.{without_answers, without_past, KeepsNone};
 ghost use Rattle.placing.specs.Nodes.{bare};
+ghost use Rattle.page_tree.specs.Answered.{HasSize};
 ghost use Rattle.page_tree.specs.Boxes.{boxes_of};
 ghost use Rattle.placing.specs.Kept.{kept_at, IsRight};
 ghost use Rattle.page_tree.specs.Documents.{kind_of, Becomes};
-ghost use Rattle.page_tree.specs.Filled.{filled, AreNew};
+ghost use Rattle.page_tree.specs.Filled.{Fills, IsLone};
+ghost use Rattle.page_tree.specs.Fits.{AreNamedAnew};
 ghost use Rattle.page_tree.specs.Moves.{AreApart};
 ghost use Rattle.page_tree.specs.Pages.{document_of, trees_in, IsAround, IsRoot, Stands, StandsUnder};
 ghost use Rattle.page_tree.specs.RootFrames.{IsRootOf, KeepsPath};
-ghost use Rattle.page_tree.specs.Registers.{Finds};
-ghost use Rattle.page_tree.specs.Shapes.{Inserts, MovesUnder, Relabels, Removes};
+ghost use Rattle.page_tree.specs.Registers.{Finds, HasName};
+ghost use Rattle.page_tree.specs.Shapes.{Adds, Relabels, Shifts};
 
 use crate::font::{font_at, font_of_root, root_font};
 use crate::laws::valid_documents_are_readable;
@@ -46,8 +48,8 @@ use std::marker::Model;
 use std::sync::ledger::Ledger;
 use style_types::Declared;
 
-/// A document in the form that edits and layouts work on: its nodes in an arena, found by their names, each with its
-/// computed style and the answers that it keeps.
+/// A document in the form that edits and layouts work on: its nodes in an arena, found by their
+/// names, each with its computed style and the answers that it keeps.
 #[derive(Drop)]
 pub struct Page {
     version: u8,
@@ -77,6 +79,20 @@ impl Page {
         self.version
     }
 
+    /// The width of the viewport.
+    pub(crate) fn width(&self) -> Lu
+        ensures { result ≡ self.now.width }
+    {
+        self.width
+    }
+
+    /// The height of the viewport.
+    pub(crate) fn height(&self) -> Lu
+        ensures { result ≡ self.now.height }
+    {
+        self.height
+    }
+
     /// The nodes.
     pub fn tree(&self) -> &Arena<Node>
         ensures { result.now ≡ self.now.nodes }
@@ -95,7 +111,7 @@ impl Page {
 
     /// The viewport has this size. No kept answer depends on it.
     pub(crate) fn set_viewport(&mut self, width: Lu, height: Lu)
-        ensures document { edited (edit.Viewport width height) (document_of self.old) ≡ Ok (document_of self.new) }
+        ensures size { HasSize width height self.old self.new }
         ensures nodes { self.new.nodes ≡ self.old.nodes }
     {
         self.width = width;
@@ -109,22 +125,23 @@ impl Page {
         self.nodes.find(name)
     }
 
-    /// The document of a root alone.
-    fn of_root(alloc: Global, doc: &Doc) -> Result<Page, NoMemory>
-        ensures { IfOk result (λ page. IsRoot doc.now page) }
+    /// The document of a root alone, and the number of the root.
+    fn of_root(alloc: Global, doc: &Doc) -> Result<(Page, NodeId), NoMemory>
+        ensures { IfOk result (λ made. IsRoot doc.now made.1 made.0) }
     {
         let font = font_of_root(&doc.root.style);
         let kind = node_kind(alloc, &doc.root.kind)?;
         let declared = doc.root.style.copy(alloc)?;
         let root = made(alloc, doc.root.name, kind, declared, font, font, 1)?;
-        let (nodes, _) = Register::new(alloc, root, node_limit(doc.version), MAX_CHILDREN)?;
-        Ok(Page {
+        let (nodes, id) = Register::new(alloc, root, node_limit(doc.version), MAX_CHILDREN)?;
+        let page = Page {
             version: doc.version,
             width: doc.width,
             height: doc.height,
             nodes,
             alloc,
-        })
+        };
+        Ok((page, id))
     }
 
     /// A node as it stands under another.
@@ -140,31 +157,31 @@ impl Page {
         made(self.alloc, plain.name, kind, declared, font, root, 1)
     }
 
-    /// Makes a node without children under the node of a name, at an index of its children; where no node has the name,
-    /// nothing. It takes all its memory first.
-    pub(crate) fn add(&mut self, parent: &Name, index: usize, plain: &Plain) -> Result<(), NoMemory>
-        requires { holds (trees_in self.old) plain.now.name ≡ false }
-        ensures nodes { OnOk result (trees_in self.new ≡ inserted parent.now index (label_of plain.now) (trees_in self.old)) }
-        ensures around { OnOk result (IsAround self.old self.new) }
-        ensures kept { OnOk result (KeepsNone self.old.nodes.tree → KeepsNone self.new.nodes.tree) }
-        ensures past { OnOk result (HoldsNone self.old.nodes.tree → HoldsNone self.new.nodes.tree) }
-        ensures changes { OnOk result (holds (trees_in self.old) parent.now ≡ true → Inserts parent.now plain.now.name self.old.nodes.tree self.new.nodes.tree) }
+    /// Makes a node without children under another, at an index of its children. It takes all its
+    /// memory first.
+    pub(crate) fn add(
+        &mut self,
+        parent: NodeId,
+        index: usize,
+        plain: &Plain,
+    ) -> Result<NodeId, NoMemory>
+        requires live { IsSome (part_at self.old.nodes.tree parent) }
+        requires new { holds (trees_in self.old) plain.now.name ≡ false }
+        ensures adds { IfOk result (λ id. Adds parent index (label_of plain.now) id self.old.nodes.tree self.new.nodes.tree) }
+        ensures around { IsAround self.old self.new }
         ensures err { OnErr result (self.new ≡ self.old) }
     {
         if self.nodes.tree().inserted() == u64::MAX {
             return Err(NoMemory);
         }
-        let id = match self.nodes.find(parent) {
-            Some(id) => id,
-            None => return Ok(()),
-        };
-        let node = self.node_under(id, plain)?;
-        self.nodes.insert(id, index, node)?;
-        Ok(())
+        let node = self.node_under(parent, plain)?;
+        let id = self.nodes.insert(parent, index, node)?;
+        Ok(id)
     }
 
-    /// Gives the node of a name and a number another kind and other values, and where these change its font size, all nodes
-    /// below it the computed styles that follow. It takes all its memory first.
+    /// Gives the node of a name and a number another kind and other values, and where these change
+    /// its font size, all nodes below it the computed styles that follow. It takes all its memory
+    /// first.
     pub(crate) fn relabel(
         &mut self,
         name: &Name,
@@ -173,7 +190,6 @@ impl Page {
         declared: Declared,
     ) -> Result<(), NoMemory>
         requires { Finds self.old.nodes.tree name.now (Some id) }
-        ensures nodes { OnOk result ((change : Label → Label) → Becomes id change (record { name = name.now; kind = kind_of kind; style = declared }) self.old.nodes.tree → trees_in self.new ≡ relabelled name.now change (trees_in self.old)) }
         ensures around { OnOk result (IsAround self.old self.new) }
         ensures changes { OnOk result ((change : Label → Label) → Becomes id change (record { name = name.now; kind = kind_of kind; style = declared }) self.old.nodes.tree → Relabels name.now change self.old.nodes.tree self.new.nodes.tree) }
         ensures err { OnErr result (self.new ≡ self.old) }
@@ -189,20 +205,21 @@ impl Page {
         Ok(())
     }
 
-    /// Takes the node of a name and a number, which is not the root, out with all below it. Takes no memory.
-    pub(crate) fn take_out(&mut self, name: &Name, id: NodeId)
-        requires found { Finds self.old.nodes.tree name.now (Some id) }
+    /// Takes the node of a number and a name, which is not the root, out with all below it. Takes
+    /// no memory.
+    pub(crate) fn take_out(&mut self, id: NodeId, name: &Name)
+        requires live { IsSome (part_at self.old.nodes.tree id) }
         requires low { is_top self.old.nodes.tree id ≡ false }
-        ensures nodes { trees_in self.new ≡ removed name.now (trees_in self.old) }
+        requires name { HasName id name.now self.old.nodes.tree }
+        ensures nodes { self.new.nodes.tree ≡ removed id self.old.nodes.tree }
         ensures around { IsAround self.old self.new }
-        ensures changes { Removes name.now self.old.nodes.tree self.new.nodes.tree }
     {
         self.nodes.remove(id, name);
     }
 
-    /// Moves the node of a name and a number under that of another, at an index of the children that are left. It takes all
-    /// its memory first.
-    pub(crate) fn shift(
+    /// Moves the node of a name and a number under that of another, at an index of the children
+    /// that are left. It takes all its memory first.
+    pub(crate) fn move_under(
         &mut self,
         name: &Name,
         parent: &Name,
@@ -211,9 +228,8 @@ impl Page {
         index: usize,
     ) -> Result<(), NoMemory>
         requires { AreApart self.old.nodes.tree name.now parent.now id to }
-        ensures nodes { OnOk result (trees_in self.new ≡ moved name.now parent.now index (trees_in self.old)) }
+        ensures changes { OnOk result (Shifts name.now parent.now index self.old.nodes.tree self.new.nodes.tree) }
         ensures around { OnOk result (IsAround self.old self.new) }
-        ensures changes { OnOk result (MovesUnder name.now parent.now self.old.nodes.tree self.new.nodes.tree) }
         ensures err { OnErr result (self.new ≡ self.old) }
     {
         let tree = self.nodes.tree();
@@ -270,9 +286,9 @@ impl Page {
         )
     }
 
-    /// Hands over the boxes as [`Page::lay_out`] does, by the frame that it found for the root and by
-    /// what the containers keep since. Nothing is asked anew, and nothing changes. `NoMemory` where
-    /// memory is wanting.
+    /// Hands over the boxes as [`Page::lay_out`] does, by the frame that it found for the root and
+    /// by what the containers keep since. Nothing is asked anew, and nothing changes. `NoMemory`
+    /// where memory is wanting.
     pub fn kept_boxes<T: BoxSink, L: Ledger>(
         &mut self,
         root_frame: &RootFrame,
@@ -333,7 +349,8 @@ impl Page {
         self.alloc
     }
 
-    /// The page of a document whose names differ, as those of every valid document do. No answer is kept yet.
+    /// The page of a document whose names differ, as those of every valid document do. No answer is
+    /// kept yet.
     ///
     /// `NoMemory` where memory is wanting.
     pub fn new(alloc: Global, doc: &Doc) -> Result<Page, NoMemory>
@@ -342,27 +359,29 @@ impl Page {
         ensures right { IfOk result (λ page. IsRight page.nodes.tree) }
         ensures none { IfOk result (λ page. KeepsNone page.nodes.tree) }
     {
-        let mut page = Page::of_root(alloc, doc)?;
-        fill(&mut page, &doc.root)?;
+        let (mut page, root) = Page::of_root(alloc, doc)?;
+        fill(&mut page, root, &doc.root)?;
         Ok(page)
     }
 }
 
-/// Makes all nodes below one that has none yet.
-fn fill(page: &mut Page, node: &Plain) -> Result<(), NoMemory>
-    requires distinct { IsDistinct node.now.children }
-    requires new { AreNew node.now.children (trees_in page.old) }
-    requires bare { filled node.now.name leafless (trees_in page.old) ≡ trees_in page.old }
-    ensures nodes { OnOk result (trees_in page.new ≡ filled node.now.name node.now.children (trees_in page.old)) }
-    ensures around { OnOk result (IsAround page.old page.new) }
-    ensures kept { OnOk result (KeepsNone page.old.nodes.tree → KeepsNone page.new.nodes.tree) }
-    ensures past { OnOk result (HoldsNone page.old.nodes.tree → HoldsNone page.new.nodes.tree) }
+#[tactic(auto, using(crate::proofs::Filling::filling))]
+/// Makes all nodes below one that has none yet. Where memory is wanting some of them were made.
+pub(crate) fn fill(page: &mut Page, id: NodeId, node: &Plain) -> Result<(), NoMemory>
+    requires lone { IsLone id page.old.nodes.tree }
+    requires names { AreNamedAnew node.now.children (trees_in page.old) }
+    ensures ok { OnOk result (Fills (λ below. below ≡ node.now.children) id page.old.nodes.tree page.new.nodes.tree) }
+    ensures err { OnErr result (Fills (λ below. ⊤) id page.old.nodes.tree page.new.nodes.tree) }
+    ensures bare { node.now.children ≡ leafless → IsOk result }
+    ensures around { IsAround page.old page.new }
 {
+    let _ = page.stands();
     let children = node.children.nodes();
     for index in 0..children.len() {
+        let _ = page.stands();
         let child = &children[index];
-        page.add(&node.name, index, child)?;
-        fill(page, child)?;
+        let below = page.add(id, index, child)?;
+        fill(page, below, child)?;
     }
     Ok(())
 }

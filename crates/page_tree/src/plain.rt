@@ -1,11 +1,12 @@
 //! The plain document that a page stands for.
 
-ghost use Rattle.std.specs.Prelude.{◌≡◌, IfOk, IsSome, Some};
-ghost use Rattle.node_arena.specs.Numbers.{part_at, value_at};
+ghost use Rattle.std.specs.Prelude.{◌≡◌, IfOk, IsSome};
+ghost use Rattle.node_arena.specs.Numbers.{part_at};
 ghost use Rattle.page_tree.specs.Documents.{kind_of};
-ghost use Rattle.page_tree.specs.Plains.{IsPlainAt};
+ghost use Rattle.page_tree.specs.Places.{IsPlainAt};
 
 use crate::children::child_at;
+use crate::node::node_of;
 use doc_text::{Children, Kind, Plain};
 use lunit::{Copied, NoMemory};
 use node_arena::{Arena, NodeId};
@@ -13,24 +14,13 @@ use placing::{Node, NodeKind};
 use std::alloc::Global;
 
 /// The kind of a node as a document has it.
-fn plain_kind(alloc: Global, kind: &NodeKind) -> Result<Kind, NoMemory>
+pub(crate) fn plain_kind(alloc: Global, kind: &NodeKind) -> Result<Kind, NoMemory>
     ensures { IfOk result (λ made. made ≡ kind_of kind.now) }
 {
     match kind {
         NodeKind::Grid => Ok(Kind::Grid),
         NodeKind::Flex => Ok(Kind::Flex),
         NodeKind::Leaf(content) => Ok(Kind::Leaf(content.content().copy(alloc)?)),
-    }
-}
-
-/// The node of a number that names one.
-fn node_of(tree: &Arena<Node>, id: NodeId) -> &Node
-    requires { IsSome (part_at tree.now.tree id) }
-    ensures { Some result.now ≡ value_at tree.now.tree id }
-{
-    match tree.get(id) {
-        Some(node) => node,
-        None => unreachable!(),
     }
 }
 

@@ -1,10 +1,13 @@
 //! Why edits are refused.
 
-ghost use Rattle.std.specs.Prelude.{◌≡◌, ◌+◌, ◌||◌, nat_lt, IfErr, IfOk, OnOk, Some, None};
+ghost use Rattle.std.specs.Prelude.{◌≡◌, ◌+◌, ◌||◌, nat_lt, not, Some, None};
 ghost use Rattle.plain_tree.specs.Trees.{size_of, height_of};
+ghost use Rattle.doc_text.specs.Growth.{holds};
 ghost use Rattle.doc_text.specs.Named.{removed, tree_at};
+ghost use Rattle.track_text.specs.Gives.{fault_at};
 ghost use Rattle.page_tree.specs.Moves.{place_refusal, AreApart};
 ghost use Rattle.page_tree.specs.Registers.{Finds};
+ghost use Rattle.page_tree.specs.Rows.{or_later};
 ghost use Rattle.doc_text.specs.Documents.{node_limit};
 ghost use Rattle.doc_text.specs.Edits.{are_too_many, child_count, first_refusal, passes_children, passes_levels, refusals};
 ghost use Rattle.doc_text.specs.declared.document.Plain.{Plain};
@@ -15,7 +18,7 @@ ghost use Rattle.page_tree.specs.Pages.{document_of, trees_in};
 use crate::children::{has_child, height_below};
 use crate::lookup::{count, has, is_leaf_at, level, or_later, size};
 use crate::page::Page;
-use doc_text::{MAX_CHILDREN, MAX_LEVELS, Named, node_limit};
+use doc_text::{Edit, MAX_CHILDREN, MAX_LEVELS, Named, node_limit};
 use node_arena::NodeId;
 use text_scan::{Fault, Place};
 
@@ -81,14 +84,27 @@ fn is_past_last(page: &Page, parent: &Named, index: u32) -> bool
     count(page, &parent.name) < index as usize
 }
 
+/// Why an edit is refused, if it is: the first row of the table of refusals that comes.
+pub(crate) fn of_edit(page: &Page, edit: &Edit) -> Option<Fault>
+    ensures { result ≡ first_refusal (refusals (document_of page.now) edit.now) }
+{
+    let _ = page.stands();
+    match edit {
+        Edit::Set(named, _settings) => of_named(page, named),
+        Edit::Unset(named, _props) => of_named(page, named),
+        Edit::Insert(parent, index, at, named, _node) => {
+            of_insert(page, parent, *index, *at, named)
+        }
+        Edit::Remove(named) => of_removal(page, named),
+        Edit::Move(named, parent, index, at) => of_move(page, named, parent, *index, *at),
+        Edit::Content(named, _kind) => of_content(page, named),
+        Edit::Viewport(_, _) => None,
+        Edit::Undo(_, _) | Edit::Redo(_, _) | Edit::Hit(_, _) => None,
+    }
+}
+
 /// Why a new node under a parent, at an index of its children, is refused.
-pub(crate) fn of_insert(
-    page: &Page,
-    parent: &Named,
-    index: u32,
-    at: Place,
-    named: &Named,
-) -> Option<Fault>
+fn of_insert(page: &Page, parent: &Named, index: u32, at: Place, named: &Named) -> Option<Fault>
     ensures { (node : Plain) → result ≡ first_refusal (refusals (document_of page.now) (edit.Insert parent.now index at named.now node)) }
 {
     let _ = page.stands();
@@ -105,8 +121,15 @@ pub(crate) fn of_insert(
     or_later(!has(page, &parent.name), UNKNOWN_NAME, parent.at, later)
 }
 
+/// Why an edit is refused that asks of its node alone that it is there.
+fn of_named(page: &Page, named: &Named) -> Option<Fault>
+    ensures { result ≡ or_later (not (holds (trees_in page.now) named.now.name)) 21 named.now.at None }
+{
+    or_later(!has(page, &named.name), UNKNOWN_NAME, named.at, None)
+}
+
 /// Why another content of a node is refused.
-pub(crate) fn of_content(page: &Page, named: &Named) -> Option<Fault>
+fn of_content(page: &Page, named: &Named) -> Option<Fault>
     ensures { (kind : Kind) → result ≡ first_refusal (refusals (document_of page.now) (edit.Content named.now kind)) }
 {
     let _ = page.stands();
@@ -115,53 +138,35 @@ pub(crate) fn of_content(page: &Page, named: &Named) -> Option<Fault>
     or_later(!has(page, &named.name), UNKNOWN_NAME, named.at, later)
 }
 
-/// Why a move of a node under a parent, at an index of the children that are left, is refused; else the numbers of both.
-pub(crate) fn of_move(
-    page: &Page,
-    named: &Named,
-    parent: &Named,
-    index: u32,
-    at: Place,
-) -> Result<(NodeId, NodeId), Fault>
-    ensures fault { IfErr result (λ fault. first_refusal (refusals (document_of page.now) (edit.Move named.now parent.now index at)) ≡ Some fault) }
-    ensures none { OnOk result (first_refusal (refusals (document_of page.now) (edit.Move named.now parent.now index at)) ≡ None) }
-    ensures apart { IfOk result (λ ids. AreApart page.now.nodes.tree named.now.name parent.now.name ids.0 ids.1) }
+/// Why the removal of a node is refused.
+fn of_removal(page: &Page, named: &Named) -> Option<Fault>
+    ensures { result ≡ first_refusal (refusals (document_of page.now) (edit.Remove named.now)) }
 {
     let _ = page.stands();
-    match page.find(&named.name) {
-        Some(id) => of_move_from(page, id, named, parent, index, at),
-        None => Err(Fault {
-            number: UNKNOWN_NAME,
-            place: named.at,
-        }),
+    let Some(id) = page.find(&named.name) else {
+        return told(UNKNOWN_NAME, named.at);
+    };
+    if page.tree().root().is(id) {
+        return told(ROOT, named.at);
     }
+    None
 }
 
-/// The same where the number of the node is known.
-fn of_move_from(
-    page: &Page,
-    id: NodeId,
-    named: &Named,
-    parent: &Named,
-    index: u32,
-    at: Place,
-) -> Result<(NodeId, NodeId), Fault>
-    requires { Finds page.now.nodes.tree named.now.name (Some id) }
-    ensures fault { IfErr result (λ fault. first_refusal (refusals (document_of page.now) (edit.Move named.now parent.now index at)) ≡ Some fault) }
-    ensures none { OnOk result (first_refusal (refusals (document_of page.now) (edit.Move named.now parent.now index at)) ≡ None) }
-    ensures apart { IfOk result (λ ids. AreApart page.now.nodes.tree named.now.name parent.now.name ids.0 ids.1) }
+/// Why a move of a node under a parent, at an index of the children that are left, is refused.
+fn of_move(page: &Page, named: &Named, parent: &Named, index: u32, at: Place) -> Option<Fault>
+    ensures { result ≡ first_refusal (refusals (document_of page.now) (edit.Move named.now parent.now index at)) }
 {
     let _ = page.stands();
-    match page.find(&parent.name) {
-        Some(to) => of_move_to(page, id, to, named, parent, index, at),
-        None => Err(Fault {
-            number: UNKNOWN_NAME,
-            place: parent.at,
-        }),
-    }
+    let Some(id) = page.find(&named.name) else {
+        return told(UNKNOWN_NAME, named.at);
+    };
+    let Some(to) = page.find(&parent.name) else {
+        return told(UNKNOWN_NAME, parent.at);
+    };
+    of_move_to(page, id, to, named, parent, index, at)
 }
 
-/// The same where both numbers are known.
+/// Why a move is refused where both nodes are there, by their numbers.
 fn of_move_to(
     page: &Page,
     id: NodeId,
@@ -170,34 +175,24 @@ fn of_move_to(
     parent: &Named,
     index: u32,
     at: Place,
-) -> Result<(NodeId, NodeId), Fault>
+) -> Option<Fault>
     requires found { Finds page.now.nodes.tree named.now.name (Some id) }
     requires onto { Finds page.now.nodes.tree parent.now.name (Some to) }
-    ensures fault { IfErr result (λ fault. first_refusal (refusals (document_of page.now) (edit.Move named.now parent.now index at)) ≡ Some fault) }
-    ensures none { OnOk result (first_refusal (refusals (document_of page.now) (edit.Move named.now parent.now index at)) ≡ None) }
-    ensures apart { IfOk result (λ ids. AreApart page.now.nodes.tree named.now.name parent.now.name ids.0 ids.1) }
+    ensures { result ≡ first_refusal (refusals (document_of page.now) (edit.Move named.now parent.now index at)) }
 {
     let _ = page.stands();
     let tree = page.tree();
     if tree.root().is(id) {
-        return Err(Fault {
-            number: ROOT,
-            place: named.at,
-        });
+        return told(ROOT, named.at);
     }
     if tree.is_on_way(id, to) {
-        return Err(Fault {
-            number: CYCLE,
-            place: parent.at,
-        });
+        return told(CYCLE, parent.at);
     }
-    match of_place(page, id, to, named, parent, index, at) {
-        Some(fault) => Err(fault),
-        None => Ok((id, to)),
-    }
+    of_place(page, id, to, named, parent, index, at)
 }
 
-/// Why the place of a node that moves is refused.
+/// Why the place of a node that moves is refused. The levels of the moved tree are counted only
+/// where the index is that of a child.
 fn of_place(
     page: &Page,
     id: NodeId,
@@ -210,15 +205,23 @@ fn of_place(
     requires { AreApart page.now.nodes.tree named.now.name parent.now.name id to }
     ensures { result ≡ place_refusal page.now.version (trees_in page.now) named.now parent.now index at }
 {
+    let children = count_left(page, id, to, named, parent);
+    if children < index as usize {
+        return told(BAD_INDEX, at);
+    }
     let leaf = is_leaf_at(page, &parent.name);
     let later = or_later(leaf, LEAF_HAS_CHILDREN, parent.at, None);
-    let children = count_left(page, id, to, named, parent);
-    let version = page.version();
-    let full = passes_children(version, children);
+    let full = passes_children(page.version(), children);
     let later = or_later(full, TOO_MANY_NODES, named.at, later);
     let deep = is_too_low(page, id, to, named, parent);
-    let later = or_later(deep, TOO_DEEP, named.at, later);
-    or_later(children < index as usize, BAD_INDEX, at, later)
+    or_later(deep, TOO_DEEP, named.at, later)
+}
+
+/// A fault of this number at a place.
+fn told(number: u8, at: Place) -> Option<Fault>
+    ensures { result ≡ Some (fault_at number at) }
+{
+    Some(Fault { number, place: at })
 }
 
 /// How many children a node has without one that moves.

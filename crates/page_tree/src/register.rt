@@ -97,8 +97,8 @@ impl Register {
         }
     }
 
-    /// Makes a node of a new name under a parent, at an index of its children. Where the arena refuses, and where memory
-    /// is wanting, nothing is changed.
+    /// Makes a node of a new name under a parent, at an index of its children. Where the arena
+    /// refuses, and where memory is wanting, nothing is changed.
     pub(crate) fn insert(
         &mut self,
         parent: NodeId,
@@ -155,8 +155,9 @@ impl Register {
         }
     }
 
-    /// Moves a node and all below it under another that does not stand in its tree, at an index of the children that are left.
-    /// Where the arena refuses, and where memory is wanting, nothing is changed.
+    /// Moves a node and all below it under another that does not stand in its tree, at an index of
+    /// the children that are left. Where the arena refuses, and where memory is wanting, nothing is
+    /// changed.
     pub(crate) fn move_to(&mut self, id: NodeId, to: NodeId, index: usize) -> Result<(), NoMemory>
         requires live { IsSome (part_at (removed id self.old.tree) to) }
         requires once { times to (removed id self.old.tree) ≤ 1 }
@@ -169,8 +170,8 @@ impl Register {
         }
     }
 
-    /// Hands over the boxes of all nodes in a viewport of this size, in document order. What is kept
-    /// is taken, and what is found is kept.
+    /// Hands over the boxes of all nodes in a viewport of this size, in document order. What is
+    /// kept is taken, and what is found is kept.
     pub(crate) fn lay_out<T: BoxSink, R: Ruler, L: Ledger>(
         &mut self,
         alloc: Global,
@@ -210,8 +211,8 @@ impl Register {
         )
     }
 
-    /// Hands over the boxes as a layout does, by the frame that it found for the root, where nothing
-    /// was let go since. Nothing changes.
+    /// Hands over the boxes as a layout does, by the frame that it found for the root, where
+    /// nothing was let go since. Nothing changes.
     pub(crate) fn kept_boxes<T: BoxSink, L: Ledger>(
         &mut self,
         alloc: Global,
@@ -234,14 +235,16 @@ impl Register {
         kept_boxes(alloc, &mut self.tree, root_frame, told, last, passes)
     }
 
-    /// Lets the answers of these nodes go, and passes over a number that names no node. Takes no memory.
+    /// Lets the answers of these nodes go, and passes over a number that names no node. Takes no
+    /// memory.
     pub(crate) fn let_go(&mut self, reached: &[NodeId])
         ensures { self.new ≡ all_forgot without_answers reached.now self.old }
     {
         drop_reached(&mut self.tree, reached);
     }
 
-    /// Lets go what these nodes keep longer than their answers, and passes over a number that names no node. Takes no memory.
+    /// Lets go what these nodes keep longer than their answers, and passes over a number that names
+    /// no node. Takes no memory.
     pub(crate) fn let_past_go(&mut self, reached: &[NodeId])
         ensures { self.new ≡ all_forgot without_past reached.now self.old }
     {
@@ -256,7 +259,8 @@ impl Register {
         &self.tree
     }
 
-    /// Gives each of these nodes its computed style, and passes over a number that names no node. It takes no memory.
+    /// Gives each of these nodes its computed style, and passes over a number that names no node.
+    /// It takes no memory.
     pub(crate) fn restyle(&mut self, styles: Sequence<(NodeId, Style)>)
         ensures { self.new ≡ with_styles styles self.old }
     {

@@ -102,7 +102,8 @@ fn has_fonts(tree: &Arena<Node>, id: NodeId, em: Lu, rem: Lu) -> bool
     font_at(tree, root, id) == em && root == rem
 }
 
-/// The styles that all nodes below one get where it has these font sizes; none where it has them already.
+/// The styles that all nodes below one get where it has these font sizes; none where it has them
+/// already.
 pub(crate) fn styles_below(
     alloc: Global,
     tree: &Arena<Node>,
@@ -123,7 +124,8 @@ pub(crate) fn styles_below(
     Ok(found)
 }
 
-/// The styles that a node and all below it get under another parent; none where its font size stays.
+/// The styles that a node and all below it get under another parent; none where its font size
+/// stays.
 pub(crate) fn styles_under(
     alloc: Global,
     tree: &Arena<Node>,

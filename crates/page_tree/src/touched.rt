@@ -1,7 +1,7 @@
-//! The nodes that an edit marks, by their numbers: the edited node, its parent where subgrids feel the edit, and the nodes below it whose
-//! font size is declared anew or is another.
+//! The nodes that a change marks, by their numbers: the node that it names, its parent where
+//! subgrids feel the change, and the nodes below it whose font size is declared anew or is another.
 
-ghost use Rattle.std.specs.Prelude.{◌≡◌, ◌++◌, ◌∷◌, [], Some, true, false, ◌&&◌, ◌||◌, map, not, if◌then◌else◌, IfNone, IfOk, IfSome, OnOk};
+ghost use Rattle.std.specs.Prelude.{◌≡◌, ◌++◌, ◌∷◌, [], Option, Some, true, false, ◌&&◌, ◌||◌, map, not, if◌then◌else◌, IfNone, IfOk, IfSome, OnOk};
 ghost use Rattle.std.specs.List.{list_any};
 ghost use Rattle.std.specs.Ordering.{int_eq};
 ghost use Rattle.std.specs.Str.{bytes_eq};
@@ -16,20 +16,22 @@ ghost use Rattle.doc_text.specs.Growth.{holds};
 ghost use Rattle.doc_text.specs.Named as named;
 ghost use Rattle.doc_text.specs.Named.{tree_at};
 ghost use Rattle.doc_text.specs.Documents.{is_leaf};
-ghost use Rattle.page_tree.specs.Marking.{numbers_below, AddsMarked, IsMarking, IsNextBelow, MarksContent, MarksEdit, MarksMove, MarksTwo};
-ghost use Rattle.page_tree.specs.Pages.{trees_in};
-ghost use Rattle.page_tree.specs.Reach.{are_felt, font_in, gets_other_font, have_font, is_container, is_content_class, is_felt, is_felt_property, is_font_class, is_font_property, is_marked_by, is_parent, root_font_in};
+ghost use Rattle.page_tree.specs.Fits.{Fits};
+ghost use Rattle.page_tree.specs.Marking.{numbers_below, AddsMarked, IsMarking, IsNextBelow, MarksChange, MarksKind, MarksShift};
+ghost use Rattle.page_tree.specs.Pages.{document_of, trees_in};
+ghost use Rattle.page_tree.specs.Reach.{are_felt, font_in, gets_other_font, is_container, is_content_class, is_felt, is_felt_property, is_font_class, is_font_property, is_marked_by, is_parent, root_font_in};
 
 use crate::font::{first_font, font_at, root_font};
 use crate::lookup::is_leaf_at;
 use crate::page::Page;
-use doc_text::{Edit, Kind};
+use doc_text::Kind;
+use edit_journal::Change;
 use lunit::{Lu, Name, NoMemory, Sequence};
 use node_arena::{Arena, NodeId};
 use placing::Node;
 use style_types::{Class, DeclaredValue, Prop, class_of};
 
-/// The numbers of the nodes that an edit marks, and whether subgrids feel it.
+/// The numbers of the nodes that a change marks, and whether subgrids feel it.
 #[derive(Drop)]
 pub(crate) struct Touched {
     pub(crate) numbers: Sequence<NodeId>,
@@ -66,30 +68,18 @@ fn is_font_property(property: Prop) -> bool
     is_font_class(class_of(property))
 }
 
-/// Whether an edit of one of these properties is felt by subgrids.
-fn are_felt(props: &[Prop]) -> bool
-    ensures { result ≡ are_felt props.now }
+/// Whether one of these properties is felt by subgrids.
+fn any_is_felt(values: &[(Prop, Option<DeclaredValue>)]) -> bool
+    ensures { result ≡ list_any (λ (v : Prop × Option DeclaredValue). is_felt_property v.0) values.now }
 {
-    props.iter().any(|property| is_felt_property(*property))
+    values.iter().any(|value| is_felt_property(value.0))
 }
 
 /// Whether `font-size` is one of these properties.
-fn have_font(props: &[Prop]) -> bool
-    ensures { result ≡ have_font props.now }
+fn any_is_font(values: &[(Prop, Option<DeclaredValue>)]) -> bool
+    ensures { result ≡ list_any (λ (v : Prop × Option DeclaredValue). is_font_property v.0) values.now }
 {
-    props.iter().any(|property| is_font_property(*property))
-}
-
-fn any_is_felt(settings: &[(Prop, DeclaredValue)]) -> bool
-    ensures { result ≡ list_any (λ (s : Prop × DeclaredValue). is_felt_property s.0) settings.now }
-{
-    settings.iter().any(|setting| is_felt_property(setting.0))
-}
-
-fn any_is_font(settings: &[(Prop, DeclaredValue)]) -> bool
-    ensures { result ≡ list_any (λ (s : Prop × DeclaredValue). is_font_property s.0) settings.now }
-{
-    settings.iter().any(|setting| is_font_property(setting.0))
+    values.iter().any(|value| is_font_property(value.0))
 }
 
 /// Adds the number of the node of a name, if there is one.
@@ -123,7 +113,7 @@ fn add_parent(page: &Page, name: &Name, found: &mut Sequence<NodeId>) -> Result<
     }
 }
 
-/// The same where subgrids feel the edit.
+/// Adds it where subgrids feel the change.
 fn add_felt_parent(
     page: &Page,
     felt: bool,
@@ -194,8 +184,8 @@ fn add_if(
 }
 
 #[tactic(auto, using(crate::proofs::Marking::falls))]
-/// Adds the numbers of all nodes below a node, or of those alone whose font size is another where that of the node is the second in
-/// place of the first.
+/// Adds the numbers of all nodes below a node, or of those alone whose font size is another where
+/// that of the node is the second in place of the first.
 fn add_below(
     tree: &Arena<Node>,
     id: NodeId,
@@ -233,7 +223,7 @@ fn add_below_named(page: &Page, name: &Name, found: &mut Sequence<NodeId>) -> Re
     }
 }
 
-/// The same where `font-size` is declared anew.
+/// Adds them where `font-size` is declared anew.
 fn add_all_below(
     page: &Page,
     font: bool,
@@ -272,7 +262,8 @@ fn declared_font(tree: &Arena<Node>, id: NodeId, above: Lu, rem: Lu) -> Lu
     }
 }
 
-/// Adds the numbers of the nodes below the node of a name whose font size is another where it stands below that of the other.
+/// Adds the numbers of the nodes below the node of a name whose font size is another where it
+/// stands below that of the other.
 fn add_other_fonts(
     page: &Page,
     name: &Name,
@@ -296,7 +287,8 @@ fn add_other_fonts(
     }
 }
 
-/// What an edit of properties of a node marks, where subgrids feel it or do not, and `font-size` is one of them or is not.
+/// What properties of a node mark, where subgrids feel the change or do not, and `font-size` is one
+/// of them or is not.
 fn by_props(page: &Page, felt: bool, font: bool, name: &Name) -> Result<Touched, NoMemory>
     ensures felt { IfOk result (λ touched. touched.felt ≡ felt) }
     ensures numbers { IfOk result (λ touched. IsMarking (λ w. bytes_eq w name.now || ((felt && is_parent (trees_in page.now) name.now w) || (font && holds (named.below_at name.now (trees_in page.now)) w))) page.now.nodes.tree touched.numbers) }
@@ -308,47 +300,35 @@ fn by_props(page: &Page, felt: bool, font: bool, name: &Name) -> Result<Touched,
     Ok(Touched { numbers, felt })
 }
 
-/// What settings of a node mark.
-fn by_settings(
+/// What properties of a node that are set, or no longer set, mark.
+fn by_values(
     page: &Page,
     name: &Name,
-    settings: &Sequence<(Prop, DeclaredValue)>,
+    values: &Sequence<(Prop, Option<DeclaredValue>)>,
 ) -> Result<Touched, NoMemory>
-    ensures felt { IfOk result (λ touched. touched.felt ≡ are_felt (map (λ (s : Prop × DeclaredValue). s.0) settings.now)) }
-    ensures numbers { IfOk result (λ touched. IsMarking (is_marked_by (map (λ (s : Prop × DeclaredValue). s.0) settings.now) name.now (trees_in page.now)) page.now.nodes.tree touched.numbers) }
+    ensures felt { IfOk result (λ touched. touched.felt ≡ are_felt (map (λ (v : Prop × Option DeclaredValue). v.0) values.now)) }
+    ensures numbers { IfOk result (λ touched. IsMarking (is_marked_by (map (λ (v : Prop × Option DeclaredValue). v.0) values.now) name.now (trees_in page.now)) page.now.nodes.tree touched.numbers) }
 {
-    let slice = settings.as_slice();
+    let slice = values.as_slice();
     let felt = any_is_felt(slice);
     let font = any_is_font(slice);
     by_props(page, felt, font, name)
 }
 
-/// What properties that are no longer set mark.
-fn by_unsetting(page: &Page, name: &Name, props: &Sequence<Prop>) -> Result<Touched, NoMemory>
-    ensures felt { IfOk result (λ touched. touched.felt ≡ are_felt props.now) }
-    ensures numbers { IfOk result (λ touched. IsMarking (is_marked_by props.now name.now (trees_in page.now)) page.now.nodes.tree touched.numbers) }
-{
-    let slice = props.as_slice();
-    let felt = are_felt(slice);
-    let font = have_font(slice);
-    by_props(page, felt, font, name)
-}
-
-/// What a node that is new under a parent marks.
-fn by_insertion(page: &Page, parent: &Name, name: &Name) -> Result<Touched, NoMemory>
+/// What nodes that are new under a parent mark: of those that are there, the parent alone.
+fn by_bringing(page: &Page, parent: &Name) -> Result<Touched, NoMemory>
     ensures felt { IfOk result (λ touched. touched.felt ≡ true) }
-    ensures numbers { IfOk result (λ touched. MarksTwo parent.now name.now page.now.nodes.tree touched.numbers) }
+    ensures numbers { IfOk result (λ touched. IsMarking (λ w. bytes_eq w parent.now) page.now.nodes.tree touched.numbers) }
 {
     let mut numbers = Sequence::new(page.alloc());
     add_named(page, parent, &mut numbers)?;
-    add_named(page, name, &mut numbers)?;
     Ok(Touched {
         numbers,
         felt: true,
     })
 }
 
-/// What a node that goes, or gets another content, marks.
+/// What a node that goes, or gets another kind, marks.
 fn by_node(page: &Page, felt: bool, name: &Name) -> Result<Touched, NoMemory>
     ensures felt { IfOk result (λ touched. touched.felt ≡ felt) }
     ensures numbers { IfOk result (λ touched. IsMarking (λ w. bytes_eq w name.now || (felt && is_parent (trees_in page.now) name.now w)) page.now.nodes.tree touched.numbers) }
@@ -359,10 +339,10 @@ fn by_node(page: &Page, felt: bool, name: &Name) -> Result<Touched, NoMemory>
     Ok(Touched { numbers, felt })
 }
 
-/// What a move marks.
-fn by_move(page: &Page, name: &Name, parent: &Name) -> Result<Touched, NoMemory>
+/// What a node marks that is shifted under a parent.
+fn by_shift(page: &Page, name: &Name, parent: &Name) -> Result<Touched, NoMemory>
     ensures felt { IfOk result (λ touched. touched.felt ≡ true) }
-    ensures numbers { IfOk result (λ touched. MarksMove name.now parent.now (trees_in page.now) page.now.nodes.tree touched.numbers) }
+    ensures numbers { IfOk result (λ touched. MarksShift name.now parent.now (trees_in page.now) page.now.nodes.tree touched.numbers) }
 {
     let mut numbers = Sequence::new(page.alloc());
     add_named(page, name, &mut numbers)?;
@@ -391,29 +371,29 @@ fn is_container(page: &Page, kind: &Kind, name: &Name) -> bool
     !(is_leaf_kind(kind) && is_leaf_at(page, name))
 }
 
-/// What another content marks.
-fn by_content(page: &Page, name: &Name, kind: &Kind) -> Result<Touched, NoMemory>
+/// What another kind of a node marks.
+fn by_kind(page: &Page, name: &Name, kind: &Kind) -> Result<Touched, NoMemory>
     ensures felt { IfOk result (λ touched. touched.felt ≡ is_container kind.now name.now (trees_in page.now)) }
-    ensures numbers { IfOk result (λ touched. MarksContent kind.now name.now (trees_in page.now) page.now.nodes.tree touched.numbers) }
+    ensures numbers { IfOk result (λ touched. MarksKind kind.now name.now (trees_in page.now) page.now.nodes.tree touched.numbers) }
 {
     let felt = is_container(page, kind, name);
     by_node(page, felt, name)
 }
 
-/// What an edit marks in the document that it is an edit of.
-pub(crate) fn marks_of(page: &Page, edit: &Edit) -> Result<Touched, NoMemory>
-    ensures felt { IfOk result (λ touched. touched.felt ≡ is_felt edit.now (trees_in page.now)) }
-    ensures numbers { IfOk result (λ touched. MarksEdit edit.now (trees_in page.now) page.now.nodes.tree touched.numbers) }
+/// What a change marks in the document that it is a change of.
+pub(crate) fn marks_of(page: &Page, change: &Change) -> Result<Touched, NoMemory>
+    requires { Fits change.now (document_of page.now) }
+    ensures felt { IfOk result (λ touched. touched.felt ≡ is_felt change.now (trees_in page.now)) }
+    ensures numbers { IfOk result (λ touched. MarksChange change.now (trees_in page.now) page.now.nodes.tree touched.numbers) }
 {
-    match edit {
-        Edit::Set(named, settings) => by_settings(page, &named.name, settings),
-        Edit::Unset(named, props) => by_unsetting(page, &named.name, props),
-        Edit::Insert(parent, _, _, named, _) => by_insertion(page, &parent.name, &named.name),
-        Edit::Remove(named) => by_node(page, true, &named.name),
-        Edit::Move(named, parent, _, _) => by_move(page, &named.name, &parent.name),
-        Edit::Content(named, kind) => by_content(page, &named.name, kind),
-        Edit::Viewport(_, _) => unmarked(page),
-        Edit::Hit(_, _) => unmarked(page),
+    let _ = page.stands();
+    match change {
+        Change::Style(name, values) => by_values(page, name, values),
+        Change::Take(name) => by_node(page, true, name),
+        Change::Bring(parent, _, _node) => by_bringing(page, parent),
+        Change::Shift(name, parent, _) => by_shift(page, name, parent),
+        Change::Kind(name, kind) => by_kind(page, name, kind),
+        Change::View(_, _) => unmarked(page),
     }
 }
 

@@ -1,4 +1,5 @@
-//! What the texts of documents and edit lines say. Their faults stand in `faults` and `edit_faults`.
+//! What the texts of documents and edit lines say. Their faults stand in `faults` and
+//! `edit_faults`.
 
 use crate::texts::lines_of;
 use doc_text::{Content, Doc, Edit, Kind, Plain, read_doc, read_edit};
@@ -90,10 +91,27 @@ fn is_move(edit: &Edit) -> bool {
     }
 }
 
-/// The edit asks for the box at half a pixel left of the origin, as far below it as a point can lie.
+/// The edit asks for the box at half a pixel left of the origin, as far below it as a point can
+/// lie.
 fn is_hit(edit: &Edit) -> bool {
     match edit {
         Edit::Hit(x, y) => (x.units(), y.units()) == (-32, 67_108_864),
+        _ => false,
+    }
+}
+
+/// The edit takes this many edits back; the number stands on line 1 at this column.
+fn is_undo(edit: &Edit, number: u32, column: u32) -> bool {
+    match edit {
+        Edit::Undo(times, at) => (*times, at.line, at.column) == (number, 1, column),
+        _ => false,
+    }
+}
+
+/// The edit makes this many edits again; the number stands on line 1 at this column.
+fn is_redo(edit: &Edit, number: u32, column: u32) -> bool {
+    match edit {
+        Edit::Redo(times, at) => (*times, at.line, at.column) == (number, 1, column),
         _ => false,
     }
 }
@@ -116,5 +134,14 @@ fn an_edit_is_read_with_its_places(rt: HostRuntime) -> Result<(), Fail> {
 #[test]
 fn a_hit_is_read_with_its_point(rt: HostRuntime) -> Result<(), Fail> {
     assert!(rt; is_hit(&edit_of(rt.alloc(), b"hit -0.5px 1048576")?));
+    Ok(())
+}
+
+#[test]
+fn undo_and_redo_are_read_with_number_and_place(rt: HostRuntime) -> Result<(), Fail> {
+    let alloc = rt.alloc();
+    assert!(rt; is_undo(&edit_of(alloc, b"undo 1")?, 1, 6));
+    assert!(rt; is_undo(&edit_of(alloc, b"  undo   1000000 # all")?, 1_000_000, 10));
+    assert!(rt; is_redo(&edit_of(alloc, b"redo +12")?, 12, 6));
     Ok(())
 }

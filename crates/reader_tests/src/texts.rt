@@ -5,7 +5,6 @@ ghost use Rattle.std.specs.Prelude.{◌≡◌, flat_map, IfOk};
 use doc_text::{Doc, Edit, ReadError, read_doc, read_edit};
 use lunit::{NoMemory, Sequence};
 use std::alloc::Global;
-use std::process::Abort;
 use std::test::Fail;
 use text_scan::{Fault, Line, MAX_FED, Place, read_lines};
 
@@ -83,44 +82,4 @@ pub(crate) fn edit_told(alloc: Global, version: u8, text: Vec<u8>) -> Result<Tol
         Some(line) => told_of_edit(read_edit(alloc, line, version)),
         None => Err(Fail::new("no line")),
     }
-}
-
-/// One text after another.
-fn joined(alloc: Global, front: &[u8], back: &[u8]) -> Result<Vec<u8>, NoMemory> {
-    let mut text = Vec::from_slice(alloc, front)?;
-    text.extend_from_slice(back)?;
-    Ok(text)
-}
-
-/// What is told of this text is what is due.
-pub(crate) fn must_be(rt: &impl Abort, found: Told, due: Told, text: &[u8]) {
-    assert!(rt; found == due, "{found:?} of {text:?}");
-}
-
-/// Of the documents with this head and these texts after it this is told.
-pub(crate) fn documents_are_told(
-    rt: &impl Abort,
-    alloc: Global,
-    head: &[u8],
-    rows: &[(&[u8], Told)],
-) -> Result<(), Fail> {
-    for (text, due) in rows {
-        let found = document_told(alloc, joined(alloc, head, text)?)?;
-        must_be(rt, found, *due, text);
-    }
-    Ok(())
-}
-
-/// Of these edit lines of a version this is told.
-pub(crate) fn edits_are_told(
-    rt: &impl Abort,
-    alloc: Global,
-    version: u8,
-    rows: &[(&[u8], Told)],
-) -> Result<(), Fail> {
-    for (text, due) in rows {
-        let found = edit_told(alloc, version, joined(alloc, text, b"")?)?;
-        must_be(rt, found, *due, text);
-    }
-    Ok(())
 }

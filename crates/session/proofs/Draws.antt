@@ -14,7 +14,8 @@ use Rattle.asked_pages.specs.Leaves.{IsEmptied, PassesUp}
 use Rattle.sparing.specs.Sparing.{Touches}
 use Rattle.session.specs.Made.{AgreesDraw, AgreeDraws, touched_by_draw, touched_drawn, touched_made}
 use Rattle.session.specs.Replies.{is_new}
-use Rattle.session.specs.Spares.{KeepsUntouched, SparesDue, SparesPage}
+use Rattle.session.specs.Engine.{KeepsUntouched}
+use Rattle.session.specs.Spares.{SparesDue, SparesPage}
 use Rattle.session.proofs.Replies.{emptied_by}
 use Rattle.session.proofs.Spares.{spares_due_by}
 

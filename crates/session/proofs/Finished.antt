@@ -8,6 +8,7 @@ use Rattle.text_scan.specs.declared.line.Line.{Line}
 use Rattle.text_scan.specs.Lines.{lines_of, whole_lines}
 use Rattle.text_scan.specs.declared.line.Fault.{Fault}
 use Rattle.doc_text.specs.declared.document.Doc.{Doc}
+use Rattle.doc_text.specs.Histories.{begins}
 use Rattle.session.specs.Boxes.{boxes_of}
 use Rattle.session.specs.Input.{limit, IsReadToEnd, IsFront}
 use Rattle.session.specs.Printing.{print}
@@ -27,9 +28,9 @@ use Rattle.session.specs.Written.{Writes, WritesFront}
 -- what more lines make comes behind
 from_more : (form : Result Doc Fault) (script rest : List Line) → (more : List Made) × (made_from form (script ++ rest) ≡ made_from form script ++ more)
 from_more (Err fault) script rest = ([], refl)
-from_more (Ok doc) script rest = some_more (made_more doc script rest)
+from_more (Ok doc) script rest = some_more (made_more (begins doc) script rest)
   where
-    some_more : MadeMore doc script rest → (more : List Made) × (Ok doc ∷ made_in doc (script ++ rest) ≡ (Ok doc ∷ made_in doc script) ++ more)
+    some_more : MadeMore (begins doc) script rest → (more : List Made) × (Ok doc ∷ made_in (begins doc) (script ++ rest) ≡ (Ok doc ∷ made_in (begins doc) script) ++ more)
     some_more m = (m.0, ap (λ (l : List Made). Ok doc ∷ l) m.1)
 
 pub all_more : (given rest : List Line) → has_end given ≡ true → (more : List Made) × (all_made (given ++ rest) ≡ all_made given ++ more)
@@ -285,7 +286,7 @@ module _ (w w' : Option (List ℕ)) (l l' : Option (List Event)) where
   plain_complete None left' s s' k k' status p = tt
   plain_complete (Some told) left' s s' k k' status p = λ few no_read no_write. ends_plain told status (p.complete few no_read no_write)
 
-out_is : (told : List ℕ) (doc : Doc) → document_in told ≡ Ok doc → out told ≡ print 0 (boxes_of doc) ++ texts 1 (made_in doc (after_end (lines_of told)))
+out_is : (told : List ℕ) (doc : Doc) → document_in told ≡ Ok doc → out told ≡ print 0 (boxes_of doc) ++ texts 1 (made_in (begins doc) (after_end (lines_of told)))
 unfolding text_of
 out_is told doc is = ap (λ (made : Result Doc Fault). texts 0 (made_from made (after_end (lines_of told)))) is
 
@@ -294,6 +295,6 @@ headline None w w' s s' k k' status p = tt
 headline (Some told) w w' s s' k k' status p = λ few doc is no_read no_write memory. by_cases doc is memory (p few no_read no_write)
   where
     by_cases : (doc : Doc) → document_in told ≡ Ok doc → status ≢ NoMemory → (status ≡ NoMemory) ⊎ ((status ≡ verdict told) × Adds w w' (out told))
-        → Adds w w' (print 0 (boxes_of doc) ++ texts 1 (made_in doc (after_end (lines_of told))))
+        → Adds w w' (print 0 (boxes_of doc) ++ texts 1 (made_in (begins doc) (after_end (lines_of told))))
     by_cases doc is memory (inl e) = absurd (memory e)
     by_cases doc is memory (inr h) = subst (λ (x : List ℕ). Adds w w' x) (out_is told doc is) h.1

@@ -32,3 +32,5 @@ pub mod LayoutsLeft
 pub mod Draws
 pub mod Making
 pub mod Replies
+pub mod Traces
+pub mod Applying

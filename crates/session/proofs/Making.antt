@@ -139,16 +139,6 @@ any_err (Err e) p = p
 
 -- ---- edits
 
--- what is applied is the edited document
-pub applied_is : (e : Edit) (doc made : Doc) → edited e doc ≡ Ok (applied e doc) → edited e doc ≡ Ok made → made ≡ applied e doc
-applied_is e doc made a m = same-ok made (applied e doc) (sym m ∙ a)
-
--- it is not refused
-pub not_refused : (e : Edit) (doc : Doc) (fault : Fault) → edited e doc ≡ Ok (applied e doc) → edited e doc ≡ Err fault → ⊥
-not_refused e doc fault a r = ok-not-err (applied e doc) fault (sym r ∙ a)
-
-pub ruleset applying = (applied_is, not_refused)
-
 settings_declared : (settings : Settings) → IsToldChange (edit.Set (record { name = []; at = record { line = 0; column = 0 } }) settings) → AreDeclared 1 settings
 settings_declared [] h = tt
 settings_declared (setting ∷ settings) h = (h setting (inl refl), settings_declared settings (λ s a. h s (inr a)))
@@ -161,6 +151,8 @@ change_told (edit.Remove named) h = absurd h
 change_told (edit.Move named parent index at) h = absurd h
 change_told (edit.Content named kind) h = h
 change_told (edit.Viewport width height) h = absurd h
+change_told (edit.Undo n at) h = absurd h
+change_told (edit.Redo n at) h = absurd h
 change_told (edit.Hit x y) h = absurd h
 
 change_named : (e : Edit) → IsToldChange e → NamesItsNode e
@@ -171,6 +163,8 @@ change_named (edit.Remove named) h = tt
 change_named (edit.Move named parent index at) h = tt
 change_named (edit.Content named kind) h = tt
 change_named (edit.Viewport width height) h = tt
+change_named (edit.Undo n at) h = tt
+change_named (edit.Redo n at) h = tt
 change_named (edit.Hit x y) h = tt
 
 change_is : (e : Edit) → IsToldChange e → IsChange e
@@ -181,6 +175,8 @@ change_is (edit.Remove named) h = tt
 change_is (edit.Move named parent index at) h = tt
 change_is (edit.Content named kind) h = tt
 change_is (edit.Viewport width height) h = tt
+change_is (edit.Undo n at) h = absurd h
+change_is (edit.Redo n at) h = absurd h
 change_is (edit.Hit x y) h = absurd h
 
 module _ (nodes x : ℕ) (e : Edit) (is : e ≡ (edit_from nodes x).0) where

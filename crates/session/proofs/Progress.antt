@@ -8,39 +8,45 @@ use Rattle.outside.specs.declared.event.Event.{Event}
 use Rattle.doc_text.specs.declared.document.Doc.{Doc}
 use Rattle.session.specs.Written.{Writes, WritesFront, WritesBehind}
 use Rattle.session.specs.Runs.{WritesAll, WritesFrom}
-use Rattle.session.specs.Script.{before_end, after_end, document_of_lines, made_of, made_in, made_from, next_doc, all_made, is_refused, some_refused}
-use Rattle.session.specs.Serving.{Answers, AnswersPrefix, last_doc, IsLaid, HasAnswered}
+use Rattle.doc_text.specs.Histories.{begins}
+use Rattle.session.specs.Courses.{Course, begun, last_course, made_by, next_course}
+use Rattle.session.specs.Engine.{IsAnswered}
+use Rattle.session.specs.Script.{before_end, after_end, document_of_lines, made_in, made_from, all_made, is_refused, some_refused}
+use Rattle.session.specs.Serving.{Answers, AnswersPrefix, IsLaid, HasAnswered}
 use Rattle.session.proofs.Due.{all_due}
 use Rattle.session.proofs.Logs.{Made}
 use Rattle.session.proofs.Written.{writes_more, behind_more}
-use Rattle.session.proofs.Scripts.{one_made, has_more, before_more, after_more, made_push, refused_push, last_push}
+use Rattle.session.proofs.Scripts.{one_made, has_more, before_more, after_more, made_push, refused_push, last_push, one_course}
 
 -- ---- what is made of one line more
 
-skipped_one : (doc : Doc) (line : Line) → is_skipped line ≡ true → one_made doc line ≡ []
-skipped_one doc line e = ap (λ (b : Bool). if b then [] else made_of doc line ∷ []) e
+skipped_one : (c : Course) (line : Line) → is_skipped line ≡ true → one_made c line ≡ []
+skipped_one c line e = ap (λ (b : Bool). if b then [] else made_by c line ∷ []) e
 
-edit_one : (doc : Doc) (line : Line) → is_skipped line ≡ false → one_made doc line ≡ made_of doc line ∷ []
-edit_one doc line e = ap (λ (b : Bool). if b then [] else made_of doc line ∷ []) e
+edit_one : (c : Course) (line : Line) → is_skipped line ≡ false → one_made c line ≡ made_by c line ∷ []
+edit_one c line e = ap (λ (b : Bool). if b then [] else made_by c line ∷ []) e
 
-module _ (given : List Line) (doc : Doc) (k : ℕ) (bad : Bool) (p : IsLaid given doc k bad) (line : Line) where
+module _ (given : List Line) (c : Course) (k : ℕ) (bad : Bool) (p : IsLaid given c k bad) (line : Line) where
   document_push : document_of_lines (before_end (given ++ line ∷ [])) ≡ Ok p.first
   document_push = ap document_of_lines (before_more given (line ∷ []) p.ended) ∙ p.read
 
-  script_push : made_in p.first (after_end (given ++ line ∷ [])) ≡ made_in p.first (after_end given) ++ one_made doc line
+  script_push : made_in (begins p.first) (after_end (given ++ line ∷ [])) ≡ made_in (begins p.first) (after_end given) ++ one_made c line
   script_push =
-      ap (made_in p.first) (after_more given (line ∷ []) p.ended)
-      ∙ made_push p.first (after_end given) line
-      ∙ ap (λ (d : Doc). made_in p.first (after_end given) ++ one_made d line) (sym p.now)
+      ap (made_in (begins p.first)) (after_more given (line ∷ []) p.ended)
+      ∙ made_push (begun p.first) (after_end given) line
+      ∙ ap (λ (d : Course). made_in (begins p.first) (after_end given) ++ one_made d line) (sym p.now)
 
-  all_given : all_made given ≡ Ok p.first ∷ made_in p.first (after_end given)
+  course_push : last_course (begun p.first) (after_end (given ++ line ∷ [])) ≡ one_course c line
+  course_push = ap (last_course (begun p.first)) (after_more given (line ∷ []) p.ended) ∙ last_push (begun p.first) (after_end given) line ∙ ap (λ (d : Course). one_course d line) (sym p.now)
+
+  all_given : all_made given ≡ Ok p.first ∷ made_in (begins p.first) (after_end given)
   all_given = ap (λ (o : Result Doc Fault). made_from o (after_end given)) p.read
 
-  pub all_push : all_made (given ++ line ∷ []) ≡ all_made given ++ one_made doc line
+  pub all_push : all_made (given ++ line ∷ []) ≡ all_made given ++ one_made c line
   all_push =
       ap (λ (o : Result Doc Fault). made_from o (after_end (given ++ line ∷ []))) document_push
       ∙ ap (λ (m : List Made). Ok p.first ∷ m) script_push
-      ∙ ap (λ (m : List Made). m ++ one_made doc line) (sym all_given)
+      ∙ ap (λ (m : List Made). m ++ one_made c line) (sym all_given)
 
   -- the number of what is made next
   next_number : k ≡ 0 + length (all_made given)
@@ -50,76 +56,76 @@ module _ (given : List Line) (doc : Doc) (k : ℕ) (bad : Bool) (p : IsLaid give
   long = length-append given (line ∷ [])
 
   -- a line that is skipped
-  laid_skipped : is_skipped line ≡ true → IsLaid (given ++ line ∷ []) doc k bad
+  laid_skipped : is_skipped line ≡ true → IsLaid (given ++ line ∷ []) c k bad
   laid_skipped e =
-      let same : made_in p.first (after_end (given ++ line ∷ [])) ≡ made_in p.first (after_end given) =
-      script_push ∙ ap (λ (m : List Made). made_in p.first (after_end given) ++ m) (skipped_one doc line e) ∙ append-nil (made_in p.first (after_end given)) in
-      let all_same : all_made (given ++ line ∷ []) ≡ all_made given = all_push ∙ ap (λ (m : List Made). all_made given ++ m) (skipped_one doc line e) ∙ append-nil (all_made given) in
+      let same : made_in (begins p.first) (after_end (given ++ line ∷ [])) ≡ made_in (begins p.first) (after_end given) =
+      script_push ∙ ap (λ (m : List Made). made_in (begins p.first) (after_end given) ++ m) (skipped_one c line e) ∙ append-nil (made_in (begins p.first) (after_end given)) in
+      let all_same : all_made (given ++ line ∷ []) ≡ all_made given = all_push ∙ ap (λ (m : List Made). all_made given ++ m) (skipped_one c line e) ∙ append-nil (all_made given) in
       record {
         first = p.first;
         ended = has_more given (line ∷ []) p.ended;
         read = document_push;
-        now = p.now ∙ ap (last_doc p.first) (sym same);
+        now = sym (course_push ∙ ap (λ (b : Bool). if b then c else next_course c line) e);
         count = p.count ∙ ap (λ (m : List Made). length m) (sym all_same);
         refused = p.refused ∙ ap some_refused (sym same);
         few = omega (arith, long, p.few);
       }
 
   -- an edit
-  laid_edit : is_skipped line ≡ false → IsLaid (given ++ line ∷ []) (next_doc doc (made_of doc line)) (k + 1) (bad || is_refused (made_of doc line))
+  laid_edit : is_skipped line ≡ false → IsLaid (given ++ line ∷ []) (next_course c line) (k + 1) (bad || is_refused (made_by c line))
   laid_edit e =
-      let made = made_of doc line in
-      let more : made_in p.first (after_end (given ++ line ∷ [])) ≡ made_in p.first (after_end given) ++ made ∷ [] =
-      script_push ∙ ap (λ (m : List Made). made_in p.first (after_end given) ++ m) (edit_one doc line e) in
-      let all_more : all_made (given ++ line ∷ []) ≡ all_made given ++ made ∷ [] = all_push ∙ ap (λ (m : List Made). all_made given ++ m) (edit_one doc line e) in
+      let made = made_by c line in
+      let more : made_in (begins p.first) (after_end (given ++ line ∷ [])) ≡ made_in (begins p.first) (after_end given) ++ made ∷ [] =
+      script_push ∙ ap (λ (m : List Made). made_in (begins p.first) (after_end given) ++ m) (edit_one c line e) in
+      let all_more : all_made (given ++ line ∷ []) ≡ all_made given ++ made ∷ [] = all_push ∙ ap (λ (m : List Made). all_made given ++ m) (edit_one c line e) in
       record {
         first = p.first;
         ended = has_more given (line ∷ []) p.ended;
         read = document_push;
-        now = ap (λ (d : Doc). next_doc d made) p.now ∙ sym (last_push p.first (made_in p.first (after_end given)) made) ∙ ap (last_doc p.first) (sym more);
+        now = sym (course_push ∙ ap (λ (b : Bool). if b then c else next_course c line) e);
         count = omega (arith, p.count, ap (λ (m : List Made). length m) all_more, length-append (all_made given) (made ∷ []));
-        refused = ap (λ (b : Bool). b || is_refused made) p.refused ∙ sym (refused_push (made_in p.first (after_end given)) made) ∙ ap some_refused (sym more);
+        refused = ap (λ (b : Bool). b || is_refused made) p.refused ∙ sym (refused_push (made_in (begins p.first) (after_end given)) made) ∙ ap some_refused (sym more);
         few = omega (arith, long, p.few);
       }
 
-  made_edit : is_skipped line ≡ false → all_made (given ++ line ∷ []) ≡ all_made given ++ made_of doc line ∷ []
-  made_edit e = all_push ∙ ap (λ (m : List Made). all_made given ++ m) (edit_one doc line e)
+  made_edit : is_skipped line ≡ false → all_made (given ++ line ∷ []) ≡ all_made given ++ made_by c line ∷ []
+  made_edit e = all_push ∙ ap (λ (m : List Made). all_made given ++ m) (edit_one c line e)
 
   module _ (stats : Bool) (w w' : Option (List ℕ)) (l l' : Option (List Event)) where
     wrote_skipped : is_skipped line ≡ true → WritesAll stats w w' l l' given → WritesAll stats w w' l l' (given ++ line ∷ [])
     wrote_skipped e q =
-        subst (λ (m : List Made). Writes stats w w' l l' 0 m) (sym (all_push ∙ ap (λ (m : List Made). all_made given ++ m) (skipped_one doc line e) ∙ append-nil (all_made given))) q
+        subst (λ (m : List Made). Writes stats w w' l l' 0 m) (sym (all_push ∙ ap (λ (m : List Made). all_made given ++ m) (skipped_one c line e) ∙ append-nil (all_made given))) q
 
-    wrote_edit : (w'' : Option (List ℕ)) (l'' : Option (List Event)) → is_skipped line ≡ false → WritesAll stats w w' l l' given → Answers stats w' w'' l' l'' k (made_of doc line)
+    wrote_edit : (w'' : Option (List ℕ)) (l'' : Option (List Event)) → is_skipped line ≡ false → WritesAll stats w w' l l' given → Answers stats w' w'' l' l'' k (made_by c line)
         → WritesAll stats w w'' l l'' (given ++ line ∷ [])
     wrote_edit w'' l'' e q a =
         subst (λ (m : List Made). Writes stats w w'' l l'' 0 m) (sym (made_edit e))
-        (writes_more stats w w' w'' l l' l'' (all_made given) (made_of doc line ∷ []) 0 q (subst (λ (n : ℕ). Writes stats w' w'' l' l'' n (made_of doc line ∷ [])) next_number a))
+        (writes_more stats w w' w'' l l' l'' (all_made given) (made_by c line ∷ []) 0 q (subst (λ (n : ℕ). Writes stats w' w'' l' l'' n (made_by c line ∷ [])) next_number a))
 
-    wrote_part : (w'' : Option (List ℕ)) (l'' : Option (List Event)) → is_skipped line ≡ false → WritesAll stats w w' l l' given → AnswersPrefix stats w' w'' l' l'' k (made_of doc line)
+    wrote_part : (w'' : Option (List ℕ)) (l'' : Option (List Event)) → is_skipped line ≡ false → WritesAll stats w w' l l' given → AnswersPrefix stats w' w'' l' l'' k (made_by c line)
         → WritesFrom stats w w'' l l'' given (given ++ line ∷ [])
     wrote_part w'' l'' e q a =
         all_due stats w w'' l l'' given (given ++ line ∷ []) p.ended
         (subst (λ (m : List Made). WritesBehind stats w w'' l l'' (all_made given) m) (sym (made_edit e))
-        (behind_more stats w w' w'' l l' l'' (all_made given) (made_of doc line ∷ []) q (subst (λ (n : ℕ). WritesFront stats w' w'' l' l'' n (made_of doc line ∷ [])) next_number a)))
+        (behind_more stats w w' w'' l l' l'' (all_made given) (made_by c line ∷ []) q (subst (λ (n : ℕ). WritesFront stats w' w'' l' l'' n (made_by c line ∷ [])) next_number a)))
 
 -- ---- how far a run is
 
-module _ (stats : Bool) (w w' : Option (List ℕ)) (l l' : Option (List Event)) (given : List Line) (doc : Doc) (k : ℕ) (bad : Bool) (line : Line) (p : HasAnswered stats w w' l l' given doc k bad) where
-  pub skips : is_skipped line ≡ true → HasAnswered stats w w' l l' (given ++ line ∷ []) doc k bad
-  skips e = record { laid = laid_skipped given doc k bad p.laid line e; output = wrote_skipped given doc k bad p.laid line stats w w' l l' e p.output }
+module _ (stats : Bool) (w w' : Option (List ℕ)) (l l' : Option (List Event)) (given : List Line) (c : Course) (k : ℕ) (bad : Bool) (line : Line) (p : HasAnswered stats w w' l l' given c k bad) where
+  pub skips : is_skipped line ≡ true → HasAnswered stats w w' l l' (given ++ line ∷ []) c k bad
+  skips e = record { laid = laid_skipped given c k bad p.laid line e; output = wrote_skipped given c k bad p.laid line stats w w' l l' e p.output }
 
-  pub answers : (w'' : Option (List ℕ)) (l'' : Option (List Event)) (next : Doc) (refused : Bool) → is_skipped line ≡ false → (next ≡ next_doc doc (made_of doc line)) × (refused ≡ is_refused (made_of doc line))
-      → Answers stats w' w'' l' l'' k (made_of doc line) → HasAnswered stats w w'' l l'' (given ++ line ∷ []) next (k + 1) (bad || refused)
+  pub answers : (w'' : Option (List ℕ)) (l'' : Option (List Event)) (next : Course) (refused : Bool) → is_skipped line ≡ false → IsAnswered c line next refused
+      → Answers stats w' w'' l' l'' k (made_by c line) → HasAnswered stats w w'' l l'' (given ++ line ∷ []) next (k + 1) (bad || refused)
   answers w'' l'' next refused e n a =
       record {
         laid =
-            subst (λ (d : Doc). IsLaid (given ++ line ∷ []) d (k + 1) (bad || refused)) (sym n.0)
-            (subst (λ (b : Bool). IsLaid (given ++ line ∷ []) (next_doc doc (made_of doc line)) (k + 1) (bad || b)) (sym n.1) (laid_edit given doc k bad p.laid line e));
-        output = wrote_edit given doc k bad p.laid line stats w w' l l' w'' l'' e p.output a;
+            subst (λ (d : Course). IsLaid (given ++ line ∷ []) d (k + 1) (bad || refused)) (sym n.next)
+            (subst (λ (b : Bool). IsLaid (given ++ line ∷ []) (next_course c line) (k + 1) (bad || b)) (sym n.refused) (laid_edit given c k bad p.laid line e));
+        output = wrote_edit given c k bad p.laid line stats w w' l l' w'' l'' e p.output a;
       }
 
-  pub answers_part : (w'' : Option (List ℕ)) (l'' : Option (List Event)) → is_skipped line ≡ false → AnswersPrefix stats w' w'' l' l'' k (made_of doc line) → WritesFrom stats w w'' l l'' given (given ++ line ∷ [])
-  answers_part w'' l'' e a = wrote_part given doc k bad p.laid line stats w w' l l' w'' l'' e p.output a
+  pub answers_part : (w'' : Option (List ℕ)) (l'' : Option (List Event)) → is_skipped line ≡ false → AnswersPrefix stats w' w'' l' l'' k (made_by c line) → WritesFrom stats w w'' l l'' given (given ++ line ∷ [])
+  answers_part w'' l'' e a = wrote_part given c k bad p.laid line stats w w' l l' w'' l'' e p.output a
 
 pub ruleset line_answering = (skips, answers, answers_part)

@@ -15,35 +15,32 @@ use Rattle.plain_tree.specs.Trees.{Trees, leafless, tree}
 use Rattle.node_arena.specs.declared.number.NodeId.{NodeId}
 use Rattle.node_arena.proofs.Parts.{each_weaker}
 use Rattle.doc_text.specs.declared.document.Doc.{Doc}
-use Rattle.doc_text.specs.declared.edit.Edit.{Edit}
+use Rattle.doc_text.specs.Histories.{begins}
 use Rattle.doc_text.specs.Documents.{document_of as document_of_text, is_leaf}
-use Rattle.doc_text.specs.Edits.{edited, tree_of}
-use Rattle.doc_text.specs.EditText.{edit_of}
+use Rattle.doc_text.specs.Edits.{tree_of}
 use Rattle.doc_text.specs.Label.{Label}
 use Rattle.placing.specs.declared.node.Node.{Node}
 use Rattle.placing.specs.Keeping.{KeepsNone}
 use Rattle.placing.specs.Kept.{kept_at}
 use Rattle.placing.specs.Nodes.{bare}
 use Rattle.placing.specs.Walks.{events_of}
-use Rattle.page_tree.specs.Answered.{Applies}
 use Rattle.page_tree.specs.Pages.{Held, document_of}
-use Rattle.page_tree.specs.Reach.{KeepsOn, is_touched}
-use Rattle.page_tree.specs.declared.error.EditError.{EditError}
+use Rattle.page_tree.specs.Reach.{KeepsOn}
 use Rattle.asked_pages.specs.AskedOf.{asked_of}
 use Rattle.asked_pages.specs.Leaves.{IsEmptied, PassesUp, has_leaf_by}
 use Rattle.sparing.specs.Sparing.{Touches}
 use Rattle.session.specs.Boxes.{boxes_of}
-use Rattle.session.specs.Engine.{IsAsBefore, Makes}
+use Rattle.session.specs.Courses.{Course, begun, last_course, made_by, next_course, touched_by}
+use Rattle.session.specs.Engine.{KeepsUntouched, Spreads}
 use Rattle.session.specs.Input.{HasGiven, HasGivenAll, Stops}
 use Rattle.session.specs.Laying.{Walks}
 use Rattle.session.specs.Printing.{Box, counts, print}
 use Rattle.session.specs.Replies.{AreExact, AreReplies, HasReplied, HasReply, IsIdle, Replies, RepliesFirst, RepliesFront, RepliesLines, RepliesTo, Reply, is_new, kept_in, texts_in, told_in}
 use Rattle.session.specs.Runs.{StopsWriting}
-use Rattle.session.specs.Script.{after_end, all_made, answer_to, document_of_lines, made_from, made_in, made_of, said_line, text_of}
-use Rattle.session.specs.Serving.{EndsFirst, HasReadText, HasText, IsLaid, last_doc}
-use Rattle.session.specs.Spares.{KeepsUntouched}
-use Rattle.session.specs.Standing.{Standing, doc_of}
-use Rattle.session.specs.Touched.{Agrees, touched_by, touched_lines}
+use Rattle.session.specs.Script.{after_end, all_made, document_of_lines, made_from, made_in, said_line, text_of}
+use Rattle.session.specs.Serving.{EndsFirst, HasReadText, HasText, IsLaid}
+use Rattle.session.specs.Standing.{Standing, course_of, doc_of}
+use Rattle.session.specs.Touched.{Agrees, touched_lines}
 use Rattle.session.specs.Words.{IsUnserved}
 use Rattle.session.specs.declared.said.Said.{Said}
 use Rattle.session.specs.declared.status.Status.{Status}
@@ -56,7 +53,6 @@ use Rattle.session.proofs.Logs.{Made}
 use Rattle.session.proofs.Pieces.{first_given}
 use Rattle.session.proofs.Progress.{all_push}
 use Rattle.session.proofs.Scripts.{after_none, before_none, one_made}
-use Rattle.session.proofs.Spares.{touched_same}
 
 -- ---- replies, one after another
 
@@ -125,10 +121,10 @@ unfolding text_of
 said_reply stats touches l p k said text t =
     record { reply = record { text = text; told = []; kept = 0 }; is = record { text = t; told = refl; kept = refl }; text = refl; log = adds_none l; ticks = λ e. omega arith }
 
-pub unlaid_reply : (stats : Bool) (touches : Touches) (l : Option (List Event)) (p p' k : ℕ) (made : Made) (old new : Standing) (said : Said) (text : List ℕ) → (made ≡ Err said) × IsAsBefore old new → p' ≡ p → text ≡ said_line k said
+pub unlaid_reply : (stats : Bool) (touches : Touches) (l : Option (List Event)) (p p' k : ℕ) (made : Made) (said : Said) (text : List ℕ) → made ≡ Err said → p' ≡ p → text ≡ said_line k said
     → HasReply stats touches l l p p' k made text
-unlaid_reply stats touches l p p' k made old new said text e same t =
-    subst (λ (n : ℕ). HasReply stats touches l l p n k made text) (sym same) (reply_same stats touches l l p p k (Err said) text (said_reply stats touches l p k said text t) made (sym e.0))
+unlaid_reply stats touches l p p' k made said text e same t =
+    subst (λ (n : ℕ). HasReply stats touches l l p n k made text) (sym same) (reply_same stats touches l l p p k (Err said) text (said_reply stats touches l p k said text t) made (sym e))
 
 -- ---- a layout
 
@@ -173,7 +169,7 @@ module _ (test other : List ℕ → Bool) (same : (name : List ℕ) → test nam
   leaf_same leafless = refl
   leaf_same (tree x below after) = λ i. (is_leaf x.kind && same x.name i) || leaf_same after i
 
-  passes_same : (t : Trees Label) → PassesUp other t → PassesUp test t
+  pub passes_same : (t : Trees Label) → PassesUp other t → PassesUp test t
   passes_same leafless p = tt
   passes_same (tree x below after) p = ((λ e. same x.name ∙ p.0 (sym (leaf_same below) ∙ e)), (passes_same below p.1.0, passes_same after p.1.1))
 
@@ -189,24 +185,40 @@ emptied_by touches k old new touched later agrees kept up =
     same name = ap (λ (b : Bool). b || touches k name) (ne_eqb k 0 (λ e. absurd (omega (arith, later, e)))) ∙ agrees name
 
 -- by the edit of a line
-pub edit_emptied : (touches : Touches) (k : ℕ) (old new : Held) (line : Line) → 1 ≤ k → Agrees touches k (document_of old) line → KeepsUntouched (touched_by (document_of old) line) old new
-    → PassesUp (touched_by (document_of old) line) (tree_of (document_of new)) → IsEmptied (is_new touches k) new
-edit_emptied touches k old new line later agrees kept up = emptied_by touches k old new (touched_by (document_of old) line) later agrees kept up
+pub edit_emptied : (touches : Touches) (k : ℕ) (old new : Standing) (line : Line) → 1 ≤ k → Agrees touches k (course_of old) line → Spreads (touched_by (course_of old) line) old.page new.page → IsEmptied (is_new touches k) new.page
+edit_emptied touches k old new line later agrees spreads = emptied_by touches k old.page new.page (touched_by (course_of old) line) later agrees spreads.kept spreads.up
 
 -- ---- one line of the script
 
-pub skipped_replies : (stats : Bool) (touches : Touches) (w : Option (List ℕ)) (l : Option (List Event)) (p k : ℕ) (doc : Doc) (line : Line) → is_skipped line ≡ true → Replies stats w w l l p p touches k (if is_skipped line then [] else made_of doc line ∷ [])
-skipped_replies stats touches w l p k doc line e =
-    subst (λ (b : Bool). Replies stats w w l l p p touches k (if b then [] else made_of doc line ∷ [])) (sym e) (replies_none stats touches w w l l p p k (stays_same w) (stays_same l) refl)
+pub skipped_replies : (stats : Bool) (touches : Touches) (w : Option (List ℕ)) (l : Option (List Event)) (p k : ℕ) (c : Course) (line : Line) → is_skipped line ≡ true → Replies stats w w l l p p touches k (if is_skipped line then [] else made_by c line ∷ [])
+skipped_replies stats touches w l p k c line e =
+    subst (λ (b : Bool). Replies stats w w l l p p touches k (if b then [] else made_by c line ∷ [])) (sym e) (replies_none stats touches w w l l p p k (stays_same w) (stays_same l) refl)
 
-pub edit_replies : (stats : Bool) (touches : Touches) (w w' : Option (List ℕ)) (l l' : Option (List Event)) (p p' k : ℕ) (doc : Doc) (line : Line) → is_skipped line ≡ false → Replies stats w w' l l' p p' touches k (made_of doc line ∷ [])
-    → Replies stats w w' l l' p p' touches k (if is_skipped line then [] else made_of doc line ∷ [])
-edit_replies stats touches w w' l l' p p' k doc line e r = subst (λ (b : Bool). Replies stats w w' l l' p p' touches k (if b then [] else made_of doc line ∷ [])) (sym e) r
+pub edit_replies : (stats : Bool) (touches : Touches) (w w' : Option (List ℕ)) (l l' : Option (List Event)) (p p' k : ℕ) (c : Course) (line : Line) → is_skipped line ≡ false → Replies stats w w' l l' p p' touches k (made_by c line ∷ [])
+    → Replies stats w w' l l' p p' touches k (if is_skipped line then [] else made_by c line ∷ [])
+edit_replies stats touches w w' l l' p p' k c line e r = subst (λ (b : Bool). Replies stats w w' l l' p p' touches k (if b then [] else made_by c line ∷ [])) (sym e) r
 
 -- ---- between two lines
 
-module _ (given : List Line) (doc : Doc) (k : ℕ) (bad : Bool) (laid : IsLaid given doc k bad) where
-  all_given : all_made given ≡ Ok laid.first ∷ made_in laid.first (after_end given)
+abbrev laid_alone : Doc → List Made
+laid_alone doc = Ok doc ∷ []
+
+none_made : (made : List Made) → length made ≡ 0 → made ≡ []
+none_made [] e = refl
+none_made (m ∷ made) e = absurd (omega (arith, e))
+
+-- where no line of a script is an edit the course stays
+unmoved : (c : Course) (script : List Line) → length (made_in c.history script) ≡ 0 → last_course c script ≡ c
+unmoved c [] e = refl
+unmoved c (line ∷ script) e = by_skipped (is_skipped line) (unmoved c script) e
+  where
+    by_skipped : (b : Bool) → (length (made_in c.history script) ≡ 0 → last_course c script ≡ c) → length (if b then made_in c.history script else made_by c line ∷ made_in (next_course c line).history script) ≡ 0
+        → (if b then last_course c script else last_course (next_course c line) script) ≡ c
+    by_skipped true h e = h e
+    by_skipped false h e = absurd (omega (arith, e))
+
+module _ (given : List Line) (c : Course) (k : ℕ) (bad : Bool) (laid : IsLaid given c k bad) where
+  all_given : all_made given ≡ Ok laid.first ∷ made_in (begins laid.first) (after_end given)
   all_given = ap (λ (o : Result Doc Fault). made_from o (after_end given)) laid.read
 
   pub later_number : 1 ≤ k
@@ -214,20 +226,20 @@ module _ (given : List Line) (doc : Doc) (k : ℕ) (bad : Bool) (laid : IsLaid g
 
   module _ (stats : Bool) (w w' : Option (List ℕ)) (l l' : Option (List Event)) (p p' : ℕ) where
     -- after the document
-    pub first_replies : k ≡ 1 → ((touches : Touches) → Replies stats w w' l l' p p' touches 0 (Ok doc ∷ [])) → RepliesLines stats w w' l l' p p' given
-    first_replies one r touches f = subst (Replies stats w w' l l' p p' touches 0) (sym (all_given ∙ at (made_in laid.first (after_end given)) refl)) (r touches)
-      where
-        at : (made : List Made) → made_in laid.first (after_end given) ≡ made → Ok laid.first ∷ made_in laid.first (after_end given) ≡ Ok doc ∷ []
-        at [] e = (λ i. Ok laid.first ∷ e i) ∙ ap (λ (d : Doc). Ok d ∷ []) (sym (laid.now ∙ ap (last_doc laid.first) e))
-        at (m ∷ made) e = absurd (omega (arith, one, laid.count, ap length all_given, ap length e))
+    pub first_replies : k ≡ 1 → ((touches : Touches) → Replies stats w w' l l' p p' touches 0 (Ok c.history.doc ∷ [])) → RepliesLines stats w w' l l' p p' given
+    first_replies one r touches f =
+        let none : length (made_in (begins laid.first) (after_end given)) ≡ 0 = omega (arith, one, laid.count, ap length all_given) in
+        subst (Replies stats w w' l l' p p' touches 0)
+        (sym (all_given ∙ ap (λ (made : List Made). Ok laid.first ∷ made) (none_made (made_in (begins laid.first) (after_end given)) none)
+        ∙ ap (λ (d : Course). laid_alone d.history.doc) (sym (laid.now ∙ unmoved (begun laid.first) (after_end given) none)))) (r touches)
 
     -- a line more
-    pub more_replies : (touches : Touches) (w'' : Option (List ℕ)) (l'' : Option (List Event)) (p'' : ℕ) (line : Line) → Replies stats w w' l l' p p' touches 0 (all_made given) → Replies stats w' w'' l' l'' p' p'' touches k (if is_skipped line then [] else made_of doc line ∷ [])
+    pub more_replies : (touches : Touches) (w'' : Option (List ℕ)) (l'' : Option (List Event)) (p'' : ℕ) (line : Line) → Replies stats w w' l l' p p' touches 0 (all_made given) → Replies stats w' w'' l' l'' p' p'' touches k (if is_skipped line then [] else made_by c line ∷ [])
         → Replies stats w w'' l l'' p p'' touches 0 (all_made (given ++ line ∷ []))
     more_replies touches w'' l'' p'' line a b =
         let next : k ≡ 0 + length (all_made given) = omega (arith, laid.count) in
-        subst (Replies stats w w'' l l'' p p'' touches 0) (sym (all_push given doc k bad laid line))
-        (replies_more stats touches w w' w'' l l' l'' p p' p'' 0 (all_made given) (one_made doc line) a (subst (λ (n : ℕ). Replies stats w' w'' l' l'' p' p'' touches n (one_made doc line)) next b))
+        subst (Replies stats w w'' l l'' p p'' touches 0) (sym (all_push given c k bad laid line))
+        (replies_more stats touches w w' w'' l l' l'' p p' p'' 0 (all_made given) (one_made c line) a (subst (λ (n : ℕ). Replies stats w' w'' l' l'' p' p'' touches n (one_made c line)) next b))
 
     -- reading stopped
     pub stopped_replies : (left now : Option (List ℕ)) (stream : Stream) (ended : Bool) (status : Status) → HasGiven left now given stream ended → RepliesLines stats w w' l l' p p' given → (left' : Option (List ℕ)) → Stops left left' given status → RepliesTo stats w w' l l' p p' left status
@@ -318,7 +330,7 @@ alone_replies stats w w' l l' p p' left left' stream ended text t doc none read 
     once : all_made t.given ≡ Ok doc ∷ []
     once =
         ap (λ (lines : List Line). made_from (document_of_lines lines) (after_end t.given)) (before_none t.given t.unended)
-        ∙ ap (λ (m : Result Doc Fault). made_from m (after_end t.given)) (sym t.same ∙ read) ∙ ap (λ (lines : List Line). Ok doc ∷ made_in doc lines) (after_none t.given t.unended)
+        ∙ ap (λ (m : Result Doc Fault). made_from m (after_end t.given)) (sym t.same ∙ read) ∙ ap (λ (lines : List Line). Ok doc ∷ made_in (begins doc) lines) (after_none t.given t.unended)
 
     at : (b : Bool) → b ≡ false → HasText left left' stream ended t.given b → RepliesTo stats w w' l l' p p' left Done
     at true e h = absurd (false≢true (sym e))
@@ -373,10 +385,3 @@ unserved_replied stats w l p (Some b) BadWords s = tt
 pub on_any : {T E : Type 0} {P : Type 0} (r : Result T E) → P → OnErr r P
 on_any (Ok x) p = tt
 on_any (Err e) p = p
-
--- ---- an edit
-
-pub passes_next : (said : Option Said) (e : Edit) (old new : Standing) (line : Line) → edit_of (doc_of old).version line ≡ Ok e → Makes said (answer_to e (doc_of old)) old new
-    → (said ≡ None → PassesUp (is_touched e (doc_of old) (doc_of new)) (tree_of (doc_of new))) → said ≡ None → PassesUp (touched_by (doc_of old) line) (tree_of (doc_of new))
-passes_next None e old new line read made up none = subst (λ (test : List ℕ → Bool). PassesUp test (tree_of (doc_of new))) (touched_same (doc_of old) (doc_of new) line e read made) (up none)
-passes_next (Some said) e old new line read made up none = absurd cc

@@ -12,13 +12,16 @@ use Rattle.outside.specs.declared.event.Event.{Event}
 use Rattle.outside.proofs.Laws.{stays_same}
 use Rattle.text_scan.specs.declared.line.Fault.{Fault}
 use Rattle.doc_text.specs.declared.document.Doc.{Doc}
+use Rattle.doc_text.specs.Histories.{begins}
+use Rattle.session.specs.Courses.{Course, begun, history_by, last_course, no_steps}
+use Rattle.session.specs.Standing.{Standing, course_of, doc_of}
 use Rattle.doc_text.specs.Documents.{document_of}
 use Rattle.session.specs.Written.{Writes, WritesFront}
 use Rattle.session.specs.Input.{limit, IsFront, AreFirst, HasLastPiece, HasGiven, HasGivenLine, HasGivenAll, Stops}
 use Rattle.session.specs.Script.{is_end_of_document, has_end, before_end, after_end, document_of_lines, made_in, made_from, all_made, has_fault, or_refused, some_refused}
 use Rattle.session.specs.Outcome.{answer_of, verdict_of, early_lines}
 use Rattle.session.specs.Runs.{StopsWriting, WritesAll, WritesPrefix, WritesFrom, Stands, HasEndInLast, IsWhole, IsEnded, EndsEarly, Judged, Runs}
-use Rattle.session.specs.Serving.{HasText, HasReadText, StopsInText, Answers, AnswersPrefix, EndsFirst, last_doc, HasAnswered, IsAt, ended}
+use Rattle.session.specs.Serving.{HasText, HasReadText, StopsInText, Answers, AnswersPrefix, EndsFirst, HasAnswered, IsAt, ended}
 use Rattle.session.specs.declared.status.Status.{Status}
 use Rattle.session.specs.declared.status.Status.TheVariants.{Done, BadDocument, SomeRefused, ReadFault, WriteFault, NoMemory, InputLimit, BadWords}
 use Rattle.session.proofs.Logs.{Made}
@@ -258,12 +261,12 @@ module _ (stats : Bool) (left left' w w' : Option (List ℕ)) (l l' : Option (Li
       (wrote_first lines lines just stats w w' l l' (first_answers doc p.0 p.1))
 
   ended_at : (b : Bool) (doc : Doc) → b ≡ true → HasText left left' stream ended lines b → (document_of_lines lines ≡ Ok doc) × Answers stats w w' l l' 0 (Ok doc)
-      → IsAt stats left left' w w' l l' stream ended doc 1 false
+      → IsAt stats left left' w w' l l' stream ended (begun doc) 1 false
   ended_at false doc e t p = absurd (false≢true e)
   ended_at true doc e t p =
       let given = lines ++ t.last ∷ [] in
       let just : IsJust given lines = just_ended lines t.last o t.end in
-      let nothing : made_in doc (after_end given) ≡ [] = ap (made_in doc) just.after in
+      let nothing : made_in (begins doc) (after_end given) ≡ [] = ap (made_in (begins doc)) just.after in
       let once : all_made given ≡ Ok doc ∷ [] = just_made given lines just ∙ ap (λ (read : Result Doc Fault). or_refused read ∷ []) p.0 in
       record {
         given = given;
@@ -273,7 +276,7 @@ module _ (stats : Bool) (left left' w w' : Option (List ℕ)) (l l' : Option (Li
             first = doc;
             ended = has_push lines t.last t.end;
             read = ap document_of_lines just.before ∙ p.0;
-            now = ap (last_doc doc) (sym nothing);
+            now = ap (last_course (begun doc)) (sym just.after);
             count = ap (λ (m : List Made). length m) (sym once);
             refused = ap some_refused (sym nothing);
             few = omega (arith, length-append lines (t.last ∷ []));
@@ -293,14 +296,20 @@ module _ (stats : Bool) (left left' w w' : Option (List ℕ)) (l l' : Option (Li
   pub text_alone : (doc : Doc) → text.has_script ≡ false → (document_of text.lines text.end ≡ Ok doc) × Answers stats w w' l l' 0 (Ok doc) → Runs stats left left' w w' l l' Done
   text_alone doc e p = ended_alone stats left left' w w' l l' stream ended t.given t.unended text.has_script doc e t.input (read_ok doc p.0, p.1)
 
-  pub text_at : (doc : Doc) → text.has_script ≡ true → (document_of text.lines text.end ≡ Ok doc) × Answers stats w w' l l' 0 (Ok doc) → IsAt stats left left' w w' l l' stream ended doc 1 false
-  text_at doc e p = ended_at stats left left' w w' l l' stream ended t.given t.unended text.has_script doc e t.input (read_ok doc p.0, p.1)
+  course_begun : (engine : Standing) → engine.steps ≡ no_steps → begun (doc_of engine) ≡ course_of engine
+  course_begun engine none = λ i. record { history = history_by (sym none i) (doc_of engine); steps = sym none i }
+
+  pub text_at : (engine : Standing) → engine.steps ≡ no_steps → text.has_script ≡ true → (document_of text.lines text.end ≡ Ok (doc_of engine)) × Answers stats w w' l l' 0 (Ok (doc_of engine))
+      → IsAt stats left left' w w' l l' stream ended (course_of engine) 1 false
+  text_at engine none e p =
+      subst (λ (c : Course). IsAt stats left left' w w' l l' stream ended c 1 false) (course_begun engine none)
+      (ended_at stats left left' w w' l l' stream ended t.given t.unended text.has_script (doc_of engine) e t.input (read_ok (doc_of engine) p.0, p.1))
 
 pub ruleset starting = (stopped_in_text, text_refused, text_alone, text_at)
 
 -- ---- between two lines of the script
 
-module _ (stats : Bool) (left left' w w' : Option (List ℕ)) (l l' : Option (List Event)) (given : List Line) (doc : Doc) (k : ℕ) (bad : Bool) (p : HasAnswered stats w w' l l' given doc k bad) where
+module _ (stats : Bool) (left left' w w' : Option (List ℕ)) (l l' : Option (List Event)) (given : List Line) (c : Course) (k : ℕ) (bad : Bool) (p : HasAnswered stats w w' l l' given c k bad) where
   pub script_stopped : (status : Status) → Stops left left' given status → Runs stats left left' w w' l l' status
   script_stopped status s = stopped stats left left' w w' l l' given status s (inr (p.laid.ended, ap has_fault p.laid.read, p.output))
 

@@ -4,9 +4,9 @@ use Rattle.std.proofs.lemmas.Bool.{false≢true}
 use Rattle.std.specs.Prelude.{if◌then◌else◌}
 use Rattle.text_scan.specs.declared.line.Line.{Line}
 use Rattle.text_scan.specs.Tokens.{is_skipped}
-use Rattle.doc_text.specs.declared.document.Doc.{Doc}
-use Rattle.session.specs.Script.{is_end_of_document, has_end, before_end, after_end, made_of, made_in, next_doc, is_refused, some_refused}
-use Rattle.session.specs.Serving.{last_doc}
+use Rattle.doc_text.specs.Histories.{History}
+use Rattle.session.specs.Courses.{Course, last_course, made_by, next_course}
+use Rattle.session.specs.Script.{is_end_of_document, has_end, before_end, after_end, doc_made, made_of, made_in, next_history, is_refused, some_refused}
 use Rattle.session.proofs.Logs.{Made}
 
 -- ---- where the document ends
@@ -58,35 +58,35 @@ after_none (line ∷ given) e = by_end (is_end_of_document line) e (after_none g
 
 -- ---- what edit lines make
 
-abbrev pub one_made : Doc → Line → List Made
-one_made doc line = if is_skipped line then [] else made_of doc line ∷ []
+abbrev pub one_made : Course → Line → List Made
+one_made c line = if is_skipped line then [] else made_by c line ∷ []
 
-made_step : (b : Bool) (doc : Doc) (made : Made) (script : List Line) (line : Line)
-    → made_in doc (script ++ line ∷ []) ≡ made_in doc script ++ one_made (last_doc doc (made_in doc script)) line
-    → made_in (next_doc doc made) (script ++ line ∷ []) ≡ made_in (next_doc doc made) script ++ one_made (last_doc (next_doc doc made) (made_in (next_doc doc made) script)) line
-    → (if b then made_in doc (script ++ line ∷ []) else made ∷ made_in (next_doc doc made) (script ++ line ∷ []))
-    ≡ (if b then made_in doc script else made ∷ made_in (next_doc doc made) script) ++ one_made (last_doc doc (if b then made_in doc script else made ∷ made_in (next_doc doc made) script)) line
-made_step true doc made script line p q = p
-made_step false doc made script line p q = ap (λ (l : List Made). made ∷ l) q
+made_step : (b : Bool) (c next : Course) (made : Made) (script : List Line) (line : Line)
+    → made_in c.history (script ++ line ∷ []) ≡ made_in c.history script ++ one_made (last_course c script) line
+    → made_in next.history (script ++ line ∷ []) ≡ made_in next.history script ++ one_made (last_course next script) line
+    → (if b then made_in c.history (script ++ line ∷ []) else made ∷ made_in next.history (script ++ line ∷ []))
+    ≡ (if b then made_in c.history script else made ∷ made_in next.history script) ++ one_made (if b then last_course c script else last_course next script) line
+made_step true c next made script line p q = p
+made_step false c next made script line p q = ap (λ (l : List Made). made ∷ l) q
 
-pub made_push : (doc : Doc) (script : List Line) (line : Line) → made_in doc (script ++ line ∷ []) ≡ made_in doc script ++ one_made (last_doc doc (made_in doc script)) line
-made_push doc [] line = refl
-made_push doc (first ∷ script) line = made_step (is_skipped first) doc (made_of doc first) script line (made_push doc script line) (made_push (next_doc doc (made_of doc first)) script line)
+pub made_push : (c : Course) (script : List Line) (line : Line) → made_in c.history (script ++ line ∷ []) ≡ made_in c.history script ++ one_made (last_course c script) line
+made_push c [] line = refl
+made_push c (first ∷ script) line = made_step (is_skipped first) c (next_course c first) (made_by c first) script line (made_push c script line) (made_push (next_course c first) script line)
 
 -- what more lines make comes behind
-abbrev pub MadeMore : Doc → List Line → List Line → Type 0
-MadeMore doc script more = (rest : List Made) × (made_in doc (script ++ more) ≡ made_in doc script ++ rest)
+abbrev pub MadeMore : History → List Line → List Line → Type 0
+MadeMore h script more = (rest : List Made) × (made_in h (script ++ more) ≡ made_in h script ++ rest)
 
-made_more_step : (b : Bool) (doc : Doc) (made : Made) (script more : List Line) → MadeMore doc script more → MadeMore (next_doc doc made) script more
-    → (rest : List Made) × ((if b then made_in doc (script ++ more) else made ∷ made_in (next_doc doc made) (script ++ more)) ≡ (if b then made_in doc script else made ∷ made_in (next_doc doc made) script) ++ rest)
-made_more_step true doc made script more p q = p
-made_more_step false doc made script more p q = (q.0, ap (λ (l : List Made). made ∷ l) q.1)
+made_more_step : (b : Bool) (h next : History) (made : Made) (script more : List Line) → MadeMore h script more → MadeMore next script more
+    → (rest : List Made) × ((if b then made_in h (script ++ more) else made ∷ made_in next (script ++ more)) ≡ (if b then made_in h script else made ∷ made_in next script) ++ rest)
+made_more_step true h next made script more p q = p
+made_more_step false h next made script more p q = (q.0, ap (λ (l : List Made). made ∷ l) q.1)
 
-pub made_more : (doc : Doc) (script more : List Line) → MadeMore doc script more
-made_more doc [] more = (made_in doc more, refl)
-made_more doc (line ∷ script) more = made_more_step (is_skipped line) doc (made_of doc line) script more (made_more doc script more) (made_more (next_doc doc (made_of doc line)) script more)
+pub made_more : (h : History) (script more : List Line) → MadeMore h script more
+made_more h [] more = (made_in h more, refl)
+made_more h (line ∷ script) more = made_more_step (is_skipped line) h (next_history h (made_of h line)) (doc_made (made_of h line)) script more (made_more h script more) (made_more (next_history h (made_of h line)) script more)
 
--- ---- refusals, and the last document
+-- ---- refusals, and the course
 
 pub refused_push : (made : List Made) (last : Made) → some_refused (made ++ last ∷ []) ≡ (some_refused made || is_refused last)
 refused_push [] last = or_false (is_refused last)
@@ -100,6 +100,16 @@ refused_push (first ∷ made) last = by_first (is_refused first) (refused_push m
     by_first true e = refl
     by_first false e = e
 
-pub last_push : (doc : Doc) (made : List Made) (last : Made) → last_doc doc (made ++ last ∷ []) ≡ next_doc (last_doc doc made) last
-last_push doc [] last = refl
-last_push doc (first ∷ made) last = last_push (next_doc doc first) made last
+-- the course after a line more
+abbrev pub one_course : Course → Line → Course
+one_course c line = if is_skipped line then c else next_course c line
+
+pub last_push : (c : Course) (script : List Line) (line : Line) → last_course c (script ++ line ∷ []) ≡ one_course (last_course c script) line
+last_push c [] line = refl
+last_push c (first ∷ script) line = by_first (is_skipped first) (last_push c script line) (last_push (next_course c first) script line)
+  where
+    by_first : (b : Bool) → last_course c (script ++ line ∷ []) ≡ one_course (last_course c script) line → last_course (next_course c first) (script ++ line ∷ []) ≡ one_course (last_course (next_course c first) script) line
+        → (if b then last_course c (script ++ line ∷ []) else last_course (next_course c first) (script ++ line ∷ []))
+        ≡ one_course (if b then last_course c script else last_course (next_course c first) script) line
+    by_first true p q = p
+    by_first false p q = q

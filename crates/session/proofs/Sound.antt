@@ -1,23 +1,18 @@
 -- An engine keeps its document valid and its kept answers right.
-use Rattle.std.proofs.Common.{◌≡◌, sym, subst, arith, ◌<◌, List, [], Contains, Result, Ok, Err}
+use Rattle.std.proofs.Common.{◌≡◌, sym, subst, arith, ◌<◌, List, [], Contains, Result, Ok, Err, IfOk}
 use Rattle.doc_text.specs.declared.document.Doc.{Doc}
-use Rattle.doc_text.specs.declared.edit.Edit.{Edit}
-use Rattle.doc_text.specs.Edits.{edited}
-use Rattle.doc_text.specs.Laws.{NamesItsNode}
+use Rattle.std.specs.Prelude.{reverse}
 use Rattle.doc_text.specs.Valid.{IsValid}
-use Rattle.page_tree.specs.Answered.{Applies}
+use Rattle.edit_journal.specs.Journals.{Lists}
 use Rattle.page_tree.specs.Pages.{Held, document_of}
-use Rattle.page_tree.specs.declared.error.EditError.{EditError}
-use Rattle.page_tree.specs.declared.error.EditError.TheVariants as error
 use Rattle.box_layout.specs.LastBoxes.{AreFound, Found}
 use Rattle.tree_rules.specs.declared.query.Query.{Query}
 use Rattle.node_arena.specs.declared.number.NodeId.{NodeId}
 use Rattle.placing.specs.declared.node.Answer.{Answer}
-use Rattle.placing.specs.Kept.{IsRight}
-use Rattle.placing.specs.Nodes.{BareTrees}
-use Rattle.session.specs.Engine.{IsToldEdit}
-use Rattle.session.specs.Standing.{IsSound}
-use Rattle.session.proofs.Validity.{edited_valid}
+use Rattle.placing.specs.Kept.{IsRight, kept_at}
+use Rattle.placing.specs.Nodes.{BareTrees, bare}
+use Rattle.session.specs.Courses.{Steps, no_steps}
+use Rattle.session.specs.Standing.{HaveLed, IsSound, IsWell, steps_of}
 
 pub sound_first : (doc : Doc) (page : Held) → document_of page ≡ doc → IsRight page.nodes.tree → IsValid doc → IsSound page
 sound_first doc page e r v = record { valid = subst IsValid (sym e) v; right = r }
@@ -29,11 +24,24 @@ none_found b kept all e f c live =
     let few : none.0 < 0 = none.1 in
     absurd (omega arith)
 
-pub ruleset beginning = (sound_first, none_found)
+-- without steps none led
+no_steps_led : (steps : Steps) (doc : Doc) → steps ≡ no_steps → HaveLed steps doc
+no_steps_led steps doc e = subst (λ (s : Steps). HaveLed s doc) (sym e) (record { past = tt; future = tt })
 
-pub sound_next : (r : Result (Unit {0}) EditError) (e : Edit) (old new : Held) → IsSound old → NamesItsNode e → IsToldEdit (document_of old).version e → Applies r (edited e (document_of old)) old new → IsRight new.nodes.tree → IsSound new
-sound_next (Ok done) e old new s n h p right = record { valid = edited_valid (document_of old) (document_of new) e s.valid n h p; right = right }
-sound_next (Err (error.Refused fault)) e old new s n h p right = subst IsSound (sym p.1) s
-sound_next (Err error.NoMemory) e old new s n h p right = subst IsSound (sym p) s
+pub new_steps : (journal : Lists) → journal.done ≡ [] → journal.undone ≡ [] → steps_of journal ≡ no_steps
+new_steps journal done undone = λ i. record { done = reverse (done i); undone = reverse (undone i) }
 
-pub ruleset applying = (sound_next)
+pub well_first : (doc : Doc) (page : Held) (all : List Found) (journal : Lists) → document_of page ≡ doc → IsRight page.nodes.tree → IsValid doc → all ≡ [] → journal.done ≡ [] → journal.undone ≡ [] → IsWell page all (steps_of journal)
+well_first doc page all journal e r v a done undone =
+    record {
+      sound = sound_first doc page e r v;
+      found = none_found (bare page.nodes.tree) (kept_at page.nodes.tree) all a;
+      led = no_steps_led (steps_of journal) (document_of page) (new_steps journal done undone);
+    }
+
+-- what is written out of a valid document is valid
+pub valid_copy : {E : Type 0} (r : Result Doc E) (page : Held) → IsValid (document_of page) → IfOk r (λ doc. doc ≡ document_of page) → IfOk r IsValid
+valid_copy (Ok doc) page v e = subst IsValid (sym e) v
+valid_copy (Err error) page v e = tt
+
+pub ruleset beginning = (well_first, new_steps)

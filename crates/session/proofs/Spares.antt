@@ -14,8 +14,6 @@ use Rattle.node_arena.specs.Numbers.{IsDistinct, Part, part_at, top_numbers, val
 use Rattle.tree_rules.specs.Labels as rules
 use Rattle.tree_rules.specs.Queries.{is_container}
 use Rattle.doc_text.specs.declared.document.Doc.{Doc}
-use Rattle.doc_text.specs.declared.edit.Edit.{Edit}
-use Rattle.doc_text.specs.EditText.{edit_of}
 use Rattle.doc_text.specs.Named as plain
 use Rattle.placing.specs.declared.node.Node.{Node}
 use Rattle.placing.specs.Keeping.{KeepsNone}
@@ -30,13 +28,12 @@ use Rattle.sparing.specs.Sparing.{Touches}
 use Rattle.sparing.proofs.Entries.{spared_more}
 use Rattle.sparing.proofs.Layouts.{IsLeafAfter, edit_recalls, first_recalls, layout_spares, stopped_spares}
 use Rattle.session.specs.Input.{AreFirst}
-use Rattle.page_tree.specs.Reach.{KeepsOn, KeepsOthers, is_touched}
-use Rattle.session.specs.Spares.{KeepsUntouched, Spares, SparesAfter, SparesDue, SparesFirst, SparesInput, SparesPage}
-use Rattle.session.specs.Engine.{IsAsBefore, Makes}
-use Rattle.session.specs.Script.{answer_to}
-use Rattle.session.specs.Standing.{Standing, IsSound, doc_of}
-use Rattle.session.specs.declared.said.Said.{Said}
-use Rattle.session.specs.Touched.{Agrees, touched_by, touched_lines, touched_of, touched_to}
+use Rattle.page_tree.specs.Reach.{KeepsOn}
+use Rattle.session.specs.Courses.{touched_by}
+use Rattle.session.specs.Spares.{Spares, SparesAfter, SparesDue, SparesFirst, SparesInput, SparesPage}
+use Rattle.session.specs.Engine.{IsAsBefore, KeepsUntouched, Spreads}
+use Rattle.session.specs.Standing.{Standing, IsSound, course_of}
+use Rattle.session.specs.Touched.{Agrees, touched_lines}
 use Rattle.session.proofs.Follows.{follows_all}
 use Rattle.session.proofs.LeafNames.{each_there, label_there, leaf_there, leaves_named}
 use Rattle.session.proofs.Measured.{whole_tree}
@@ -167,19 +164,9 @@ module _ (touches : Touches) (before now : Option (List Event)) (k : ℕ) (old n
       }
 
 -- that of a line
-pub spares_due : (touches : Touches) (before now : Option (List Event)) (k : ℕ) (old new : Held) (line : Line) → SparesPage touches before now old → Agrees touches k (document_of old) line
-    → KeepsUntouched (touched_by (document_of old) line) old new → SparesDue touches before now k new
-spares_due touches before now k old new line p agrees kept = spares_due_by touches before now k old new (touched_by (document_of old) line) p agrees kept
-
--- the line reads as this edit
-pub touched_same : (doc next : Doc) (line : Line) (e : Edit) → edit_of doc.version line ≡ Ok e → answer_to e doc ≡ Ok next → (λ (name : List ℕ). is_touched e doc next name) ≡ touched_by doc line
-unfolding touched_by
-touched_same doc next line e read made = (λ i. λ (name : List ℕ). touched_to e doc (sym made i) name) ∙ (λ i. λ (name : List ℕ). touched_of doc (sym read i) name)
-
-pub edit_kept : (said : Option Said) (old new : Standing) (line : Line) (e : Edit) → edit_of (doc_of old).version line ≡ Ok e → Makes said (answer_to e (doc_of old)) old new → (said ≡ None → KeepsOthers e old.page new.page)
-    → said ≡ None → KeepsUntouched (touched_by (doc_of old) line) old.page new.page
-edit_kept None old new line e read made kept none = subst (λ (f : List ℕ → Bool). KeepsUntouched f old.page new.page) (touched_same (doc_of old) (doc_of new) line e read made) (kept none)
-edit_kept (Some said) old new line e read made kept none = absurd cc
+pub spares_due : (touches : Touches) (before now : Option (List Event)) (k : ℕ) (old new : Standing) (line : Line) → SparesPage touches before now old.page → Agrees touches k (course_of old) line
+    → Spreads (touched_by (course_of old) line) old.page new.page → SparesDue touches before now k new.page
+spares_due touches before now k old new line p agrees spreads = spares_due_by touches before now k old.page new.page (touched_by (course_of old) line) p agrees spreads.kept
 
 -- where nothing is laid out the page is as it was
 pub said_same : (old new : Standing) → IsAsBefore old new → (touches : Touches) (before now : Option (List Event)) → SparesPage touches before now old.page → SparesPage touches before now new.page

@@ -14,9 +14,9 @@ use Rattle.doc_text.specs.declared.edit.Edit.TheVariants as edit
 use Rattle.doc_text.specs.declared.edit.Named.{Named}
 use Rattle.doc_text.specs.Laws.{NamesItsNode}
 use Rattle.doc_text.specs.Texts.{Word, Text, first_word, due, is_word, after_word, word_place, ◌>>=◌, end_of, text_of}
-use Rattle.doc_text.specs.Tokens.{name_first, size_first, position_first, index_of, index_first}
+use Rattle.doc_text.specs.Tokens.{name_first, size_first, position_first, index_of, index_first, times_first}
 use Rattle.doc_text.specs.NodeText.{is_semicolon, content_first, node_text}
-use Rattle.doc_text.specs.EditText.{named_first, before_semicolon, after_semicolon, set_edit, props_first, unset_edit, bare_node, insert_edit, remove_edit, move_edit, content_edit, viewport_edit, hit_edit, other_edit, edit_in, edit_of}
+use Rattle.doc_text.specs.EditText.{named_first, before_semicolon, after_semicolon, set_edit, props_first, unset_edit, bare_node, insert_edit, remove_edit, move_edit, content_edit, viewport_edit, undo_edit, redo_edit, hit_edit, asked_edit, other_edit, edit_in, edit_of}
 use Rattle.doc_text.specs.Valid.{IsShort}
 use Rattle.doc_text.proofs.Short.{Fits, after_fits, front_fits, line_fits}
 use Rattle.doc_text.proofs.Told.{name_fits, both, ok-not-err, same-ok, AllDeclared, read_declared, size_told, content_told, node_told}
@@ -116,18 +116,38 @@ hit_told version text e h =
     let end = both (end_of y.value.1) (λ (done : Unit {0}). Ok (edit.Hit x.value.0 y.value.0)) e y.last in
     subst (IsReadEdit version) (same-ok (edit.Hit x.value.0 y.value.0) e end.last) (record { told = tt; named = tt })
 
-other_told : (version : ℕ) (text : Text) (e : Edit) → Fits text → other_edit text ≡ Ok e → IsReadEdit version e
-other_told version text e f h = by_word (is_word (codes "remove") text) (is_word (codes "move") text) (is_word (codes "content") text) (is_word (codes "viewport") text) (is_word (codes "hit") text) h
+undo_told : (version : ℕ) (text : Text) (e : Edit) → undo_edit text ≡ Ok e → IsReadEdit version e
+undo_told version text e h =
+    let times = both (times_first text) _ e h in
+    let end = both (end_of times.value.1) (λ (done : Unit {0}). Ok (edit.Undo times.value.0 (word_place text))) e times.last in
+    subst (IsReadEdit version) (same-ok (edit.Undo times.value.0 (word_place text)) e end.last) (record { told = tt; named = tt })
+
+redo_told : (version : ℕ) (text : Text) (e : Edit) → redo_edit text ≡ Ok e → IsReadEdit version e
+redo_told version text e h =
+    let times = both (times_first text) _ e h in
+    let end = both (end_of times.value.1) (λ (done : Unit {0}). Ok (edit.Redo times.value.0 (word_place text))) e times.last in
+    subst (IsReadEdit version) (same-ok (edit.Redo times.value.0 (word_place text)) e end.last) (record { told = tt; named = tt })
+
+asked_told : (version : ℕ) (text : Text) (e : Edit) → asked_edit text ≡ Ok e → IsReadEdit version e
+asked_told version text e h = by_word (is_word (codes "undo") text) (is_word (codes "redo") text) (is_word (codes "hit") text) h
   where
-    by_word : (remove move content viewport hit : Bool)
-        → (if remove then remove_edit (after_word text) else if move then move_edit (after_word text) else if content then content_edit (after_word text) else if viewport then viewport_edit (after_word text) else if hit then hit_edit (after_word text) else Err (fault_at 20 (word_place text))) ≡ Ok e
+    by_word : (undo redo hit : Bool) → (if undo then undo_edit (after_word text) else if redo then redo_edit (after_word text) else if hit then hit_edit (after_word text) else Err (fault_at 20 (word_place text))) ≡ Ok e → IsReadEdit version e
+    by_word true redo hit h = undo_told version (after_word text) e h
+    by_word false true hit h = redo_told version (after_word text) e h
+    by_word false false true h = hit_told version (after_word text) e h
+    by_word false false false h = absurd (ok-not-err e _ h)
+
+other_told : (version : ℕ) (text : Text) (e : Edit) → Fits text → other_edit text ≡ Ok e → IsReadEdit version e
+other_told version text e f h = by_word (is_word (codes "remove") text) (is_word (codes "move") text) (is_word (codes "content") text) (is_word (codes "viewport") text) h
+  where
+    by_word : (remove move content viewport : Bool)
+        → (if remove then remove_edit (after_word text) else if move then move_edit (after_word text) else if content then content_edit (after_word text) else if viewport then viewport_edit (after_word text) else asked_edit text) ≡ Ok e
         → IsReadEdit version e
-    by_word true move content viewport hit h = remove_told version (after_word text) e h
-    by_word false true content viewport hit h = move_told version (after_word text) e h
-    by_word false false true viewport hit h = kind_told version (after_word text) e (after_fits text f) h
-    by_word false false false true hit h = viewport_told version (after_word text) e h
-    by_word false false false false true h = hit_told version (after_word text) e h
-    by_word false false false false false h = absurd (ok-not-err e _ h)
+    by_word true move content viewport h = remove_told version (after_word text) e h
+    by_word false true content viewport h = move_told version (after_word text) e h
+    by_word false false true viewport h = kind_told version (after_word text) e (after_fits text f) h
+    by_word false false false true h = viewport_told version (after_word text) e h
+    by_word false false false false h = asked_told version text e h
 
 edit_told : (version : ℕ) (text : Text) (e : Edit) → Fits text → edit_in version text ≡ Ok e → IsReadEdit version e
 edit_told version text e f h = by_word (is_word (codes "set") text) (is_word (codes "unset") text) (is_word (codes "insert") text) h

@@ -95,6 +95,8 @@ labels_told version (edit.Move named parent index at) t h p =
     each_grafted (IsToldLabel version) parent.name index (tree_at named.name t) (removed named.name t) (each_at (IsToldLabel version) named.name t p) (each_removed (IsToldLabel version) named.name t p)
 labels_told version (edit.Content named kind) t h p = each_relabelled (IsToldLabel version) named.name (with_kind kind) (λ x q. record { named = q.named; kind = h; style = q.style }) t p
 labels_told version (edit.Viewport width height) t h p = p
+labels_told version (edit.Undo n at) t h p = p
+labels_told version (edit.Redo n at) t h p = p
 labels_told version (edit.Hit x y) t h p = p
 
 AreTwo : ℤ × ℤ → Type 0
@@ -109,6 +111,8 @@ size_told version (edit.Remove named) size h p = p
 size_told version (edit.Move named parent index at) size h p = p
 size_told version (edit.Content named kind) size h p = p
 size_told version (edit.Viewport width height) size h p = h
+size_told version (edit.Undo n at) size h p = p
+size_told version (edit.Redo n at) size h p = p
 size_told version (edit.Hit x y) size h p = p
 
 -- ---- the document after an edit

@@ -25,4 +25,6 @@ fault_name number =
     else if number == 22 then codes "root"
     else if number == 23 then codes "cycle"
     else if number == 24 then codes "bad-index"
+    else if number == 25 then codes "nothing-to-undo"
+    else if number == 26 then codes "nothing-to-redo"
     else []

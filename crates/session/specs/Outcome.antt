@@ -4,6 +4,7 @@ use Rattle.text_scan.specs.Lines.{lines_of, whole_lines}
 use Rattle.text_scan.specs.declared.line.Line.{Line}
 use Rattle.text_scan.specs.declared.line.Fault.{Fault}
 use Rattle.doc_text.specs.declared.document.Doc.{Doc}
+use Rattle.doc_text.specs.Histories.{begins}
 use Rattle.session.specs.Input.{limit}
 use Rattle.session.specs.Script.{has_end, before_end, after_end, document_of_lines, made_in, all_made, texts, has_fault, some_refused}
 use Rattle.session.specs.declared.status.Status.{Status}
@@ -17,7 +18,7 @@ output_of lines = texts 0 (all_made lines)
 -- the answer for a document and its script
 abbrev pub answer_of : Result Doc Fault → List Line → Status
 answer_of (Err fault) script = BadDocument
-answer_of (Ok doc) script = if some_refused (made_in doc script) then SomeRefused else Done
+answer_of (Ok doc) script = if some_refused (made_in (begins doc) script) then SomeRefused else Done
 
 abbrev pub verdict_of : List Line → Status
 verdict_of lines = answer_of (document_of_lines (before_end lines)) (after_end lines)

@@ -6,6 +6,7 @@ use Rattle.outside.specs.declared.event.Event.{Event}
 use Rattle.text_scan.specs.declared.line.Line.{Line}
 use Rattle.text_scan.specs.Lines.{lines_of, whole_lines}
 use Rattle.doc_text.specs.declared.document.Doc.{Doc}
+use Rattle.doc_text.specs.Histories.{begins}
 use Rattle.session.specs.Boxes.{boxes_of}
 use Rattle.session.specs.Written.{Writes, WritesFront, WritesBehind}
 use Rattle.session.specs.Input.{limit, IsReadToEnd, IsFront, AreFirst, HasLastPiece}
@@ -164,4 +165,4 @@ pub record HasRun (stats : Bool) (left left' held held' : Option (List ℕ)) (ev
 abbrev pub IsHeadline : (left held held' : Option (List ℕ)) (reads reads' writes writes' : ℕ) → Status → Type 0
 IsHeadline left held held' reads reads' writes writes' status =
     IfSome left (λ b. length b ≤ limit → (doc : Doc) → document_in b ≡ Ok doc → ¬ Rose reads reads' → ¬ Rose writes writes' → status ≢ NoMemory
-    → Adds held held' (print 0 (boxes_of doc) ++ texts 1 (made_in doc (after_end (lines_of b)))))
+    → Adds held held' (print 0 (boxes_of doc) ++ texts 1 (made_in (begins doc) (after_end (lines_of b)))))

@@ -10,7 +10,7 @@ use Rattle.doc_text.specs.declared.document.Doc.{Doc}
 use Rattle.doc_text.specs.Documents.{document_of}
 use Rattle.doc_text.specs.declared.edit.Edit.{Edit}
 use Rattle.doc_text.specs.declared.edit.Edit.TheVariants as edit
-use Rattle.doc_text.specs.Edits.{edited}
+use Rattle.doc_text.specs.Histories.{History, begins, edited_history}
 use Rattle.doc_text.specs.EditText.{edit_of}
 use Rattle.session.specs.Boxes.{boxes_of}
 use Rattle.session.specs.Hits.{box_under}
@@ -54,36 +54,41 @@ has_fault (Err fault) = true
 
 -- ---- what each edit line makes
 
--- A line makes a document, which is laid out; or nothing is laid out, and this is said of it.
+-- A line makes a history, whose document is laid out; or nothing is laid out, and this is said of it.
 
--- a document, or why it is refused
-abbrev pub or_refused : Result Doc Fault → Result Doc Said
-or_refused (Ok doc) = Ok doc
+-- what is made, or why it is refused
+abbrev pub or_refused : {A : Type 0} → Result A Fault → Result A Said
+or_refused (Ok made) = Ok made
 or_refused (Err fault) = Err (saying.Refused fault)
 
--- what an edit makes of a document: the edited one, or why the edit is refused. Of a hit it is said which box of the document lies under the point
-abbrev pub answer_to : Edit → Doc → Result Doc Said
-answer_to (edit.Hit x y) doc = Err (saying.Found (box_under (boxes_of doc) x y))
-answer_to e doc = or_refused (edited e doc)
+-- what an edit makes of a history: the next one, or why the edit is refused. Of a hit it is said which box of the document lies under the point
+abbrev pub answer_to : Edit → History → Result History Said
+answer_to (edit.Hit x y) h = Err (saying.Found (box_under (boxes_of h.doc) x y))
+answer_to e h = or_refused (edited_history e h)
 
--- what the line of an edit makes of a document, or the fault of the line
-unfoldable pub made_of : Doc → Line → Result Doc Said
-made_of doc line = elim (edit_of doc.version line) [ Err fault ↦ Err (saying.Refused fault) | Ok e ↦ answer_to e doc ]
+-- what the line of an edit makes of a history, or the fault of the line
+unfoldable pub made_of : History → Line → Result History Said
+made_of h line = elim (edit_of h.doc.version line) [ Err fault ↦ Err (saying.Refused fault) | Ok e ↦ answer_to e h ]
 
--- where nothing is laid out the document stays as it was
-abbrev pub next_doc : Doc → Result Doc Said → Doc
-next_doc doc (Ok next) = next
-next_doc doc (Err said) = doc
+-- where nothing is laid out the history stays as it was
+abbrev pub next_history : History → Result History Said → History
+next_history h (Ok next) = next
+next_history h (Err said) = h
 
--- what each edit line makes, in order, each of the document that those before it left; lines that are skipped are no edits
-abbrev pub made_in : Doc → List Line → List (Result Doc Said)
-made_in doc [] = []
-made_in doc (line ∷ lines) = if is_skipped line then made_in doc lines else made_of doc line ∷ made_in (next_doc doc (made_of doc line)) lines
+-- the document that is laid out
+abbrev pub doc_made : Result History Said → Result Doc Said
+doc_made (Ok h) = Ok h.doc
+doc_made (Err said) = Err said
+
+-- what each edit line makes, in order, each of the history that those before it left; lines that are skipped are no edits
+abbrev pub made_in : History → List Line → List (Result Doc Said)
+made_in h [] = []
+made_in h (line ∷ lines) = if is_skipped line then made_in h lines else doc_made (made_of h line) ∷ made_in (next_history h (made_of h line)) lines
 
 -- the same with the document in front, which is made first; one that has a fault is all that is made
 abbrev pub made_from : Result Doc Fault → List Line → List (Result Doc Said)
 made_from (Err fault) script = Err (saying.Refused fault) ∷ []
-made_from (Ok doc) script = Ok doc ∷ made_in doc script
+made_from (Ok doc) script = Ok doc ∷ made_in (begins doc) script
 
 abbrev pub all_made : List Line → List (Result Doc Said)
 all_made lines = made_from (document_of_lines (before_end lines)) (after_end lines)

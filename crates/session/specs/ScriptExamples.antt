@@ -1,18 +1,23 @@
 -- Inputs with a script, and what their lines make. They hold by computation.
-use Rattle.std.specs.Prelude.{◌≡◌, refl, ℕ, pos, false, List, [], ◌∷◌, ◌++◌, Result, Ok, Err, codes}
+use Rattle.std.specs.Prelude.{◌≡◌, refl, ℕ, pos, negsuc, false, List, [], ◌∷◌, ◌++◌, Result, Ok, Err, codes}
 use Rattle.std.specs.FinMap as map
 use Rattle.text_scan.specs.Lines.{lines_of}
 use Rattle.part_rules.specs.declared.content.Content.TheVariants as content
+use Rattle.style_types.specs.declared.prop.Prop.TheVariants as prop
+use Rattle.style_types.specs.declared.value.Value.TheVariants as value
+use Rattle.value_text.specs.Properties.{properties as property_rows, properties_2, properties_3, properties_4, properties_5, properties_6, properties_7, properties_8, properties_9, properties_10}
 use Rattle.plain_tree.specs.Trees.{Trees, leafless, tree}
 use Rattle.doc_text.specs.declared.document.Doc.{Doc}
 use Rattle.doc_text.specs.declared.kind.Kind.TheVariants as kind
 use Rattle.doc_text.specs.Label.{Label}
 use Rattle.doc_text.specs.Texts.{past, first_word, word_place, after_word, text_of}
-use Rattle.doc_text.specs.Tokens.{size_of_word}
+use Rattle.doc_text.specs.Tokens.{position_of_word, size_of_word}
+use Rattle.session.specs.Boxes.{boxes_of}
+use Rattle.session.specs.Hits.{box_under}
 use Rattle.session.specs.Script.{has_end, document_of_lines, made_of, all_made}
-use Rattle.session.specs.Outcome.{verdict}
 use Rattle.session.specs.declared.said.Said.{Said}
 use Rattle.session.specs.declared.said.Said.TheVariants as saying
+use Rattle.session.specs.Outcome.{verdict}
 use Rattle.session.specs.declared.status.Status.TheVariants.{Done, BadDocument, SomeRefused}
 
 -- a document of five lines with the line that ends it
@@ -54,6 +59,37 @@ after_a_refusal : makes (codes "remove main\n---\nmove a a 0\ncontent a leaf 20 
     ≡ Ok (alone 640 1280) ∷ fault_at 22 6 8 ∷ fault_at 20 7 1 ∷ fault_at 23 8 8 ∷ Ok (alone 1280 640) ∷ []
 unfolding document_of_lines made_of past first_word word_place after_word text_of size_of_word
 after_a_refusal = refl
+
+-- a flex container with two leaves, as the text below tells it
+abbrev in_flex : Trees Label → Doc
+in_flex leaves = record { version = 1; width = pos 6400; height = pos 3200; root = record { name = codes "main"; kind = kind.Flex; style = map.empty; children = leaves } }
+
+abbrev two : Doc
+two = in_flex (tree (leaf (codes "a") 1280 640) leafless (tree (leaf (codes "b") 1920 640) leafless leafless))
+
+abbrev one : Doc
+one = in_flex (tree (leaf (codes "b") 1920 640) leafless leafless)
+
+abbrev grown : Doc
+grown = in_flex (tree (record (leaf (codes "b") 1920 640) { style = map.insert map.empty prop.FlexGrow (record { value = value.Factor 1000; units = [] }) }) leafless leafless)
+
+-- edits are taken back and made again, the last one first; too many are refused at their number
+taken_back_and_made_again : all_made (lines_of (codes "gridlay 1\nviewport 100 50\nmain flex\n  a leaf 20 10\n  b leaf 30 10\n---\nremove a\nset b flex-grow: 1\nundo 2\nredo 1\nundo 3\nredo 2\n"))
+    ≡ Ok two ∷ Ok one ∷ Ok grown ∷ Ok two ∷ Ok one ∷ fault_at 25 11 6 ∷ fault_at 26 12 6 ∷ []
+unfolding property_rows properties_2 properties_3 properties_4 properties_5 properties_6 properties_7 properties_8 properties_9 properties_10 document_of_lines made_of past first_word word_place after_word text_of size_of_word
+taken_back_and_made_again = refl
+
+-- an edit after an undo ends what could be made again; one that is refused does not
+after_an_edit : makes (codes "content a leaf 20 10\nundo 1\nremove c\nredo 1\nundo 1\nviewport 300 200\nredo 1\nundo 0\n")
+    ≡ Ok (alone 640 1280) ∷ Ok (alone 1280 640) ∷ Ok (alone 640 1280) ∷ fault_at 21 8 8 ∷ Ok (alone 1280 640) ∷ Ok (alone 640 1280) ∷ Ok (alone 640 1280) ∷ fault_at 26 12 6 ∷ fault_at 9 13 6 ∷ []
+unfolding document_of_lines made_of past first_word word_place after_word text_of size_of_word
+after_an_edit = refl
+
+-- a hit is answered by the document as it is, and no edit: it is not taken back
+after_a_hit : makes (codes "content a leaf 20 10\nhit 115 -5px\nundo 1\nhit 1\n")
+    ≡ Ok (alone 640 1280) ∷ Ok (alone 1280 640) ∷ Err (saying.Found (box_under (boxes_of (alone 1280 640)) (pos 7360) (negsuc 319))) ∷ Ok (alone 640 1280) ∷ fault_at 9 9 6 ∷ []
+unfolding document_of_lines made_of past first_word word_place after_word text_of size_of_word position_of_word
+after_a_hit = refl
 
 -- where the document has a fault no edit is answered; its text ends at the `---`
 no_document : all_made (lines_of (codes "gridlay 1\n---\nremove a\n")) ≡ fault_at 3 2 1 ∷ []

@@ -7,12 +7,14 @@ use Rattle.text_scan.specs.Stream.{Stream}
 use Rattle.outside.specs.declared.event.Event.{Event}
 use Rattle.doc_text.specs.declared.document.Doc.{Doc}
 use Rattle.doc_text.specs.Documents.{document_of}
+use Rattle.doc_text.specs.Histories.{begins}
 use Rattle.session.specs.Written.{Writes, WritesFront}
-use Rattle.session.specs.Standing.{Standing, doc_of}
+use Rattle.session.specs.Standing.{Standing, course_of, doc_of}
 use Rattle.session.specs.declared.text.Held.{Held}
 use Rattle.session.specs.declared.text.Text.{Text}
 use Rattle.session.specs.Input.{HasGiven, HasGivenLine, HasGivenAll, Stops}
-use Rattle.session.specs.Script.{is_end_of_document, has_end, before_end, after_end, document_of_lines, made_in, next_doc, all_made, has_fault, or_refused, some_refused}
+use Rattle.session.specs.Courses.{Course, begun, last_course}
+use Rattle.session.specs.Script.{is_end_of_document, has_end, before_end, after_end, document_of_lines, made_in, all_made, has_fault, or_refused, some_refused}
 use Rattle.session.specs.Runs.{WritesAll, Runs}
 use Rattle.session.specs.declared.answer.Progress.{Progress}
 use Rattle.session.specs.declared.said.Said.{Said}
@@ -84,35 +86,30 @@ module _ (stats : Bool) (held held' : Option (List ℕ)) (events events' : Optio
 
 -- ---- between two lines of the script
 
--- the document after edits made all this
-abbrev pub last_doc : Doc → List (Result Doc Said) → Doc
-last_doc doc [] = doc
-last_doc doc (made ∷ rest) = last_doc (next_doc doc made) rest
-
--- the lines so far hold the whole document, and their edits made this document, so many answers, and a refusal or none
-pub record IsLaid (given : List Line) (doc : Doc) (k : ℕ) (bad : Bool) : Type 0 where
+-- the lines so far hold the whole document, and their edits led to this point, with so many answers, and a refusal or none
+pub record IsLaid (given : List Line) (c : Course) (k : ℕ) (bad : Bool) : Type 0 where
   pub first : Doc
   pub ended : has_end given ≡ true
   pub read : document_of_lines (before_end given) ≡ Ok first
-  pub now : doc ≡ last_doc first (made_in first (after_end given))
+  pub now : c ≡ last_course (begun first) (after_end given)
   pub count : k ≡ length (all_made given)
-  pub refused : bad ≡ some_refused (made_in first (after_end given))
+  pub refused : bad ≡ some_refused (made_in (begins first) (after_end given))
   pub few : k ≤ length given
 
 -- and all of these answers were written and logged
-pub record HasAnswered (stats : Bool) (held held' : Option (List ℕ)) (events events' : Option (List Event)) (given : List Line) (doc : Doc) (k : ℕ) (bad : Bool) : Type 0 where
-  pub laid : IsLaid given doc k bad
+pub record HasAnswered (stats : Bool) (held held' : Option (List ℕ)) (events events' : Option (List Event)) (given : List Line) (c : Course) (k : ℕ) (bad : Bool) : Type 0 where
+  pub laid : IsLaid given c k bad
   pub output : WritesAll stats held held' events events' given
 
 -- these lines were given and answered, and nothing else was written or logged
-pub record IsAt (stats : Bool) (before now held held' : Option (List ℕ)) (events events' : Option (List Event)) (stream : Stream) (ended : Bool) (doc : Doc) (k : ℕ) (bad : Bool) : Type 0 where
+pub record IsAt (stats : Bool) (before now held held' : Option (List ℕ)) (events events' : Option (List Event)) (stream : Stream) (ended : Bool) (c : Course) (k : ℕ) (bad : Bool) : Type 0 where
   pub given : List Line
   pub input : HasGiven before now given stream ended
-  pub answered : HasAnswered stats held held' events events' given doc k bad
+  pub answered : HasAnswered stats held held' events events' given c k bad
 
 -- a script follows the document, or the run ended before
 abbrev pub Starts : (stats : Bool) (before now held held' : Option (List ℕ)) (events events' : Option (List Event)) → Stream → Bool → Result Progress Status → Type 0
-Starts stats before now held held' events events' stream ended (Ok progress) = IsAt stats before now held held' events events' stream ended (doc_of progress.engine) progress.number progress.refused
+Starts stats before now held held' events events' stream ended (Ok progress) = IsAt stats before now held held' events events' stream ended (course_of progress.engine) progress.number progress.refused
 Starts stats before now held held' events events' stream ended (Err status) = Runs stats before now held held' events events' status
 
 -- the answer once all lines were answered

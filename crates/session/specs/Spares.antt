@@ -4,21 +4,15 @@ use Rattle.text_scan.specs.declared.line.Line.{Line}
 use Rattle.outside.specs.Told.{Adds}
 use Rattle.outside.specs.declared.event.Event.{Event}
 use Rattle.outside.specs.declared.event.Event.TheVariants.{Begin}
-use Rattle.node_arena.specs.Numbers.{EachNode}
 use Rattle.placing.specs.Kept.{kept_at}
 use Rattle.placing.specs.Nodes.{bare}
 use Rattle.page_tree.specs.Pages.{Held}
 use Rattle.sparing.specs.Memory.{Recalls}
 use Rattle.sparing.specs.Sparing.{Touches, Sparing}
-use Rattle.page_tree.specs.Reach.{KeepsOn}
 use Rattle.session.specs.declared.answer.Progress.{Progress}
 use Rattle.session.specs.Input.{AreFirst}
 use Rattle.session.specs.Standing.{Standing}
 use Rattle.session.specs.Touched.{FollowsLines}
-
--- after an edit: a node of the new page keeps nothing where the edit touches it, and else what it kept before, under the same name
-abbrev pub KeepsUntouched : (List ℕ → Bool) → Held → Held → Type 0
-KeepsUntouched touched old new = EachNode (λ x. KeepsOn (touched x.1.name) old.nodes.tree x) new.nodes.tree
 
 module _ (touches : Touches) (before now : Option (List Event)) where
   -- no leaf was measured needlessly in what was told

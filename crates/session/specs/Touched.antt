@@ -4,37 +4,21 @@ use Rattle.text_scan.specs.declared.line.Line.{Line}
 use Rattle.text_scan.specs.declared.line.Fault.{Fault}
 use Rattle.text_scan.specs.Tokens.{is_skipped}
 use Rattle.doc_text.specs.declared.document.Doc.{Doc}
-use Rattle.doc_text.specs.declared.edit.Edit.{Edit}
-use Rattle.doc_text.specs.EditText.{edit_of}
-use Rattle.page_tree.specs.Reach.{is_touched}
-use Rattle.session.specs.Script.{answer_to, before_end, after_end, document_of_lines, made_of, next_doc}
-use Rattle.session.specs.declared.said.Said.{Said}
+use Rattle.session.specs.Courses.{Course, begun, next_course, touched_by}
+use Rattle.session.specs.Script.{before_end, after_end, document_of_lines}
 use Rattle.sparing.specs.Sparing.{Touches}
 
--- what an edit touches that made this of a document: nothing where no layout follows it
-abbrev pub touched_to : Edit → Doc → Result Doc Said → List ℕ → Bool
-touched_to e doc (Err said) name = false
-touched_to e doc (Ok next) name = is_touched e doc next name
-
-abbrev pub touched_of : Doc → Result Edit Fault → List ℕ → Bool
-touched_of doc (Err fault) name = false
-touched_of doc (Ok e) name = touched_to e doc (answer_to e doc) name
-
--- what the edit of a line touches; a refused one touches nothing, and so does a hit
-unfoldable pub touched_by : Doc → Line → List ℕ → Bool
-touched_by doc line name = touched_of doc (edit_of doc.version line) name
-
--- of edit lines that are numbered from this number on, the first of them an edit of this document
-abbrev pub touched_in : ℕ → Doc → List Line → Touches
-touched_in k doc [] n name = false
-touched_in k doc (line ∷ lines) n name =
-    if is_skipped line then touched_in k doc lines n name
-    else if n == k then touched_by doc line name
-    else touched_in (k + 1) (next_doc doc (made_of doc line)) lines n name
+-- of edit lines that are numbered from this number on, the first of them at this point of the course
+abbrev pub touched_in : ℕ → Course → List Line → Touches
+touched_in k c [] n name = false
+touched_in k c (line ∷ lines) n name =
+    if is_skipped line then touched_in k c lines n name
+    else if n == k then touched_by c line name
+    else touched_in (k + 1) (next_course c line) lines n name
 
 abbrev pub touched_from : Result Doc Fault → List Line → Touches
 touched_from (Err fault) script n name = false
-touched_from (Ok doc) script n name = touched_in 1 doc script n name
+touched_from (Ok doc) script n name = touched_in 1 (begun doc) script n name
 
 -- in the lines of an input
 unfoldable pub touched_lines : List Line → Touches
@@ -43,8 +27,8 @@ touched_lines lines n name = touched_from (document_of_lines (before_end lines))
 -- ---- where only the first lines are known
 
 -- the edit of a line with this number touches the same
-abbrev pub Agrees : Touches → ℕ → Doc → Line → Type 0
-Agrees touches k doc line = (name : List ℕ) → touches k name ≡ touched_by doc line name
+abbrev pub Agrees : Touches → ℕ → Course → Line → Type 0
+Agrees touches k c line = (name : List ℕ) → touches k name ≡ touched_by c line name
 
 -- a line that is skipped, or one that is not
 abbrev pub Either : Bool → Type 0 → Type 0 → Type 0
@@ -52,10 +36,10 @@ Either true A B = A
 Either false A B = B
 
 -- the same of each edit line, numbered from this number on
-abbrev pub Follows : Touches → ℕ → Doc → List Line → Type 0
-Follows touches k doc [] = ⊤
-Follows touches k doc (line ∷ lines) = Either (is_skipped line) (Follows touches k doc lines) (Agrees touches k doc line × Follows touches (k + 1) (next_doc doc (made_of doc line)) lines)
+abbrev pub Follows : Touches → ℕ → Course → List Line → Type 0
+Follows touches k c [] = ⊤
+Follows touches k c (line ∷ lines) = Either (is_skipped line) (Follows touches k c lines) (Agrees touches k c line × Follows touches (k + 1) (next_course c line) lines)
 
 -- and of those of an input
 abbrev pub FollowsLines : Touches → List Line → Type 0
-FollowsLines touches given = (first : Doc) → document_of_lines (before_end given) ≡ Ok first → Follows touches 1 first (after_end given)
+FollowsLines touches given = (first : Doc) → document_of_lines (before_end given) ≡ Ok first → Follows touches 1 (begun first) (after_end given)

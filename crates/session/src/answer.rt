@@ -9,11 +9,12 @@ ghost use Rattle.outside.specs.declared.event.Event.{Event};
 ghost use Rattle.doc_text.specs.Documents.{document_of};
 ghost use Rattle.doc_text.specs.Valid.{IsValid, IsShort, AreShort};
 ghost use Rattle.text_scan.specs.declared.line.Line.{Line};
+ghost use Rattle.session.specs.Courses.{made_by, no_steps};
+ghost use Rattle.session.specs.Engine.{IsAnswered};
 ghost use Rattle.session.specs.Replies.{Replies};
 ghost use Rattle.session.specs.Runs.{StopsWriting, WritesFrom};
-ghost use Rattle.session.specs.Script.{made_of, next_doc, is_refused};
 ghost use Rattle.session.specs.Serving.{Answers, AnswersPrefix, EndsFirst, Begins, HasAnswered};
-ghost use Rattle.session.specs.Standing.{doc_of};
+ghost use Rattle.session.specs.Standing.{course_of, doc_of};
 
 use crate::Status;
 use crate::edits::{answer_to_edit, layout_text, refusal_text};
@@ -60,6 +61,7 @@ fn first_layout<K: Sink, R: Ruler, L: Ledger>(
     requires { IsValid doc }
     ensures engine { IfOk result (λ engine. doc_of engine ≡ doc) }
     ensures laid { IfOk result (λ engine. engine.laid ≡ true) }
+    ensures steps { IfOk result (λ engine. engine.steps ≡ no_steps) }
     ensures answers { OnOk result (Answers stats (K.written sink.old) (K.written sink.new) (R.log ruler.old) (R.log ruler.new) 0 (Ok doc)) }
     ensures prefix { OnErr result (AnswersPrefix stats (K.written sink.old) (K.written sink.new) (R.log ruler.old) (R.log ruler.new) 0 (Ok doc)) }
     ensures replies { (touches : Touches) → OnOk result (Replies stats (K.written sink.old) (K.written sink.new) (R.log ruler.old) (R.log ruler.new) passes.old passes.new touches 0 (Ok doc ∷ [])) }
@@ -103,6 +105,7 @@ pub(crate) fn begin<K: Sink, R: Ruler, L: Ledger>(
     requires { AreShort lines.now }
     ensures begins { Begins stats (K.written sink.old) (K.written sink.new) (R.log ruler.old) (R.log ruler.new) (document_of lines.now end) result }
     ensures laid { IfOk result (λ engine. engine.laid ≡ true) }
+    ensures steps { IfOk result (λ engine. engine.steps ≡ no_steps) }
     ensures replies { (touches : Touches) → IfOk result (λ engine. Replies stats (K.written sink.old) (K.written sink.new) (R.log ruler.old) (R.log ruler.new) passes.old passes.new touches 0 (Ok (doc_of engine) ∷ [])) }
     ensures idle { result ≡ Err Status.BadDocument → passes.new ≡ passes.old }
     ensures spares { (touches : Touches) → SparesFirst touches (R.log ruler.old) (R.log ruler.new) result }
@@ -130,11 +133,11 @@ fn write_answer<K: Sink, R: Ruler, L: Ledger>(
     requires laid { engine.old.laid ≡ true }
     requires short { IsShort line.now }
     ensures laid { OnOk result (engine.new.laid ≡ true) }
-    ensures next { IfOk result (λ refused. (doc_of engine.new ≡ next_doc (doc_of engine.old) (made_of (doc_of engine.old) line.now)) × (refused ≡ is_refused (made_of (doc_of engine.old) line.now))) }
-    ensures answers { OnOk result (Answers stats (K.written sink.old) (K.written sink.new) (R.log ruler.old) (R.log ruler.new) k (made_of (doc_of engine.old) line.now)) }
-    ensures prefix { OnErr result (AnswersPrefix stats (K.written sink.old) (K.written sink.new) (R.log ruler.old) (R.log ruler.new) k (made_of (doc_of engine.old) line.now)) }
-    ensures replies { (touches : Touches) → 1 ≤ k → Agrees touches k (doc_of engine.old) line.now → OnOk result (Replies stats (K.written sink.old) (K.written sink.new) (R.log ruler.old) (R.log ruler.new) passes.old passes.new touches k (made_of (doc_of engine.old) line.now ∷ [])) }
-    ensures spares { (touches : Touches) (before : Option (List Event)) → Agrees touches k (doc_of engine.old) line.now → SparesPage touches before (R.log ruler.old) engine.old.page → SparesAfter touches before (R.log ruler.new) engine.new.page result }
+    ensures answered { IfOk result (λ refused. IsAnswered (course_of engine.old) line.now (course_of engine.new) refused) }
+    ensures answers { OnOk result (Answers stats (K.written sink.old) (K.written sink.new) (R.log ruler.old) (R.log ruler.new) k (made_by (course_of engine.old) line.now)) }
+    ensures prefix { OnErr result (AnswersPrefix stats (K.written sink.old) (K.written sink.new) (R.log ruler.old) (R.log ruler.new) k (made_by (course_of engine.old) line.now)) }
+    ensures replies { (touches : Touches) → 1 ≤ k → Agrees touches k (course_of engine.old) line.now → OnOk result (Replies stats (K.written sink.old) (K.written sink.new) (R.log ruler.old) (R.log ruler.new) passes.old passes.new touches k (made_by (course_of engine.old) line.now ∷ [])) }
+    ensures spares { (touches : Touches) (before : Option (List Event)) → Agrees touches k (course_of engine.old) line.now → SparesPage touches before (R.log ruler.old) engine.old.page → SparesAfter touches before (R.log ruler.new) engine.new.page result }
     ensures stops { IfErr result StopsWriting }
     ensures cause { HasCauseOf (K.faults sink.old) (K.faults sink.new) (result ≡ Err Status.WriteFault) }
 {
@@ -159,10 +162,10 @@ pub(crate) fn handle_line<K: Sink, R: Ruler, L: Ledger>(
     requires laid { progress.old.engine.laid ≡ true }
     requires short { IsShort line.now }
     ensures laid { OnOk result (progress.new.engine.laid ≡ true) }
-    ensures ok { (held : Option (List ℕ)) (events : Option (List Event)) (given : List Line) → HasAnswered stats held (K.written sink.old) events (R.log ruler.old) given (doc_of progress.old.engine) progress.old.number progress.old.refused → OnOk result (HasAnswered stats held (K.written sink.new) events (R.log ruler.new) (given ++ line.now ∷ []) (doc_of progress.new.engine) progress.new.number progress.new.refused) }
-    ensures err { (held : Option (List ℕ)) (events : Option (List Event)) (given : List Line) → HasAnswered stats held (K.written sink.old) events (R.log ruler.old) given (doc_of progress.old.engine) progress.old.number progress.old.refused → OnErr result (WritesFrom stats held (K.written sink.new) events (R.log ruler.new) given (given ++ line.now ∷ [])) }
-    ensures replies { (touches : Touches) → 1 ≤ progress.old.number → (is_skipped line.now ≡ false → Agrees touches progress.old.number (doc_of progress.old.engine) line.now) → OnOk result (Replies stats (K.written sink.old) (K.written sink.new) (R.log ruler.old) (R.log ruler.new) passes.old passes.new touches progress.old.number (if is_skipped line.now then [] else made_of (doc_of progress.old.engine) line.now ∷ [])) }
-    ensures spares { (touches : Touches) (before : Option (List Event)) → (is_skipped line.now ≡ false → Agrees touches progress.old.number (doc_of progress.old.engine) line.now) → SparesPage touches before (R.log ruler.old) progress.old.engine.page → SparesAfter touches before (R.log ruler.new) progress.new.engine.page result }
+    ensures ok { (held : Option (List ℕ)) (events : Option (List Event)) (given : List Line) → HasAnswered stats held (K.written sink.old) events (R.log ruler.old) given (course_of progress.old.engine) progress.old.number progress.old.refused → OnOk result (HasAnswered stats held (K.written sink.new) events (R.log ruler.new) (given ++ line.now ∷ []) (course_of progress.new.engine) progress.new.number progress.new.refused) }
+    ensures err { (held : Option (List ℕ)) (events : Option (List Event)) (given : List Line) → HasAnswered stats held (K.written sink.old) events (R.log ruler.old) given (course_of progress.old.engine) progress.old.number progress.old.refused → OnErr result (WritesFrom stats held (K.written sink.new) events (R.log ruler.new) given (given ++ line.now ∷ [])) }
+    ensures replies { (touches : Touches) → 1 ≤ progress.old.number → (is_skipped line.now ≡ false → Agrees touches progress.old.number (course_of progress.old.engine) line.now) → OnOk result (Replies stats (K.written sink.old) (K.written sink.new) (R.log ruler.old) (R.log ruler.new) passes.old passes.new touches progress.old.number (if is_skipped line.now then [] else made_by (course_of progress.old.engine) line.now ∷ [])) }
+    ensures spares { (touches : Touches) (before : Option (List Event)) → (is_skipped line.now ≡ false → Agrees touches progress.old.number (course_of progress.old.engine) line.now) → SparesPage touches before (R.log ruler.old) progress.old.engine.page → SparesAfter touches before (R.log ruler.new) progress.new.engine.page result }
     ensures stops { IfErr result StopsWriting }
     ensures cause { HasCauseOf (K.faults sink.old) (K.faults sink.new) (result ≡ Err Status.WriteFault) }
 {

@@ -5,12 +5,12 @@ ghost use Rattle.session.specs.Printing.{spaced, spaced_pair, box_line};
 use itoa::write_digits;
 use lunit::{Along, BLOCK, INLINE, Name, Rect};
 
-/// The bytes of a room in which a line is made, from its end: a line feed, four numbers of at most 28 bytes with a space
-/// before each, and a name of at most 64 bytes.
+/// The bytes of a room in which a line is made, from its end: a line feed, four numbers of at most
+/// 28 bytes with a space before each, and a name of at most 64 bytes.
 pub(crate) const ROOM: usize = 192;
 
-/// What is printed of so many sixty-fourths: a point and the decimals, and nothing for none. It stands at the end of its 8
-/// bytes, of which the first says how many bytes it has.
+/// What is printed of so many sixty-fourths: a point and the decimals, and nothing for none. It
+/// stands at the end of its 8 bytes, of which the first says how many bytes it has.
 static FRACTIONS: [[u8; 8]; 64] = [
     *b"\x00       ",
     *b"\x07.015625",

@@ -1,20 +1,19 @@
 ghost use Rattle.std.specs.Prelude.{◌≡◌, ◌≤◌, ◌∷◌, [], List, None, Option, Ok, true, IfOk, OnOk, OnErr};
 ghost use Rattle.outside.specs.declared.event.Event.{Event};
 ghost use Rattle.sparing.specs.Sparing.{Touches};
-ghost use Rattle.session.specs.Spares.{KeepsUntouched, SparesAfter, SparesDue, SparesPage};
-ghost use Rattle.session.specs.Touched.{Agrees, touched_by};
-ghost use Rattle.doc_text.specs.Edits.{tree_of};
+ghost use Rattle.session.specs.Courses.{made_by};
+ghost use Rattle.session.specs.Spares.{SparesAfter, SparesDue, SparesPage};
+ghost use Rattle.session.specs.Touched.{Agrees};
 ghost use Rattle.doc_text.specs.Valid.{IsShort};
-ghost use Rattle.asked_pages.specs.Leaves.{IsEmptied, PassesUp};
+ghost use Rattle.asked_pages.specs.Leaves.{IsEmptied};
 ghost use Rattle.doc_text.specs.Laws.{NamesItsNode};
-ghost use Rattle.page_tree.specs.Reach.{is_touched, KeepsOthers};
-ghost use Rattle.session.specs.Engine.{IsAnswered, IsToldEdit, Makes};
+ghost use Rattle.session.specs.Engine.{AnswersEdit, AnswersLine, IsAnswered, IsSame, IsToldEdit};
 ghost use Rattle.session.specs.Logs.{LogsFront};
 ghost use Rattle.session.specs.Written.{Prints};
 ghost use Rattle.session.specs.Printing.{refusal};
 ghost use Rattle.session.specs.Replies.{is_new, HasReply};
-ghost use Rattle.session.specs.Script.{answer_to, made_of, said_line};
-ghost use Rattle.session.specs.Standing.{doc_of};
+ghost use Rattle.session.specs.Script.{said_line};
+ghost use Rattle.session.specs.Standing.{course_of, doc_of};
 ghost use Rattle.session.specs.FaultNames.{fault_name};
 
 use crate::engine::Engine;
@@ -57,7 +56,7 @@ pub(crate) fn layout_text<R: Ruler, L: Ledger>(
 ) -> Result<Vec<u8>, NoMemory>
     ensures prints { IfOk result (λ text. Prints stats (R.log ruler.old) (R.log ruler.new) k (Ok (doc_of engine.old)) text.items) }
     ensures err { OnErr result (LogsFront (R.log ruler.old) (R.log ruler.new) k (Ok (doc_of engine.old) ∷ [])) }
-    ensures document { doc_of engine.new ≡ doc_of engine.old }
+    ensures same { IsSame engine.old engine.new }
     ensures laid { OnOk result (engine.new.laid ≡ true) }
     ensures replies { (touches : Touches) → IsEmptied (is_new touches k) engine.old.page → IfOk result (λ text. HasReply stats touches (R.log ruler.old) (R.log ruler.new) passes.old passes.new k (Ok (doc_of engine.old)) text.items) }
     ensures spares { (touches : Touches) (before : Option (List Event)) → SparesDue touches before (R.log ruler.old) k engine.old.page → SparesAfter touches before (R.log ruler.new) engine.new.page result }
@@ -90,9 +89,7 @@ fn apply_edit<L: Ledger>(
     requires laid { engine.old.laid ≡ true }
     requires named { NamesItsNode edit }
     requires told { IsToldEdit (doc_of engine.old).version edit }
-    ensures makes { IfOk result (λ said. Makes said (answer_to edit (doc_of engine.old)) engine.old engine.new) }
-    ensures kept { IfOk result (λ said. said ≡ None → KeepsOthers edit engine.old.page engine.new.page) }
-    ensures up { IfOk result (λ said. said ≡ None → PassesUp (is_touched edit (doc_of engine.old) (doc_of engine.new)) (tree_of (doc_of engine.new))) }
+    ensures answers { IfOk result (λ said. AnswersEdit said edit engine.old engine.new) }
     ensures passes { passes.new ≡ passes.old }
 {
     match edit {
@@ -115,9 +112,7 @@ fn apply_line<L: Ledger>(
 ) -> Result<Option<Said>, NoMemory>
     requires laid { engine.old.laid ≡ true }
     requires short { IsShort line.now }
-    ensures makes { IfOk result (λ said. Makes said (made_of (doc_of engine.old) line.now) engine.old engine.new) }
-    ensures kept { IfOk result (λ said. said ≡ None → KeepsUntouched (touched_by (doc_of engine.old) line.now) engine.old.page engine.new.page) }
-    ensures up { IfOk result (λ said. said ≡ None → PassesUp (touched_by (doc_of engine.old) line.now) (tree_of (doc_of engine.new))) }
+    ensures answers { IfOk result (λ said. AnswersLine said line.now engine.old engine.new) }
     ensures passes { passes.new ≡ passes.old }
 {
     match read_edit(alloc, line, engine.version()) {
@@ -141,12 +136,12 @@ pub(crate) fn answer_to_edit<R: Ruler, L: Ledger>(
 ) -> Result<Answer, NoMemory>
     requires laid { engine.old.laid ≡ true }
     requires short { IsShort line.now }
-    ensures answered { IfOk result (λ answer. IsAnswered (made_of (doc_of engine.old) line.now) (doc_of engine.old) (doc_of engine.new) answer.refused) }
+    ensures answered { IfOk result (λ answer. IsAnswered (course_of engine.old) line.now (course_of engine.new) answer.refused) }
     ensures laid { OnOk result (engine.new.laid ≡ true) }
-    ensures prints { IfOk result (λ answer. Prints stats (R.log ruler.old) (R.log ruler.new) k (made_of (doc_of engine.old) line.now) answer.text.items) }
-    ensures err { OnErr result (LogsFront (R.log ruler.old) (R.log ruler.new) k (made_of (doc_of engine.old) line.now ∷ [])) }
-    ensures replies { (touches : Touches) → 1 ≤ k → Agrees touches k (doc_of engine.old) line.now → IfOk result (λ answer. HasReply stats touches (R.log ruler.old) (R.log ruler.new) passes.old passes.new k (made_of (doc_of engine.old) line.now) answer.text.items) }
-    ensures spares { (touches : Touches) (before : Option (List Event)) → Agrees touches k (doc_of engine.old) line.now → SparesPage touches before (R.log ruler.old) engine.old.page → SparesAfter touches before (R.log ruler.new) engine.new.page result }
+    ensures prints { IfOk result (λ answer. Prints stats (R.log ruler.old) (R.log ruler.new) k (made_by (course_of engine.old) line.now) answer.text.items) }
+    ensures err { OnErr result (LogsFront (R.log ruler.old) (R.log ruler.new) k (made_by (course_of engine.old) line.now ∷ [])) }
+    ensures replies { (touches : Touches) → 1 ≤ k → Agrees touches k (course_of engine.old) line.now → IfOk result (λ answer. HasReply stats touches (R.log ruler.old) (R.log ruler.new) passes.old passes.new k (made_by (course_of engine.old) line.now) answer.text.items) }
+    ensures spares { (touches : Touches) (before : Option (List Event)) → Agrees touches k (course_of engine.old) line.now → SparesPage touches before (R.log ruler.old) engine.old.page → SparesAfter touches before (R.log ruler.new) engine.new.page result }
 {
     match apply_line(alloc, engine, line, passes) {
         Ok(None) => Ok(Answer {

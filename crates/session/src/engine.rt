@@ -2,15 +2,13 @@ ghost use Rattle.std.specs.Prelude.{◌≡◌, ◌+◌, ◌-◌, ◌^◌, ◌≤
 ghost use Rattle.outside.specs.declared.event.Event.{Event};
 ghost use Rattle.placing.specs.Keeping.{KeepsNone};
 ghost use Rattle.sparing.specs.Sparing.{Touches};
-ghost use Rattle.page_tree.specs.Reach.{is_touched, KeepsOthers};
-ghost use Rattle.asked_pages.specs.Leaves.{PassesUp};
 ghost use Rattle.session.specs.Spares.{SparesDue, SparesAfter};
-ghost use Rattle.doc_text.specs.Edits.{edited, tree_of};
+ghost use Rattle.doc_text.specs.declared.edit.Edit.TheVariants as edit;
 ghost use Rattle.doc_text.specs.Laws.{IsChange, NamesItsNode};
 ghost use Rattle.doc_text.specs.Valid.{IsValid};
-ghost use Rattle.page_tree.specs.Answered.{Applies};
 ghost use Rattle.session.specs.Boxes.{boxes_of};
-ghost use Rattle.session.specs.Engine.{IsToldEdit};
+ghost use Rattle.session.specs.Courses.{no_steps};
+ghost use Rattle.session.specs.Engine.{Applies, IsEdit, IsSame, IsToldEdit};
 ghost use Rattle.session.specs.Hits.{box_under};
 ghost use Rattle.session.specs.Laying.{IsQuiet, LaysOut, Keeps, KeepsAll, KeepsMore, KeepsPath, Walks};
 ghost use Rattle.std.specs.List.{All};
@@ -18,23 +16,29 @@ ghost use Rattle.session.specs.Logs.{LogsFront};
 ghost use Rattle.session.specs.Printing.{IsPrintableBox};
 ghost use Rattle.session.specs.Standing.{doc_of};
 
+use crate::faults::{NOTHING_TO_REDO, NOTHING_TO_UNDO};
 use crate::laying::lay_out;
 use crate::pointed::{PointedBoxes, kept_boxes};
+use crate::tracing::{edit, make_all_again, take_all_back};
 use box_layout::{BoxList, BoxSink, LastBoxes, RootFrame};
 use doc_text::{Doc, Edit};
+use edit_journal::Journal;
 use lunit::{Lu, Name, NoMemory, Rect, Sequence, Steps};
 use outside::{Ruler, Tally};
 use page_tree::{EditError, Page};
 use std::alloc::Global;
 use std::marker::Model;
 use std::sync::ledger::Ledger;
+use text_scan::{Fault, Place};
 
-/// A valid document that is edited and laid out. Every answer that its nodes keep is right, and so
-/// are the boxes of containers that were found last, which contracts do not see.
+/// A valid document that is edited and laid out, with the steps that led to it, so that edits can
+/// be taken back. Every answer that its nodes keep is right, and so are the boxes of containers
+/// that were found last, which contracts do not see.
 #[derive(Drop)]
 pub struct Engine {
     page: Page,
     last: LastBoxes,
+    journal: Journal,
     calls: u32,
     // The frame of the root, where the document was laid out since it was made or changed.
     root: Option<RootFrame>,
@@ -43,7 +47,7 @@ pub struct Engine {
 }
 
 impl Model for Engine {
-    ghost use Rattle.session.specs.Standing.{Standing, standing_code, IsSound};
+    ghost use Rattle.session.specs.Standing.{Standing, standing_code, steps_of};
 
     ghost Value = { Standing };
 
@@ -51,17 +55,14 @@ impl Model for Engine {
 
     ghost use Rattle.std.specs.Prelude.{IfSome, is_some};
 
-    ghost view = { λ a. record { page = a.page; calls = a.calls; laid = is_some a.root } };
+    ghost view = { λ a. record { page = a.page; calls = a.calls; laid = is_some a.root; steps = steps_of a.journal } };
 
     ghost use Rattle.std.specs.Prelude.{◌≡◌};
-    ghost use Rattle.box_layout.specs.LastBoxes.{AreFound};
     ghost use Rattle.page_tree.specs.Pages.{document_of};
-    ghost use Rattle.placing.specs.Kept.{kept_at};
-    ghost use Rattle.placing.specs.Nodes.{bare};
     ghost use Rattle.session.specs.Boxes.{boxes_of};
-    ghost use Rattle.session.specs.Standing.{IsLaidBy};
+    ghost use Rattle.session.specs.Standing.{IsLaidBy, IsWell};
 
-    ghost invariant = { λ a. IsSound a.page × (AreFound (bare a.page.nodes.tree) (kept_at a.page.nodes.tree) a.last × (IfSome a.root (IsLaidBy a.page) × IfSome a.pointed (λ boxes. boxes ≡ boxes_of (document_of a.page)))) };
+    ghost invariant = { λ a. IsWell a.page a.last (steps_of a.journal) × (IfSome a.root (IsLaidBy a.page) × IfSome a.pointed (λ boxes. boxes ≡ boxes_of (document_of a.page))) };
 }
 
 /// The boxes of a document, in document order, and what it took to lay it out.
@@ -86,20 +87,23 @@ pub(crate) struct Counted {
 
 impl Engine {
     #[tactic(auto, using(crate::proofs::Sound::beginning))]
-    /// The engine of a valid document, as every document is that is read. No answer is kept yet. Or
-    /// `NoMemory`.
+    /// The engine of a valid document, as every document is that is read. No answer is kept yet,
+    /// and there is nothing to take back. Or `NoMemory`.
     pub fn new(alloc: Global, doc: Doc) -> Result<Engine, NoMemory>
         requires { IsValid doc }
         ensures document { IfOk result (λ engine. doc_of engine ≡ doc) }
         ensures calls { IfOk result (λ engine. engine.calls ≡ 0) }
         ensures laid { IfOk result (λ engine. engine.laid ≡ false) }
         ensures none { IfOk result (λ engine. KeepsNone engine.page.nodes.tree) }
+        ensures steps { IfOk result (λ engine. engine.steps ≡ no_steps) }
     {
         let page = Page::new(alloc, &doc)?;
         let last = LastBoxes::new(alloc);
+        let journal = Journal::new(alloc);
         Ok(Engine {
             page,
             last,
+            journal,
             calls: 0,
             root: None,
             pointed: None,
@@ -120,36 +124,105 @@ impl Engine {
         self.page.version()
     }
 
-    #[tactic(auto, using(crate::proofs::Sound::applying, crate::proofs::Grounds::staying))]
+    /// The document as the edits so far left it, which is valid. Or `NoMemory`.
+    pub fn doc(&self) -> Result<Doc, NoMemory>
+        ensures document { IfOk result (λ doc. doc ≡ doc_of self.now) }
+        ensures valid { IfOk result IsValid }
+    {
+        self.page.document()
+    }
+
+    /// Applies an edit that is a change by itself.
+    fn edit(&mut self, change: Edit) -> Result<(), EditError>
+        requires change { IsChange change }
+        requires named { NamesItsNode change }
+        requires told { IsToldEdit (doc_of self.old).version change }
+        ensures applies { Applies result change self.old self.new }
+        ensures calls { self.new.calls ≡ self.old.calls }
+    {
+        match edit(&mut self.page, &mut self.last, &mut self.journal, change) {
+            Ok(()) => {
+                self.root = None;
+                self.pointed = None;
+                Ok(())
+            }
+            Err(error) => Err(error),
+        }
+    }
+
+    /// Takes so many edits back, where there are as many; their number stands at this place.
+    fn undo(&mut self, count: u32, at: Place) -> Result<(), EditError>
+        ensures applies { Applies result (edit.Undo count at) self.old self.new }
+        ensures calls { self.new.calls ≡ self.old.calls }
+    {
+        if self.journal.done() < count as usize {
+            return Err(EditError::Refused(Fault {
+                number: NOTHING_TO_UNDO,
+                place: at,
+            }));
+        }
+        self.root = None;
+        self.pointed = None;
+        match take_all_back(&mut self.page, &mut self.last, &mut self.journal, count) {
+            Ok(()) => (),
+            Err(NoMemory) => return Err(EditError::NoMemory),
+        }
+        Ok(())
+    }
+
+    /// Makes so many edits again that were taken back, where there are as many; their number stands
+    /// at this place.
+    fn redo(&mut self, count: u32, at: Place) -> Result<(), EditError>
+        ensures applies { Applies result (edit.Redo count at) self.old self.new }
+        ensures calls { self.new.calls ≡ self.old.calls }
+    {
+        if self.journal.undone() < count as usize {
+            return Err(EditError::Refused(Fault {
+                number: NOTHING_TO_REDO,
+                place: at,
+            }));
+        }
+        self.root = None;
+        self.pointed = None;
+        match make_all_again(&mut self.page, &mut self.last, &mut self.journal, count) {
+            Ok(()) => (),
+            Err(NoMemory) => return Err(EditError::NoMemory),
+        }
+        Ok(())
+    }
+
     /// Applies an edit or refuses it. Its values, contents and sizes are ones that a text of the
     /// version tells, as those of every edit that is read, and an inserted node has the name that
     /// the edit gives it.
     ///
-    /// `Refused` comes exactly where the definition of the edited document refuses the edit: 21
-    /// where a name names no node, 22 where the root is removed or moved, 23 where a node is moved
-    /// below itself, 24 where an index is past the last child, 6 where a name is there, 12 where a
-    /// node would stand on level 65, 13 where there would be too many nodes, 14 where a leaf would
-    /// have children; the first of these. After that and after `NoMemory` the document and all
-    /// answers that are kept are as before. An edit that touches a leaf of the document after it
-    /// touches its parent too.
+    /// `Undo` takes the last so many edits back, and `Redo` makes the last so many again that were
+    /// taken back; any other edit that is accepted ends what could be made again. For what an edit
+    /// touches both count as the changes that they make.
+    ///
+    /// `Refused` comes exactly where the definition of the next history refuses the edit: 21 where
+    /// a name names no node, 22 where the root is removed or moved, 23 where a node is moved below
+    /// itself, 24 where an index is past the last child, 6 where a name is there, 12 where a node
+    /// would stand on level 65, 13 where there would be too many nodes, 14 where a leaf would have
+    /// children; the first of these; 25 where fewer edits than asked for can be taken back, and 26
+    /// where fewer can be made again. After that and after `NoMemory` the document, the steps and
+    /// all answers that are kept are as before; but after `NoMemory` of `Undo` and `Redo` some of
+    /// their changes may have been made, each whole. An edit that touches a leaf of the document
+    /// after it touches its parent too.
     ///
     /// A hit is no edit: [`Engine::hit`] answers it.
     pub fn apply(&mut self, edit: Edit) -> Result<(), EditError>
-        requires change { IsChange edit }
+        requires edit { IsEdit edit }
         requires named { NamesItsNode edit }
         requires told { IsToldEdit (doc_of self.old).version edit }
-        ensures applies { Applies result (edited edit (doc_of self.old)) self.old.page self.new.page }
-        ensures kept { OnOk result (KeepsOthers edit self.old.page self.new.page) }
-        ensures up { OnOk result (PassesUp (is_touched edit (doc_of self.old) (doc_of self.new)) (tree_of (doc_of self.new))) }
+        ensures applies { Applies result edit self.old self.new }
         ensures calls { self.new.calls ≡ min (self.old.calls + 1) (2 ^ 32 - 1) }
-        ensures changed { OnOk result (self.new.laid ≡ false) }
-        ensures unchanged { OnErr result (self.new.laid ≡ self.old.laid) }
     {
         self.calls = self.calls.saturating_add(1);
-        self.page.apply(edit, &mut self.last)?;
-        self.root = None;
-        self.pointed = None;
-        Ok(())
+        match edit {
+            Edit::Undo(count, at) => self.undo(count, at),
+            Edit::Redo(count, at) => self.redo(count, at),
+            edit => self.edit(edit),
+        }
     }
 
     #[tactic(auto, using(crate::proofs::Laid::laying, crate::proofs::Walks::walking))]
@@ -165,8 +238,7 @@ impl Engine {
         ensures printable { OnOk result (All IsPrintableBox (boxes_of (doc_of self.old))) }
         ensures laid { IfOk result (λ counted. LaysOut k (doc_of self.old) (R.log ruler.old) (R.log ruler.new) counted.measured) }
         ensures stopped { OnErr result (LogsFront (R.log ruler.old) (R.log ruler.new) k (Ok (doc_of self.old) ∷ [])) }
-        ensures document { doc_of self.new ≡ doc_of self.old }
-        ensures calls { self.new.calls ≡ self.old.calls }
+        ensures same { IsSame self.old self.new }
         ensures done { OnOk result (self.new.laid ≡ true) }
         ensures kept { IfOk result (λ counted. Keeps self.old.page self.new.page 0 counted.added passes.old passes.new) }
         ensures kept_some { OnErr result (KeepsMore self.old.page self.new.page) }
@@ -203,8 +275,7 @@ impl Engine {
         ensures printable { IfOk result (λ layout. All IsPrintableBox layout.boxes) }
         ensures laid { IfOk result (λ layout. LaysOut k (doc_of self.old) (R.log ruler.old) (R.log ruler.new) layout.measured) }
         ensures stopped { OnErr result (LogsFront (R.log ruler.old) (R.log ruler.new) k (Ok (doc_of self.old) ∷ [])) }
-        ensures document { doc_of self.new ≡ doc_of self.old }
-        ensures calls { self.new.calls ≡ self.old.calls }
+        ensures same { IsSame self.old self.new }
         ensures done { OnOk result (self.new.laid ≡ true) }
         ensures kept { IfOk result (λ layout. Keeps self.old.page self.new.page 0 layout.added passes.old passes.new) }
         ensures kept_some { OnErr result (KeepsMore self.old.page self.new.page) }

@@ -37,6 +37,10 @@ const CYCLE: u8 = 23;
 
 const BAD_INDEX: u8 = 24;
 
+pub(crate) const NOTHING_TO_UNDO: u8 = 25;
+
+pub(crate) const NOTHING_TO_REDO: u8 = 26;
+
 #[tactic(auto, unfolding(crate::specs::FaultNames::fault_name))]
 /// The name of the fault of a number, as it is printed.
 pub(crate) fn fault_name(number: u8) -> &'static [u8]
@@ -64,6 +68,8 @@ pub(crate) fn fault_name(number: u8) -> &'static [u8]
         ROOT => b"root",
         CYCLE => b"cycle",
         BAD_INDEX => b"bad-index",
+        NOTHING_TO_UNDO => b"nothing-to-undo",
+        NOTHING_TO_REDO => b"nothing-to-redo",
         _ => b"",
     }
 }

@@ -37,8 +37,8 @@ impl Reader {
     }
 }
 
-/// Takes the next piece of the input, and answers its length: 0 at the end. No piece crosses the limit, past which one byte is
-/// asked for. Looks first at a fault of reading, then at the limit.
+/// Takes the next piece of the input, and answers its length: 0 at the end. No piece crosses the
+/// limit, past which one byte is asked for. Looks first at a fault of reading, then at the limit.
 fn take_piece<S: Source>(
     source: &mut S,
     room: &mut [u8; PIECE],

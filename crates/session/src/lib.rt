@@ -18,6 +18,7 @@ mod stats;
 mod status;
 mod text;
 mod top_call;
+mod tracing;
 
 pub use engine::{Engine, Layout};
 pub use page_tree::EditError as ApplyError;

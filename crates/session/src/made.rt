@@ -6,14 +6,14 @@ ghost use Rattle.outside.specs.Faults.{HasCauseOf};
 ghost use Rattle.outside.specs.Told.{Adds, AddsPrefix};
 ghost use Rattle.outside.specs.declared.event.Event.{Event};
 ghost use Rattle.sparing.specs.Sparing.{Touches};
-ghost use Rattle.doc_text.specs.Edits.{applied, edited, tree_of};
+ghost use Rattle.doc_text.specs.Edits.{applied, edited};
 ghost use Rattle.doc_text.specs.Laws.{IsChange, NamesItsNode};
 ghost use Rattle.page_maker.specs.Scripts.{edit_from};
 ghost use Rattle.page_maker.specs.Standing.{IsMade};
-ghost use Rattle.asked_pages.specs.Leaves.{IsEmptied, PassesUp};
-ghost use Rattle.page_tree.specs.Reach.{is_touched, KeepsOthers};
+ghost use Rattle.asked_pages.specs.Leaves.{IsEmptied};
+ghost use Rattle.page_tree.specs.Reach.{is_touched};
 ghost use Rattle.session.specs.Boxes.{boxes_of};
-ghost use Rattle.session.specs.Engine.{IsToldEdit};
+ghost use Rattle.session.specs.Engine.{IsToldEdit, Spreads};
 ghost use Rattle.session.specs.Logs.{Logs, LogsFront};
 ghost use Rattle.session.specs.Made.{AgreesDraw, AgreeDraws, HasMade, TellsLayouts, made_layouts, made_line, layouts_left, lines_left, summary, touched_made};
 ghost use Rattle.session.specs.Printing.{IsPrintableBox};
@@ -95,7 +95,7 @@ fn write_line<K: Sink, R: Ruler, L: Ledger>(
     write(sink, &text)
 }
 
-#[tactic(auto, using(crate::proofs::Making::applying))]
+#[tactic(auto, using(crate::proofs::Applying::making))]
 /// Applies an edit that is not refused.
 fn apply(engine: &mut Engine, edit: Edit) -> Result<(), NoMemory>
     requires change { IsChange edit }
@@ -103,8 +103,7 @@ fn apply(engine: &mut Engine, edit: Edit) -> Result<(), NoMemory>
     requires told { IsToldEdit (doc_of engine.old).version edit }
     requires accepted { edited edit (doc_of engine.old) ≡ Ok (applied edit (doc_of engine.old)) }
     ensures document { OnOk result (doc_of engine.new ≡ applied edit (doc_of engine.old)) }
-    ensures kept { OnOk result (KeepsOthers edit engine.old.page engine.new.page) }
-    ensures up { OnOk result (PassesUp (is_touched edit (doc_of engine.old) (doc_of engine.new)) (tree_of (doc_of engine.new))) }
+    ensures spreads { OnOk result (Spreads (is_touched edit (doc_of engine.old) (doc_of engine.new)) engine.old.page engine.new.page) }
 {
     match engine.apply(edit) {
         Ok(()) => Ok(()),

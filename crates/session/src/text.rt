@@ -19,7 +19,8 @@ use text_scan::{Fault, Line, Place};
 /// The text of a document.
 #[derive(Drop)]
 pub(crate) struct Text {
-    /// Its lines, without those that are skipped; or lines that are no document, where its lines are none.
+    /// Its lines, without those that are skipped; or lines that are no document, where its lines
+    /// are none.
     pub(crate) lines: Sequence<Line>,
     /// The place of the line that ended it, or column 1 of the line after the last one.
     pub(crate) end: Place,
@@ -27,17 +28,20 @@ pub(crate) struct Text {
     pub(crate) has_script: bool,
 }
 
-/// So many lines a document has at most that are not skipped: two of its head, and one for each node.
+/// So many lines a document has at most that are not skipped: two of its head, and one for each
+/// node.
 const MOST_LINES: usize = 131_074;
 
-/// Whether the line ends the text of a document: it is `---`, these three bytes and nothing else. Edits follow it.
+/// Whether the line ends the text of a document: it is `---`, these three bytes and nothing else.
+/// Edits follow it.
 fn is_end_of_document(line: &Line) -> bool
     ensures { result ≡ is_end_of_document line.now }
 {
     line.fault.is_none() && line.bytes.as_slice() == b"---".as_slice()
 }
 
-/// The fault of the document that the lines are, where their text ends at this place; none where it has none.
+/// The fault of the document that the lines are, where their text ends at this place; none where it
+/// has none.
 fn fault_of(alloc: Global, lines: &[Line], end: Place) -> Result<Option<Fault>, NoMemory>
     ensures { IfOk result (λ found. IfSome found (λ fault. document_of lines.now end ≡ Err fault)) }
 {
@@ -49,7 +53,8 @@ fn fault_of(alloc: Global, lines: &[Line], end: Place) -> Result<Option<Fault>, 
 }
 
 #[tactic(auto, using(crate::proofs::Fronts::fronts))]
-/// Whether the lines have a fault that stays whatever lines follow them: one that does not depend on where the text ends.
+/// Whether the lines have a fault that stays whatever lines follow them: one that does not depend
+/// on where the text ends.
 fn begins_none(alloc: Global, lines: &[Line]) -> Result<bool, NoMemory>
     ensures { IfOk result (λ none. none ≡ true → BeginsNone lines.now) }
 {
@@ -64,7 +69,8 @@ fn begins_none(alloc: Global, lines: &[Line]) -> Result<bool, NoMemory>
     Ok(first.place.line == second.place.line)
 }
 
-/// The lines of a document as they are held: none that is skipped, and no more once they can begin no document.
+/// The lines of a document as they are held: none that is skipped, and no more once they can begin
+/// no document.
 #[derive(Drop)]
 pub(crate) struct Held {
     lines: Sequence<Line>,
@@ -87,8 +93,8 @@ impl Held {
     }
 
     #[tactic(auto, using(crate::proofs::Texts::holding))]
-    /// Adds a line. It looks at all lines where there are more than a document has, and then each time when there are twice
-    /// as many, so the time stays linear.
+    /// Adds a line. It looks at all lines where there are more than a document has, and then each
+    /// time when there are twice as many, so the time stays linear.
     fn add(&mut self, alloc: Global, line: Line) -> Result<(), NoMemory>
         requires { IsShort line }
         ensures holds { (given : List Line) → Holds self.old given → OnOk result (Holds self.new (given ++ line ∷ [])) }

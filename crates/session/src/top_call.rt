@@ -55,35 +55,44 @@ fn served(alloc: Global, words: &[String]) -> Result<Command, Status>
     }
 }
 
-/// The top call. Under the word `layout` it reads a document and the script of edits that follows a line `---`. It writes
-/// the boxes of the document, and then for each line of the script, numbered from 1, the boxes of the edited document or the line
-/// of the refusal; a refused edit changes nothing. For a line `hit X Y` it writes the name of the last box that contains the point,
-/// or that none does, and lays out nothing. Each line is answered as soon as it is whole, before more is read.
+/// The top call. Under the word `layout` it reads a document and the script of edits that follows a
+/// line `---`. It writes the boxes of the document, and then for each line of the script, numbered
+/// from 1, the boxes of the edited document or the line of the refusal; a refused edit changes
+/// nothing. A line `undo N` takes back the last N edits that were not refused, and `redo N` makes
+/// the last N again that were taken back; any other edit ends what could be made again. For a line
+/// `hit X Y` it writes the name of the last box that contains the point, or that none does, and
+/// lays out nothing. Each line is answered as soon as it is whole, before more is read.
 ///
-/// Under `layout --stats` a line `stats M A` follows each layout: M events of measuring after its begin, and A answers that it
-/// kept, each of these up to 2^64 - 1.
+/// Under `layout --stats` a line `stats M A` follows each layout: M events of measuring after its
+/// begin, and A answers that it kept, each of these up to 2^64 - 1.
 ///
-/// Under `make --seed N --nodes M` nothing is read. It lays out the document of M nodes that is drawn from N, and again after
-/// each of eight edits that are drawn too, and writes for each layout a line `made k C S`: k counts from 0, C is the number of
-/// boxes, and S the sum of x + 3y + 5 * width + 7 * height in units of 1/64 px over all of them, modulo 2^64 and at least 0.
+/// Under `make --seed N --nodes M` nothing is read. It lays out the document of M nodes that is
+/// drawn from N, and again after each of eight edits that are drawn too, and writes for each layout
+/// a line `made k C S`: k counts from 0, C is the number of boxes, and S the sum of x + 3y + 5 *
+/// width + 7 * height in units of 1/64 px over all of them, modulo 2^64 and at least 0.
 ///
-/// - `BadWords` exactly where the words are others, or want of memory; then nothing is read, written or logged.
-/// - `Done` where the input, of at most 2^26 bytes, holds a document and no edit was refused: the input was read to its end.
-///   Under `make` where all nine lines were written.
+/// - `BadWords` exactly where the words are others, or want of memory; then nothing is read,
+///   written or logged.
+/// - `Done` where the input, of at most 2^26 bytes, holds a document and no edit was refused: the
+///   input was read to its end. Under `make` where all nine lines were written.
 /// - `SomeRefused` where at least one edit was refused, else as `Done`.
-/// - `BadDocument` where the text before the line `---`, or all of it, has a fault: the line `refused 0 L:C name` of its first
-///   fault is written, and no more is read.
-/// - `InputLimit` where the input has more than 2^26 bytes, unless a line `---` is whole in the first 2^26 and the text before it
-///   has a fault. What was written for the lines that are whole in these stands.
-/// - `ReadFault` only where the source's count of faults rose in this call: what was written for the whole lines stands.
+/// - `BadDocument` where the text before the line `---`, or all of it, has a fault: the line
+///   `refused 0 L:C name` of its first fault is written, and no more is read.
+/// - `InputLimit` where the input has more than 2^26 bytes, unless a line `---` is whole in the
+///   first 2^26 and the text before it has a fault. What was written for the lines that are whole
+///   in these stands.
+/// - `ReadFault` only where the source's count of faults rose in this call: what was written for
+///   the whole lines stands.
 /// - `WriteFault` only where the sink's count of faults rose in this call: a prefix is written.
 /// - `NoMemory` at want of memory: a prefix is written, or nothing.
 ///
-/// The ruler is told the begin of each layout that is made, with its number, and then measures leaves of its document: each leaf that
-/// is the child of a grid at the content width of its box, where it is the first layout or the edit touches the leaf. `passes` counts
-/// the passes of track sizing and of flex lengths, at most four for each answer that is kept.
+/// The ruler is told the begin of each layout that is made, with its number, and then measures
+/// leaves of its document: each leaf that is the child of a grid at the content width of its box,
+/// where it is the first layout or the edit touches the leaf. `passes` counts the passes of track
+/// sizing and of flex lengths, at most four for each answer that is kept.
 ///
-/// The source is asked at most 2^26 + 1 times, as it counts them: each piece but the last has a byte.
+/// The source is asked at most 2^26 + 1 times, as it counts them: each piece but the last has a
+/// byte.
 pub fn run<S: Source, K: Sink, R: Ruler, L: Ledger>(
     alloc: Global,
     words: Vec<String>,
@@ -95,9 +104,11 @@ pub fn run<S: Source, K: Sink, R: Ruler, L: Ledger>(
     ensures words { result ≡ Status.BadWords → is_served (asked words.items) ≡ false }
     ensures unserved { is_served (asked words.items) ≡ false → IsUnserved result }
     ensures untouched { is_served (asked words.items) ≡ false → (source.new ≡ source.old) × (sink.new ≡ sink.old) × (ruler.new ≡ ruler.old) }
-    // What was taken, written and logged, by the answer, and what follows of it for all bytes of the source: with counts or not.
+    // What was taken, written and logged, by the answer, and what follows of it for all bytes of
+    // the source: with counts or not.
     ensures run { (stats : Bool) → asked words.items ≡ Some (Layout stats) → HasRun stats (S.left source.old) (S.left source.new) (K.written sink.old) (K.written sink.new) (R.log ruler.old) (R.log ruler.new) (S.faults source.old) (S.faults source.new) (K.faults sink.old) (K.faults sink.new) result }
-    // Under `make` nothing is read. At every exit what was written is a prefix of the nine lines, and with `Done` it is all of them.
+    // Under `make` nothing is read. At every exit what was written is a prefix of the nine lines,
+    // and with `Done` it is all of them.
     ensures made { (seed nodes : ℕ) → asked words.items ≡ Some (Make seed nodes) → (source.new ≡ source.old) × HasMade seed nodes (K.written sink.old) (K.written sink.new) (R.log ruler.old) (R.log ruler.new) passes.old passes.new (K.faults sink.old) (K.faults sink.new) result }
     ensures read { HasCauseOf (S.faults source.old) (S.faults source.new) (result ≡ Status.ReadFault) }
     ensures write { HasCauseOf (K.faults sink.old) (K.faults sink.new) (result ≡ Status.WriteFault) }
@@ -108,13 +119,15 @@ pub fn run<S: Source, K: Sink, R: Ruler, L: Ledger>(
     ensures permits { asked words.items ≡ Some (Layout false) → IfSome (S.left source.old) (λ b. length b ≤ limit → Permits (Adds (K.written sink.old) (K.written sink.new) (out b)) b result) }
     // Where no count rose: the verdict with all of the output written, or want of memory.
     ensures complete { asked words.items ≡ Some (Layout false) → IsComplete (S.left source.old) (λ b. Adds (K.written sink.old) (K.written sink.new) (out b)) (S.faults source.old) (S.faults source.new) (K.faults sink.old) (K.faults sink.new) result }
-    // The boxes written are those of the document that the source's bytes hold, and then, for each edit line, those of the edited
-    // document or the line of the refusal.
+    // The boxes written are those of the document that the source's bytes hold, and then, for each
+    // edit line, those of the edited document or the line of the refusal.
     ensures headline { asked words.items ≡ Some (Layout false) → IsHeadline (S.left source.old) (K.written sink.old) (K.written sink.new) (S.faults source.old) (S.faults source.new) (K.faults sink.old) (K.faults sink.new) result }
-    // No leaf was measured again at a width unless an edit reached it or sixteen other widths followed.
+    // No leaf was measured again at a width unless an edit reached it or sixteen other widths
+    // followed.
     ensures spares { (stats : Bool) → asked words.items ≡ Some (Layout stats) → IfSome (S.left source.old) (λ b. Spares (touched_lines (lines_of b)) (R.log ruler.old) (R.log ruler.new)) }
-    // In each layout every new leaf of a grid was measured at the content width of its box. A is at least the number of new containers,
-    // and at most that of all questions where no node has more than sixteen. There are at most four passes for each of the answers.
+    // In each layout every new leaf of a grid was measured at the content width of its box. A is at
+    // least the number of new containers, and at most that of all questions where no node has more
+    // than sixteen. There are at most four passes for each of the answers.
     ensures replies { (stats : Bool) → asked words.items ≡ Some (Layout stats) → IfSome (S.left source.old) (λ b. HasReplied stats (K.written sink.old) (K.written sink.new) (R.log ruler.old) (R.log ruler.new) passes.old passes.new (lines_of b) result) }
 {
     match served(alloc, words.as_slice()) {

@@ -32,7 +32,8 @@ const SCRIPT: &[u8] = b"---
 content p07 words 16 4 40 40 40 40 40 40 40 40 40 40 40 40 40 40 40 40 40
 ";
 
-/// An edit that makes a card narrower, and leaves it as high: as many words stand in each line of its text that three lines hold them.
+/// An edit that makes a card narrower, and leaves it as high: as many words stand in each line of
+/// its text that three lines hold them.
 const ASIDE: &[u8] = b"set c08 margin-left: 30px
 ";
 
@@ -40,7 +41,26 @@ const ASIDE: &[u8] = b"set c08 margin-left: 30px
 const SAME_VIEWPORT: &[u8] = b"viewport 1000 600
 ";
 
-/// The nodes that are no leaves: the root, the head, the list of cards, and each card with its foot.
+/// The last edit taken back, and made again.
+const BACK_AND_FORTH: &[u8] = b"undo 1
+redo 1
+";
+
+/// Some lines of what is written for them.
+const BACK_AND_FORTH_LINES: &[u8] = b"layout 2
+main 0 0 1000 780
+c07 510 190 230 100
+p07 510 214 230 48
+c09 10 310 230 100
+layout 3
+main 0 0 1000 796
+c07 510 190 230 116
+p07 510 214 230 64
+c09 10 326 230 100
+";
+
+/// The nodes that are no leaves: the root, the head, the list of cards, and each card with its
+/// foot.
 const CONTAINERS: u64 = 51;
 
 /// Some lines of the output.
@@ -107,13 +127,15 @@ fn check_boxes(rt: &impl Abort, alloc: Global, devices: Devices) -> Result<(), N
     Ok(())
 }
 
-/// The longer text moves what is below it, the boxes in the cards there too, and the narrower card what is in it.
+/// The longer text moves what is below it, the boxes in the cards there too, and the narrower card
+/// what is in it.
 pub(crate) fn check_cards(rt: &impl Abort, alloc: Global) -> Result<(), NoMemory> {
     check_boxes(rt, alloc, WHOLE)?;
     check_boxes(rt, alloc, BYTEWISE)
 }
 
-/// What is asked for the page, and again for the edit: each leaf once at a width, and then the one that was changed.
+/// What is asked for the page, and again for the edit: each leaf once at a width, and then the one
+/// that was changed.
 fn check_events(rt: &impl Abort, events: &[Event]) {
     let before = measured_in(events, 0);
     for name in [b"nav", b"t01", b"p07", b"x12", b"y24"] {
@@ -123,9 +145,10 @@ fn check_events(rt: &impl Abort, events: &[Event]) {
     assert!(rt; differ(before) && differ(after) && are_of(after, b"p07"));
 }
 
-/// What is told of the page, of the edit, and of an edit that changes nothing. For the first edit the root and the list of cards are
-/// asked three questions each at most, the card four, since it sees how often the columns repeat, once for the widths of the list and
-/// four times else, and the text two; the three cards beside it have other rows, and are asked for their frames.
+/// What is told of the page, of the edit, and of an edit that changes nothing. For the first edit
+/// the root and the list of cards are asked three questions each at most, the card four, since it
+/// sees how often the columns repeat, once for the widths of the list and four times else, and the
+/// text two; the three cards beside it have other rows, and are asked for their frames.
 fn check_counts(rt: &impl Abort, written: &[u8], events: &[Event]) {
     static LAYOUTS: &[(u32, u64, u64)] = &[(0, CONTAINERS, u64::MAX), (1, 3, 15), (2, 0, 0)];
     for (k, least, most) in LAYOUTS {
@@ -143,5 +166,27 @@ fn a_second_layout_adds_nothing(rt: HostRuntime) -> Result<(), Fail> {
     let ran = run_logged(rt.alloc(), &words, &page, WHOLE, &mut ruler)?;
     check_events(&rt, ruler.events());
     check_counts(&rt, ran.written.as_slice(), ruler.events());
+    Ok(())
+}
+
+/// The edit that is taken back and made again asks again what it asked at first, and of no other
+/// card.
+fn check_undone(rt: &impl Abort, written: &[u8], events: &[Event]) {
+    for k in 1..4 {
+        let again = measured_in(events, k);
+        assert!(rt; differ(again) && are_of(again, b"p07"), "layout {k}");
+        assert!(rt; are_told(written, events, k, 3, 15), "layout {k}");
+    }
+}
+
+#[test]
+fn undo_asks_again_what_the_edit_reaches(rt: HostRuntime) -> Result<(), Fail> {
+    let mut page = page(rt.alloc())?;
+    page.extend_from_slice(BACK_AND_FORTH)?;
+    let mut ruler = LogRuler::new(rt.alloc());
+    let words = ["layout", "--stats"];
+    let ran = run_logged(rt.alloc(), &words, &page, WHOLE, &mut ruler)?;
+    assert!(rt; has_lines(ran.written.as_slice(), BACK_AND_FORTH_LINES));
+    check_undone(&rt, ran.written.as_slice(), ruler.events());
     Ok(())
 }

@@ -25,7 +25,8 @@ fn pair_at(text: &[u8]) -> Option<(u64, u64)> {
     Some((number_at(first), number_at(second.get(1..)?)))
 }
 
-/// How many measurements and how many kept answers are told for the layout with this place among all that were made, from 0.
+/// How many measurements and how many kept answers are told for the layout with this place among
+/// all that were made, from 0.
 fn counts_at(text: &[u8], place: usize) -> Option<(u64, u64)> {
     let mut due = place;
     let mut left = text;
@@ -42,8 +43,9 @@ fn counts_at(text: &[u8], place: usize) -> Option<(u64, u64)> {
     None
 }
 
-/// Whether the counts that are told for the layout with this number, where no edit before it was refused, are how many measurements
-/// the ruler was asked for, and a number of answers from `least` to `most`.
+/// Whether the counts that are told for the layout with this number, where no edit before it was
+/// refused, are how many measurements the ruler was asked for, and a number of answers from `least`
+/// to `most`.
 pub(crate) fn are_told(written: &[u8], events: &[Event], k: u32, least: u64, most: u64) -> bool {
     match counts_at(written, k as usize) {
         Some((measured, added)) => {

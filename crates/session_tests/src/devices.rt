@@ -7,7 +7,8 @@ use std::alloc::Global;
 use std::process::Abort;
 use std::test::Fail;
 
-/// An input, how many lines its document has, and what is written for the document and for each line of the script.
+/// An input, how many lines its document has, and what is written for the document and for each
+/// line of the script.
 struct Script {
     input: &'static [u8],
     document: usize,
@@ -102,8 +103,8 @@ fn joined(alloc: Global, answers: &[&[u8]]) -> Result<Vec<u8>, NoMemory> {
     Ok(text)
 }
 
-/// How many answers are due once so much of the input was read: the document is answered by the line `---`, and each line of the
-/// script once it is whole.
+/// How many answers are due once so much of the input was read: the document is answered by the
+/// line `---`, and each line of the script once it is whole.
 fn answers_due(script: &Script, read: &[u8]) -> usize {
     let whole = read.iter().filter(|byte| **byte == b'\n').count();
     whole
@@ -111,7 +112,8 @@ fn answers_due(script: &Script, read: &[u8]) -> usize {
         .min(script.answers.len())
 }
 
-/// The source fails after so many bytes, each of which was a call: what was written for the whole lines stands.
+/// The source fails after so many bytes, each of which was a call: what was written for the whole
+/// lines stands.
 fn fails_reading(
     rt: &impl Abort,
     alloc: Global,

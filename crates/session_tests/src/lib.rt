@@ -10,6 +10,8 @@ mod counts;
 #[cfg(test)]
 mod devices;
 #[cfg(test)]
+mod engines;
+#[cfg(test)]
 mod faults;
 #[cfg(test)]
 mod flexes;
@@ -37,6 +39,8 @@ mod scripts;
 mod stats;
 #[cfg(test)]
 mod subgrids;
+#[cfg(test)]
+mod undo;
 #[cfg(test)]
 mod widths;
 #[cfg(test)]

@@ -186,7 +186,7 @@ fn check_lists(rt: &impl Abort, alloc: Global, page: &Page, reached: &[&[u8]]) -
 
 #[tactic(auto, using(crate::proofs::Readied::short_more))]
 /// Adds a line without a fault.
-fn add_line(alloc: Global, lines: &mut Sequence<Line>, text: &[u8]) -> Result<(), Fail>
+pub(crate) fn add_line(alloc: Global, lines: &mut Sequence<Line>, text: &[u8]) -> Result<(), Fail>
     requires { AreShort lines.old }
     ensures { OnOk result (AreShort lines.new) }
 {

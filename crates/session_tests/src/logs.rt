@@ -46,7 +46,8 @@ pub(crate) fn differ(events: &[Event]) -> bool {
     true
 }
 
-/// Whether these are from one to three measurements, all of the leaf of this name; or none, where no name is given.
+/// Whether these are from one to three measurements, all of the leaf of this name; or none, where
+/// no name is given.
 pub(crate) fn are_of(events: &[Event], name: &[u8]) -> bool {
     let again = times(events, name);
     if name.is_empty() {

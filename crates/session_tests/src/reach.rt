@@ -1,4 +1,5 @@
-//! What is asked again after an edit of a grid with a subgrid in a subgrid: what the edit reaches, and no more.
+//! What is asked again after an edit of a grid with a subgrid in a subgrid: what the edit reaches,
+//! and no more.
 
 use crate::counts::are_told;
 use crate::logs::{are_of, measured_in};
@@ -19,9 +20,10 @@ main grid { grid-template-columns: [a] 50px [b] 50px [a] 50px [b] 50px }
 ---
 ";
 
-/// An edit, the boxes that follow, the leaf that is measured again, if one is, and the least and the greatest number of answers that
-/// are kept anew. A grid is asked for its height and its frames, and at most for its widths or the items that it lends; a leaf for its
-/// height, and at most for its widths.
+/// An edit, the boxes that follow, the leaf that is measured again, if one is, and the least and
+/// the greatest number of answers that are kept anew. A grid is asked for its height and its
+/// frames, and at most for its widths or the items that it lends; a leaf for its height, and at
+/// most for its widths.
 struct Row {
     edit: &'static [u8],
     boxes: &'static [u8],

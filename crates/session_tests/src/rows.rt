@@ -4,7 +4,7 @@ use crate::cards::check_cards;
 use crate::limits::check_long_lines;
 use crate::runs::{BYTEWISE, Devices, WHOLE, run_text};
 use crate::words::check_words;
-use crate::{faults, flexes, fonts, grids, hits, scripts, subgrids};
+use crate::{faults, flexes, fonts, grids, hits, scripts, subgrids, undo};
 use lunit::NoMemory;
 use session::Status;
 use std::alloc::Global;
@@ -44,6 +44,7 @@ fn runs_are_as_worked_by_hand(rt: HostRuntime) -> Result<(), Fail> {
         fonts::ROWS,
         scripts::ROWS,
         hits::ROWS,
+        undo::ROWS,
         faults::ROWS,
     ];
     for rows in subjects {

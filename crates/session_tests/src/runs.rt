@@ -10,8 +10,8 @@ use std::marker::Brand;
 use std::process::Abort;
 use std::sync::ledger::{Blank, Ledger};
 
-/// How the input comes and the output goes: all at once, or a byte at a call. Calls are counted from 1, and those of these
-/// numbers fail; 0 is the number of none.
+/// How the input comes and the output goes: all at once, or a byte at a call. Calls are counted
+/// from 1, and those of these numbers fail; 0 is the number of none.
 #[derive(Clone, Copy)]
 pub(crate) struct Devices {
     pub(crate) bytewise: bool,

@@ -7,8 +7,8 @@ use std::alloc::Global;
 use std::process::Abort;
 use std::test::Fail;
 
-/// A document of one container and perhaps a script, and what is due where its layout keeps two answers, or three: both meet
-/// the rules.
+/// A document of one container and perhaps a script, and what is due where its layout keeps two
+/// answers, or three: both meet the rules.
 struct Row {
     input: &'static [u8],
     status: Status,

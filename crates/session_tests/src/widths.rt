@@ -36,7 +36,8 @@ viewport 100 50
 viewport 110 50
 ";
 
-/// Some lines of the output: all are as wide as the viewport, and the leaves stand one below the other.
+/// Some lines of the output: all are as wide as the viewport, and the leaves stand one below the
+/// other.
 const LINES: &[u8] = b"layout 0
 main 0 0 100 80
 b 0 20 100 20

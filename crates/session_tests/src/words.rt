@@ -84,7 +84,8 @@ static WORDS: &[Words] = &[
         status: Status::BadWords,
         output: b"",
     },
-    // generated documents: a root alone, and leaves in the first columns of a root with nine, of 6,883 and 6,884 units
+    // generated documents: a root alone, and leaves in the first columns of a root with nine, of
+    // 6,883 and 6,884 units
     Words {
         words: &["make", "--seed", "1", "--nodes", "1"],
         status: Status::Done,
@@ -167,7 +168,8 @@ pub(crate) fn check_words(rt: &impl Abort, alloc: Global) -> Result<(), NoMemory
     Ok(())
 }
 
-/// The edits of the leaf are the second and the third, and the last two; the others are of the root.
+/// The edits of the leaf are the second and the third, and the last two; the others are of the
+/// root.
 fn check_events(rt: &impl Abort, events: &[Event]) {
     static MEASURED: &[(u32, &[u8])] = &[
         (0, b"n1"),

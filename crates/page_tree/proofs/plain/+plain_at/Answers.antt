@@ -12,7 +12,7 @@ loop-index-preserved-in_default t c =
 
 pub loop-index-preserved : goal.loop-index-preserved
 loop-index-preserved t c =
-    next_plain c.args.tree.now.tree c.args.id c.loop-index.index c.in-Some.child c.in_ok-plain_at.field-0 c.loop-index.children _ c.in-Some.ensures.whole c.in_ok-plain_at.ensures c.in_ok-push.ensures.ok c.loop-index.invariant
+    next_plain c.args.tree.now.tree c.args.id c.loop-index.index c.in-Some.child c.in_ok-plain_at.field-0 c.loop-index.children _ c.in-Some.ensures.some c.in_ok-plain_at.ensures c.in_ok-push.ensures.ok c.loop-index.invariant
 
 pub returns : goal.returns
 returns t c =

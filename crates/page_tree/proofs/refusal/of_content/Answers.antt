@@ -1,6 +1,6 @@
 use Rattle.std.proofs.Common.{not, ap, ◌∙◌}
 use Rattle.std.specs.Prelude.{nat_lt}
-use Rattle.page_tree.specs.Answered.{or_later}
+use Rattle.page_tree.specs.Rows.{or_later}
 use Rattle.page_tree.proofs.Refusals.{content_told}
 use Rattle.page_tree.proofs.refusal.of_content.Goals as goal
 

@@ -1,5 +1,5 @@
 use Rattle.std.proofs.Common.{not, ap, ◌∙◌}
-use Rattle.page_tree.specs.Answered.{or_later}
+use Rattle.page_tree.specs.Rows.{or_later}
 use Rattle.page_tree.proofs.Refusals.{insert_told}
 use Rattle.page_tree.proofs.refusal.of_insert.Goals as goal
 

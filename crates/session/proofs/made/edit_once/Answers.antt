@@ -1,6 +1,6 @@
 use Rattle.session.specs.Standing.{doc_of}
 use Rattle.session.proofs.Draws.{due_after, emptied_after}
-use Rattle.session.proofs.Making.{changes, told, named, accepted, still_made, on_ok, on_both, on_three}
+use Rattle.session.proofs.Making.{changes, told, named, accepted, still_made, on_ok, on_both}
 use Rattle.session.proofs.made.edit_once.Goals as goal
 
 pub apply-requires-clause-change : goal.apply-requires-clause-change
@@ -24,11 +24,11 @@ returns-clause-made c =
 pub returns-clause-spares : goal.returns-clause-spares
 returns-clause-spares c touches before log k agrees p =
     on_both c.apply.result
-    (λ made kept. due_after touches k c.args.nodes c.args.draws.now.state c.in_ok-edit.edit c.args.engine.now.page c.apply.new.engine.page c.in_ok-edit.ensures.edit agrees made kept before log p)
-    c.apply.ensures.document c.apply.ensures.kept
+    (λ made spreads. due_after touches k c.args.nodes c.args.draws.now.state c.in_ok-edit.edit c.args.engine.now.page c.apply.new.engine.page c.in_ok-edit.ensures.edit agrees made spreads.kept before log p)
+    c.apply.ensures.document c.apply.ensures.spreads
 
 pub returns-clause-emptied : goal.returns-clause-emptied
 returns-clause-emptied c touches k later agrees =
-    on_three c.apply.result
-    (λ made kept up. emptied_after touches k c.args.nodes c.args.draws.now.state c.in_ok-edit.edit c.args.engine.now.page c.apply.new.engine.page c.in_ok-edit.ensures.edit agrees made kept later up)
-    c.apply.ensures.document c.apply.ensures.kept c.apply.ensures.up
+    on_both c.apply.result
+    (λ made spreads. emptied_after touches k c.args.nodes c.args.draws.now.state c.in_ok-edit.edit c.args.engine.now.page c.apply.new.engine.page c.in_ok-edit.ensures.edit agrees made spreads.kept later spreads.up)
+    c.apply.ensures.document c.apply.ensures.spreads

@@ -22,3 +22,9 @@ returns-clause-layouts g c touches empty =
     any_ok c.line_of.result
     (laid_tells touches (g.R.Ruler.log c.args.ruler.now) (g.R.Ruler.log c.layout.new.ruler) c.args.k c.args.engine.now.page c.layout.new.self.page c.in_ok-layout.layout.measured c.in_ok-layout.layout.added c.args.passes.now c.layout.new.passes
     c.in_ok-layout.layout.boxes c.in_ok-layout.ensures.walks c.in_ok-layout.ensures.boxes empty)
+
+pub returns-in_err-layout-clause-document : goal.returns-in_err-layout-clause-document
+returns-in_err-layout-clause-document g c = c.layout.ensures.same.document
+
+pub returns-clause-document : goal.returns-clause-document
+returns-clause-document g c = c.layout.ensures.same.document

@@ -1,5 +1,5 @@
 use Rattle.std.proofs.Common.{◌≡◌, ◌∙◌}
-use Rattle.outside.proofs.Laws.{prefix_none, prefix_after, prefix_longer}
+use Rattle.outside.proofs.Laws.{adds_more, prefix_none, prefix_after, prefix_longer}
 use Rattle.page_maker.specs.Making.{made_document}
 use Rattle.session.specs.Boxes.{boxes_of}
 use Rattle.session.specs.Made.{made_layouts, made_line, layouts_left, lines_left, summary, touched_made}
@@ -52,6 +52,16 @@ pub returns-in_err-write_line-clause-spares : goal.returns-in_err-write_line-cla
 returns-in_err-write_line-clause-spares g c =
     let touches = touched_made c.args.seed c.args.nodes in
     c.in_err-write_line.ensures.spares touches (g.R.Ruler.log c.args.ruler.now) (spares_new touches (g.R.Ruler.log c.args.ruler.now) c.in_ok-engine.engine.page c.in_ok-engine.ensures.none)
+
+pub returns-clause-ok : goal.returns-clause-ok
+returns-clause-ok g c =
+    let doc = doc_of c.in_ok-engine.engine in
+    let now = doc_of c.write_line.new.engine in
+    on_ok c.write_edits.result
+    (λ p. adds_more (g.K.Sink.written c.args.sink.now) (g.K.Sink.written c.write_line.new.sink) (g.K.Sink.written c.write_edits.new.sink) (made_line 0 (boxes_of doc)) (lines_left 8 c.args.nodes now c.in_ok-doc.draws.state) (summary c.args.seed c.args.nodes)
+    c.in_ok-write_line.ensures.ok p
+    (summary_of c.args.seed c.args.nodes doc now c.in_ok-doc.draws.state (c.in_ok-engine.ensures.document ∙ c.in_ok-doc.ensures.document) c.write_line.ensures.document c.in_ok-doc.ensures.draws))
+    c.write_edits.ensures.ok
 
 pub returns-clause-err : goal.returns-clause-err
 returns-clause-err g c =

@@ -3,7 +3,7 @@ use Rattle.session.specs.Runs.{Runs}
 use Rattle.session.specs.declared.status.Status.{Status}
 use Rattle.session.proofs.Texts.{line_given, end_given}
 use Rattle.session.proofs.Running.{closer, ended_read, ended_written, few_answers, part_written, script_ended, script_stopped, unwritten_stop}
-use Rattle.session.specs.Standing.{doc_of}
+use Rattle.session.specs.Standing.{course_of}
 use Rattle.session.proofs.Follows.{agrees_line, follows_given}
 use Rattle.session.proofs.Pieces.{first_given}
 use Rattle.session.proofs.Replies.{ended_replies, first_replies, later_number, more_replies, stopped_replies, unwritten_replies}
@@ -47,13 +47,13 @@ loop-line-preserved g c =
       };
       spared = λ touches f.
           c.in-Ok-handle_line.ensures.spares touches (g.R.Ruler.log c.args.ruler.now)
-          (agrees_line touches at.given (doc_of c.loop-line.progress.engine) c.loop-line.progress.number c.loop-line.progress.refused at.answered.laid c.in-Ok-Some.line f)
-          (c.loop-line.invariant.spared touches (follows_given touches at.given (doc_of c.loop-line.progress.engine) c.loop-line.progress.number c.loop-line.progress.refused at.answered.laid c.in-Ok-Some.line f));
+          (agrees_line touches at.given (course_of c.loop-line.progress.engine) c.loop-line.progress.number c.loop-line.progress.refused at.answered.laid c.in-Ok-Some.line f)
+          (c.loop-line.invariant.spared touches (follows_given touches at.given (course_of c.loop-line.progress.engine) c.loop-line.progress.number c.loop-line.progress.refused at.answered.laid c.in-Ok-Some.line f));
       replied = λ touches f.
-          more_replies at.given (doc_of c.loop-line.progress.engine) c.loop-line.progress.number c.loop-line.progress.refused at.answered.laid c.args.stats (g.K.Sink.written c.args.sink.now) (g.K.Sink.written c.loop-line.sink) (g.R.Ruler.log c.args.ruler.now) (g.R.Ruler.log c.loop-line.ruler) c.args.passes.now c.loop-line.passes touches (g.K.Sink.written c.handle_line.new.sink) (g.R.Ruler.log c.handle_line.new.ruler) c.handle_line.new.passes c.in-Ok-Some.line
-          (c.loop-line.invariant.replied touches (follows_given touches at.given (doc_of c.loop-line.progress.engine) c.loop-line.progress.number c.loop-line.progress.refused at.answered.laid c.in-Ok-Some.line f))
-          (c.in-Ok-handle_line.ensures.replies touches (later_number at.given (doc_of c.loop-line.progress.engine) c.loop-line.progress.number c.loop-line.progress.refused at.answered.laid)
-          (agrees_line touches at.given (doc_of c.loop-line.progress.engine) c.loop-line.progress.number c.loop-line.progress.refused at.answered.laid c.in-Ok-Some.line f));
+          more_replies at.given (course_of c.loop-line.progress.engine) c.loop-line.progress.number c.loop-line.progress.refused at.answered.laid c.args.stats (g.K.Sink.written c.args.sink.now) (g.K.Sink.written c.loop-line.sink) (g.R.Ruler.log c.args.ruler.now) (g.R.Ruler.log c.loop-line.ruler) c.args.passes.now c.loop-line.passes touches (g.K.Sink.written c.handle_line.new.sink) (g.R.Ruler.log c.handle_line.new.ruler) c.handle_line.new.passes c.in-Ok-Some.line
+          (c.loop-line.invariant.replied touches (follows_given touches at.given (course_of c.loop-line.progress.engine) c.loop-line.progress.number c.loop-line.progress.refused at.answered.laid c.in-Ok-Some.line f))
+          (c.in-Ok-handle_line.ensures.replies touches (later_number at.given (course_of c.loop-line.progress.engine) c.loop-line.progress.number c.loop-line.progress.refused at.answered.laid)
+          (agrees_line touches at.given (course_of c.loop-line.progress.engine) c.loop-line.progress.number c.loop-line.progress.refused at.answered.laid c.in-Ok-Some.line f));
       laid = search rules;
       count = search rules;
       within = search rules;
@@ -71,13 +71,13 @@ returns-in-Ok-None-clause-runs g c =
     let events = g.R.Ruler.log c.args.ruler.now in
     let events' = g.R.Ruler.log c.loop-line.ruler in
     let at = c.loop-line.invariant.at in
-    subst (λ (status : Status). Runs c.args.stats left now held held' events events' status) (sym c.ended.ensures) (script_ended c.args.stats left now held held' events events' at.given (doc_of c.loop-line.progress.engine) c.loop-line.progress.number c.loop-line.progress.refused at.answered (end_given left now at.given c.next_line.new.reader.lines c.next_line.new.reader.ended c.in-Ok-None.field-0 c.in-Ok-None.field-0-is (c.in-Ok-None.ensures.next left at.given at.input)))
+    subst (λ (status : Status). Runs c.args.stats left now held held' events events' status) (sym c.ended.ensures) (script_ended c.args.stats left now held held' events events' at.given (course_of c.loop-line.progress.engine) c.loop-line.progress.number c.loop-line.progress.refused at.answered (end_given left now at.given c.next_line.new.reader.lines c.next_line.new.reader.ended c.in-Ok-None.field-0 c.in-Ok-None.field-0-is (c.in-Ok-None.ensures.next left at.given at.input)))
 
 pub returns-in-Err-next_line-clause-runs : goal.returns-in-Err-next_line-clause-runs
 returns-in-Err-next_line-clause-runs g c =
     let left = g.S.Source.left c.args.source.now in
     let at = c.loop-line.invariant.at in
-    script_stopped c.args.stats left (g.S.Source.left c.next_line.new.source) (g.K.Sink.written c.args.sink.now) (g.K.Sink.written c.loop-line.sink) (g.R.Ruler.log c.args.ruler.now) (g.R.Ruler.log c.loop-line.ruler) at.given (doc_of c.loop-line.progress.engine) c.loop-line.progress.number c.loop-line.progress.refused at.answered c.in-Err-next_line.status (c.in-Err-next_line.ensures.next left at.given at.input)
+    script_stopped c.args.stats left (g.S.Source.left c.next_line.new.source) (g.K.Sink.written c.args.sink.now) (g.K.Sink.written c.loop-line.sink) (g.R.Ruler.log c.args.ruler.now) (g.R.Ruler.log c.loop-line.ruler) at.given (course_of c.loop-line.progress.engine) c.loop-line.progress.number c.loop-line.progress.refused at.answered c.in-Err-next_line.status (c.in-Err-next_line.ensures.next left at.given at.input)
 
 pub returns-in-Err-next_line-clause-write : goal.returns-in-Err-next_line-clause-write
 returns-in-Err-next_line-clause-write g c =
@@ -96,8 +96,8 @@ returns-in-Err-handle_line-clause-spares g c =
       first = first_given left now (at.given ++ c.in-Ok-Some.line ∷ []) c.next_line.new.reader.lines c.next_line.new.reader.ended line.all;
       spared = λ touches f.
           c.in-Err-handle_line.ensures.spares touches (g.R.Ruler.log c.args.ruler.now)
-          (agrees_line touches at.given (doc_of c.loop-line.progress.engine) c.loop-line.progress.number c.loop-line.progress.refused at.answered.laid c.in-Ok-Some.line f)
-          (c.loop-line.invariant.spared touches (follows_given touches at.given (doc_of c.loop-line.progress.engine) c.loop-line.progress.number c.loop-line.progress.refused at.answered.laid c.in-Ok-Some.line f));
+          (agrees_line touches at.given (course_of c.loop-line.progress.engine) c.loop-line.progress.number c.loop-line.progress.refused at.answered.laid c.in-Ok-Some.line f)
+          (c.loop-line.invariant.spared touches (follows_given touches at.given (course_of c.loop-line.progress.engine) c.loop-line.progress.number c.loop-line.progress.refused at.answered.laid c.in-Ok-Some.line f));
     }
 
 pub returns-in-Ok-None-clause-spares : goal.returns-in-Ok-None-clause-spares
@@ -135,7 +135,7 @@ pub returns-in-Err-next_line-clause-replies : goal.returns-in-Err-next_line-clau
 returns-in-Err-next_line-clause-replies g c =
     let left = g.S.Source.left c.args.source.now in
     let at = c.loop-line.invariant.at in
-    stopped_replies at.given (doc_of c.loop-line.progress.engine) c.loop-line.progress.number c.loop-line.progress.refused at.answered.laid c.args.stats (g.K.Sink.written c.args.sink.now) (g.K.Sink.written c.loop-line.sink) (g.R.Ruler.log c.args.ruler.now) (g.R.Ruler.log c.loop-line.ruler) c.args.passes.now c.loop-line.passes left (g.S.Source.left c.loop-line.source) c.loop-line.reader.lines c.loop-line.reader.ended c.in-Err-next_line.status at.input c.loop-line.invariant.replied (g.S.Source.left c.next_line.new.source) (c.in-Err-next_line.ensures.next left at.given at.input)
+    stopped_replies at.given (course_of c.loop-line.progress.engine) c.loop-line.progress.number c.loop-line.progress.refused at.answered.laid c.args.stats (g.K.Sink.written c.args.sink.now) (g.K.Sink.written c.loop-line.sink) (g.R.Ruler.log c.args.ruler.now) (g.R.Ruler.log c.loop-line.ruler) c.args.passes.now c.loop-line.passes left (g.S.Source.left c.loop-line.source) c.loop-line.reader.lines c.loop-line.reader.ended c.in-Err-next_line.status at.input c.loop-line.invariant.replied (g.S.Source.left c.next_line.new.source) (c.in-Err-next_line.ensures.next left at.given at.input)
 
 pub returns-in-Err-handle_line-clause-replies : goal.returns-in-Err-handle_line-clause-replies
 returns-in-Err-handle_line-clause-replies g c =
@@ -150,7 +150,7 @@ loop-line-init g c =
     record {
       at = at;
       spared = λ touches f. c.in-Ok.ensures.spares touches;
-      replied = first_replies at.given (doc_of c.in-Ok.progress.engine) c.in-Ok.progress.number c.in-Ok.progress.refused at.answered.laid c.args.stats (g.K.Sink.written c.args.sink.now) (g.K.Sink.written c.start.new.sink) (g.R.Ruler.log c.args.ruler.now) (g.R.Ruler.log c.start.new.ruler) c.args.passes.now c.start.new.passes c.in-Ok.ensures.one c.in-Ok.ensures.replies;
+      replied = first_replies at.given (course_of c.in-Ok.progress.engine) c.in-Ok.progress.number c.in-Ok.progress.refused at.answered.laid c.args.stats (g.K.Sink.written c.args.sink.now) (g.K.Sink.written c.start.new.sink) (g.R.Ruler.log c.args.ruler.now) (g.R.Ruler.log c.start.new.ruler) c.args.passes.now c.start.new.passes c.in-Ok.ensures.one c.in-Ok.ensures.replies;
       laid = search rules;
       count = search rules;
       within = search rules;

@@ -1,5 +1,5 @@
 use Rattle.std.proofs.Common.{◌≡◌, ◌≤◌, ◌+◌, ◌-◌, true}
-use Rattle.session.specs.Standing.{doc_of}
+use Rattle.session.specs.Standing.{course_of}
 use Rattle.session.specs.Input.{limit, most_asked, to_go}
 use Rattle.session.specs.Serving.{IsAt}
 use Rattle.session.specs.Replies.{RepliesLines}
@@ -11,7 +11,7 @@ use Rattle.session.proofs.serve.serve.Given as goal
 abbrev pub invariant-loop-line : goal.invariant-loop-line
 invariant-loop-line g l =
     record {
-      at : IsAt l.fn.stats (g.S.Source.left l.fn.source) (g.S.Source.left l.source) (g.K.Sink.written l.fn.sink) (g.K.Sink.written l.sink) (g.R.Ruler.log l.fn.ruler) (g.R.Ruler.log l.ruler) l.reader.lines l.reader.ended (doc_of l.progress.engine) l.progress.number l.progress.refused;
+      at : IsAt l.fn.stats (g.S.Source.left l.fn.source) (g.S.Source.left l.source) (g.K.Sink.written l.fn.sink) (g.K.Sink.written l.sink) (g.R.Ruler.log l.fn.ruler) (g.R.Ruler.log l.ruler) l.reader.lines l.reader.ended (course_of l.progress.engine) l.progress.number l.progress.refused;
       spared : (touches : Touches) → FollowsLines touches at.given → SparesPage touches (g.R.Ruler.log l.fn.ruler) (g.R.Ruler.log l.ruler) l.progress.engine.page;
       replied : RepliesLines l.fn.stats (g.K.Sink.written l.fn.sink) (g.K.Sink.written l.sink) (g.R.Ruler.log l.fn.ruler) (g.R.Ruler.log l.ruler) l.fn.passes l.passes at.given;
       laid : l.progress.engine.laid ≡ true;

@@ -3,6 +3,7 @@ use Rattle.std.proofs.Common.{ap, arith, rules, sym, ◌∙◌, List, Err}
 use Rattle.text_scan.specs.declared.line.Line.{Line}
 use Rattle.doc_text.specs.Documents.{document_of}
 use Rattle.session.specs.Standing.{doc_of}
+use Rattle.session.proofs.Running.{text_at}
 use Rattle.session.proofs.Replies.{alone_replies, refused_replies, unread_replies}
 use Rattle.session.proofs.serve.start.Goals as goal
 
@@ -39,3 +40,8 @@ returns-then-not-text-clause-asked_last g c = omega (arith, c.in-Ok.ensures.aske
 
 pub returns-clause-asked : goal.returns-clause-asked
 returns-clause-asked g c = c.in-Ok.ensures.asked
+
+pub returns-clause-starts : goal.returns-clause-starts
+returns-clause-starts g c =
+    text_at c.args.stats (g.S.Source.left c.args.source.now) (g.S.Source.left c.read_text.new.source) (g.K.Sink.written c.args.sink.now) (g.K.Sink.written c.begin.new.sink) (g.R.Ruler.log c.args.ruler.now) (g.R.Ruler.log c.begin.new.ruler) c.read_text.new.reader.lines c.read_text.new.reader.ended c.in-Ok.text c.in-Ok.ensures.text c.in-Ok-begin.engine c.in-Ok-begin.ensures.steps c.if-not-text.false
+    (ap (λ (lines : List Line). document_of lines c.in-Ok.text.end) (sym c.as_slice.ensures) ∙ c.in-Ok-begin.ensures.begins.0, c.in-Ok-begin.ensures.begins.1)

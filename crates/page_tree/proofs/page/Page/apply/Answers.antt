@@ -1,29 +1,24 @@
-use Rattle.std.proofs.Common.{Ok, ap, sym, subst, ◌∙◌}
-use Rattle.node_arena.specs.Numbers.{is_among}
-use Rattle.page_tree.specs.Forgotten.{Forgets}
-use Rattle.page_tree.specs.Left.{all_left}
-use Rattle.page_tree.proofs.Applied.{page_found, page_left}
+use Rattle.std.proofs.Common.{◌≡◌, Err, Ok, ap, sym, subst, ◌∙◌}
+use Rattle.std.specs.Prelude.{Result}
+use Rattle.std.proofs.lemmas.Result.{err_from_is_err_and}
+use Rattle.doc_text.specs.Edits.{edited}
+use Rattle.edit_journal.specs.declared.change.Change.{Change}
+use Rattle.edit_journal.specs.declared.change.Step.{Step}
+use Rattle.page_tree.specs.Answered.{Applies}
+use Rattle.page_tree.specs.Pages.{document_of}
+use Rattle.page_tree.specs.Reach.{LeavesOthers}
+use Rattle.page_tree.specs.declared.error.EditError.{EditError}
+use Rattle.page_tree.proofs.Turned.{turned_not}
 use Rattle.page_tree.proofs.page.Page.apply.Goals as goal
 
 pub returns-clause-applies : goal.returns-clause-applies
-returns-clause-applies c = c.in_ok-change.ensures.applies ∙ ap Ok (sym c.let_reached_go.ensures.document)
-
-pub returns-clause-right : goal.returns-clause-right
-returns-clause-right c right =
-    let list = c.in_ok-reached.reached.nodes in
-    let nodes = c.let_reached_go.ensures.nodes ∙ ap (λ b. all_left b list c.change.new.self.nodes) c.in_ok-reached.ensures.felt in
-    (page_left c.args.edit c.args.self.now c.change.new.self c.let_reached_go.new.self list c.stands.ensures c.stands-2.ensures c.in_ok-change.ensures.changes c.in_ok-reached.ensures.nodes nodes).1 right
+returns-clause-applies c = c.in_ok-step.ensures.made ∙ ap Ok (sym c.in_ok-turn.ensures.document)
 
 pub returns-clause-kept : goal.returns-clause-kept
-returns-clause-kept c =
-    let list = c.in_ok-reached.reached.nodes in
-    let nodes = c.let_reached_go.ensures.nodes ∙ ap (λ b. all_left b list c.change.new.self.nodes) c.in_ok-reached.ensures.felt in
-    (page_left c.args.edit c.args.self.now c.change.new.self c.let_reached_go.new.self list c.stands.ensures c.stands-2.ensures c.in_ok-change.ensures.changes c.in_ok-reached.ensures.nodes nodes).0
+returns-clause-kept c = subst (λ (change : Change). LeavesOthers change c.args.self.now c.turn.new.self) (ap (λ (s : Step). s.forward) c.in_ok-step.ensures.is) c.in_ok-turn.ensures.kept
 
-pub returns-clause-last : goal.returns-clause-last
-returns-clause-last c =
-    let list = c.in_ok-reached.reached.nodes in
-    let nodes = c.let_reached_go.ensures.nodes ∙ ap (λ b. all_left b list c.change.new.self.nodes) c.in_ok-reached.ensures.felt in
-    page_found c.args.edit c.args.self.now c.change.new.self c.let_reached_go.new.self list c.stands.ensures c.stands-2.ensures c.in_ok-change.ensures.changes c.in_ok-reached.ensures.nodes nodes
-    c.args.last.now c.forget_new.new.last c.forget_all.new.last c.requires.last c.forget_new.ensures
-    (subst (λ l. Forgets (λ n. is_among n l) c.forget_new.new.last c.forget_all.new.last) c.as_slice.ensures c.forget_all.ensures)
+pub returns-in_err-turn-clause-applies : goal.returns-in_err-turn-clause-applies
+returns-in_err-turn-clause-applies c =
+    let p = err_from_is_err_and c.from_residual-in_err-turn.result c.from_residual-in_err-turn.ensures.1 in
+    let same = turned_not c.args.edit c.in_ok-step.step.forward c.args.self.now c.turn.new.self (ap (λ (s : Step). s.forward) c.in_ok-step.ensures.is) c.in_err-turn.ensures.err in
+    subst (λ (r : Result (Unit {0}) EditError). Applies r (edited c.args.edit (document_of c.args.self.now)) c.args.self.now c.turn.new.self) (sym (p.1 ∙ ap Err p.2)) same

@@ -4,12 +4,12 @@ use Rattle.node_arena.specs.Plain.{Nodes}
 use Rattle.style_types.specs.Computed.{computed_style}
 use Rattle.placing.specs.declared.node.Node.{Node}
 use Rattle.placing.specs.Kept.{turn_at}
-use Rattle.page_tree.specs.Documents.{label_of, plain_trees}
+use Rattle.page_tree.specs.Documents.{label_of}
 use Rattle.page_tree.specs.Pages.{Held, IsPage}
 use Rattle.page_tree.specs.Registers.{HasName}
 use Rattle.page_tree.specs.Restyled.{GetsFonts, Restyles, restyled, with_styles}
-use Rattle.page_tree.proofs.Changes.{becomes_made, made_label, plain_replaced, tells_name}
-use Rattle.page_tree.proofs.Restyled.{put_at_number, restyled_plain}
+use Rattle.page_tree.proofs.Changes.{becomes_made, made_label, tells_name}
+use Rattle.page_tree.proofs.Restyled.{put_at_number}
 use Rattle.page_tree.proofs.page.Page.relabel.Goals as goal
 
 pub styles_below-requires-clause-page : goal.styles_below-requires-clause-page
@@ -32,16 +32,6 @@ invariant_of-self c =
     subst (λ (n : Nodes Node). IsPage n.tree) (sym (c.restyle.ensures ∙ ap (with_styles c.in_ok-styles.styles) c.put.ensures))
     (put_at_number em rem c.args.id v c.in_ok-styles.styles t c.self.invariant (subst (λ (h : Held). IsSome (part_at h.nodes.tree c.args.id)) (sym c.self.view_is) c.requires.live) (subst (λ d. GetsFonts em rem d c.args.id t) (sym c.in_ok-node.ensures.declared) gets) style new
     (subst (λ (n : Nodes Node). IsDistinct n.tree) c.tree-tree.ensures c.root.ensures.sound.distinct))
-
-pub returns-clause-nodes : goal.returns-clause-nodes
-returns-clause-nodes c change becomes =
-    let t = c.args.self.now.nodes.tree in
-    let v = c.in_ok-node.node in
-    let label = made_label v c.args.name.now c.args.kind c.args.declared c.in_ok-node.ensures.name c.in_ok-node.ensures.kind c.in_ok-node.ensures.declared in
-    ap (λ (n : Nodes Node). plain_trees n.tree) (c.restyle.ensures ∙ ap (with_styles c.in_ok-styles.styles) c.put.ensures)
-    ∙ restyled_plain c.in_ok-styles.styles (replaced c.args.id v c.self.inside.nodes.tree)
-    ∙ ap (λ (h : Held). plain_trees (replaced c.args.id v h.nodes.tree)) c.self.view_is
-    ∙ plain_replaced c.args.id c.args.name.now v change t (becomes_made c.args.id change _ (label_of v) t label becomes) (omega (arith, c.requires.once)) c.requires.tells
 
 pub returns-clause-changes : goal.returns-clause-changes
 returns-clause-changes c change becomes =

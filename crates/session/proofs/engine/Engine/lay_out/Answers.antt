@@ -1,9 +1,10 @@
-use Rattle.std.proofs.Common.{◌≡◌, ap, sym, subst, [], ◌∷◌, Ok}
+use Rattle.std.proofs.Common.{◌≡◌, refl, ap, sym, subst, [], ◌∷◌, true, false, Ok}
 use Rattle.page_tree.specs.Pages.{Held, document_of}
+use Rattle.session.specs.Engine.{IsSame}
 use Rattle.session.specs.Laying.{IsQuiet, KeepsAll, KeepsPath}
 use Rattle.session.specs.Logs.{LogsFront}
 use Rattle.session.specs.Spares.{SparesDue}
-use Rattle.session.specs.Standing.{Standing, doc_of}
+use Rattle.session.specs.Standing.{Standing, doc_of, steps_of}
 use Rattle.session.proofs.Laid.{laid_part}
 use Rattle.session.proofs.Replies.{on_any}
 use Rattle.session.proofs.Spares.{spares_begun, spares_err}
@@ -41,3 +42,12 @@ returns-clause-paths g c =
     let page : c.self.inside.page ≡ c.args.self.now.page = ap (λ (s : Standing). s.page) c.self.view_is in
     subst (λ (h : Held). KeepsPath h c.lay_out.new.page) page
     (path_there c.args.k c.self.inside.page c.lay_out.new.page (g.R.Ruler.log c.args.ruler.now) (g.R.Ruler.log c.begin.new.self) (g.R.Ruler.log c.lay_out.new.ruler) c.new-tally.result c.lay_out.new.tally c.args.passes.now c.lay_out.new.passes c.in_ok-begin.ensures.log c.new-tally.ensures c.in_ok-root.ensures.paths)
+
+pub returns-in_err-begin-clause-same : goal.returns-in_err-begin-clause-same
+returns-in_err-begin-clause-same g c = subst (λ (s : Standing). IsSame s (record { page = c.self.inside.page; calls = c.self.inside.calls; laid = false; steps = steps_of c.self.inside.journal })) c.self.view_is (record { document = refl; steps = refl; calls = refl })
+
+pub returns-in_err-root-clause-same : goal.returns-in_err-root-clause-same
+returns-in_err-root-clause-same g c = subst (λ (s : Standing). IsSame s (record { page = c.lay_out.new.page; calls = c.self.inside.calls; laid = false; steps = steps_of c.self.inside.journal })) c.self.view_is (record { document = c.lay_out.ensures.document; steps = refl; calls = refl })
+
+pub returns-clause-same : goal.returns-clause-same
+returns-clause-same g c = subst (λ (s : Standing). IsSame s (record { page = c.lay_out.new.page; calls = c.self.inside.calls; laid = true; steps = steps_of c.self.inside.journal })) c.self.view_is (record { document = c.lay_out.ensures.document; steps = refl; calls = refl })

@@ -1,0 +1,7 @@
+use Rattle.std.proofs.Common.{◌≡◌, ◌++◌, drop}
+use Rattle.edit_journal.specs.Steps.{values_unset}
+use Rattle.edit_journal.proofs.values.values_unset.Given as goal
+
+-- what is made so far, before what is left to make, is all
+abbrev pub invariant-loop-property : goal.invariant-loop-property
+invariant-loop-property l = l.values ++ values_unset (drop l.property-index l.props) ≡ values_unset l.props

@@ -1,9 +1,0 @@
-use Rattle.std.proofs.Common.{subst}
-use Rattle.std.specs.Str.{bytes_eq}
-use Rattle.doc_text.specs.Texts.{Word}
-use Rattle.page_tree.specs.Marking.{AddsMarked}
-use Rattle.page_tree.proofs.Marking.{two_added}
-use Rattle.page_tree.proofs.touched.by_insertion.Goals as goal
-
-pub returns-clause-numbers : goal.returns-clause-numbers
-returns-clause-numbers c = record { each = two_added (λ (w : Word). bytes_eq w c.args.parent.now) (λ (w : Word). bytes_eq w c.args.name.now) c.args.page.now.nodes.tree c.add_named.new.found c.add_named-2.new.found (subst (λ l. AddsMarked (λ (w : Word). bytes_eq w c.args.parent.now) c.args.page.now.nodes.tree l c.add_named.new.found) c.new-numbers.ensures c.in_ok-add_named.ensures) c.in_ok-add_named-2.ensures }
