@@ -1,0 +1,10 @@
+pub mod Spaces
+pub mod Numbers
+pub mod Tracks
+pub mod Runs
+pub mod Areas
+pub mod Marks
+pub mod Values
+pub mod Properties
+pub mod Documents
+pub mod Examples
