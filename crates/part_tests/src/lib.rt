@@ -1,23 +1,19 @@
-//! Tests of the parts of the layout, as tables of cases worked by hand. They stand above the crates that they test, so that
-//! none of these is proved twice.
+//! Tests of the parts of the layout: each call that takes memory is made with ample memory, and its
+//! answer compared with one worked by hand; numbers at their bounds; devices that fail, logs and
+//! counts. Whole documents with their boxes stand in the crate `corpus`. They stand above the
+//! crates that they test, so that none of these is proved twice.
 #![tactic(auto)]
 
-#[cfg(test)]
-mod alignment;
-#[cfg(test)]
-mod cells;
 #[cfg(test)]
 mod devices;
 #[cfg(test)]
 mod flex;
 #[cfg(test)]
-mod fractions;
-#[cfg(test)]
 mod leaves;
 #[cfg(test)]
 mod places;
 #[cfg(test)]
-mod shares;
+mod spaces;
 #[cfg(test)]
 mod tracks;
 #[cfg(test)]

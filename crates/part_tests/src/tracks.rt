@@ -1,83 +1,45 @@
-//! Sizes of tracks, in units.
-
-mod alone;
-mod flexible;
-mod lasting;
-mod spanning;
+//! Sizes of tracks for a max-content space, whether these are also those for their own total, and
+//! sizes for a definite space.
 
 ghost use Rattle.std.specs.Prelude.{◌≡◌, ◌<◌, ◌≤ℤ◌, IfOk, IfSome, length, negsuc, pos};
-ghost use Rattle.part_rules.specs.Tracks.{fixed_least};
 ghost use Rattle.track_sizing.specs.Fits.{HaveFixed, IsFixed, IsKnownSpace};
 ghost use Rattle.track_sizing.specs.Placed.{AreIn, IsIn};
-ghost use Rattle.track_sizing.specs.Rows.{IsLimit};
 
-use Of::{Auto, Fr, High, Limited, Low, Px};
-use Smallest::{Content, Known};
-use Track::{Gone, Open};
-use Within::{Definite, Maximal, Minimal};
+use Track::{Auto, Between, Gone, Limited};
 use lunit::{Along, Floor, INLINE, Item, Lu, NoMemory, Span, Steps};
 use std::alloc::Global;
 use std::marker::Brand;
 use std::process::Abort;
 use std::sync::ledger::{Blank, Ledger};
 use std::test::Fail;
-use track_sizing::{Fit, Least, Most, Rule, Space, size_axis};
+use track_sizing::{Fit, Least, Most, Rule, Space, size_axis, size_axis_lasting};
 
-/// A min or a max function: a length, `auto`, `min-content`, `max-content`, `fit-content`, or a factor in thousandths.
-#[derive(Clone, Copy)]
-enum Of {
-    Px(u32),
-    Auto,
-    Low,
-    High,
-    Limited(u32),
-    Fr(u32),
-}
-
-/// A track by its min and max functions; `Gone` is collapsed.
+/// A track: `auto`, between two lengths, of the function `fit-content`, or collapsed.
 #[derive(Clone, Copy)]
 enum Track {
-    Open(Of, Of),
-    Gone(Of, Of),
+    Auto,
+    Between(u32, u32),
+    Limited(u32),
+    Gone,
 }
 
-/// A minimum contribution: a length, or by the automatic minimum with a content size, margins, and borders and paddings.
-#[derive(Clone, Copy)]
-enum Smallest {
-    Known(i64),
-    Content(i64, i64, i64),
+/// An item of one track: the place of the track, and its min-content, max-content and minimum
+/// contributions.
+type Placed = (u8, [i64; 3]);
+
+/// Tracks with gaps of 5 and their items, the sizes for a max-content space, which last, and those
+/// for a definite space.
+struct Row {
+    shows: &'static str,
+    tracks: &'static [Track],
+    items: &'static [Placed],
+    widest: &'static [i64],
+    space: i64,
+    sizes: &'static [i64],
 }
-
-/// What tracks are sized for: a definite space, min-content or max-content.
-#[derive(Clone, Copy)]
-enum Within {
-    Definite(i64),
-    Minimal,
-    Maximal,
-}
-
-/// An item: its first track, how many it spans, and its min-content, max-content and minimum contributions.
-type Placed = (u8, u8, i64, i64, Smallest);
-
-/// Tracks, items, a space, a declared minimum and maximum, a gap, whether `auto` tracks are stretched, and the sizes.
-type Sized<'a> = (
-    &'a [Track],
-    &'a [Placed],
-    Within,
-    [Option<i64>; 2],
-    u32,
-    bool,
-    &'a [i64],
-);
 
 /// The coordinate of the first track.
 const FIRST: i32 = -2;
-
-/// An `auto` track.
-const AUTO: Track = Open(Auto, Auto);
-
-/// No declared lengths.
-const NONE: [Option<i64>; 2] = [None, None];
 
 #[tactic(auto, using(crate::proofs::Measurable::some_length))]
 /// So many units.
@@ -87,49 +49,18 @@ fn units(number: u32) -> Lu
     Lu::of(number as i64)
 }
 
-fn length_or_none(units: Option<i64>) -> Option<Lu> {
-    match units {
-        Some(units) => Some(Lu::of(units)),
-        None => None,
-    }
-}
-
-fn least(of: &Of) -> Least
-    ensures { IsLimit (fixed_least result) }
-{
-    match of {
-        Px(number) => Least::Fixed(units(*number)),
-        Low => Least::MinContent,
-        High => Least::MaxContent,
-        _ => Least::Auto,
-    }
-}
-
-fn most(of: &Of) -> Most {
-    match of {
-        Px(number) => Most::Fixed(units(*number)),
-        Auto => Most::Auto,
-        Low => Most::MinContent,
-        High => Most::MaxContent,
-        Limited(number) => Most::Fit(units(*number)),
-        Fr(factor) => Most::Flex(*factor),
-    }
-}
-
 fn rule(track: &Track) -> Rule
     ensures { IsFixed result }
 {
-    match track {
-        Open(min, max) => Rule {
-            least: least(min),
-            most: most(max),
-            collapsed: false,
-        },
-        Gone(min, max) => Rule {
-            least: least(min),
-            most: most(max),
-            collapsed: true,
-        },
+    let (least, most) = match track {
+        Between(min, max) => (Least::Fixed(units(*min)), Most::Fixed(units(*max))),
+        Limited(most) => (Least::Auto, Most::Fit(units(*most))),
+        _ => (Least::Auto, Most::Auto),
+    };
+    Rule {
+        least,
+        most,
+        collapsed: matches!(track, Gone),
     }
 }
 
@@ -144,39 +75,28 @@ fn rules(alloc: Global, tracks: &[Track]) -> Result<Vec<Rule>, NoMemory>
     Ok(all)
 }
 
-fn floor(smallest: &Smallest) -> Floor {
-    match smallest {
-        Known(size) => Floor::Known(Lu::of(*size)),
-        Content(size, margins, inner) => Floor::Content {
-            size: Lu::of(*size),
-            margins: Lu::of(*margins),
-            inner: Lu::of(*inner),
-        },
-    }
-}
-
-/// The item, where it lies in so many tracks.
+/// The item, where there are as many tracks.
 fn item(count: usize, placed: &Placed) -> Option<Item>
     ensures { IfSome result (λ i. IsIn (negsuc 1) count i) }
 {
-    let (start, tracks, low, high, smallest) = *placed;
-    if tracks == 0 || count < usize::from(start) + usize::from(tracks) {
+    let (place, [low, high, least]) = *placed;
+    if count <= usize::from(place) {
         return None;
     }
-    let start = FIRST + i32::from(start);
+    let start = FIRST + i32::from(place);
     Some(Item {
         span: Span {
             start,
-            end: start + i32::from(tracks),
+            end: start + 1,
         },
         low: Lu::of(low),
         high: Lu::of(high),
-        floor: floor(&smallest),
+        floor: Floor::Known(Lu::of(least)),
     })
 }
 
 #[tactic(auto, using(crate::proofs::Sizable::in_more))]
-/// The items up to one that lies in no such tracks.
+/// The items up to one for which there is no track.
 fn items(alloc: Global, count: usize, rows: &[Placed]) -> Result<Vec<Item>, NoMemory>
     ensures { IfOk result (λ all. AreIn (negsuc 1) count all.items) }
 {
@@ -190,13 +110,20 @@ fn items(alloc: Global, count: usize, rows: &[Placed]) -> Result<Vec<Item>, NoMe
     Ok(all)
 }
 
-fn space(within: &Within) -> Space<INLINE>
-    ensures { IsKnownSpace result }
+/// What the tracks are sized for: a definite space, else a max-content one.
+fn fit(space: Option<i64>) -> Fit<INLINE>
+    ensures gap { pos 0 ≤ℤ result.gap }
+    ensures space { IsKnownSpace result.space }
 {
-    match within {
-        Definite(size) => Space::Definite(Along::of(Lu::of(*size).units())),
-        Minimal => Space::MinContent,
-        Maximal => Space::MaxContent,
+    Fit {
+        space: match space {
+            Some(units) => Space::Definite(Along::of(Lu::of(units).units())),
+            None => Space::MaxContent,
+        },
+        min: None,
+        max: None,
+        gap: units(5),
+        stretch: true,
     }
 }
 
@@ -208,33 +135,39 @@ fn units_of(alloc: Global, sizes: &[Lu]) -> Result<Vec<i64>, NoMemory> {
     Ok(all)
 }
 
-fn sizes<L: Ledger>(
+fn agrees<L: Ledger>(
     rt: &impl Abort,
     alloc: Global,
     passes: &mut Steps<L>,
-    row: &Sized,
+    row: &Row,
 ) -> Result<(), NoMemory> {
-    let (tracks, placed, within, [min, max], gap, stretch, wants) = *row;
-    let rules = rules(alloc, tracks)?;
+    let rules = rules(alloc, row.tracks)?;
     assert!(rt; rules.len() < 100);
-    let items = items(alloc, rules.len(), placed)?;
-    let fit = Fit {
-        space: space(&within),
-        min: length_or_none(min),
-        max: length_or_none(max),
-        gap: units(gap),
-        stretch,
-    };
-    let sizes = size_axis(alloc, &rules, FIRST, &items, &fit, passes)?;
-    assert_eq!(rt; units_of(alloc, &sizes)?.as_slice(), wants);
+    let items = items(alloc, rules.len(), row.items)?;
+    let made = size_axis_lasting(alloc, &rules, FIRST, &items, &fit(None), passes)?;
+    assert_eq!(rt;
+        units_of(alloc, &made.sizes)?.as_slice(),
+        row.widest,
+        "{}",
+        row.shows
+    );
+    assert!(rt; made.lasting, "{}", row.shows);
+    let definite = fit(Some(row.space));
+    let sizes = size_axis(alloc, &rules, FIRST, &items, &definite, passes)?;
+    assert_eq!(rt;
+        units_of(alloc, &sizes)?.as_slice(),
+        row.sizes,
+        "{}",
+        row.shows
+    );
     Ok(())
 }
 
-fn size_all<L: Ledger>(
+fn agree<L: Ledger>(
     rt: &impl Abort,
     alloc: Global,
     blank: Blank,
-    rows: &[Sized],
+    rows: &[Row],
 ) -> Result<(), NoMemory>
     requires name { blank.name ≡ L.name }
     requires parts { blank.parts ≡ L.parts }
@@ -242,7 +175,48 @@ fn size_all<L: Ledger>(
 {
     let mut passes: Steps<L> = Steps::new(blank);
     for row in rows {
-        sizes(rt, alloc, &mut passes, row)?;
+        agrees(rt, alloc, &mut passes, row)?;
     }
+    Ok(())
+}
+
+/// That sizes last is told where items of one track make them; no clause says that it is told.
+#[test]
+fn tracks_fit_their_items(rt: HostRuntime) -> Result<(), Fail> {
+    static ROWS: &[Row] = &[
+        Row {
+            shows: "minimum contributions of 25 and 20 leave 27 of 77: 14 and 13",
+            tracks: &[Auto, Auto],
+            items: &[(0, [30, 50, 25]), (1, [20, 42, 20])],
+            widest: &[50, 42],
+            space: 77,
+            sizes: &[39, 33],
+        },
+        Row {
+            shows: "10 and 20 leave 15 of 50: 8 and 7",
+            tracks: &[Between(10, 70), Auto],
+            items: &[(0, [30, 50, 25]), (1, [20, 42, 20])],
+            widest: &[70, 42],
+            space: 50,
+            sizes: &[18, 27],
+        },
+        Row {
+            shows: "25 and 20 leave 10 of 60, of which the first takes 2",
+            tracks: &[Limited(27), Auto],
+            items: &[(0, [30, 50, 25]), (1, [20, 42, 20])],
+            widest: &[27, 42],
+            space: 60,
+            sizes: &[27, 28],
+        },
+        Row {
+            shows: "a collapsed track has no size and no gap",
+            tracks: &[Auto, Gone, Auto],
+            items: &[(0, [30, 50, 25]), (2, [20, 42, 20])],
+            widest: &[50, 0, 42],
+            space: 77,
+            sizes: &[39, 0, 33],
+        },
+    ];
+    agree::<Brand>(&rt, rt.alloc(), Blank::new(1), ROWS)?;
     Ok(())
 }

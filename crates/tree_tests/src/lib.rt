@@ -1,5 +1,7 @@
-//! Tests from the arena of nodes to the boxes, as tables of cases worked by hand. They stand above the crates that they test,
-//! so that none of these is proved twice.
+//! Tests of the arena of nodes, of kept answers, and of single nodes: each call that takes memory
+//! is made with ample memory, limits, logs and counts. Whole documents with their boxes stand in
+//! the crate `corpus`. They stand above the crates that they test, so that none of these is proved
+//! twice.
 #![tactic(auto)]
 
 #[cfg(test)]
@@ -7,10 +9,6 @@ mod arenas;
 #[cfg(test)]
 mod caches;
 #[cfg(test)]
-mod glances;
+mod copies;
 #[cfg(test)]
-mod leaves;
-#[cfg(test)]
-mod questions;
-#[cfg(test)]
-mod sizes;
+mod nodes;

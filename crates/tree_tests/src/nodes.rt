@@ -1,12 +1,17 @@
+//! Single nodes: a leaf that is asked twice, and a subgrid in the tracks of its parent.
+
 ghost use Rattle.std.specs.Prelude.{◌≡◌, [], IfOk, OnOk};
+ghost use Rattle.placing.specs.Ranges.{IsGridStyle};
+ghost use Rattle.tree_rules.specs.Labels.{grid_of};
 ghost use Rattle.tree_rules.specs.declared.query.Given.TheVariants as given;
 ghost use Rattle.tree_tests.specs.LeafTrees.{IsLeafTree};
 
+use inline_sizes::view_in;
 use layout_cache::{Ask, Counts, Given, Kept, Query};
-use lunit::{Lu, Name, NoMemory};
+use lunit::{INLINE, Lu, Name, NoMemory, Sequence, Span};
 use node_arena::{Arena, NodeId};
 use outside::{Event, LogRuler, Tally, Width};
-use part_rules::Content;
+use part_rules::{Content, View};
 use placing::{Answer, Node, NodeKind, Past, find, leaf_height, leaf_sizes};
 use std::alloc::Global;
 use std::test::Fail;
@@ -111,5 +116,27 @@ fn a_leaf_measures_once_what_it_is_asked_twice(rt: HostRuntime) -> Result<(), Fa
         Event::Measured(name, Width::At(Lu::of(7))),
     ];
     assert_eq!(rt; ruler.events(), events.as_slice());
+    Ok(())
+}
+
+#[tactic(auto, using(crate::proofs::Unset::grid_unset))]
+/// A style in which nothing is set.
+fn plain(alloc: Global) -> Style
+    ensures { IsGridStyle (grid_of result) }
+{
+    Style::new(alloc)
+}
+
+#[test]
+fn a_plain_subgrid_has_its_parents_gap(rt: HostRuntime) -> Result<(), Fail> {
+    let style = plain(rt.alloc());
+    let edges = [(10, 50), (70, 110), (130, 170)];
+    let outer: View<INLINE> = View {
+        edges: Sequence::from_slice(rt.alloc(), &edges)?,
+        gap: Lu::of(20),
+    };
+    let seen = view_in(rt.alloc(), &outer, Span { start: 0, end: 2 }, &style)?;
+    assert_eq!(rt; seen.edges.as_slice(), [(0, 40), (60, 100)].as_slice());
+    assert_eq!(rt; seen.gap, Lu::of(20));
     Ok(())
 }

@@ -1,6 +1,10 @@
-use lunit::{Copied, Lu, Sequence};
+//! Copies of questions and of kinds, and what a copy of a style tells at a glance.
+
+use lunit::{Copied, LineValue, Lu, NoMemory, Sequence};
 use part_rules::Content;
+use std::alloc::Global;
 use std::test::Fail;
+use style_types::{Glance, Prop, Style, Value};
 use tree_rules::{Ask, Counts, Given, NodeKind, Query, SharedContent, SharedTracks};
 
 #[test]
@@ -35,5 +39,22 @@ fn a_copy_of_a_kind_has_its_content(rt: HostRuntime) -> Result<(), Fail> {
     let NodeKind::Flex = NodeKind::Flex.copy(rt.alloc())? else {
         return Err(Fail::new("the copy is no flex container"));
     };
+    Ok(())
+}
+
+/// What the start of its rows tells at a glance, of a style where it has this value and of a copy.
+fn glances(alloc: Global, line: LineValue) -> Result<(Glance, Glance), NoMemory> {
+    let mut style = Style::new(alloc);
+    style.set(Prop::GridRowStart, Value::Line(line))?;
+    let copy = style.copy(alloc)?;
+    Ok((style.row_start(), copy.row_start()))
+}
+
+#[test]
+fn short_spans_are_told_at_a_glance(rt: HostRuntime) -> Result<(), Fail> {
+    for (tracks, due) in [(255, Glance::Span(255)), (256, Glance::Read)] {
+        let line = LineValue::Reach(tracks, None);
+        assert_eq!(rt; glances(rt.alloc(), line)?, (due, due));
+    }
     Ok(())
 }

@@ -2,7 +2,7 @@ use Rattle.std.proofs.Common.{◌∙◌, subst, sym}
 use Rattle.tree_rules.specs.Queries.{Fits}
 use Rattle.placing.specs.Nodes.{bare, sight_at}
 use Rattle.tree_tests.proofs.LeafQueries.{clamp_7, fits_height, later_tree, ok_then}
-use Rattle.tree_tests.proofs.leaves.height.Goals as goal
+use Rattle.tree_tests.proofs.nodes.height.Goals as goal
 
 pub leaf_height-requires-clause-fits : goal.leaf_height-requires-clause-fits
 leaf_height-requires-clause-fits c =
