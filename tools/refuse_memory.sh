@@ -1,10 +1,11 @@
 #!/usr/bin/env bash
 # Refuses each request of a program for memory in turn:
 #     tools/refuse_memory.sh [PROGRAM]
-# On documents of crates/corpus/data/rows, a grid with a subgrid in a subgrid after each edit that reaches another part of it, and one
-# of 24 cards, the program is run once with all of its requests, which are counted, and then once for each of them with that one
-# refused. Each such run has to end as if nothing had been refused, or with status 6 and a beginning of the output. For each input
-# it is told how many requests there are, how many refusals changed the outcome, and the greatest number of one that did.
+# On documents of crates/corpus/data/rows, a grid with a subgrid in a subgrid after each edit that reaches another part of it and
+# after three that are taken back at once, and one of 24 cards, the program is run once with all of its requests, which are
+# counted, and then once for each of them with that one refused. Each such run has to end as if nothing had been refused, or with
+# status 6 and a beginning of the output. For each input it is told how many requests there are, how many refusals changed the
+# outcome, and the greatest number of one that did.
 # PROGRAM is the built program; without it $GRIDLAY_PROGRAM, else the one that the gate leaves in crates/gridlay/out.
 # The status is 0 where all runs ended so, 1 where one did not, 2 where there is nothing to try.
 # It needs gcc, for tools/memory/shim.c, which stands before malloc, so the program has to take the C library's when it runs.
@@ -71,5 +72,8 @@ set p grid-row: 1
 set t row-gap: 2px
 viewport 10 10
 EDITS
+sed '/^---$/q' "$data/rows/lent-names-move.in" >"$room/input"
+printf '%s\n' 'remove s' 'set b width: 5px' 'move b main 0' 'undo 3' 'redo 2' >>"$room/input"
+refuse "lent-names-move, undo 3 and redo 2" "$room/input"
 printf 'runs that ended otherwise: %d\n' "$bad"
 [ "$bad" -eq 0 ]
