@@ -153,6 +153,8 @@ had() {
 . "$top/tools/front/compare.sh"
 # shellcheck source=front/memory.sh
 . "$top/tools/front/memory.sh"
+# shellcheck source=front/size.sh
+. "$top/tools/front/size.sh"
 # shellcheck source=front/documents.sh
 . "$top/tools/front/documents.sh"
 
