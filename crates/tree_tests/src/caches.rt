@@ -189,15 +189,15 @@ fn keeping(arena: &Arena<Cell>, made: &[NodeId]) -> [bool; 4] {
     keeping
 }
 
-/// An edit of the leaf 2, which the subgrids beside it see, and one that they do not; then a number
-/// that names no node any more is among those whose answers go.
+/// An edit of the leaf 2, and with it of its parent, which the subgrids beside it see, and one that
+/// they do not; then a number that names no node any more is among those whose answers go.
 #[test]
 fn what_is_reached_keeps_nothing(rt: HostRuntime) -> Result<(), Fail> {
     let (mut arena, made) = five(rt.alloc())?;
-    let touched = [number(&made, 1)?];
-    let seen = reach(rt.alloc(), &arena, &touched, true)?;
+    let (top, edited) = (number(&made, 0)?, number(&made, 1)?);
+    let seen = reach(rt.alloc(), &arena, &[edited, top], true)?;
     assert_eq!(rt; names(&arena, &seen), [1, 2, 3, 4, 0]);
-    let unseen = reach(rt.alloc(), &arena, &touched, false)?;
+    let unseen = reach(rt.alloc(), &arena, &[edited], false)?;
     assert_eq!(rt; names(&arena, &unseen), [1, 2, 0, 0, 0]);
     let leaf = number(&made, 4)?;
     assert_eq!(rt; arena.remove(leaf), Ok(()));
