@@ -118,9 +118,3 @@ blocks_more settled k s old new all size next grown is so_far =
     ∙ append_assoc old (block_of s ∷ []) (map block_of (drop (k + 1) settled))
     ∙ ap (λ (l : List rules.Settled). old ++ map block_of l) (sym next)
     ∙ so_far
-
--- an item at an index, whatever it is where there is none
-pub at_any : {A : Type 0} (xs : List A) (k : ℕ) (d e : A) → k < length xs → get_or xs k d ≡ get_or xs k e
-at_any [] k d e h = absurd (omega (arith, h))
-at_any (x ∷ xs) zero d e h = refl
-at_any (x ∷ xs) (suc k) d e h = at_any xs k d e (omega (arith, h))

@@ -68,11 +68,6 @@ block_fit s q is f = not_false (sees_rows s) (sym (ap (may_ask (is_container s.l
 pub lent_fit : (s : Seen) (q : Query) → q.ask ≡ ask.LendRows → Fits s q → has_chain s.chain ≡ true
 lent_fit s q is f = both_true (has_chain s.chain) _ (sym (ap (may_ask (is_container s.label.kind) (sees_columns s) (sees_rows s)) is) ∙ f.ask)
 
--- what is given fits, whether block size or lent rows are asked
-pub width_fit : (s : Seen) (shared : Bool) (reps : List Pair) (width : Given) → Fits s (block_query shared reps width) → IsGivenFor true (sees_columns s) (outer_context s reps).columns.table.tracks width
-width_fit s true reps width f = f.inline
-width_fit s false reps width f = f.inline
-
 -- ---- what is given to a child
 
 -- a size fits whatever the tracks are

@@ -44,9 +44,6 @@ pair_step {A} {B} {D} da db f xs ys k x y w done pushed all h same is_x is_y is_
     ∙ ap (λ u. u ∷ rest) (sym is_w) in
     ap (λ us. us ++ rest) push ∙ append_assoc done (w ∷ []) rest ∙ sym (ap (λ us. done ++ us) first) ∙ holds
 
-pub pair_end : {A B D : Type 0} → (f : A → B → D) (xs : List A) (ys : List B) (k : ℕ) (done all : List D) → length xs ≤ k → done ++ zipped f (drop k xs) (drop k ys) ≡ all → done ≡ all
-pair_end f xs ys k done all h holds = sym (append-nil done) ∙ sym (ap (λ us. done ++ zipped f us (drop k ys)) (drop_all k xs h)) ∙ holds
-
 pub triple_step : {A B C D : Type 0} → (da : A) (db : B) (dc : C) (f : A → B → C → D) (xs : List A) (ys : List B) (zs : List C) (k : ℕ) (x : A) (y : B) (z : C) (w : D) (done pushed all : List D) → k < length xs → length ys ≡ length xs → length zs ≡ length xs
     → x ≡ get_or xs k da → y ≡ get_or ys k db → z ≡ get_or zs k dc → w ≡ f x y z → pushed ≡ done ++ w ∷ [] → done ++ zipped3 f (drop k xs) (drop k ys) (drop k zs) ≡ all → pushed ++ zipped3 f (drop (k + 1) xs) (drop (k + 1) ys) (drop (k + 1) zs) ≡ all
 triple_step {A} {B} {C} {D} da db dc f xs ys zs k x y z w done pushed all h same_y same_z is_x is_y is_z is_w push holds =
@@ -58,9 +55,6 @@ triple_step {A} {B} {C} {D} da db dc f xs ys zs k x y z w done pushed all h same
     ∙ ap (λ u. u ∷ rest) (sym is_w) in
     ap (λ us. us ++ rest) push ∙ append_assoc done (w ∷ []) rest ∙ sym (ap (λ us. done ++ us) first) ∙ holds
 
-pub triple_end : {A B C D : Type 0} → (f : A → B → C → D) (xs : List A) (ys : List B) (zs : List C) (k : ℕ) (done all : List D) → length xs ≤ k → done ++ zipped3 f (drop k xs) (drop k ys) (drop k zs) ≡ all → done ≡ all
-triple_end f xs ys zs k done all h holds = sym (append-nil done) ∙ sym (ap (λ us. done ++ zipped3 f us (drop k ys) (drop k zs)) (drop_all k xs h)) ∙ holds
-
 -- ---- lengths
 
 units_append : (xs : List ℤ) (z : ℤ) → AreUnits xs → IsUnits z → AreUnits (xs ++ z ∷ [])
@@ -69,9 +63,6 @@ units_append (x ∷ xs) z h k = (h.0, units_append xs z h.1 k)
 
 pub units_step : (d : ℤ) (xs : List ℤ) (k : ℕ) (z : ℤ) → k < length xs → z ≡ get_or xs k d → AreUnits (take k xs) → IsUnits z → AreUnits (take (k + 1) xs)
 units_step d xs k z h is a u = subst AreUnits (ap (λ y. take k xs ++ y ∷ []) is ∙ sym (take_more xs k d h)) (units_append (take k xs) z a u)
-
-pub units_all : (xs : List ℤ) (k : ℕ) → length xs ≤ k → AreUnits (take k xs) → AreUnits xs
-units_all xs k h a = subst AreUnits (take_all k xs h) a
 
 -- ---- the children
 

@@ -211,10 +211,6 @@ area_lies b n outer width wide index e is next law =
       subst (λ (p : rules.Placed). LiesIn p.rows e.area.rows) (sym same) (lies_in (grid_seen b n outer width).placed.rows e.area.rows a.rows h.inside.few_rows),
     )
 
--- counted from the first track it lies over them
-pub is_over : (tracks span : Span) (edges : List (ℤ × ℤ)) → AreTracks tracks edges → pos 0 ≤ℤ span.start → span.start ≤ℤ span.end → span.end ≤ℤ (tracks.end -ℤ tracks.start) → IsOver edges span
-is_over tracks span edges t a o z = record { start = a; order = o; end = omega (arith, ints, z, t.counted); near = t.near; spread = t.spread }
-
 pub ok_both : {X Y : Type 0} (r : Result X Y) (P Q R : X → Type 0) → ((x : X) → P x → Q x → R x) → IfOk r P → IfOk r Q → IfOk r R
 ok_both (Ok x) P Q R f h k = f x h k
 ok_both (Err e) P Q R f h k = tt

@@ -54,10 +54,6 @@ part_first n q s t w =
 pub part_laid : (n : NodeId) (q : Query) (s t : State) → IsLaidOut n q s t → IsLaidPart n q s t
 part_laid n q s t w = record { more = 0; rest = []; walk = w.walk; within = w.within; cut = inl refl }
 
--- nothing was done
-pub laid_none : (n : NodeId) (q : Query) (s : State) → IsRight s.arena.tree → IsLaidOut n q s s
-laid_none n q s r = record { walk = walk_none (Leads (bare_in s) n q) s r; within = λ m out. refl }
-
 -- ---- a child, after its parent
 
 module _ (b : BareTrees) (n c : NodeId) (i : ℕ) (next : IsNext b n i c) (q r : Query) (s t : State) (passes : is_container (sight_at b c).label.kind ≡ true → Contains (passes_at b n q) (i, r)) (is : bare_in t ≡ b) (w : IsLaidOut n q s t) where

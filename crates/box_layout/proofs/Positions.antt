@@ -19,12 +19,6 @@ next_place level x r h k = (omega (arith, ints, h.0, k.0), omega (arith, ints, h
 pub place_near : (level : ℕ) (x : ℤ) → level ≤ 63 → IsWithin (far_by level) x → IsWithin (2 ^ 56) x
 place_near level x few h = (omega (arith, ints, few, h.0), omega (arith, ints, few, h.1))
 
-pub place_long : (level : ℕ) (x : ℤ) → level ≤ 63 → IsWithin (far_by level) x → IsLong x
-place_long level x few h = (omega (arith, ints, few, h.0), omega (arith, ints, few, h.1))
-
-pub next_long : (level : ℕ) (x r : ℤ) → level ≤ 63 → IsWithin (far_by level) x → IsWithin farthest_child r → IsLong (x +ℤ r)
-next_long level x r few h k = (omega (arith, ints, few, h.0, k.0), omega (arith, ints, few, h.1, k.1))
-
 -- what a node is given is spread no further than its level allows
 pub given_spread : (level : ℕ) (g : Given) → IsGivenNear level g → IsSpread (farthest (level + 1)) g
 given_spread level given.None h = tt
@@ -36,10 +30,3 @@ pub stands_at : (level : ℕ) (frames : List Frame) (k : ℕ) (d : Frame) → St
 stands_at level [] k d h l = absurd (omega (arith, l))
 stands_at level (f ∷ frames) zero d h l = h.0
 stands_at level (f ∷ frames) (suc k) d h l = stands_at level frames k d h.1 (omega (arith, l))
-
--- the frame that comes next
-pub stands_next : (level : ℕ) (frames rest : List Frame) (k : ℕ) (f : Frame) → StandBelow level frames → drop k frames ≡ f ∷ rest → StandsBelow level f
-stands_next level [] rest zero f h e = absurd cc
-stands_next level [] rest (suc k) f h e = absurd cc
-stands_next level (g ∷ frames) rest zero f h e = let same : g ≡ f = cc in subst (StandsBelow level) same h.0
-stands_next level (g ∷ frames) rest (suc k) f h e = stands_next level frames rest k f h.1 e

@@ -57,13 +57,6 @@ before_from x q h k = by (int_lt x q) (int_lt q x) refl refl h
     by false true e f g = lt_from q x f
     by false false e f g = absurd (true≢false g)
 
-pub other_from : (x q : ℤ) → x ≢ q → is_eq (int_cmp x q) ≡ false
-other_from x q h = by (is_eq (int_cmp x q)) refl
-  where
-    by : (b : Bool) → is_eq (int_cmp x q) ≡ b → b ≡ false
-    by true e = absurd (h (equal_from x q e))
-    by false e = refl
-
 some_is : {B : Type 0} (x y : B) → Some x ≡ Some y → x ≡ y
 some_is x y e = ap (λ o. unwrap_or o x) e
 
@@ -342,10 +335,6 @@ reads_within {A} says before k t w (e ∷ es) place sorted some none low high = 
         chosen (int_le e.0 place) (reads says (says w) es place) (reads says before es place) (le_true e.0 place (omega (arith, ints, same, low)))
         ∙ none_between says (says w) k t es place (subst P (sym same) (sorted_head int_cmp e.0 (keys_of es) sorted)) rest high
     by false o g again = either (int_le e.0 place) (reads says (says e.1) (set_value (is_at (int_cmp k)) es w) place) (reads says before (set_value (is_at (int_cmp k)) es w) place) (again (says e.1) g ∙ sym (again before g)) ∙ again before g
-
--- the same cut at a place that is spelled otherwise
-pub reads_cut_at : {A : Type 0} (says : A → Bool) (before : Bool) (k row : ℤ) (v : A) (es : List (ℤ × A)) (place : ℤ) → k ≡ row → IsStrictlySortedBy int_cmp (keys_of es) → says v ≡ reads says before es row → reads says before (insert_entry int_cmp es k v) place ≡ reads says before es place
-reads_cut_at says before k row v es place same sorted h = reads_cut says before k v es place sorted (h ∙ ap (λ z. reads says before es z) (sym same))
 
 -- ---- a change fewer
 

@@ -104,14 +104,6 @@ pub numbered_short : (number : ℕ) (texts : List (List ℕ)) → AreShort (numb
 numbered_short number [] = tt
 numbered_short number (bytes ∷ texts) = (omega (arith, length-take 65536 bytes), numbered_short (number + 1) texts)
 
-pub short_front : (front back : List Line) → AreShort (front ++ back) → AreShort front
-short_front [] back h = tt
-short_front (line ∷ front) back h = (h.0, short_front front back h.1)
-
-pub short_back : (front back : List Line) → AreShort (front ++ back) → AreShort back
-short_back [] back h = h
-short_back (line ∷ front) back h = short_back front back h.1
-
 pub short_joined : (front back : List Line) → AreShort front → AreShort back → AreShort (front ++ back)
 short_joined [] back f b = b
 short_joined (line ∷ front) back f b = (f.0, short_joined front back f.1 b)

@@ -232,10 +232,6 @@ all_added row cells (p ∷ more) found r g =
     subst (λ (ps : List Placed). AllFound ps (found_of (put_cell found p) more)) (append_one cells more p)
     (all_added p.row (cells ++ p ∷ []) more (put_cell found p) r.1 (one_added row cells found p r.0 g))
 
-row_rising : (row column : ℕ) (cells : List Cell) → Rising row (row_cells row column cells)
-row_rising row column [] = tt
-row_rising row column (c ∷ cells) = (omega arith, row_rising row (column + 1) cells)
-
 rising_from : (low high : ℕ) (cells : List Placed) → low ≤ high → Rising high cells → Rising low cells
 rising_from low high [] h r = tt
 rising_from low high (p ∷ cells) h r = ((let first : high ≤ p.row = r.0 in omega (arith, h, first)), r.1)
@@ -277,9 +273,6 @@ width f = f.right + 1 - f.left
 
 one_row : (n rest w a b : ℕ) → n ≤ w → rest ≤ a * w → b ≡ a + 1 → n + rest ≤ b * w
 one_row n rest w a b h k e = omega (arith, h, k, ap (λ (m : ℕ). m * w) e, add-mul a 1 w)
-
-no_row : (n rest w a b : ℕ) → n ≡ 0 → rest ≤ a * w → a ≡ b → n + rest ≤ b * w
-no_row n rest w a b h k e = omega (arith, h, k, ap (λ (m : ℕ). m * w) e)
 
 fewer_rows : (w a b : ℕ) → a ≤ b → a * w ≤ b * w
 fewer_rows w a b h = mul-le-mul_right {m = a} {n = b} w h

@@ -180,18 +180,6 @@ child_stopped text level nodes i node (error.TooLong name) h s d =
     ∙ with-append text (lines_of level (trees_of (get_or nodes i node ∷ []))) (lines_of level (trees_of (drop (i + 1) nodes)))
     ∙ ap (λ (r : Result (List ℕ) Word). followed r (lines_of level (trees_of (drop (i + 1) nodes)))) (ap (λ (n : Plain). with_lines text (lines_of level (trees_of (n ∷ [])))) (sym s) ∙ d)
 
--- the lines of a node and of those below it, once its own line is written
-pub node_then : (text new : List ℕ) (level : ℕ) (node : Plain) (nodes : List Plain) → trees_of nodes ≡ node.children → with_lines text (line_of level (label_of node) ∷ []) ≡ Ok new
-    → with_lines new (lines_of (level + 1) (trees_of nodes)) ≡ with_lines text (lines_of level (trees_of (node ∷ [])))
-node_then text new level node nodes c e =
-    ap (λ (below : Trees Label). with_lines new (lines_of (level + 1) below)) c
-    ∙ sym (with-append text (line_of level (label_of node) ∷ []) (lines_of (level + 1) node.children ++ []) ∙ ap (λ (r : Result (List ℕ) Word). followed r (lines_of (level + 1) node.children ++ [])) e ∙ ap (with_lines new) (append-nil (lines_of (level + 1) node.children)))
-
-pub node_stopped : (text : List ℕ) (level : ℕ) (node : Plain) (e : WriteError) → IsDue e (with_lines text (line_of level (label_of node) ∷ [])) → IsDue e (with_lines text (lines_of level (trees_of (node ∷ []))))
-node_stopped text level node error.NoMemory d = tt
-node_stopped text level node (error.TooLong name) d =
-    with-append text (line_of level (label_of node) ∷ []) (lines_of (level + 1) node.children ++ []) ∙ ap (λ (r : Result (List ℕ) Word). followed r (lines_of (level + 1) node.children ++ [])) d
-
 pub none_left : (text : List ℕ) (level : ℕ) (nodes : List Plain) (i : ℕ) → length nodes ≤ i → with_lines text (lines_of level (trees_of (drop i nodes))) ≡ Ok text
 none_left text level nodes i h = ap (λ (left : List Plain). with_lines text (lines_of level (trees_of left))) (drop_all i nodes h)
 

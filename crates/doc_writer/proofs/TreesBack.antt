@@ -35,22 +35,3 @@ join_below zero x new (tree upper below (tree y b a)) = ap (tree upper below) (j
 join_below (suc level) x new leafless = refl
 join_below (suc level) x new (tree upper below leafless) = ap (λ (b : Trees _). tree upper b leafless) (join_below level x new below)
 join_below (suc level) x new (tree upper below (tree y b a)) = ap (tree upper below) (join_below (suc level) x new (tree y b a))
-
--- the nodes of trees whose first nodes stand on a level, put one after another
-abbrev pub put_nodes : {A : Type 0} → ℕ → Trees A → Trees A → Trees A
-put_nodes level leafless trees = trees
-put_nodes level (tree x below after) trees = put_nodes level after (put_nodes (level + 1) below (put_last level x trees))
-
-pub put_all : {A : Type 0} (level : ℕ) (new trees : Trees A) → put_nodes level new trees ≡ join_last level new trees
-put_all level leafless trees = sym (join_none level trees)
-put_all level (tree x below after) trees =
-    put_all level after (put_nodes (level + 1) below (put_last level x trees))
-    ∙ ap (join_last level after)
-    (put_all (level + 1) below (put_last level x trees)
-    ∙ ap (λ (n : ℕ). join_last n below (put_last level x trees)) (add-one level)
-    ∙ ap (join_last (suc level) below) (put_is level x trees)
-    ∙ join_below level x below trees)
-    ∙ join_more level (tree x below leafless) after trees
-
-pub tree_made : {A : Type 0} (trees : Trees A) → put_nodes 0 trees leafless ≡ trees
-tree_made trees = put_all 0 trees leafless

@@ -1,14 +1,14 @@
 //! Numbers as they are written.
 
-ghost use Rattle.std.specs.Prelude.{◌≡◌, ◌+◌, ◌*◌, ◌/◌, ◌%◌, ◌≤◌, ◌<◌, ◌++◌, ◌∷◌, [], length, take, unsigned_abs, decimal, codes, OnOk};
+ghost use Rattle.std.specs.Prelude.{◌≡◌, ◌+◌, ◌*◌, ◌≤◌, ◌<◌, ◌++◌, ◌∷◌, [], length, take, unsigned_abs, decimal, codes, OnOk};
 ghost use Rattle.lunit.specs.Decimals.{IsScale};
-ghost use Rattle.lunit.specs.Printed.{six_digits, without_last_zeros, minus_of};
+ghost use Rattle.lunit.specs.Printed.{minus_of};
 ghost use Rattle.doc_writer.specs.Numbers.{decimals, number, integer, px_number, factor, percentage, length_word};
 ghost use Rattle.doc_writer.specs.Spaces.{put};
 
 use crate::line::LineText;
 use itoa::Buffer;
-use lunit::{Lu, NoMemory};
+use lunit::{Lu, NoMemory, six_digits, without_last_zeros};
 use style_types::Unit;
 
 /// The parts of one of which a length in px is made.
@@ -19,38 +19,6 @@ const THOUSANDTHS: u32 = 1000;
 
 /// The parts of one of which a length with a relative unit is made.
 const MILLIONTHS: u32 = 1_000_000;
-
-/// The digit of a number at a place, which is a power of ten.
-fn digit(number: u32, place: u32) -> u8
-    requires { 0 < place }
-    ensures { result ≡ 48 + number / place % 10 }
-{
-    b'0' + (number / place % 10) as u8
-}
-
-fn six_digits(millionths: u32) -> [u8; 6]
-    ensures { result ≡ six_digits millionths }
-{
-    [
-        digit(millionths, 100_000),
-        digit(millionths, 10_000),
-        digit(millionths, 1_000),
-        digit(millionths, 100),
-        digit(millionths, 10),
-        digit(millionths, 1),
-    ]
-}
-
-#[tactic(auto, using(lunit::proofs::Printing::step_left_out, lunit::proofs::Printing::all_shown))]
-fn without_last_zeros(digits: &[u8]) -> &[u8]
-    ensures { result.now ≡ without_last_zeros digits.now }
-{
-    let mut end = digits.len();
-    while end > 0 && digits[end - 1] == b'0' {
-        end -= 1;
-    }
-    &digits[..end]
-}
 
 /// Writes a text at a place, and answers where it ends.
 fn put_text(room: &mut [u8; 32], at: usize, text: &[u8]) -> usize

@@ -13,13 +13,3 @@ pub range_read : (items : ℕ) (lines : Lines) (i : ℕ) (d : ℕ × ℕ) → Ar
 range_read items [] i d h lt = absurd (omega (arith, lt))
 range_read items (line ∷ lines) zero d h lt = h.0
 range_read items (line ∷ lines) (suc i) d h lt = range_read items lines i d h.1 (omega (arith, lt))
-
--- one line more
-pub line_next : (main gap : ℤ) (items : List FlexItem) (lines : Lines) (i : ℕ) (line d : ℕ × ℕ) (done more all : List ℤ) → i < length lines → line ≡ get_or lines i d
-    → more ≡ line_sizes main gap (slice_range items line.0 line.1)
-    → done ++ main_sizes main gap items (drop i lines) ≡ all → (done ++ more) ++ main_sizes main gap items (drop (i + 1) lines) ≡ all
-line_next main gap items lines i line d done more all h is m e =
-    let rest : List ℤ = main_sizes main gap items (drop (i + 1) lines) in
-    append_assoc done more rest
-    ∙ ap (λ (xs : List ℤ). done ++ (xs ++ rest)) m
-    ∙ sym (ap (λ (ls : Lines). done ++ main_sizes main gap items ls) (drop_more lines i d h ∙ ap (λ (r : ℕ × ℕ). r ∷ drop (i + 1) lines) (sym is))) ∙ e

@@ -52,9 +52,6 @@ next grow space whole sum before line = zipped (frozen_by sum) line (tries grow 
 abbrev trials : Bool → ℤ → ℕ → ℕ → List Flexible → List ℤ
 trials grow space whole before fs = tries grow space whole before (pieces fs)
 
-abbrev held_if : Bool → ℤ → ℤ
-held_if b z = if b then z else pos 0
-
 abbrev frozen_item : FlexItem → ℤ → Piece
 frozen_item i s = record { item = i; frozen = Some s }
 

@@ -85,16 +85,6 @@ keep_dense true s later held mine column row area a k v e f ke ve u h r =
     subst (λ (o : Option Area). ColumnsReached later.reached (held ++ option_to_list o)) (sym e)
     (dense_put s.reached later.reached held mine column row a v (sym e ∙ r) ve (subst (λ (x : ℕ). Updates across_cmp s.reached later.reached ((a.rows.start, a.rows.end), x) (Some v)) ke u) h)
 
-append_nil : (held : List Area) → held ≡ held ++ []
-append_nil [] = refl
-append_nil (a ∷ held) = ap (λ (h : List Area). a ∷ h) (append_nil held)
-
-pub keep_none : (dense : Bool) (s : RowStarts) (held mine : List Area) (area : Option Area) → area ≡ None → Keeps dense s held mine → Keeps dense s (held ++ option_to_list area) (mine ++ option_to_list area)
-keep_none dense s held mine area e h = subst (λ (o : Option Area). Keeps dense s (held ++ option_to_list o) (mine ++ option_to_list o)) (sym e) (kept_still)
-  where
-    kept_still : Keeps dense s (held ++ []) (mine ++ [])
-    kept_still = subst (λ (x : List Area). Keeps dense s x (mine ++ [])) (append_nil held) (subst (λ (x : List Area). Keeps dense s held x) (append_nil mine) h)
-
 pub by_sparse : (s later : RowStarts) (area : Option Area) (a : Area) (k v line : ℤ) → area ≡ Some a → v ≡ a.columns.end → later.reached ≡ s.reached → Updates int_cmp s.ends later.ends k (Some v) → AllBy line s → EndsBy line area → AllBy line later
 by_sparse s later area a k v line e ve re u h f = record {
   ends = λ row. go row (int_eq k row) refl;

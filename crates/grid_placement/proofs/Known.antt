@@ -183,6 +183,3 @@ knows_position field s later held cursor column row k l a p ce de le pc pr u re 
                 before = λ fits. subst (λ (q : rules.Position). NotAfter q (found (held ++ a ∷ []) (columns_of field) k m (position_of (first_of field)))) (sym corner) (position_grows held (a ∷ []) (columns_of field) k m (position_of (first_of field)) (omega (arith, ints)) room);
               }) h.positions;
         }
-
-pub knows_sparse : (field : Field) (s : Reached) (held : List Area) (a : Area) → field.dense ≡ false → Knows field.dense field s (held ++ a ∷ [])
-knows_sparse field s held a e = subst (λ (d : Bool). Knows d field s (held ++ a ∷ [])) (sym e) tt

@@ -204,20 +204,6 @@ module _ (b : BareTrees) (n : NodeId) (base : GridBase) (e : ChildArea) (h : IsE
 
 -- ---- any node
 
-under_grid : (grid : Bool) (k : NodeKind) (sub : Bool) (link : Link) (chain : List Link) → has_chain (if grid && (is_grid_kind k && sub) then link ∷ chain else []) ≡ true → k ≡ kind.Grid
-under_grid true kind.Grid sub link chain h = refl
-under_grid false kind.Grid sub link chain h = refl
-under_grid true kind.Flex sub link chain h = absurd (false≢true h)
-under_grid false kind.Flex sub link chain h = absurd (false≢true h)
-under_grid true (kind.Leaf content) sub link chain h = absurd (false≢true h)
-under_grid false (kind.Leaf content) sub link chain h = absurd (false≢true h)
-
--- a node that sees a grid above it is a grid
-pub grid_by_chain : (b : BareTrees) (n : NodeId) (p : Option NodeId) → IfSome p (λ parent. IsParent b n parent) → IfNone p ((sight_at b n).chain ≡ []) → has_chain (sight_at b n).chain ≡ true → (sight_at b n).label.kind ≡ kind.Grid
-grid_by_chain b n None some none h = absurd (false≢true (sym (ap has_chain none) ∙ h))
-grid_by_chain b n (Some parent) some none h =
-    under_grid (above_at b parent).is_grid (sight_at b n).label.kind (has_subgrid (sight_at b n).label.grid) _ (sight_at b parent).chain (ap has_chain (sym some.next.chain) ∙ h)
-
 -- a child of a flex container sees no grid
 pub chain_in_flex : (b : BareTrees) (n c : NodeId) (index : ℕ) → IsNext b n index c → (sight_at b n).label.kind ≡ kind.Flex → (sight_at b c).chain ≡ []
 chain_in_flex b n c index next is =

@@ -160,9 +160,6 @@ zipped_few f [] ys = omega arith
 zipped_few f (x ∷ xs) [] = omega arith
 zipped_few f (x ∷ xs) (y ∷ ys) = omega (arith, zipped_few f xs ys)
 
-pub entries_few : (b : BareTrees) (n : NodeId) (p : Placed) → length (entries_at b n p) ≤ length p.areas
-entries_few b n p = omega (arith, zipped_few entry_of (in_order (λ (k : Kid). k.label.grid.order) (kids_at b n)) (placed_of p).areas, zipped_few numbered_area p.numbers p.areas)
-
 -- of a grid of the same tree, as it is called in the middle of a walk
 module _ (b d : BareTrees) (is : d ≡ b) (n : NodeId) (base : GridBase) (e : ChildArea) (k : ℕ) (next : drop k (entries_at d n base.placed) ≡ entry_by d e ∷ drop (k + 1) (entries_at d n base.placed)) where
   module _ (steps : StepsDown b) (number : child_at d n e.number ≡ Some e.child) (q : Query) (leads : LeadsOn b n base q) (old mid new : State) (here : bare_in mid ≡ d) (w : WalkedBelow n q 0 old mid) where

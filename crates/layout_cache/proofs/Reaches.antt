@@ -96,17 +96,6 @@ pub no_way : {A : Type 0} (t : Trees (NodeId × A)) (id n : NodeId) (old : Bool)
 no_way t id n old e = ap (λ w. is_among n w || old) (sym (stale_way t id e))
 
 -- ---- the marks
-pub touched_next : (n : NodeId) (xs : List NodeId) (i : ℕ) (d : NodeId) (old new whole : Bool) → i < length xs → new ≡ (same (get_or xs i d) n || old) → (old || is_among n (drop i xs)) ≡ whole → (new || is_among n (drop (i + 1) xs)) ≡ whole
-touched_next n xs i d old new whole h e w =
-    ap (λ b. b || is_among n (drop (i + 1) xs)) e ∙ or_turn old (same (get_or xs i d) n) (is_among n (drop (i + 1) xs))
-    ∙ ap (λ b. old || b) (sym (ap (is_among n) (drop-cons xs i d h ∙ ap (λ k. get_or xs i d ∷ drop k xs) (sym (add-one i))))) ∙ w
-
-pub above_next : {A : Type 0} (t : Trees (NodeId × A)) (n : NodeId) (xs : List NodeId) (i : ℕ) (d : NodeId) (old new whole : Bool) → i < length xs → new ≡ (is_among n (way_up t (get_or xs i d)) || old) → (old || is_above t (drop i xs) n) ≡ whole →
-    (new || is_above t (drop (i + 1) xs) n) ≡ whole
-above_next t n xs i d old new whole h e w =
-    ap (λ b. b || is_above t (drop (i + 1) xs) n) e ∙ or_turn old (is_among n (way_up t (get_or xs i d))) (is_above t (drop (i + 1) xs) n)
-    ∙ ap (λ b. old || b) (sym (ap (λ l. is_above t l n) (drop-cons xs i d h ∙ ap (λ k. get_or xs i d ∷ drop k xs) (sym (add-one i))))) ∙ w
-
 -- ---- what is reached
 module _ {A : Type 0} (subgrid : A → Bool) (touched above : NodeId → Bool) (grid : Bool) where
   joined_is : (t : Trees (NodeId × A)) (n : NodeId) (i : ℕ) (felt : Bool) (c : NodeId) (j : Bool) (h : JoinedChild subgrid t n i felt c j) → (felt && subgrid h.child.value) ≡ j

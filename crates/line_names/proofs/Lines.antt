@@ -12,29 +12,12 @@ use Rattle.line_names.specs.Tables.{AreLines}
 
 -- ---- one line after another
 
-pub are_none : (names : ℕ → List (List ℕ)) → AreLines names 0 []
-are_none names = record { counted = refl; named = λ line h. absurd (omega arith) }
-
-pub are_more : (names : ℕ → List (List ℕ)) (n : ℕ) (lines : List (List (List ℕ))) (x : List (List ℕ)) → x ≡ names n → AreLines names n lines → AreLines names (n + 1) (lines ++ x ∷ [])
-are_more names n lines x e h =
-    record {
-      counted = omega (arith, length-append lines (x ∷ []), h.counted);
-      named = λ line g. more line g (cases_eq line n);
-    }
-  where
-    more : (line : ℕ) → line < n + 1 → (line ≡ n) ⊎ (line ≢ n) → get_or (lines ++ x ∷ []) line [] ≡ names line
-    more line g (inl s) = let k : line ≡ length lines = omega (arith, s, h.counted) in ap (λ j. get_or (lines ++ x ∷ []) j []) k ∙ get_or-append_seam lines x [] [] ∙ e ∙ ap names (sym s)
-    more line g (inr s) = let k : line < length lines = omega (arith, s, g, h.counted) in get_or-append lines (x ∷ []) [] line k ∙ h.named line (omega arith)
-
 -- ---- names put on a line
 
 set_again : {A : Type 0} (xs : List A) (i : ℕ) (a b : A) → slice_set (slice_set xs i a) i b ≡ slice_set xs i b
 set_again [] i a b = refl
 set_again (x ∷ xs) zero a b = refl
 set_again (x ∷ xs) (suc i) a b = ap (λ ys. x ∷ ys) (set_again xs i a b)
-
-pub named_init : (lines : List (List (List ℕ))) (k : ℕ) → lines ≡ slice_set lines k (get_or lines k [] ++ [])
-named_init lines k = sym (ap (λ x. slice_set lines k x) (append-nil (get_or lines k [])) ∙ set-get_or lines k [])
 
 pub named_next : (old now : List (List (List ℕ))) (k i : ℕ) (names : List (List ℕ)) (name : List ℕ) → k < length old → i < length names → name ≡ get_or names i name → now ≡ slice_set old k (get_or old k [] ++ take i names) → slice_set now k (get_or now k [] ++ name ∷ []) ≡ slice_set old k (get_or old k [] ++ take (i + 1) names)
 named_next old now k i names name g h e f =

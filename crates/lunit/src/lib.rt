@@ -31,7 +31,7 @@ pub use name::Name;
 pub use name_set::NameSet;
 pub use number::{NumberForm, is_number};
 pub use occupancy::Occupancy;
-pub use print::px_text;
+pub use print::{px_text, six_digits, without_last_zeros};
 pub use sequence::Sequence;
 pub use steps::Steps;
 pub use wide::Wide;

@@ -12,7 +12,8 @@ fn digit(number: u32, place: u32) -> u8
     b'0' + (number / place % 10) as u8
 }
 
-fn six_digits(millionths: u32) -> [u8; 6]
+/// The last six decimal digits of a number, the highest first: what stands after the point of so many millionths.
+pub fn six_digits(millionths: u32) -> [u8; 6]
     ensures { result ≡ six_digits millionths }
 {
     [
@@ -26,7 +27,8 @@ fn six_digits(millionths: u32) -> [u8; 6]
 }
 
 #[tactic(auto, using(crate::proofs::Printing::step_left_out, crate::proofs::Printing::all_shown))]
-fn without_last_zeros(digits: &[u8]) -> &[u8]
+/// Digits without the zeros at their end.
+pub fn without_last_zeros(digits: &[u8]) -> &[u8]
     ensures { result.now ≡ without_last_zeros digits.now }
 {
     let mut end = digits.len();

@@ -34,10 +34,6 @@ pub restyled_count : (styles : Styles) (t : NodeTrees) → count_of (restyled st
 restyled_count styles leafless = refl
 restyled_count styles (tree x below after) = omega (arith, restyled_count styles after)
 
-pub restyled_kept : (styles : Styles) (t : NodeTrees) → KeepsNone t → KeepsNone (restyled styles t)
-restyled_kept styles leafless h = tt
-restyled_kept styles (tree x below after) h = (h.0, (restyled_kept styles below h.1.0, restyled_kept styles after h.1.1))
-
 restyled_times : (styles : Styles) (n : NodeId) (t : NodeTrees) → times n (restyled styles t) ≡ times n t
 restyled_times styles n leafless = refl
 restyled_times styles n (tree x below after) = omega (arith, restyled_times styles n below, restyled_times styles n after)

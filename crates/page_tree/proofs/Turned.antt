@@ -92,10 +92,6 @@ apart_of h id to name parent index one f g can =
 pub not_missing : (h : Held) (name : Word) → count_of h.nodes.tree ≡ 1 → IsThere name (document_of h) → Finds h.nodes.tree name None → ⊥
 not_missing h name one there f = not_both (holds (trees_in h) name) (ap (λ t. holds t name) (sym (whole h one)) ∙ there) (sym f.there)
 
--- a node below the root has a parent
-pub not_at_top : (h : Held) (id : NodeId) (name : Word) → count_of h.nodes.tree ≡ 1 → Finds h.nodes.tree name (Some id) → IsBelowRoot name (document_of h) → is_top h.nodes.tree id ≡ true → ⊥
-not_at_top h id name one f b top = not_both (is_top h.nodes.tree id) top (low_of h id name one f b.no_root)
-
 -- what is said of a tree that is brought: its root is new, and so are those below it
 pub record AreAnew (h : Held) (node : Plain) : Type 0 where
   pub own : holds (trees_in h) node.name ≡ false

@@ -40,10 +40,6 @@ none_before area placed (suc n) from x low high = go (is_free (area from) placed
 
 -- ---- where all areas have ended, all is free
 
-greatest_from : (x : ℤ) (ys : List ℤ) → x ≤ℤ greatest_with x ys
-greatest_from x [] = omega (arith, ints)
-greatest_from x (y ∷ ys) = let h = greatest_from x ys in omega (arith, ints, clamps, h)
-
 apart : (a b : Span) → b.end ≤ℤ a.start → spans_overlap a b ≡ false
 apart a b h = by (int_lt (int_max a.start b.start) (int_min a.end b.end)) refl
   where
@@ -95,11 +91,6 @@ free_row_free placed columns l from = go (either_free (λ r. record { columns = 
     go : (is_free (record { columns = columns; rows = to_end (free_row placed columns l from) l }) placed ≡ true) ⊎ (free_row placed columns l from ≡ from +ℤ pos (above_zero (far_row placed from -ℤ from))) → is_free (record { columns = columns; rows = to_end (free_row placed columns l from) l }) placed ≡ true
     go (inl h) = h
     go (inr h) = past_rows placed from columns (to_end (free_row placed columns l from) l) (omega (arith, ints, h, above_least (far_row placed from -ℤ from)))
-
--- the far row does not depend on where one looks from, once it lies beyond
-far_row_at : (placed : List Area) (from to : ℤ) → from ≤ℤ to → far_row placed from ≤ℤ to → far_row placed to ≤ℤ to
-far_row_at [] from to h e = omega (arith, ints)
-far_row_at (b ∷ placed) from to h e = let r = far_row_at placed from to h (omega (arith, ints, clamps)) in omega (arith, ints, clamps, r)
 
 -- The position found for an item that is free in both axes is free.
 position_free : (placed : List Area) (columns : Span) (k l n : ℕ) (from : Position) (least : ℤ) → least ≤ℤ from.row → far_row placed least ≤ℤ (from.row +ℤ pos n) → is_free (area_at (free_position placed columns k l n from) k l) placed ≡ true

@@ -51,12 +51,6 @@ module _ (a b : Nodes Node) (bares : bare b.tree ≡ bare a.tree) (frames : fram
       }
 
 -- ---- arenas that are alike but for what nodes keep longer than their answers
-pub alike_same : (a : Nodes Node) → IsAlike a a
-alike_same a = record { bare = refl; frame = refl; kept = λ m. refl }
-
-pub alike_then : (a b c : Nodes Node) → IsAlike a b → IsAlike b c → IsAlike a c
-alike_then a b c x y = record { bare = y.bare ∙ x.bare; frame = y.frame ∙ x.frame; kept = λ m. y.kept m ∙ x.kept m }
-
 module _ (a c : Nodes Node) (h : IsAlike a c) (tally : Tally) (passes : ℕ) (log : Option (List Event)) where
   -- what begins after the change begins before it
   pub from_alike : (new : State) (n : NodeId) (q : Query) (more : ℕ) → WalkedBelow n q more (state c tally passes log) new → WalkedBelow n q more (state a tally passes log) new

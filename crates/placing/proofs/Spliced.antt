@@ -69,9 +69,6 @@ take_all (suc n) (x ∷ xs) h = ap (λ l. x ∷ l) (take_all n xs (omega (arith,
 pub written_all : {A : Type 0} (old own now : List A) (start at : ℕ) → IsWritten old own start at now → at ≡ length own → now ≡ take start old ++ own ++ drop (start + length own) old
 written_all old own now start at w e = w.is ∙ (λ i. take start old ++ take (e i) own ++ drop (start + e i) old) ∙ ap (λ l. take start old ++ l ++ drop (start + length own) old) (take_all (length own) own (omega arith))
 
-pub rewritten_none : {A : Type 0} (old own : List A) (start : ℕ) → IsRewritten old own start 0 false old
-rewritten_none old own start = record { written = written_none old own start; same = λ e. refl }
-
 pub rewritten_other : {A : Type 0} (old own now new : List A) (start at : ℕ) (d : A) (before : Bool) → IsRewritten old own start at before now → start + length own ≤ length old → at < length own
     → new ≡ slice_set now (start + at) (get_or own at d) → IsRewritten old own start (at + 1) true new
 rewritten_other old own now new start at d before w f g e = record { written = written_more old own now new start at d w.written f g e; same = λ x. absurd cc }
@@ -83,9 +80,6 @@ rewritten_same old own now new start at d z v before w f g same e =
       written = written_more old own now new start at d w.written f g e;
       same = λ x. e ∙ ap (slice_set now (start + at)) (sym (same ∙ get_as own at v d g)) ∙ set_there now (start + at) z (omega (arith, f, g, w.written.long)) ∙ w.same x;
     }
-
-pub rewritten_all : {A : Type 0} (old own now : List A) (start at : ℕ) (other : Bool) → IsRewritten old own start at other now → at ≡ length own → now ≡ take start old ++ own ++ drop (start + length own) old
-rewritten_all old own now start at other w e = written_all old own now start at w.written e
 
 -- ---- ends moved
 abbrev pub moved : ℕ → ℕ → ℕ → ℕ
@@ -135,11 +129,6 @@ mix_get f (x ∷ old) zero (suc k) (suc at) e = mix_get f old zero k at (omega (
 mix_get f (x ∷ old) (suc i) k zero e = absurd (omega (arith, e))
 mix_get f (x ∷ old) (suc i) k (suc at) e = mix_get f old i k at (omega (arith, e))
 
-pub moved_none : (old : List ℕ) (index less more : ℕ) → AreMoved old index less more index old
-moved_none old index less more =
-    let none : index - index ≡ 0 = omega arith in
-    record { from = omega arith; is = sym (seam index old) ∙ ap (λ l. l ++ drop index old) (sym (append-nil (take index old))) ∙ ap (λ n. take index old ++ map (moved less more) (take n (drop index old)) ++ drop index old) (sym none); long = refl }
-
 -- the end at the index that comes next
 pub moved_next : (old now : List ℕ) (index less more at end : ℕ) → AreMoved old index less more at now → slice_get now at ≡ Some end → slice_get old at ≡ Some end
 moved_next old now index less more at end m e = sym (mix_get (moved less more) old index (at - index) at (omega (arith, m.from))) ∙ ap (λ l. slice_get l at) (sym m.is) ∙ e
@@ -177,11 +166,6 @@ drop_all zero [] h = refl
 drop_all zero (x ∷ xs) h = absurd (omega (arith, h))
 drop_all (suc n) [] h = refl
 drop_all (suc n) (x ∷ xs) h = drop_all n xs (omega (arith, h))
-
-pub moved_all : (old now : List ℕ) (index less more at : ℕ) → AreMoved old index less more at now → length old ≤ at → now ≡ take index old ++ map (moved less more) (drop index old)
-moved_all old now index less more at m h =
-    m.is ∙ (λ i. take index old ++ map (moved less more) (take_all (at - index) (drop index old) (omega (arith, h, length-drop index old)) i) ++ drop_all at old h i)
-    ∙ append-nil (take index old ++ map (moved less more) (drop index old))
 
 -- one of these ends, which the code can move
 pub record IsMovable (end less more : ℕ) : Type 0 where

@@ -135,11 +135,6 @@ mark_raised marks next slice start end reach h e f g j =
     ∙ any_set (nat_lt j) (j + 1) marks start reach (nat_lt j end) h (ap (nat_lt j) zero_is ∙ lt_max j (get_or marks start 0) end)
     ∙ ap (λ b. list_any (nat_lt j) (take (j + 1) marks) || (b && nat_lt j end)) (lt_or_le start j)
 
-pub mark_past : (marks : List ℕ) (start end j : ℕ) → length marks ≤ start → j < length marks → list_any (nat_lt j) (take (j + 1) marks) ≡ (list_any (nat_lt j) (take (j + 1) marks) || is_on j start end)
-mark_past marks start end j h k =
-    let past : nat_le start j ≡ false = grind (arith, nat_tests) in
-    or_none (list_any (nat_lt j) (take (j + 1) marks)) ∙ ap (λ b. list_any (nat_lt j) (take (j + 1) marks) || (b && nat_lt j end)) (sym past)
-
 any_zeros : (n count j : ℕ) → list_any (nat_lt j) (take n (replicate count 0)) ≡ false
 any_zeros zero count j = any_nothing (replicate count 0) j
   where
@@ -192,57 +187,15 @@ more_marked first areas i count d marks next h len more m = record {
 
 -- ---- the sweep
 
-pub no_flags : (flag : ℕ → Bool) → AreFlags flag 0 []
-no_flags flag = record { counted = refl; told = λ at h. absurd (omega arith) }
-
 get_last : (flags : List Bool) (b : Bool) (n : ℕ) → length flags ≡ n → get_or (flags ++ b ∷ []) n false ≡ b
 get_last [] b zero h = refl
 get_last [] b (suc n) h = absurd (omega arith)
 get_last (f ∷ flags) b zero h = absurd (omega arith)
 get_last (f ∷ flags) b (suc n) h = get_last flags b n (omega arith)
 
-pub more_flags : (flag : ℕ → Bool) (count : ℕ) (b : Bool) (flags more : List Bool) → b ≡ flag count → more ≡ flags ++ b ∷ [] → AreFlags flag count flags → AreFlags flag (count + 1) more
-more_flags flag count b flags more g f s = record { counted = omega (arith, ap length f, length-append flags (b ∷ []), s.counted); told = λ at h. told at h (cases_eq at count) }
-  where
-    told : (at : ℕ) → at < count + 1 → (at ≡ count) ⊎ (at ≢ count) → get_or more at false ≡ flag at
-    told at h (inl same) =
-        ap (λ (n : ℕ). get_or more n false) same
-        ∙ ap (λ (xs : List Bool). get_or xs count false) f
-        ∙ get_last flags b count s.counted
-        ∙ g
-        ∙ ap flag (sym same)
-    told at h (inr other) =
-        ap (λ (xs : List Bool). get_or xs at false) f
-        ∙ get_or_append_left flags (b ∷ []) false at (omega (arith, s.counted))
-        ∙ s.told at (omega arith)
-
 -- the same flags by another rule
 same_flags : (flag other : ℕ → Bool) (count : ℕ) (flags : List Bool) → ((at : ℕ) → at < count → flag at ≡ other at) → AreFlags flag count flags → AreFlags other count flags
 same_flags flag other count flags same f = record { counted = f.counted; told = λ at h. f.told at h ∙ same at h }
-
-pub none_swept : (marks : List ℕ) → IsSwept marks 0 0 []
-none_swept marks = record { reach = λ at. none_below at ∙ nothing marks at; swept = no_flags (is_reached marks) }
-  where
-    nothing : (xs : List ℕ) (j : ℕ) → false ≡ list_any (nat_lt j) (take 0 xs)
-    nothing [] j = refl
-    nothing (x ∷ xs) j = refl
-
-pub more_swept : (marks : List ℕ) (count farthest next mark : ℕ) (flags more : List Bool) → count < length marks → mark ≡ get_or marks count mark → next ≡ max farthest mark → more ≡ flags ++ nat_lt count next ∷ [] → IsSwept marks count farthest flags → IsSwept marks (count + 1) next more
-more_swept marks count farthest next mark flags more h g e f s = record {
-  reach = reach;
-  swept = more_flags (is_reached marks) count (nat_lt count next) flags more (reach count) f s.swept;
-}
-  where
-    reach : (at : ℕ) → nat_lt at next ≡ list_any (nat_lt at) (take (count + 1) marks)
-    reach at =
-        ap (nat_lt at) e
-        ∙ lt_max at farthest mark
-        ∙ ap (λ b. b || nat_lt at mark) (s.reach at)
-        ∙ ap (λ (n : ℕ). list_any (nat_lt at) (take count marks) || nat_lt at n) g
-        ∙ sym (list_any_more (nat_lt at) marks count mark h)
-
-pub all_swept : (marks : List ℕ) (count farthest : ℕ) (flags : List Bool) → count ≡ length marks → IsSwept marks count farthest flags → AreFlags (is_reached marks) (length marks) flags
-all_swept marks count farthest flags e s = subst (λ (n : ℕ). AreFlags (is_reached marks) n flags) e s.swept
 
 -- ---- flags of tracks
 
@@ -319,9 +272,6 @@ rules_next base sizes autos first i flags rule made more all h r m inv =
     ∙ ap (λ (x : Rule). made ++ x ∷ rest) r
     ∙ ap (λ (bs : List Bool). made ++ rules_by base sizes autos (first +ℤ pos i) bs) (sym (get_or_next flags i h))
     ∙ inv
-
-pub rules_done : (base : Option ℤ) (sizes autos : List TrackFn) (at : ℤ) (i : ℕ) (flags : List Bool) (made all : List Rule) → length flags ≤ i → made ++ rules_by base sizes autos at (drop i flags) ≡ all → made ≡ all
-rules_done base sizes autos at i flags made all h inv = sym (append-nil made) ∙ ap (λ (bs : List Bool). made ++ rules_by base sizes autos at bs) (sym (drop_all i flags h)) ∙ inv
 
 -- the rules by flags are those by coordinates
 pub rules_are : (base : Option ℤ) (sizes autos all : List TrackFn) (flag : ℤ → Bool) (first : ℤ) (count : ℕ) (flags : List Bool) → AreFlags (λ at. flag (first +ℤ pos at)) count flags → ((z : ℤ) → unwrap_or (size_at sizes autos z) auto_track ≡ unwrap_or (size_at sizes all z) auto_track) → rules_by base sizes autos first flags ≡ map (λ at. rule_of base (unwrap_or (size_at sizes all at) auto_track) (flag at)) (coordinates count first)

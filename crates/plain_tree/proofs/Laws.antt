@@ -100,25 +100,4 @@ module _ {A B : Type 0} (f : A → B) where
   each_map P leafless p = tt
   each_map P (tree label below after) p = (p.0, (each_map P below p.1.0, each_map P after p.1.1))
 
-pub map_trees-map : {A B C : Type 0} (g : B → C) (f : A → B) (t : Trees A) → map_trees g (map_trees f t) ≡ map_trees (λ label. g (f label)) t
-map_trees-map g f leafless = refl
-map_trees-map g f (tree label below after) = λ i. tree (g (f label)) (map_trees-map g f below i) (map_trees-map g f after i)
-
 -- ---- folds
-pub fold_trees-joined : {A B : Type 0} (step : A → List B → B) (s t : Trees A) → fold_trees step (joined s t) ≡ fold_trees step s ++ fold_trees step t
-fold_trees-joined step leafless t = refl
-fold_trees-joined step (tree label below after) t = ap (λ l. step label (fold_trees step below) ∷ l) (fold_trees-joined step after t)
-
-pub fold_trees-map : {A B C : Type 0} (step : B → List C → C) (f : A → B) (t : Trees A) → fold_trees step (map_trees f t) ≡ fold_trees (λ label. step (f label)) t
-fold_trees-map step f leafless = refl
-fold_trees-map step f (tree label below after) = λ i. step (f label) (fold_trees-map step f below i) ∷ fold_trees-map step f after i
-
-pub length-fold_trees : {A B : Type 0} (step : A → List B → B) (t : Trees A) → length (fold_trees step t) ≡ count_of t
-length-fold_trees step leafless = refl
-length-fold_trees step (tree label below after) = omega (arith, length-fold_trees step after)
-
--- steps that agree give the same
-pub fold_trees-alike : {A B : Type 0} (step other : A → List B → B) (t : Trees A) → ((label : A) (parts : List B) → step label parts ≡ other label parts) → fold_trees step t ≡ fold_trees other t
-fold_trees-alike step other leafless h = refl
-fold_trees-alike step other (tree label below after) h =
-    λ i. (ap (step label) (fold_trees-alike step other below h) ∙ h label (fold_trees other below)) i ∷ fold_trees-alike step other after h i

@@ -11,17 +11,6 @@ below_smaller (tree label below after) (zero ∷ []) = omega arith
 below_smaller (tree label below after) (zero ∷ index ∷ path) = omega (arith, below_smaller below (index ∷ path))
 below_smaller (tree label below after) (suc place ∷ path) = omega (arith, below_smaller after (place ∷ path))
 
-pub below_lower : {A : Type 0} (t : Trees A) (path : List ℕ) → below_height (subtree_at t path) ≤ height_of t
-below_lower leafless path = omega arith
-below_lower (tree label below after) [] = omega arith
-below_lower (tree label below after) (zero ∷ []) = omega arith
-below_lower (tree label below after) (zero ∷ index ∷ path) = omega (arith, below_lower below (index ∷ path))
-below_lower (tree label below after) (suc place ∷ path) = omega (arith, below_lower after (place ∷ path))
-
-pub length-subtrees : {A : Type 0} (t : Trees A) → length (subtrees t) ≡ count_of t
-length-subtrees leafless = refl
-length-subtrees (tree label below after) = omega (arith, length-subtrees after)
-
 module _ {A B : Type 0} (f : A → B) where
   pub subtree_at-map : (t : Trees A) (path : List ℕ) → subtree_at (map_trees f t) path ≡ map_subtree f (subtree_at t path)
   subtree_at-map leafless path = refl

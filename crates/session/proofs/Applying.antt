@@ -471,11 +471,6 @@ module _ (n : ℕ) (at : Place) (old new : Standing) (journal : Lists) (is : old
         laid = laid;
       }
 
--- an edit that was not made leaves the page
-pub page_same : (error : EditError) (e : Edit) (old new : Held) (journal journal' : Lists) → Edits (Err error) e (traced_by old journal) (traced_by new journal') → new ≡ old
-page_same (error.Refused fault) e old new journal journal' p = ap (λ (t : Traced). t.page) p.1
-page_same error.NoMemory e old new journal journal' p = ap (λ (t : Traced). t.page) p
-
 pub ruleset editing = (not_edited, not_made, well_same, edits_once, well_edited, unturned)
 
 -- ---- an edit that is made up

@@ -90,16 +90,3 @@ module _ (w : Option (List ℕ)) (l : Option (List Event)) (p k : ℕ) where
   unserved_made o NoMemory u n seed nodes e = made_none seed nodes w l p k
   unserved_made o InputLimit u n seed nodes e = absurd u
   unserved_made o BadWords u n seed nodes e = not_served o (Make seed nodes) e (n refl)
-
--- no run under such words answers that they are others
-pub run_knows : {A : Type 0} (stats : Bool) (left left' w w' : Option (List ℕ)) (l l' : Option (List Event)) (s s' k k' : ℕ) (status : Status) → HasRun stats left left' w w' l l' s s' k k' status → status ≡ BadWords → A
-run_knows {A = A} stats left left' w w' l l' s s' k k' status p e = by_words (subst (λ (x : Status). HasRun stats left left' w w' l l' s s' k k' x) e p)
-  where
-    by_words : HasRun stats left left' w w' l l' s s' k k' BadWords → A
-    by_words p = absurd p.runs.judged
-
-pub unserved_cause : (status : Status) → IsUnserved status → status ≡ ReadFault → ⊥
-unserved_cause status u e = subst IsUnserved e u
-
-pub unserved_write : (status : Status) → IsUnserved status → status ≡ WriteFault → ⊥
-unserved_write status u e = subst IsUnserved e u

@@ -48,10 +48,6 @@ module _ (old new : Held) (tally : Tally) (passes : ℕ) (log : Option (List Eve
 
 -- ---- an edit that is not applied
 
-pub not_changed : (e : EditError) (due : Result Doc Fault) (old new : Held) → Applies (Err e) due old new → new ≡ old
-not_changed (error.Refused fault) due old new a = a.1
-not_changed error.NoMemory due old new a = a
-
 -- ---- what is held stays so
 
 pub root_stays : (root : Option RootFrame) (old new : Held) → new ≡ old → IfSome root (IsLaidBy old) → IfSome root (IsLaidBy new)

@@ -48,9 +48,6 @@ tells_one k made events p = record { first = events; later = []; parts = append-
 pub logs_none : (a : Option (List Event)) (k : ℕ) → Logs a a k []
 logs_none a k = record { events = []; added = adds_none a; told = refl }
 
-pub logs_said : (a : Option (List Event)) (k : ℕ) (said : Said) → Logs a a k (Err said ∷ [])
-logs_said a k said = record { events = []; added = adds_none a; told = tells_one k (Err said) [] refl }
-
 pub front_none : (a : Option (List Event)) (k : ℕ) (made : List Made) → LogsFront a a k made
 front_none a k made = record { events = []; rest = least k made; added = adds_none a; told = tells_least k made }
 
@@ -84,9 +81,3 @@ from_more a b c made rest p q =
       due = p.told;
       told = subst (TellsAll 0 (made ++ rest)) (sym (append_assoc p.events q.events q.rest)) (tells_more 0 made rest p.events (q.events ++ q.rest) p.told q.told);
     }
-
-pub from_front : (a b : Option (List Event)) (made : List Made) → LogsFront a b 0 made → LogsFrom a b [] made
-from_front a b made p = record { done = []; events = p.events; rest = p.rest; added = p.added; due = refl; told = p.told }
-
-pub front_from : (a b : Option (List Event)) (due made : List Made) → LogsFrom a b due made → LogsFront a b 0 made
-front_from a b due made p = record { events = p.done ++ p.events; rest = p.rest; added = p.added; told = p.told }

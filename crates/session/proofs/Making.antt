@@ -125,10 +125,6 @@ pub on_both : {A E P Q R : Type 0} (r : Result A E) → (P → Q → R) → OnOk
 on_both (Ok x) f p q = f p q
 on_both (Err e) f p q = tt
 
-pub on_three : {A E P Q R S : Type 0} (r : Result A E) → (P → Q → R → S) → OnOk r P → OnOk r Q → OnOk r R → OnOk r S
-on_three (Ok x) f p q t = f p q t
-on_three (Err e) f p q t = tt
-
 pub any_ok : {A E P : Type 0} (r : Result A E) → P → OnOk r P
 any_ok (Ok x) p = p
 any_ok (Err e) p = tt

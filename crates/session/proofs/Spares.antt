@@ -97,10 +97,6 @@ module _ (touches : Touches) (before log log' : Option (List Event)) (k : ℕ) (
 pub spares_some : (touches : Touches) (before now : Option (List Event)) (page : Held) → SparesPage touches before now page → Spares touches before now
 spares_some touches before now page p = record { events = p.events; added = p.added; sparing = p.sparing }
 
-pub spares_other : {T E F : Type 0} (touches : Touches) (before now : Option (List Event)) (page : Held) (r : Result T E) (e : F) → SparesAfter touches before now page r → Spares touches before now
-spares_other touches before now page (Ok x) e p = spares_some touches before now page p
-spares_other touches before now page (Err f) e p = p
-
 -- an answer that is none
 pub spares_err : {T E : Type 0} (touches : Touches) (before now : Option (List Event)) (page : Held) (r : Result T E) → IsErr r → Spares touches before now → SparesAfter touches before now page r
 spares_err touches before now page (Ok x) e p = absurd (false≢true e)

@@ -48,23 +48,10 @@ next_ahead ended s more last = by_cases (cases_lt (position_or_len is_line_feed 
     by_cases (inl lt) = as_due true (due_by_feed ended s.held lt) (by_feed s more lt)
     by_cases (inr ge) = unended (omega (arith, position_or_len-le is_line_feed s.held)) (cases_Bool (ended && not (is_empty s.held)))
 
-pub fed_ahead : (piece : List ℕ) (s : Stream) (more : List ℕ) → lines_ahead (fed_with piece s) more ≡ lines_ahead s (piece ++ more)
-fed_ahead piece s more = ap (lines_from s.number) (append_assoc s.held piece more)
-
 -- ---- what was read so far
 
 pub read_start : HasRead [] [] empty_stream
 read_start = record { whole = []; split = refl; ended = refl; lines = refl; number = refl; count = refl }
-
-pub read_more : (fed : List ℕ) (taken : List Line) (s : Stream) (piece : List ℕ) → HasRead fed taken s → HasRead (fed ++ piece) taken (fed_with piece s)
-read_more fed taken s piece h = record {
-  whole = h.whole;
-  split = ap (λ (bytes : List ℕ). bytes ++ piece) h.split ∙ append_assoc h.whole s.held piece;
-  ended = h.ended;
-  lines = h.lines;
-  number = h.number;
-  count = omega (arith, h.count, length-append fed piece);
-}
 
 -- the lines of whole lines and of what follows them
 lines_append : (whole more : List ℕ) → ends_line whole ≡ true → lines_of (whole ++ more) ≡ lines_of whole ++ lines_from (1 + length (lines_of whole)) more

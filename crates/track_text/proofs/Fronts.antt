@@ -41,9 +41,6 @@ pub ruleset sizes = (at_minmax, at_fit, at_breadth)
 pub gives_same : {A : Type 0} (result : Result A Stop) (form due : Option A) → Gives result form → due ≡ form → Gives result due
 gives_same result form due g e = subst (Gives result) (sym e) g
 
-pub gives_ok : {A : Type 0} (value : A) (form : Option A) → form ≡ Some value → Gives (Ok value) form
-gives_ok value form e = e
-
 -- an error is handed on
 pub gives_err : {A B : Type 0} (e : Stop) (form : Option A) (due : Option B) → Gives (Err e) form → (form ≡ None → due ≡ None) → Gives (Err e) due
 gives_err stop.Bad form due g h = h g
@@ -106,12 +103,6 @@ pub at_arguments : (relative : Bool) (opening word comma : Word) (words : List W
     → option_map (past (opening ∷ word ∷ comma ∷ words)) (repeat_after relative (opening ∷ word ∷ comma ∷ words))
     ≡ bind (often_of word) (λ often. option_map (with_often often) (option_map (past words) (body_after relative words)))
 at_arguments relative opening word comma words o k = rw (o, k) (repeat_past relative opening word comma words (often_of word))
-
-pub at_no_opening : (relative : Bool) (opening word comma : Word) (words : List Word) → bytes_eq opening (codes "(") ≡ false → option_map (past (opening ∷ word ∷ comma ∷ words)) (repeat_after relative (opening ∷ word ∷ comma ∷ words)) ≡ None
-at_no_opening relative opening word comma words o = rw o refl
-
-pub at_no_comma : (relative : Bool) (opening word comma : Word) (words : List Word) → bytes_eq opening (codes "(") ≡ true → bytes_eq comma (codes ",") ≡ false → option_map (past (opening ∷ word ∷ comma ∷ words)) (repeat_after relative (opening ∷ word ∷ comma ∷ words)) ≡ None
-at_no_comma relative opening word comma words o k = rw (o, k) refl
 
 -- ---- parts
 

@@ -145,57 +145,10 @@ thinning_old set larger out left rest es x name added t e k u a n =
 
 -- ---- entries before the first track that is not kept
 
-pub trim_last : (left : ℕ) (es : List Entry) (i : ℕ) → length es ≤ i → take i es ++ trim left (drop i es) ≡ es
-trim_last left es i h = rw (drop_all i es h) (append-nil (take i es) ∙ take_whole es i h) where
-  take_whole : (es : List Entry) (i : ℕ) → length es ≤ i → take i es ≡ es
-  take_whole es i h = sym (append-nil (take i es)) ∙ ap (λ (xs : List Entry). take i es ++ xs) (sym (drop_all i es h)) ∙ take-append-drop i es
-
-take_item : (es : List Entry) (i : ℕ) (d : Entry) (more : List Entry) → i < length es → take (i + 1) es ++ more ≡ take i es ++ get_or es i d ∷ more
-take_item [] i d more h = let no : ⊥ = omega arith in elim no [ ]
-take_item (e ∷ es) zero d more h = refl
-take_item (e ∷ es) (suc i) d more h =
-    let n : suc i + 1 ≡ suc (i + 1) = omega arith in
-    ap (λ (n : ℕ). take n (e ∷ es) ++ more) n ∙ ap (λ (xs : List Entry). e ∷ xs) (take_item es i d more (omega arith))
-
-true_or_false : {A : Type 0} → true ≡ false → A
-true_or_false e = elim (true≢false e) [ ]
-
-trim_track : (left : ℕ) (x : Entry) (es : List Entry) → is_track x ≡ true → trim (left + 1) (x ∷ es) ≡ x ∷ trim left es
-trim_track left (entry.Track size) es t = rw (add-one left) refl
-trim_track left (entry.Named name) es t = true_or_false (sym t)
-
-trim_none : (x : Entry) (es : List Entry) → is_track x ≡ true → trim 0 (x ∷ es) ≡ []
-trim_none (entry.Track size) es t = refl
-trim_none (entry.Named name) es t = true_or_false (sym t)
-
-trim_name : (left : ℕ) (x : Entry) (es : List Entry) → is_track x ≡ false → trim left (x ∷ es) ≡ x ∷ trim left es
-trim_name left (entry.Named name) es t = refl
-trim_name left (entry.Track size) es t = true_or_false t
-
-pub trim_at_track : (left : ℕ) (es : List Entry) (i : ℕ) (d : Entry) → i < length es → is_track (get_or es i d) ≡ true → 0 < left → take (i + 1) es ++ trim (left - 1) (drop (i + 1) es) ≡ take i es ++ trim left (drop i es)
-trim_at_track left es i d h t p =
-    let n : (left - 1) + 1 ≡ left = omega arith in
-    take_item es i d (trim (left - 1) (drop (i + 1) es)) h
-    ∙ ap (λ (xs : List Entry). take i es ++ xs) (sym (trim_track (left - 1) (get_or es i d) (drop (i + 1) es) t) ∙ ap (λ (n : ℕ). trim n (get_or es i d ∷ drop (i + 1) es)) n ∙ ap (trim left) (sym (from_item es i d h)))
-
-pub trim_at_name : (left : ℕ) (es : List Entry) (i : ℕ) (d : Entry) → i < length es → is_track (get_or es i d) ≡ false → take (i + 1) es ++ trim left (drop (i + 1) es) ≡ take i es ++ trim left (drop i es)
-trim_at_name left es i d h t =
-    take_item es i d (trim left (drop (i + 1) es)) h
-    ∙ ap (λ (xs : List Entry). take i es ++ xs) (sym (trim_name left (get_or es i d) (drop (i + 1) es) t) ∙ ap (trim left) (sym (from_item es i d h)))
-
-pub trim_at_end : (left : ℕ) (es : List Entry) (i : ℕ) (d : Entry) → i < length es → is_track (get_or es i d) ≡ true → left ≡ 0 → take i es ≡ take i es ++ trim left (drop i es)
-trim_at_end left es i d h t z = sym (append-nil (take i es)) ∙ ap (λ (xs : List Entry). take i es ++ xs) (sym (trim_none (get_or es i d) (drop (i + 1) es) t) ∙ ap (λ (n : ℕ). trim n (get_or es i d ∷ drop (i + 1) es)) (sym z) ∙ ap (trim left) (sym (from_item es i d h)))
-
 -- ---- tracks
 
 pub tracks_last : (tracks : List Track) (es : List Entry) (i : ℕ) → length es ≤ i → tracks ++ tracks_of (drop i es) ≡ tracks
 tracks_last tracks es i h = rw (drop_all i es h) (append-nil tracks)
-
-pub tracks_at_track : (tracks : List Track) (es : List Entry) (i : ℕ) (d : Entry) (size : Track) → i < length es → get_or es i d ≡ entry.Track size → (tracks ++ size ∷ []) ++ tracks_of (drop (i + 1) es) ≡ tracks ++ tracks_of (drop i es)
-tracks_at_track tracks es i d size h e = append_assoc tracks (size ∷ []) (tracks_of (drop (i + 1) es)) ∙ ap (λ (xs : List Entry). tracks ++ tracks_of xs) (ap (λ (x : Entry). x ∷ drop (i + 1) es) (sym e) ∙ sym (from_item es i d h))
-
-pub tracks_at_name : (tracks : List Track) (es : List Entry) (i : ℕ) (d : Entry) (name : Word) → i < length es → get_or es i d ≡ entry.Named name → tracks ++ tracks_of (drop (i + 1) es) ≡ tracks ++ tracks_of (drop i es)
-tracks_at_name tracks es i d name h e = ap (λ (xs : List Entry). tracks ++ tracks_of xs) (ap (λ (x : Entry). x ∷ drop (i + 1) es) (sym e) ∙ sym (from_item es i d h))
 
 -- ---- lines
 

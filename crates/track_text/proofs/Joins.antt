@@ -55,10 +55,6 @@ next_of_all form word words = next_by_form form words (form (word ∷ words))
 abbrev pub all_with : {A : Type 0} → List A → Option (List A) → Option (List A)
 all_with held read = option_map (λ xs. held ++ xs) read
 
-pub all_at_first : {A : Type 0} (read : Option (List A)) → all_with [] read ≡ read
-all_at_first None = refl
-all_at_first (Some read) = refl
-
 all_one : {A : Type 0} (held : List A) (x : A) (read : Option (List A)) → all_with held (option_map (with_first x) read) ≡ all_with (held ++ x ∷ []) read
 all_one held x None = refl
 all_one held x (Some read) = ap Some (sym (append_assoc held (x ∷ []) read))

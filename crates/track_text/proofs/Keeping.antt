@@ -266,12 +266,6 @@ times-first (suc count) es h =
 pub full-add : (es more : List Entry) → is_full es ≡ true → cut 10001 es ≡ cut 10001 (es ++ more)
 full-add es more h = sym (full-cut 10001 es more (full-length es h))
 
-pub counted-track : (es : List Entry) (e : Entry) (more : ℕ) → is_track e ≡ true → more ≡ 1 → length (tracks_of es) + more ≡ length (tracks_of (es ++ e ∷ []))
-counted-track es e more t m = sym (counted es e ∙ ap (λ (b : Bool). length (tracks_of es) + (if b then 1 else 0)) t ∙ ap (λ (n : ℕ). length (tracks_of es) + n) (sym m))
-
-pub counted-name : (es : List Entry) (e : Entry) (more : ℕ) → is_track e ≡ false → more ≡ 0 → length (tracks_of es) + more ≡ length (tracks_of (es ++ e ∷ []))
-counted-name es e more t m = sym (counted es e ∙ ap (λ (b : Bool). length (tracks_of es) + (if b then 1 else 0)) t ∙ ap (λ (n : ℕ). length (tracks_of es) + n) (sym m))
-
 pub run-written : (run more : List Entry) (count : ℕ) (body left : List Entry) → cut 10001 more ≡ cut 10001 (run ++ times count (thin [] body)) → kept (more ++ left) ≡ kept (run ++ (times count body ++ left))
 run-written run more count body left e =
     kept-same more (run ++ times count body) left (kept-cut more (run ++ times count (thin [] body)) e ∙ kept-repeated count run body)

@@ -106,19 +106,6 @@ kept-few es = few 10000 (tracks_of es)
 
 -- ---- the first automatic repeat
 
-pub all-more : (parts : List Part) (i : ℕ) (x : Part) → i < length parts → get_or parts i x ≡ x → list_all is_written (take i parts) ≡ true → is_written x ≡ true → list_all is_written (take (i + 1) parts) ≡ true
-all-more [] i x h e a w = let wrong : ⊥ = omega arith in elim wrong [ ]
-all-more (y ∷ parts) zero x h e a w = ap (λ (b : Bool). b && true) (ap is_written e ∙ w)
-all-more (y ∷ parts) (suc i) x h e a w =
-    let n : suc i + 1 ≡ suc (i + 1) = omega arith in
-    ap (λ (n : ℕ). list_all is_written (take n (y ∷ parts))) n ∙ by_test (is_written y) a (λ b. all-more parts i x (omega arith) e b w) where
-      by_test : (b : Bool) → (b && list_all is_written (take i parts)) ≡ true → (list_all is_written (take i parts) ≡ true → list_all is_written (take (i + 1) parts) ≡ true) → (b && list_all is_written (take (i + 1) parts)) ≡ true
-      by_test true a h = h a
-      by_test false a h = a
-
-pub at-repeat : (parts : List Part) (i : ℕ) (x : Part) → i < length parts → get_or parts i x ≡ x → parts ≡ take i parts ++ x ∷ drop (i + 1) parts
-at-repeat parts i x h e = sym (take-append-drop i parts) ∙ ap (λ (xs : List Part). take i parts ++ xs) (from_there parts i x h e)
-
 abbrev without_repeat : List Track → List (List Word) → Option ReadList
 without_repeat sizes names = Some (record { sizes = sizes; names = names; repeat = None })
 

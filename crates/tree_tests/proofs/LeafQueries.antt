@@ -47,9 +47,6 @@ fits_height s width w e =
       block = refl;
     }
 
-pub leaf_measurable : (a : Nodes Node) (id : NodeId) → IsLeafTree a id → IsKind (sight_at (bare a.tree) id).label.kind
-leaf_measurable a id h = subst IsKind (sym h.kind) (record { some_width = record { le = tt }; some_height = record { le = tt } })
-
 pub leaf_is : (a : Nodes Node) (id : NodeId) → IsLeafTree a id → is_leaf (sight_at (bare a.tree) id).label.kind ≡ true
 leaf_is a id h = ap is_leaf h.kind
 
