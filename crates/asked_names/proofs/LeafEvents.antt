@@ -97,6 +97,7 @@ module _ (b : BareTrees) (d : IsDistinct b) (named : AreNamed b) (width height :
           let under = fresh.under f.parent f.index (f.is ∙ ap Some same_one) in
           let leaf : is_leaf (sight_at b f.child).label.kind ≡ true = subst (λ z. is_leaf (sight_at b z).label.kind ≡ true) (sym same_one) fresh.leaf in
           let kept : IsSome (answer_to (height_asked (sight_at b f.child).label f.frame.rect.width) (kept_in new f.child)) = measured f.parent f.query f.on_path under.0 (ap (answer_to f.query) under.1) f.index f.child f.frame f.others f.is leaf f.there in
-          let here : IsSome (answer_to (height_asked (sight_at b c).label box.1.width) (kept_in new c)) = subst (λ z. IsSome (answer_to (height_asked (sight_at b z).label box.1.width) (kept_in new z))) same_one (subst (λ w. IsSome (answer_to (height_asked (sight_at b f.child).label w) (kept_in new f.child))) (sym f.across) kept) in
+          let here : IsSome (answer_to (height_asked (sight_at b c).label box.1.width) (kept_in new c)) = subst (λ z. IsSome (answer_to (height_asked (sight_at b z).label box.1.width) (kept_in new z))) same_one
+          (subst (λ w. IsSome (answer_to (height_asked (sight_at b f.child).label w) (kept_in new f.child))) (sym f.across) kept) in
           let r = height_asked (sight_at b c).label box.1.width in
           event_there b c r (measured_at b c box.1.width) added (leaf_event b c box.1.width fresh.leaf) (has_new r (entries_of c added) (subst (λ l. IsSome (answer_to r l)) (grown c ∙ ap (λ l. kept_with l (entries_of c added)) fresh.own) here))

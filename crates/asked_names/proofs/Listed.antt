@@ -179,7 +179,10 @@ module _ (leads : Label → List Link → List Kid → Query → List ToChild) (
   pub found_all : (root : NodeId) (told : List ToChild) (y : ToNode) → top_numbers b ≡ root ∷ [] → ((q : Query) → Contains told (0, q) → P root q) → Contains (spread leads above_root 0 told (tree (sight_at b root).label (sight_at b root).below leafless)) y → IsFound y
   unfolding Ends AreTrue Below
   found_all root told y top true_told h =
-      at (Contains-append_cases (map {B = ToNode} (λ (q : Query). ((sight_at b root).label.name, q)) own ++ spread leads (above_of (sight_at b root).label [] (sight_at b root).below) 0 (all_of (map (leads (sight_at b root).label [] (kids_of (above_of (sight_at b root).label [] (sight_at b root).below) 0 (sight_at b root).below)) own)) (sight_at b root).below) [] y h)
+      at
+      (Contains-append_cases
+      (map {B = ToNode} (λ (q : Query). ((sight_at b root).label.name, q)) own ++
+      spread leads (above_of (sight_at b root).label [] (sight_at b root).below) 0 (all_of (map (leads (sight_at b root).label [] (kids_of (above_of (sight_at b root).label [] (sight_at b root).below) 0 (sight_at b root).below)) own)) (sight_at b root).below) [] y h)
     where
       own : List Query
       own = without_repeats (for_child 0 told)
@@ -187,7 +190,10 @@ module _ (leads : Label → List Link → List Kid → Query → List ToChild) (
       alone : Seen
       alone = record { label = (sight_at b root).label; chain = []; below = (sight_at b root).below }
 
-      at : Contains (map {B = ToNode} (λ (q : Query). ((sight_at b root).label.name, q)) own ++ spread leads (above_of (sight_at b root).label [] (sight_at b root).below) 0 (all_of (map (leads (sight_at b root).label [] (kids_of (above_of (sight_at b root).label [] (sight_at b root).below) 0 (sight_at b root).below)) own)) (sight_at b root).below) y ⊎ Contains {X = ToNode} [] y → IsFound y
+      at : Contains
+          (map {B = ToNode} (λ (q : Query). ((sight_at b root).label.name, q)) own ++
+          spread leads (above_of (sight_at b root).label [] (sight_at b root).below) 0 (all_of (map (leads (sight_at b root).label [] (kids_of (above_of (sight_at b root).label [] (sight_at b root).below) 0 (sight_at b root).below)) own)) (sight_at b root).below) y ⊎
+          Contains {X = ToNode} [] y → IsFound y
       at (inl there) =
           one_found root alone (below_at b root) own y (λ j. record { label = (sight_at b root).label; chain = sym (top_chain b root top) j; below = (sight_at b root).below }) (below_seen b root) refl (λ q k. true_told q (own_asked 0 told q k))
           (λ l ends true_l k. found (below_at b root) root 0 y l ends true_l k) there

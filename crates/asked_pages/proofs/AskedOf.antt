@@ -79,7 +79,8 @@ parts_fit (tree x below after) n h = at (same x.0 n) (fit_either (part_at (mappe
     leaf_is kind.Flex e = absurd (true≢false e)
     leaf_is (kind.Leaf content) e = refl
 
-    at : (c : Bool) → IsFit (either (part_at (mapped (λ n v. bare_of v) below) n) (part_at (mapped (λ n v. bare_of v) after) n)) → IsFit (if c then Some (bare_of x.1, mapped (λ n v. bare_of v) below) else either (part_at (mapped (λ n v. bare_of v) below) n) (part_at (mapped (λ n v. bare_of v) after) n))
+    at : (c : Bool) → IsFit (either (part_at (mapped (λ n v. bare_of v) below) n) (part_at (mapped (λ n v. bare_of v) after) n)) →
+        IsFit (if c then Some (bare_of x.1, mapped (λ n v. bare_of v) below) else either (part_at (mapped (λ n v. bare_of v) below) n) (part_at (mapped (λ n v. bare_of v) after) n))
     at true k = λ leaf. no_trees below (h.0 (leaf_is x.1.kind leaf))
     at false k = k
 

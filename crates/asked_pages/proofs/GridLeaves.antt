@@ -158,7 +158,8 @@ module _ (test : List ℕ → Bool) (whole : NodeTrees) where
   top_found leafless x p h = absurd (omega (arith, h.1))
   top_found (tree y below after) x p h = at (top_found after x p.1.1) (Contains-append_cases (if is_leaf y.1.kind then label_in (y.0, bare_of y.1) ∷ [] else []) (leaves_among (map_trees label_in (mapped (λ n v. bare_of v) after))) x h)
     where
-      at : (Contains (leaves_among (map_trees label_in (mapped (λ n v. bare_of v) after))) x → IsTop after x) → Contains (if is_leaf y.1.kind then label_in (y.0, bare_of y.1) ∷ [] else []) x ⊎ Contains (leaves_among (map_trees label_in (mapped (λ n v. bare_of v) after))) x → IsTop (tree y below after) x
+      at : (Contains (leaves_among (map_trees label_in (mapped (λ n v. bare_of v) after))) x → IsTop after x) → Contains (if is_leaf y.1.kind then label_in (y.0, bare_of y.1) ∷ [] else []) x ⊎ Contains (leaves_among (map_trees label_in (mapped (λ n v. bare_of v) after))) x →
+          IsTop (tree y below after) x
       at found (inl here) =
           let one = one_there (label_in (y.0, bare_of y.1)) x (is_leaf y.1.kind) here in
           record {
@@ -211,7 +212,8 @@ module _ (test : List ℕ → Bool) (whole : NodeTrees) where
       rest f g (inr later) = g later
 
       at : (Contains (leaves_of_grids (map_trees label_in (mapped (λ n v. bare_of v) below))) x → IsGridLeaf x) → (Contains (leaves_of_grids (map_trees label_in (mapped (λ n v. bare_of v) after))) x → IsGridLeaf x)
-          → Contains (if is_grid_kind y.1.kind then leaves_among (map_trees label_in (mapped (λ n v. bare_of v) below)) else []) x ⊎ Contains (leaves_of_grids (map_trees label_in (mapped (λ n v. bare_of v) below)) ++ leaves_of_grids (map_trees label_in (mapped (λ n v. bare_of v) after))) x → IsGridLeaf x
+          → Contains (if is_grid_kind y.1.kind then leaves_among (map_trees label_in (mapped (λ n v. bare_of v) below)) else []) x ⊎
+          Contains (leaves_of_grids (map_trees label_in (mapped (λ n v. bare_of v) below)) ++ leaves_of_grids (map_trees label_in (mapped (λ n v. bare_of v) after))) x → IsGridLeaf x
       at f g (inl k) = own (is_grid_kind y.1.kind) refl k
       at f g (inr k) = rest f g (Contains-append_cases (leaves_of_grids (map_trees label_in (mapped (λ n v. bare_of v) below))) _ x k)
 

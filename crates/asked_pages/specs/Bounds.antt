@@ -8,8 +8,10 @@ use Rattle.page_tree.specs.Pages.{Held, document_of}
 use Rattle.asked_pages.specs.AskedOf.{asked_of, containers_by}
 use Rattle.asked_pages.specs.Leaves.{AreAllMeasured, IsEmptied}
 
--- The answers that a layout of a page kept. Each is to a question that laying out the document can ask. There are no more than such questions, where no node has
--- more than sixteen of them; and at least as many as containers that kept nothing before, of those with names that pass a test. And the leaves with such names that are
+-- The answers that a layout of a page kept. Each is to a question that laying out the document can ask. There are no more than such questions, where no node
+-- has
+-- more than sixteen of them; and at least as many as containers that kept nothing before, of those with names that pass a test. And the leaves with such names
+-- that are
 -- children of grids were measured at the content widths of their boxes.
 pub record IsBounded (page : Held) (entries : List Entry) : Type 0 where
   pub listed : AreAsked (IsListed (bare page.nodes.tree) (asked_of (document_of page))) entries

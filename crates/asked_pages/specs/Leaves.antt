@@ -35,7 +35,8 @@ measured_in x box = Measured x.name (At (content_of_box (inner x.grid.columns) b
 -- each leaf of a document that is a child of a grid and whose name passes a test was measured at the content width of its box
 abbrev pub AreAllMeasured : (List ℕ → Bool) → Doc → List Event → Type 0
 AreAllMeasured test doc events =
-    (x : rules.Label) → Contains (leaves_of_grids (labels_of doc)) x → test x.name ≡ true → (box : Box) → Contains (boxes_of doc) box → box.0 ≡ x.name → Contains events (measured_in x box)
+    (x : rules.Label) → Contains (leaves_of_grids (labels_of doc)) x → test x.name ≡ true → (box : Box) → Contains (boxes_of doc) box →
+    box.0 ≡ x.name → Contains events (measured_in x box)
 
 -- ---- nodes that keep nothing
 

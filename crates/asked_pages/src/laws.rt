@@ -33,9 +33,18 @@ use page_tree::{Page, pages_stand};
 /// measured at the content width of its box.
 pub fn layouts_of_pages(page: &Page)
     requires valid { IsValid (document_of page.now) }
-    ensures asked { (m : NodeId) (q : Query) → IsAsked (bare page.now.nodes.tree) page.now.width page.now.height m q → IsListed (bare page.now.nodes.tree) (asked_of (document_of page.now)) m q }
-    ensures path { (m : NodeId) (q : Query) → IsOnPath (bare page.now.nodes.tree) page.now.width page.now.height m q → Contains (path_of (document_of page.now)) (name_in (bare page.now.nodes.tree) m, q) }
-    ensures bounded { (old new : State) → old.arena ≡ page.now.nodes → (walk : Walk (IsAsked (bare page.now.nodes.tree) page.now.width page.now.height) 0 [] old new) → IsRight new.arena.tree → IsPathKept (bare page.now.nodes.tree) page.now.width page.now.height new → AreMeasured (bare page.now.nodes.tree) page.now.width page.now.height old new → IsBounded page.now walk.added }
+    ensures asked { (m : NodeId) (q : Query) →
+        IsAsked (bare page.now.nodes.tree) page.now.width page.now.height m q →
+        IsListed (bare page.now.nodes.tree) (asked_of (document_of page.now)) m q }
+    ensures path { (m : NodeId) (q : Query) →
+        IsOnPath (bare page.now.nodes.tree) page.now.width page.now.height m q →
+        Contains (path_of (document_of page.now)) (name_in (bare page.now.nodes.tree) m, q) }
+    ensures bounded { (old new : State) → old.arena ≡ page.now.nodes →
+        (walk : Walk (IsAsked (bare page.now.nodes.tree) page.now.width page.now.height) 0 [] old
+        new) → IsRight new.arena.tree →
+        IsPathKept (bare page.now.nodes.tree) page.now.width page.now.height new →
+        AreMeasured (bare page.now.nodes.tree) page.now.width page.now.height old new →
+        IsBounded page.now walk.added }
 {
     pages_stand(page);
 }
@@ -45,11 +54,15 @@ pub fn layouts_of_pages(page: &Page)
 /// parent of each leaf before this change are joined with those that it touches, they hold it after
 /// the change.
 pub fn changes_touch_parents()
-    ensures alone { (c : Change) (old : Doc) → IsShaped old.version (tree_of old) → CanTurn c old → PassesUp (touches c old (turned c old)) (tree_of (turned c old)) }
-    ensures joined { (c : Change) (old : Doc) (test : List ℕ → Bool) → IsShaped old.version (tree_of old) → CanTurn c old → PassesUp test (tree_of old) → PassesUp (λ name. test name || touches c old (turned c old) name) (tree_of (turned c old)) }
+    ensures alone { (c : Change) (old : Doc) → IsShaped old.version (tree_of old) → CanTurn c old →
+        PassesUp (touches c old (turned c old)) (tree_of (turned c old)) }
+    ensures joined { (c : Change) (old : Doc) (test : List ℕ → Bool) →
+        IsShaped old.version (tree_of old) → CanTurn c old → PassesUp test (tree_of old) →
+        PassesUp (λ name. test name || touches c old (turned c old) name) (tree_of (turned c old)) }
 {}
 
 /// Where an edit touches a leaf of the document after it, it touches the parent of the leaf.
 pub fn edits_touch_parents()
-    ensures { (e : Edit) (old new : Doc) → IsShaped old.version (tree_of old) → NamesItsNode e → edited e old ≡ Ok new → PassesUp (is_touched e old new) (tree_of new) }
+    ensures { (e : Edit) (old new : Doc) → IsShaped old.version (tree_of old) → NamesItsNode e →
+        edited e old ≡ Ok new → PassesUp (is_touched e old new) (tree_of new) }
 {}

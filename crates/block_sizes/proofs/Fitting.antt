@@ -153,7 +153,9 @@ module _ (b : BareTrees) (n : NodeId) (base : GridBase) (e : ChildArea) (h : IsC
   block_own width size is v = v ∙ ap (λ (t : Bool). if t then pos 0 else (down_seen b base e width).block) (sym is)
 
   own_items : Given → List Item
-  own_items width = child_item (context_at (sight_at b n) base.pairs).rows.levels (kid_at b e.child).label.content.border_box (kid_at b e.child).label.content.scrolls (kid_at b e.child).label.grid.rows (kid_at b e.child).label.content.block e.area.rows ((down_seen b base e width).block, (down_seen b base e width).block) ∷ []
+  own_items width =
+      child_item (context_at (sight_at b n) base.pairs).rows.levels (kid_at b e.child).label.content.border_box (kid_at b e.child).label.content.scrolls (kid_at b e.child).label.grid.rows (kid_at b e.child).label.content.block e.area.rows
+      ((down_seen b base e width).block, (down_seen b base e width).block) ∷ []
 
   pub items_lent : (width : Given) (old new : List Item) → shares_rows (kid_at b e.child) ≡ true → new ≡ old ++ (down_seen b base e width).lend_rows → new ≡ old ++ items_seen b n base e width
   unfolding own_items
@@ -164,7 +166,10 @@ module _ (b : BareTrees) (n : NodeId) (base : GridBase) (e : ChildArea) (h : IsC
   unfolding own_items
   items_own width old new item size is laid v made grown =
       grown
-      ∙ ap (λ (i : Item). old ++ i ∷ []) (made ∙ (λ j. child_item (rows_above (context_at (sight_at b n) base.pairs) base.above laid.context j) (kid_at b e.child).label.content.border_box (kid_at b e.child).label.content.scrolls (kid_at b e.child).label.grid.rows (kid_at b e.child).label.content.block e.area.rows (v j, v j)))
+      ∙ ap (λ (i : Item). old ++ i ∷ [])
+      (made ∙
+      (λ j. child_item (rows_above (context_at (sight_at b n) base.pairs) base.above laid.context j) (kid_at b e.child).label.content.border_box (kid_at b e.child).label.content.scrolls (kid_at b e.child).label.grid.rows (kid_at b e.child).label.content.block e.area.rows
+      (v j, v j)))
       ∙ ap (λ (t : Bool). old ++ (if t then (down_seen b base e width).lend_rows else own_items width)) (sym is)
 
 -- ---- how far edges lie apart
@@ -194,7 +199,8 @@ few_tracks (negsuc k) n h = omega (arith, ints)
 lies_within : (tracks span : Span) → IsWithin tracks.start tracks.end span → track_count tracks ≤ 131072 → LiesIn tracks span
 lies_within tracks span w few = record { start = w.low; order = omega (arith, ints, w.some); end = w.high; few = few_tracks (tracks.end -ℤ tracks.start) 131072 few }
 
-pub child_here : (b : BareTrees) (n : NodeId) (outer : List Pair) (width : Given) (parts : GridParts) (e : ChildArea) (k : ℕ) → IsGrid b n outer width parts → IsTree b → IsEntry b n parts.base e → HasLines (context_at (sight_at b n) parts.base.pairs) → HasItemsInTracks (sight_at b n) (grid_seen b n outer width) →
+pub child_here : (b : BareTrees) (n : NodeId) (outer : List Pair) (width : Given) (parts : GridParts) (e : ChildArea) (k : ℕ) → IsGrid b n outer width parts → IsTree b → IsEntry b n parts.base e → HasLines (context_at (sight_at b n) parts.base.pairs) →
+    HasItemsInTracks (sight_at b n) (grid_seen b n outer width) →
     drop k (entries_at b n parts.base.placed) ≡ entry_by b e ∷ drop (k + 1) (entries_at b n parts.base.placed) → IsChildIn b n parts.base e
 child_here b n outer width parts e k grid tree entry lines items next =
     record {

@@ -34,7 +34,8 @@ keepable b n outer width t laid held told is same rows =
     subst (λ (w : GridWide). IsKeepable b n w t.column_ends t.row_ends) (sym (is ∙ same)) made
 
 -- The block size of the grid that a question asks for is the answer to it.
-pub laid_answer : (b d : BareTrees) → d ≡ b → (n : NodeId) (q : Query) (outer : List Pair) (size : ℤ) → outer ≡ q.reps → (sight_at b n).label.kind ≡ kind.Grid → q.ask ≡ ask.Block → size ≡ grid_block (grid_seen d n outer q.inline) (rows_seen d n outer q.inline) → block_size size ≡ answer_of (sight_at b n) q
+pub laid_answer : (b d : BareTrees) → d ≡ b → (n : NodeId) (q : Query) (outer : List Pair) (size : ℤ) → outer ≡ q.reps → (sight_at b n).label.kind ≡ kind.Grid → q.ask ≡ ask.Block → size ≡ grid_block (grid_seen d n outer q.inline) (rows_seen d n outer q.inline) →
+    block_size size ≡ answer_of (sight_at b n) q
 laid_answer b d is n q outer size same grid asks made =
     ap block_size (made ∙ (λ i. grid_block (grid_seen (is i) n (same i) q.inline) (rows_seen (is i) n (same i) q.inline)))
     ∙ grid_answer b n q grid asks

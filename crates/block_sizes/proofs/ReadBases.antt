@@ -21,5 +21,6 @@ module _ (b : BareTrees) (n : NodeId) (outer : List Pair) (width : Given) where
   read_wide w read is h = subst (λ (base : GridBase). IsWide b n outer width (record w { parts = record w.parts { base = base } })) (sym is) h
 
 -- the child that comes next in it
-pub read_next : (b : BareTrees) (n : NodeId) (base read : GridBase) → read ≡ base → (k : ℕ) (e : ChildArea) → drop k (entries_at b n read.placed) ≡ entry_by b e ∷ drop (k + 1) (entries_at b n read.placed) → drop k (entries_at b n base.placed) ≡ entry_by b e ∷ drop (k + 1) (entries_at b n base.placed)
+pub read_next : (b : BareTrees) (n : NodeId) (base read : GridBase) → read ≡ base → (k : ℕ) (e : ChildArea) → drop k (entries_at b n read.placed) ≡ entry_by b e ∷ drop (k + 1) (entries_at b n read.placed) →
+    drop k (entries_at b n base.placed) ≡ entry_by b e ∷ drop (k + 1) (entries_at b n base.placed)
 read_next b n base read is k e next = subst (λ (z : GridBase). drop k (entries_at b n z.placed) ≡ entry_by b e ∷ drop (k + 1) (entries_at b n z.placed)) is next

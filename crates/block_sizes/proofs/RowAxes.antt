@@ -44,10 +44,12 @@ levels_of c (above.Grid made) h = ap (λ (d : rules.Context). d.rows.levels) h
 
 module _ (b : BareTrees) (n : NodeId) (outer : List Pair) (width : Given) (w : GridWide) (wide : IsWide b n outer width w) where
   -- the counts of its repetitions, which in the rows depend on no width
-  count_is : (style : StyleMap) (pair : Pair) → grid_of style ≡ (sight_at b n).label.grid → content_of style ≡ (sight_at b n).label.content → pair ≡ own_pair (record { name = []; kind = kind.Grid; grid = grid_of style; content = content_of style }) given.None → pair.1 ≡ (own_pair (sight_at b n).label given.None).1
+  count_is : (style : StyleMap) (pair : Pair) → grid_of style ≡ (sight_at b n).label.grid → content_of style ≡ (sight_at b n).label.content → pair ≡ own_pair (record { name = []; kind = kind.Grid; grid = grid_of style; content = content_of style }) given.None →
+      pair.1 ≡ (own_pair (sight_at b n).label given.None).1
   count_is style pair g c p = ap (λ (q : Pair). q.1) p ∙ (λ i. (own_pair (record { name = []; kind = kind.Grid; grid = g i; content = c i }) given.None).1)
 
-  axis_is : (style : StyleMap) (pair : Pair) (spans : List Span) → grid_of style ≡ (sight_at b n).label.grid → content_of style ≡ (sight_at b n).label.content → pair ≡ own_pair (record { name = []; kind = kind.Grid; grid = grid_of style; content = content_of style }) given.None → spans ≡ map (λ (e : NodeId × Area). e.1.rows) w.parts.base.placed.areas
+  axis_is : (style : StyleMap) (pair : Pair) (spans : List Span) → grid_of style ≡ (sight_at b n).label.grid → content_of style ≡ (sight_at b n).label.content → pair ≡ own_pair (record { name = []; kind = kind.Grid; grid = grid_of style; content = content_of style }) given.None →
+      spans ≡ map (λ (e : NodeId × Area). e.1.rows) w.parts.base.placed.areas
       → track_axis 1 style pair.1 spans w.parts.base.placed.rows w.items ≡ rows_seen b n outer width
   unfolding grid_seen rows_seen
   axis_is style pair spans g c p s =
@@ -73,7 +75,8 @@ module _ (b : BareTrees) (n : NodeId) (outer : List Pair) (width : Given) (w : G
       }
 
   -- and their total is the block size of the grid
-  pub rows_total_is : (style : StyleMap) (pair : Pair) (spans : List Span) (items : List Item) (total : ℤ) → grid_of style ≡ (sight_at b n).label.grid → content_of style ≡ (sight_at b n).label.content → pair ≡ own_pair (record { name = []; kind = kind.Grid; grid = grid_of style; content = content_of style }) given.None → spans ≡ map (λ (e : NodeId × Area). e.1.rows) w.parts.base.placed.areas
+  pub rows_total_is : (style : StyleMap) (pair : Pair) (spans : List Span) (items : List Item) (total : ℤ) → grid_of style ≡ (sight_at b n).label.grid → content_of style ≡ (sight_at b n).label.content →
+      pair ≡ own_pair (record { name = []; kind = kind.Grid; grid = grid_of style; content = content_of style }) given.None → spans ≡ map (λ (e : NodeId × Area). e.1.rows) w.parts.base.placed.areas
       → items ≡ w.items → sees_rows (sight_at b n) ≡ false → HasItemsInTracks (sight_at b n) (grid_seen b n outer width)
       → total ≡ total_for {axis = 1} (track_axis 1 style pair.1 spans w.parts.base.placed.rows items) MaxContent
       → total ≡ grid_block (grid_seen b n outer width) (rows_seen b n outer width)
@@ -89,7 +92,8 @@ module _ (b : BareTrees) (n : NodeId) (outer : List Pair) (width : Given) (w : G
   few_rows h = subst (λ (s : Span). track_count s ≤ 131072) (sym (tracks_are b n outer width w.parts wide.grid)) h.inside.few_rows
 
   -- rows that last lie so in a content box of their total
-  pub rows_hold : (style : StyleMap) (pair : Pair) (spans : List Span) (items : List Item) (made : SizedTracks) (total : ℤ) (r : RowsAt) → grid_of style ≡ (sight_at b n).label.grid → content_of style ≡ (sight_at b n).label.content → pair ≡ own_pair (record { name = []; kind = kind.Grid; grid = grid_of style; content = content_of style }) given.None
+  pub rows_hold : (style : StyleMap) (pair : Pair) (spans : List Span) (items : List Item) (made : SizedTracks) (total : ℤ) (r : RowsAt) → grid_of style ≡ (sight_at b n).label.grid → content_of style ≡ (sight_at b n).label.content →
+      pair ≡ own_pair (record { name = []; kind = kind.Grid; grid = grid_of style; content = content_of style }) given.None
       → spans ≡ map (λ (e : NodeId × Area). e.1.rows) w.parts.base.placed.areas → items ≡ w.items → IsCounted w.parts.base.placed.rows made
       → sized_of made ≡ sized_for {axis = 1} (track_axis 1 style pair.1 spans w.parts.base.placed.rows items) (Definite total) (Some total)
       → r.size ≡ total → r.view ≡ record { edges = edges_in (content_at 1 style).distribution total (sized_of made); gap = made.gap } → length r.view.edges ≡ length made.rules → AreSpread (2 ^ 50 + 2 ^ 34) r.view.edges

@@ -173,7 +173,8 @@ view_spread outer span g by i u h =
     let inside : AreBetween h.low h.high tracks = over_between h.low h.high outer.edges span h.between in
     let low : h.low ≤ℤ first_start tracks = first_low h.low h.high tracks h.below inside in
     let high : first_start tracks ≤ℤ h.high = first_high h.low h.high tracks h.above inside in
-    let s : AreSmall (gap_by (Some content) outer.gap g.gap -ℤ outer.gap) (outer_start g) content = small (gap_by (Some content) outer.gap g.gap) outer.gap (outer_start g) content (gap_units content outer.gap g.gap u i.gap) u (outer_start_units g i) (clamped (int_max (pos 0) (area_size tracks -ℤ outer_start g -ℤ outer_end g))) in
+    let s : AreSmall (gap_by (Some content) outer.gap g.gap -ℤ outer.gap) (outer_start g) content = small (gap_by (Some content) outer.gap g.gap) outer.gap (outer_start g) content (gap_units content outer.gap g.gap u i.gap) u (outer_start_units g i)
+    (clamped (int_max (pos 0) (area_size tracks -ℤ outer_start g -ℤ outer_end g))) in
     record {
       low = h.low -ℤ first_start tracks -ℤ pos 4294967296;
       high = h.high -ℤ first_start tracks +ℤ pos 4294967296;

@@ -85,7 +85,8 @@ sides_are p q e =
     let sides = and_parts (int_eq p.before q.before) (int_eq p.after q.after) all.1 in
     ((Decides-int_eq p.gap q.gap).0 all.0, (Decides-int_eq p.before q.before).0 sides.0, (Decides-int_eq p.after q.after).0 sides.1)
 
-pub seen_again : {axis : ℕ} (outer : View axis) (last : LastTracks) (p : ViewParts) (tracks : List (ℤ × ℤ)) → tracks ≡ last.tracks → AreMadeIn outer last → same_sides last.parts p ≡ true → AreSeenAlike (tracks_over outer.edges last.parts.span) (tracks_over outer.edges p.span) → AreTracksOf outer p tracks
+pub seen_again : {axis : ℕ} (outer : View axis) (last : LastTracks) (p : ViewParts) (tracks : List (ℤ × ℤ)) → tracks ≡ last.tracks → AreMadeIn outer last → same_sides last.parts p ≡ true → AreSeenAlike (tracks_over outer.edges last.parts.span) (tracks_over outer.edges p.span) →
+    AreTracksOf outer p tracks
 seen_again outer last p tracks t h s a =
     let sides = sides_are last.parts p s in
     record { same = t ∙ h.tracks.same ∙ (λ i. seen (sides.0 i -ℤ outer.gap) (sides.1 i) (sides.2 i) (tracks_over outer.edges last.parts.span)) ∙ a.same (p.gap -ℤ outer.gap) p.before p.after }

@@ -126,7 +126,8 @@ inner_more [] i h u = (u, tt)
 inner_more (j ∷ items) i h u = (h.0, inner_more items i h.1 u)
 
 -- one child more has a box
-pub roomy_step : (b : BareTrees) (xs : List Member) (k : ℕ) (x : Member) (old new : List ℤ) (y : ℤ) → k < length xs → x ≡ get_or xs k x → AreRoomy (map (member_of b) (take k xs)) old → new ≡ old ++ y ∷ [] → inner (kid_at b x.child).label.grid.columns ≤ℤ y → AreRoomy (map (member_of b) (take (k + 1) xs)) new
+pub roomy_step : (b : BareTrees) (xs : List Member) (k : ℕ) (x : Member) (old new : List ℤ) (y : ℤ) → k < length xs → x ≡ get_or xs k x → AreRoomy (map (member_of b) (take k xs)) old → new ≡ old ++ y ∷ [] → inner (kid_at b x.child).label.grid.columns ≤ℤ y →
+    AreRoomy (map (member_of b) (take (k + 1) xs)) new
 roomy_step b xs k x old new y h is room grown fits =
     let more : map (member_of b) (take k xs) ++ member_of b x ∷ [] ≡ map (member_of b) (take (k + 1) xs) =
     ap (λ (z : Member). map (member_of b) (take k xs) ++ member_of b z ∷ []) is ∙ sym (map-append (member_of b) (take k xs) (get_or xs k x ∷ [])) ∙ ap (map (member_of b)) (sym (take_more xs k x h)) in

@@ -32,7 +32,8 @@ pub stops_at_once : (n : NodeId) (s : State) (Leads : Query → Type 0) → IsRi
 stops_at_once n s Leads right q leads = stopped n q 0 s s (walked_none n q s right)
 
 -- a child of a grid, at this place in the order of the areas
-module _ (b d : BareTrees) (is : d ≡ b) (n : NodeId) (outer : List Pair) (width : Given) (parts : GridParts) (grid : IsGrid b n outer width parts) (steps : StepsDown b) (read : GridBase) (same : read ≡ parts.base) (view : View 0) (v : view ≡ columns_seen b n outer width) (e : ChildArea) (sizes : ℤ × ℤ) (k : ℕ)
+module _ (b d : BareTrees) (is : d ≡ b) (n : NodeId) (outer : List Pair) (width : Given) (parts : GridParts) (grid : IsGrid b n outer width parts) (steps : StepsDown b) (read : GridBase) (same : read ≡ parts.base) (view : View 0) (v : view ≡ columns_seen b n outer width)
+    (e : ChildArea) (sizes : ℤ × ℤ) (k : ℕ)
     (next : drop k (entries_at d n parts.base.placed) ≡ entry_by d e ∷ drop (k + 1) (entries_at d n parts.base.placed)) (there : drop k parts.inlines ≡ sizes ∷ drop (k + 1) parts.inlines) (number : child_at d n e.number ≡ Some e.child)
     (old mid new : State) (here : bare_in mid ≡ d) (before : (q : Query) → LeadsDown b n outer width q → WalkedBelow n q 0 old mid) where
   turn : IsTurn b d n outer width read view e sizes k

@@ -101,7 +101,8 @@ rows_items b n outer width = refl
 
 -- ---- a walk of a child, in the middle of one of the grid
 
-module _ (b d : BareTrees) (is : d ≡ b) (n : NodeId) (outer : List Pair) (width : Given) (w : Wide) (c : NodeId) (r : Query) (k : ℕ) (next : drop k (wides_seen b n outer width) ≡ w ∷ drop (k + 1) (wides_seen b n outer width)) (asked : r ≡ asks_of b n outer width w) (steps : StepsDown b) (number : child_at b n w.entry.number ≡ Some c) (q : Query) (leads : LeadsDown b n outer width q) (old mid new : State) (here : bare_in mid ≡ d) (before : WalkedBelow n q 0 old mid) where
+module _ (b d : BareTrees) (is : d ≡ b) (n : NodeId) (outer : List Pair) (width : Given) (w : Wide) (c : NodeId) (r : Query) (k : ℕ) (next : drop k (wides_seen b n outer width) ≡ w ∷ drop (k + 1) (wides_seen b n outer width)) (asked : r ≡ asks_of b n outer width w)
+    (steps : StepsDown b) (number : child_at b n w.entry.number ≡ Some c) (q : Query) (leads : LeadsDown b n outer width q) (old mid new : State) (here : bare_in mid ≡ d) (before : WalkedBelow n q 0 old mid) where
   step_here : IsStep b n w.entry.number c
   step_here = steps n c w.entry.number number
 

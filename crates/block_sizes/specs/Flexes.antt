@@ -19,7 +19,9 @@ row_lines_by x width items = rules.lines_by x width (gap_by (Some width) (pos 0)
 
 -- The cross sizes of the lines, by the hypothetical cross sizes of the children with their margins.
 abbrev pub crosses_by : Bool → Label → List ℤ → List (ℕ × ℕ) → Option ℤ → List ℤ
-crosses_by column x outers ranges cross = line_crosses outers ranges cross (gap_by cross (pos 0) (rules.cross_grid column x).gap) x.content.wrap (stretches x.content.block.distribution.mode)
+crosses_by column x outers ranges cross =
+    line_crosses outers ranges cross (gap_by cross (pos 0) (rules.cross_grid column x).gap) x.content.wrap
+    (stretches x.content.block.distribution.mode)
 
 -- the block size of a row, by the same
 abbrev pub row_block_by : Label → List ℤ → List (ℕ × ℕ) → ℤ

@@ -31,7 +31,9 @@ AreRoomy (m ∷ members) (x ∷ boxes) = (inner m.kid.label.grid.columns ≤ℤ 
 
 -- A question to the container that leads to a question to each of these children, for its block size.
 abbrev pub LeadsTo : BareTrees → NodeId → List ℤ → Query → Type 0
-LeadsTo b n boxes q = (k : ℕ) (s : rules.Settled) → drop k (settled_seen b n boxes) ≡ s ∷ drop (k + 1) (settled_seen b n boxes) → Contains (uses_at b n q) (s.member.number, block_query false [] s.inline)
+LeadsTo b n boxes q =
+    (k : ℕ) (s : rules.Settled) → drop k (settled_seen b n boxes) ≡ s ∷ drop (k + 1) (settled_seen b n boxes) →
+    Contains (uses_at b n q) (s.member.number, block_query false [] s.inline)
 
 -- the children of a row as items along the inline axis
 abbrev pub row_items_seen : BareTrees → NodeId → ℤ → List FlexItem

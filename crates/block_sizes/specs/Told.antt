@@ -39,5 +39,13 @@ pub record ArePastIn (b : BareTrees) (n : NodeId) (base : GridBase) (columns : V
 pub record IsToldWide (b : BareTrees) (n : NodeId) (outer : List Pair) (width : Given) (t : ToldWide) : Type 0 where
   pub wide : IsWide b n outer width t.wide
   pub columns : AreColumns (sight_at b n) (kid_at b) Each (record { parts = t.wide.parts; ends = t.column_ends })
-  pub rows : AreRows (sight_at b n) (kid_at b) t.wide.parts.base Each (record { columns = t.wide.columns; align = (sight_at b n).label.content.inline.items; children = t.wide.children; items = t.wide.items; ends = t.row_ends })
+  pub rows : AreRows (sight_at b n) (kid_at b) t.wide.parts.base Each
+      (record {
+        columns = t.wide.columns;
+        align = (sight_at b n).label.content.inline.items;
+        children = t.wide.children;
+        items = t.wide.items;
+        ends =
+            t.row_ends;
+      })
   pub laid : IfSome t.wide.rows (AreRowsFor (sight_at b n) t.wide.parts.base t.wide.items)

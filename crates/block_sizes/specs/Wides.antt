@@ -70,7 +70,9 @@ items_seen b n base e width = row_items_of (context_at (sight_at b n) base.pairs
 
 -- its inline size in these columns, and what it is given there
 abbrev pub inline_in : BareTrees → NodeId → GridBase → View 0 → ChildArea → ℤ × ℤ → ℤ × Given
-inline_in b n base columns e sizes = inline_of_child (sight_at b n).label.content.inline.items columns (from_first base.placed.columns e.area.columns) (kid_at b e.child).label (shares_columns (kid_at b e.child)) sizes
+inline_in b n base columns e sizes =
+    inline_of_child (sight_at b n).label.content.inline.items columns (from_first base.placed.columns e.area.columns) (kid_at b e.child).label
+    (shares_columns (kid_at b e.child)) sizes
 
 -- the child in these columns
 abbrev pub wide_in : BareTrees → NodeId → GridBase → View 0 → ChildArea → ℤ × ℤ → Wide
@@ -96,7 +98,9 @@ pub record IsChildIn (b : BareTrees) (n : NodeId) (base : GridBase) (e : ChildAr
 
 -- A question to the grid that leads to a question to each of its children, for its block size or its lent rows.
 abbrev pub LeadsDown : BareTrees → NodeId → List Pair → Given → Query → Type 0
-LeadsDown b n outer width q = (k : ℕ) (w : Wide) → drop k (wides_seen b n outer width) ≡ w ∷ drop (k + 1) (wides_seen b n outer width) → Contains (uses_at b n q) (w.entry.number, asks_of b n outer width w)
+LeadsDown b n outer width q =
+    (k : ℕ) (w : Wide) → drop k (wides_seen b n outer width) ≡ w ∷ drop (k + 1) (wides_seen b n outer width) →
+    Contains (uses_at b n q) (w.entry.number, asks_of b n outer width w)
 
 -- the items of these children along the rows
 abbrev pub items_from : BareTrees → NodeId → List Pair → Given → List Wide → List Item

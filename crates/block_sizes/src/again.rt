@@ -67,7 +67,8 @@ fn same_track(a: (i64, i64), b: (i64, i64)) -> bool
 #[tactic(auto, using(layout_cache::proofs::Sames::item_laws))]
 /// Whether some tracks lie where others do.
 fn same_tracks(a: &[(i64, i64)], b: &[(i64, i64)]) -> bool
-    ensures { result ≡ same_items (λ (x : ℤ × ℤ) (y : ℤ × ℤ). int_eq x.0 y.0 && int_eq x.1 y.1) a.now b.now }
+    ensures { result ≡
+        same_items (λ (x : ℤ × ℤ) (y : ℤ × ℤ). int_eq x.0 y.0 && int_eq x.1 y.1) a.now b.now }
 {
     if a.len() != b.len() {
         return false;
@@ -155,10 +156,23 @@ pub(crate) fn keep_told(
 ) -> Result<(), NoMemory>
     requires live { IsLive (bare tree.old.tree) id }
     requires right { IsRight tree.old.tree }
-    requires places { HoldsPlaces (sight_at (bare tree.old.tree) id) (children_at (bare tree.old.tree) id) held.now.parts.base }
-    requires columns { AreColumns (sight_at (bare tree.old.tree) id) (kid_at (bare tree.old.tree)) Each (record { parts = held.now.parts; ends = column_ends }) }
-    requires rows { AreRows (sight_at (bare tree.old.tree) id) (kid_at (bare tree.old.tree)) held.now.parts.base Each (record { columns = held.now.columns; align = (sight_at (bare tree.old.tree) id).label.content.inline.items; children = held.now.children; items = held.now.items; ends = row_ends }) }
-    requires laid { IfSome held.now.rows (AreRowsFor (sight_at (bare tree.old.tree) id) held.now.parts.base held.now.items) }
+    requires places { HoldsPlaces (sight_at (bare tree.old.tree) id)
+        (children_at (bare tree.old.tree) id) held.now.parts.base }
+    requires columns { AreColumns (sight_at (bare tree.old.tree) id) (kid_at (bare tree.old.tree))
+        Each (record { parts = held.now.parts; ends = column_ends }) }
+    requires rows { AreRows (sight_at (bare tree.old.tree) id) (kid_at (bare tree.old.tree))
+        held.now.parts.base Each
+        (record {
+          columns = held.now.columns;
+          align =
+              (sight_at (bare tree.old.tree) id).label.content.inline.items;
+          children =
+              held.now.children;
+          items = held.now.items;
+          ends = row_ends;
+        }) }
+    requires laid { IfSome held.now.rows
+        (AreRowsFor (sight_at (bare tree.old.tree) id) held.now.parts.base held.now.items) }
     ensures right { IsRight tree.new.tree }
     ensures alike { IsAlike tree.old tree.new }
 {

@@ -59,12 +59,24 @@ fn ask_lent<R: Ruler, L: Ledger>(
     requires readable { AreReadable (bare tree.old.tree) }
     requires entry { IsChildIn (bare tree.old.tree) id base.now entry }
     requires shared { shares_rows (kid_at (bare tree.old.tree) entry.child) ≡ true }
-    requires fits { Fits (sight_at (bare tree.old.tree) entry.child) (block_query true (pairs_seen (bare tree.old.tree) base.now entry) width.now) }
+    requires fits { Fits (sight_at (bare tree.old.tree) entry.child)
+        (block_query true (pairs_seen (bare tree.old.tree) base.now entry) width.now) }
     requires spread { IsSpread (farthest (level_at (bare tree.old.tree) entry.child)) width.now }
-    ensures items { OnOk result (items.new ≡ items.old ++ ((kid_at (bare tree.old.tree) entry.child).answers.down (pairs_seen (bare tree.old.tree) base.now entry) width.now).lend_rows) }
+    ensures items { OnOk result
+        (items.new ≡
+        items.old ++
+        ((kid_at (bare tree.old.tree) entry.child).answers.down (pairs_seen (bare tree.old.tree) base.now entry) width.now).lend_rows) }
     ensures right { IsRight tree.new.tree }
-    ensures walked { OnOk result (Walked entry.child (block_query true (pairs_seen (bare tree.old.tree) base.now entry) width.now) (state tree.old tally.old passes.old (R.log ruler.old)) (state tree.new tally.new passes.new (R.log ruler.new))) }
-    ensures stopped { OnErr result (Stopped entry.child (block_query true (pairs_seen (bare tree.old.tree) base.now entry) width.now) (state tree.old tally.old passes.old (R.log ruler.old)) (state tree.new tally.new passes.new (R.log ruler.new))) }
+    ensures walked { OnOk result
+        (Walked entry.child
+        (block_query true (pairs_seen (bare tree.old.tree) base.now entry) width.now)
+        (state tree.old tally.old passes.old (R.log ruler.old))
+        (state tree.new tally.new passes.new (R.log ruler.new))) }
+    ensures stopped { OnErr result
+        (Stopped entry.child
+        (block_query true (pairs_seen (bare tree.old.tree) base.now entry) width.now)
+        (state tree.old tally.old passes.old (R.log ruler.old))
+        (state tree.new tally.new passes.new (R.log ruler.new))) }
 {
     let reps = base.pairs.as_slice();
     if let Some(kept) = kept_rows(tree, entry.child, reps, width) {
@@ -104,12 +116,23 @@ fn ask_block<R: Ruler, L: Ledger>(
     requires readable { AreReadable (bare tree.old.tree) }
     requires entry { IsChildIn (bare tree.old.tree) id base.now entry }
     requires own { shares_rows (kid_at (bare tree.old.tree) entry.child) ≡ false }
-    requires fits { Fits (sight_at (bare tree.old.tree) entry.child) (block_query false (pairs_seen (bare tree.old.tree) base.now entry) width.now) }
+    requires fits { Fits (sight_at (bare tree.old.tree) entry.child)
+        (block_query false (pairs_seen (bare tree.old.tree) base.now entry) width.now) }
     requires spread { IsSpread (farthest (level_at (bare tree.old.tree) entry.child)) width.now }
-    ensures value { IfOk result (λ size. size ≡ ((kid_at (bare tree.old.tree) entry.child).answers.down (pairs_seen (bare tree.old.tree) base.now entry) width.now).block) }
+    ensures value { IfOk result
+        (λ size. size ≡
+        ((kid_at (bare tree.old.tree) entry.child).answers.down (pairs_seen (bare tree.old.tree) base.now entry) width.now).block) }
     ensures right { IsRight tree.new.tree }
-    ensures walked { OnOk result (Walked entry.child (block_query false (pairs_seen (bare tree.old.tree) base.now entry) width.now) (state tree.old tally.old passes.old (R.log ruler.old)) (state tree.new tally.new passes.new (R.log ruler.new))) }
-    ensures stopped { OnErr result (Stopped entry.child (block_query false (pairs_seen (bare tree.old.tree) base.now entry) width.now) (state tree.old tally.old passes.old (R.log ruler.old)) (state tree.new tally.new passes.new (R.log ruler.new))) }
+    ensures walked { OnOk result
+        (Walked entry.child
+        (block_query false (pairs_seen (bare tree.old.tree) base.now entry) width.now)
+        (state tree.old tally.old passes.old (R.log ruler.old))
+        (state tree.new tally.new passes.new (R.log ruler.new))) }
+    ensures stopped { OnErr result
+        (Stopped entry.child
+        (block_query false (pairs_seen (bare tree.old.tree) base.now entry) width.now)
+        (state tree.old tally.old passes.old (R.log ruler.old))
+        (state tree.new tally.new passes.new (R.log ruler.new))) }
 {
     if has_subgrid(node_at(tree, entry.child)) {
         let reps = base.pairs.as_slice();
@@ -162,13 +185,22 @@ fn ask_rows<R: Ruler, L: Ledger>(
     requires readable { AreReadable (bare tree.old.tree) }
     requires laid { IsLaid (bare tree.old.tree) id base.now }
     requires entry { IsChildIn (bare tree.old.tree) id base.now entry }
-    requires fits { Fits (sight_at (bare tree.old.tree) entry.child) (asked_of (bare tree.old.tree) base.now entry width.now) }
+    requires fits { Fits (sight_at (bare tree.old.tree) entry.child)
+        (asked_of (bare tree.old.tree) base.now entry width.now) }
     requires spread { IsSpread (farthest (level_at (bare tree.old.tree) entry.child)) width.now }
-    ensures value { IfOk result (λ size. size ≡ block_seen (bare tree.old.tree) base.now entry width.now) }
-    ensures items { OnOk result (items.new ≡ items.old ++ items_seen (bare tree.old.tree) id base.now entry width.now) }
+    ensures value { IfOk result
+        (λ size. size ≡ block_seen (bare tree.old.tree) base.now entry width.now) }
+    ensures items { OnOk result
+        (items.new ≡ items.old ++ items_seen (bare tree.old.tree) id base.now entry width.now) }
     ensures right { IsRight tree.new.tree }
-    ensures walked { OnOk result (Walked entry.child (asked_of (bare tree.old.tree) base.now entry width.now) (state tree.old tally.old passes.old (R.log ruler.old)) (state tree.new tally.new passes.new (R.log ruler.new))) }
-    ensures stopped { OnErr result (Stopped entry.child (asked_of (bare tree.old.tree) base.now entry width.now) (state tree.old tally.old passes.old (R.log ruler.old)) (state tree.new tally.new passes.new (R.log ruler.new))) }
+    ensures walked { OnOk result
+        (Walked entry.child (asked_of (bare tree.old.tree) base.now entry width.now)
+        (state tree.old tally.old passes.old (R.log ruler.old))
+        (state tree.new tally.new passes.new (R.log ruler.new))) }
+    ensures stopped { OnErr result
+        (Stopped entry.child (asked_of (bare tree.old.tree) base.now entry width.now)
+        (state tree.old tally.old passes.old (R.log ruler.old))
+        (state tree.new tally.new passes.new (R.log ruler.new))) }
 {
     if shares::<1>(tree, entry.child) {
         ask_lent(
@@ -202,15 +234,32 @@ fn ask_child<R: Ruler, L: Ledger>(
     requires readable { AreReadable (bare tree.old.tree) }
     requires laid { IsLaid (bare tree.old.tree) id base.now }
     requires entry { IsChildIn (bare tree.old.tree) id base.now entry }
-    requires counted { pos (length columns.now.edges) ≡ (base.now.placed.columns.end -ℤ base.now.placed.columns.start) }
+    requires counted { pos (length columns.now.edges) ≡
+        (base.now.placed.columns.end -ℤ base.now.placed.columns.start) }
     requires gap { pos 0 ≤ℤ columns.now.gap }
     requires range { IsUnits columns.now.gap }
     requires spread { AreSpread (farthest (level_at (bare tree.old.tree) id)) columns.now.edges }
-    ensures value { IfOk result (λ child. child ≡ child_of (wide_in (bare tree.old.tree) id base.now columns.now entry sizes)) }
-    ensures items { OnOk result (items.new ≡ items.old ++ items_seen (bare tree.old.tree) id base.now entry (wide_in (bare tree.old.tree) id base.now columns.now entry sizes).inline) }
+    ensures value { IfOk result
+        (λ child. child ≡
+        child_of (wide_in (bare tree.old.tree) id base.now columns.now entry sizes)) }
+    ensures items { OnOk result
+        (items.new ≡
+        items.old ++
+        items_seen (bare tree.old.tree) id base.now entry
+        (wide_in (bare tree.old.tree) id base.now columns.now entry sizes).inline) }
     ensures right { IsRight tree.new.tree }
-    ensures walked { OnOk result (Walked entry.child (asked_of (bare tree.old.tree) base.now entry (wide_in (bare tree.old.tree) id base.now columns.now entry sizes).inline) (state tree.old tally.old passes.old (R.log ruler.old)) (state tree.new tally.new passes.new (R.log ruler.new))) }
-    ensures stopped { OnErr result (Stopped entry.child (asked_of (bare tree.old.tree) base.now entry (wide_in (bare tree.old.tree) id base.now columns.now entry sizes).inline) (state tree.old tally.old passes.old (R.log ruler.old)) (state tree.new tally.new passes.new (R.log ruler.new))) }
+    ensures walked { OnOk result
+        (Walked entry.child
+        (asked_of (bare tree.old.tree) base.now entry
+        (wide_in (bare tree.old.tree) id base.now columns.now entry sizes).inline)
+        (state tree.old tally.old passes.old (R.log ruler.old))
+        (state tree.new tally.new passes.new (R.log ruler.new))) }
+    ensures stopped { OnErr result
+        (Stopped entry.child
+        (asked_of (bare tree.old.tree) base.now entry
+        (wide_in (bare tree.old.tree) id base.now columns.now entry sizes).inline)
+        (state tree.old tally.old passes.old (R.log ruler.old))
+        (state tree.new tally.new passes.new (R.log ruler.new))) }
 {
     let (size, inline) = wide_child(alloc, tree, id, base, columns, entry, sizes)?;
     let block = ask_rows(
@@ -245,8 +294,14 @@ fn ask_children<R: Ruler, L: Ledger>(
     requires columns { AreLaid (bare tree.old.tree) id reps.now width.now parts.now.base columns }
     ensures told { IfOk result (AreIn (bare tree.old.tree) id parts.now.base columns Each) }
     ensures right { IsRight tree.new.tree }
-    ensures below { OnOk result ((q : Query) → LeadsDown (bare tree.old.tree) id reps.now width.now q → WalkedBelow id q 0 (state tree.old tally.old passes.old (R.log ruler.old)) (state tree.new tally.new passes.new (R.log ruler.new))) }
-    ensures stopped { OnErr result ((q : Query) → LeadsDown (bare tree.old.tree) id reps.now width.now q → Stopped id q (state tree.old tally.old passes.old (R.log ruler.old)) (state tree.new tally.new passes.new (R.log ruler.new))) }
+    ensures below { OnOk result
+        ((q : Query) → LeadsDown (bare tree.old.tree) id reps.now width.now q →
+        WalkedBelow id q 0 (state tree.old tally.old passes.old (R.log ruler.old))
+        (state tree.new tally.new passes.new (R.log ruler.new))) }
+    ensures stopped { OnErr result
+        ((q : Query) → LeadsDown (bare tree.old.tree) id reps.now width.now q →
+        Stopped id q (state tree.old tally.old passes.old (R.log ruler.old))
+        (state tree.new tally.new passes.new (R.log ruler.new))) }
 {
     root(tree);
     let align = items::<0>(&node_at(tree, id).style);
@@ -295,13 +350,23 @@ fn ask_stale<R: Ruler, L: Ledger>(
     requires readable { AreReadable (bare tree.old.tree) }
     requires kind { (sight_at (bare tree.old.tree) id).label.kind ≡ kind.Grid }
     requires grid { IsGrid (bare tree.old.tree) id reps.now width.now parts.now }
-    requires columns { AreLaid (bare tree.old.tree) id reps.now width.now parts.now.base columns.now }
+    requires columns { AreLaid (bare tree.old.tree) id reps.now width.now parts.now.base
+        columns.now }
     requires past { ArePastIn (bare tree.old.tree) id parts.now.base columns.now past }
-    ensures told { IfOk result (λ told. AreIn (bare tree.old.tree) id parts.now.base columns.now Each told.0) }
-    ensures rows { IfOk result (λ told. IfSome told.1 (AreRowsFor (sight_at (bare tree.old.tree) id) parts.now.base told.0.items)) }
+    ensures told { IfOk result
+        (λ told. AreIn (bare tree.old.tree) id parts.now.base columns.now Each told.0) }
+    ensures rows { IfOk result
+        (λ told. IfSome told.1
+        (AreRowsFor (sight_at (bare tree.old.tree) id) parts.now.base told.0.items)) }
     ensures right { IsRight tree.new.tree }
-    ensures below { OnOk result ((q : Query) → LeadsDown (bare tree.old.tree) id reps.now width.now q → WalkedBelow id q 0 (state tree.old tally.old passes.old (R.log ruler.old)) (state tree.new tally.new passes.new (R.log ruler.new))) }
-    ensures stopped { OnErr result ((q : Query) → LeadsDown (bare tree.old.tree) id reps.now width.now q → Stopped id q (state tree.old tally.old passes.old (R.log ruler.old)) (state tree.new tally.new passes.new (R.log ruler.new))) }
+    ensures below { OnOk result
+        ((q : Query) → LeadsDown (bare tree.old.tree) id reps.now width.now q →
+        WalkedBelow id q 0 (state tree.old tally.old passes.old (R.log ruler.old))
+        (state tree.new tally.new passes.new (R.log ruler.new))) }
+    ensures stopped { OnErr result
+        ((q : Query) → LeadsDown (bare tree.old.tree) id reps.now width.now q →
+        Stopped id q (state tree.old tally.old passes.old (R.log ruler.old))
+        (state tree.new tally.new passes.new (R.log ruler.new))) }
 {
     root(tree);
     let base = parts.base.grid();
@@ -364,11 +429,20 @@ fn told_rows<R: Ruler, L: Ledger>(
     requires grid { IsGrid (bare tree.old.tree) id reps.now width.now parts.now }
     requires columns { AreLaid (bare tree.old.tree) id reps.now width.now parts.now.base columns }
     requires past { IfSome past (IsPastRows (bare tree.old.tree) id) }
-    ensures told { IfOk result (λ told. AreIn (bare tree.old.tree) id parts.now.base columns Each told.0) }
-    ensures rows { IfOk result (λ told. IfSome told.1 (AreRowsFor (sight_at (bare tree.old.tree) id) parts.now.base told.0.items)) }
+    ensures told { IfOk result
+        (λ told. AreIn (bare tree.old.tree) id parts.now.base columns Each told.0) }
+    ensures rows { IfOk result
+        (λ told. IfSome told.1
+        (AreRowsFor (sight_at (bare tree.old.tree) id) parts.now.base told.0.items)) }
     ensures right { IsRight tree.new.tree }
-    ensures below { OnOk result ((q : Query) → LeadsDown (bare tree.old.tree) id reps.now width.now q → WalkedBelow id q 0 (state tree.old tally.old passes.old (R.log ruler.old)) (state tree.new tally.new passes.new (R.log ruler.new))) }
-    ensures stopped { OnErr result ((q : Query) → LeadsDown (bare tree.old.tree) id reps.now width.now q → Stopped id q (state tree.old tally.old passes.old (R.log ruler.old)) (state tree.new tally.new passes.new (R.log ruler.new))) }
+    ensures below { OnOk result
+        ((q : Query) → LeadsDown (bare tree.old.tree) id reps.now width.now q →
+        WalkedBelow id q 0 (state tree.old tally.old passes.old (R.log ruler.old))
+        (state tree.new tally.new passes.new (R.log ruler.new))) }
+    ensures stopped { OnErr result
+        ((q : Query) → LeadsDown (bare tree.old.tree) id reps.now width.now q →
+        Stopped id q (state tree.old tally.old passes.old (R.log ruler.old))
+        (state tree.new tally.new passes.new (R.log ruler.new))) }
 {
     if let Some(past) = past_for(tree, id, reps, width, parts, &columns, past) {
         return ask_stale(
@@ -403,14 +477,21 @@ fn told_wide_by<R: Ruler, L: Ledger>(
     requires grid { (sight_at (bare tree.old.tree) id).label.kind ≡ kind.Grid }
     requires reps { length reps.now ≡ length (sight_at (bare tree.old.tree) id).chain }
     requires seat { IsSeat (sight_at (bare tree.old.tree) id) reps.now above.now area }
-    requires inline { IsGivenFor true (sees_columns (sight_at (bare tree.old.tree) id)) (outer_context (sight_at (bare tree.old.tree) id) reps.now).columns.table.tracks width.now }
+    requires inline { IsGivenFor true (sees_columns (sight_at (bare tree.old.tree) id))
+        (outer_context (sight_at (bare tree.old.tree) id) reps.now).columns.table.tracks width.now }
     requires spread { IsSpread (farthest (level_at (bare tree.old.tree) id)) width.now }
     requires past_columns { IfSome past.0 (IsPastColumns (bare tree.old.tree) id) }
     requires past_rows { IfSome past.1 (IsPastRows (bare tree.old.tree) id) }
     ensures value { IfOk result (IsToldWide (bare tree.old.tree) id reps.now width.now) }
     ensures right { IsRight tree.new.tree }
-    ensures below { OnOk result ((q : Query) → q.reps ≡ reps.now → q.inline ≡ width.now → needs_inline q.ask ≡ true → WalkedBelow id q 1 (state tree.old tally.old passes.old (R.log ruler.old)) (state tree.new tally.new passes.new (R.log ruler.new))) }
-    ensures stopped { OnErr result ((q : Query) → q.reps ≡ reps.now → q.inline ≡ width.now → needs_inline q.ask ≡ true → Stopped id q (state tree.old tally.old passes.old (R.log ruler.old)) (state tree.new tally.new passes.new (R.log ruler.new))) }
+    ensures below { OnOk result
+        ((q : Query) → q.reps ≡ reps.now → q.inline ≡ width.now → needs_inline q.ask ≡ true →
+        WalkedBelow id q 1 (state tree.old tally.old passes.old (R.log ruler.old))
+        (state tree.new tally.new passes.new (R.log ruler.new))) }
+    ensures stopped { OnErr result
+        ((q : Query) → q.reps ≡ reps.now → q.inline ≡ width.now → needs_inline q.ask ≡ true →
+        Stopped id q (state tree.old tally.old passes.old (R.log ruler.old))
+        (state tree.new tally.new passes.new (R.log ruler.new))) }
 {
     root(tree);
     let (past_columns, past_rows) = past;
@@ -473,12 +554,19 @@ pub(crate) fn told_wide_at<R: Ruler, L: Ledger>(
     requires grid { (sight_at (bare tree.old.tree) id).label.kind ≡ kind.Grid }
     requires reps { length reps.now ≡ length (sight_at (bare tree.old.tree) id).chain }
     requires seat { IsSeat (sight_at (bare tree.old.tree) id) reps.now above.now area }
-    requires inline { IsGivenFor true (sees_columns (sight_at (bare tree.old.tree) id)) (outer_context (sight_at (bare tree.old.tree) id) reps.now).columns.table.tracks width.now }
+    requires inline { IsGivenFor true (sees_columns (sight_at (bare tree.old.tree) id))
+        (outer_context (sight_at (bare tree.old.tree) id) reps.now).columns.table.tracks width.now }
     requires spread { IsSpread (farthest (level_at (bare tree.old.tree) id)) width.now }
     ensures value { IfOk result (IsToldWide (bare tree.old.tree) id reps.now width.now) }
     ensures right { IsRight tree.new.tree }
-    ensures below { OnOk result ((q : Query) → q.reps ≡ reps.now → q.inline ≡ width.now → needs_inline q.ask ≡ true → WalkedBelow id q 1 (state tree.old tally.old passes.old (R.log ruler.old)) (state tree.new tally.new passes.new (R.log ruler.new))) }
-    ensures stopped { OnErr result ((q : Query) → q.reps ≡ reps.now → q.inline ≡ width.now → needs_inline q.ask ≡ true → Stopped id q (state tree.old tally.old passes.old (R.log ruler.old)) (state tree.new tally.new passes.new (R.log ruler.new))) }
+    ensures below { OnOk result
+        ((q : Query) → q.reps ≡ reps.now → q.inline ≡ width.now → needs_inline q.ask ≡ true →
+        WalkedBelow id q 1 (state tree.old tally.old passes.old (R.log ruler.old))
+        (state tree.new tally.new passes.new (R.log ruler.new))) }
+    ensures stopped { OnErr result
+        ((q : Query) → q.reps ≡ reps.now → q.inline ≡ width.now → needs_inline q.ask ≡ true →
+        Stopped id q (state tree.old tally.old passes.old (R.log ruler.old))
+        (state tree.new tally.new passes.new (R.log ruler.new))) }
 {
     let past = take_past(alloc, tree, id)?;
     let told = told_wide_by(
@@ -511,12 +599,19 @@ pub fn wide_at<R: Ruler, L: Ledger>(
     requires grid { (sight_at (bare tree.old.tree) id).label.kind ≡ kind.Grid }
     requires reps { length reps.now ≡ length (sight_at (bare tree.old.tree) id).chain }
     requires seat { IsSeat (sight_at (bare tree.old.tree) id) reps.now above.now area }
-    requires inline { IsGivenFor true (sees_columns (sight_at (bare tree.old.tree) id)) (outer_context (sight_at (bare tree.old.tree) id) reps.now).columns.table.tracks width.now }
+    requires inline { IsGivenFor true (sees_columns (sight_at (bare tree.old.tree) id))
+        (outer_context (sight_at (bare tree.old.tree) id) reps.now).columns.table.tracks width.now }
     requires spread { IsSpread (farthest (level_at (bare tree.old.tree) id)) width.now }
     ensures value { IfOk result (IsWide (bare tree.old.tree) id reps.now width.now) }
     ensures right { IsRight tree.new.tree }
-    ensures below { OnOk result ((q : Query) → q.reps ≡ reps.now → q.inline ≡ width.now → needs_inline q.ask ≡ true → WalkedBelow id q 1 (state tree.old tally.old passes.old (R.log ruler.old)) (state tree.new tally.new passes.new (R.log ruler.new))) }
-    ensures stopped { OnErr result ((q : Query) → q.reps ≡ reps.now → q.inline ≡ width.now → needs_inline q.ask ≡ true → Stopped id q (state tree.old tally.old passes.old (R.log ruler.old)) (state tree.new tally.new passes.new (R.log ruler.new))) }
+    ensures below { OnOk result
+        ((q : Query) → q.reps ≡ reps.now → q.inline ≡ width.now → needs_inline q.ask ≡ true →
+        WalkedBelow id q 1 (state tree.old tally.old passes.old (R.log ruler.old))
+        (state tree.new tally.new passes.new (R.log ruler.new))) }
+    ensures stopped { OnErr result
+        ((q : Query) → q.reps ≡ reps.now → q.inline ≡ width.now → needs_inline q.ask ≡ true →
+        Stopped id q (state tree.old tally.old passes.old (R.log ruler.old))
+        (state tree.new tally.new passes.new (R.log ruler.new))) }
 {
     let told = told_wide_at(
         alloc, tree, id, reps, above, area, width, ruler, tally, passes,

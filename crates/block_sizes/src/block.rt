@@ -45,12 +45,25 @@ pub fn block_of<R: Ruler, L: Ledger>(
     requires readable { AreReadable (bare tree.old.tree) }
     requires fits { Fits (sight_at (bare tree.old.tree) id) (block_query false reps.now width.now) }
     requires spread { IsSpread (farthest (level_at (bare tree.old.tree) id)) width.now }
-    ensures value { IfOk result (λ size. block_size size ≡ answer_of (sight_at (bare tree.old.tree) id) (block_query false reps.now width.now)) }
+    ensures value { IfOk result
+        (λ size. block_size size ≡
+        answer_of (sight_at (bare tree.old.tree) id) (block_query false reps.now width.now)) }
     ensures right { IsRight tree.new.tree }
-    ensures walked { OnOk result (Walked id (block_query false reps.now width.now) (state tree.old tally.old passes.old (R.log ruler.old)) (state tree.new tally.new passes.new (R.log ruler.new))) }
-    ensures stopped { OnErr result (Stopped id (block_query false reps.now width.now) (state tree.old tally.old passes.old (R.log ruler.old)) (state tree.new tally.new passes.new (R.log ruler.new))) }
-    ensures found { Found id (block_query false reps.now width.now) (state tree.old tally.old passes.old (R.log ruler.old)) (state tree.new tally.new passes.new (R.log ruler.new)) }
-    ensures own { IfOk result (λ size. KeepsSize id (block_query false reps.now width.now) (state tree.old tally.old passes.old (R.log ruler.old)) (state tree.new tally.new passes.new (R.log ruler.new)) size) }
+    ensures walked { OnOk result
+        (Walked id (block_query false reps.now width.now)
+        (state tree.old tally.old passes.old (R.log ruler.old))
+        (state tree.new tally.new passes.new (R.log ruler.new))) }
+    ensures stopped { OnErr result
+        (Stopped id (block_query false reps.now width.now)
+        (state tree.old tally.old passes.old (R.log ruler.old))
+        (state tree.new tally.new passes.new (R.log ruler.new))) }
+    ensures found { Found id (block_query false reps.now width.now)
+        (state tree.old tally.old passes.old (R.log ruler.old))
+        (state tree.new tally.new passes.new (R.log ruler.new)) }
+    ensures own { IfOk result
+        (λ size. KeepsSize id (block_query false reps.now width.now)
+        (state tree.old tally.old passes.old (R.log ruler.old))
+        (state tree.new tally.new passes.new (R.log ruler.new)) size) }
 {
     if let Some(size) = kept_block(tree, id, reps, width) {
         return Ok(size);
@@ -81,12 +94,25 @@ pub fn lend_rows<R: Ruler, L: Ledger>(
     requires readable { AreReadable (bare tree.old.tree) }
     requires fits { Fits (sight_at (bare tree.old.tree) id) (block_query true reps.now width.now) }
     requires spread { IsSpread (farthest (level_at (bare tree.old.tree) id)) width.now }
-    ensures value { IfOk result (λ items. lent_items items ≡ answer_of (sight_at (bare tree.old.tree) id) (block_query true reps.now width.now)) }
+    ensures value { IfOk result
+        (λ items. lent_items items ≡
+        answer_of (sight_at (bare tree.old.tree) id) (block_query true reps.now width.now)) }
     ensures right { IsRight tree.new.tree }
-    ensures walked { OnOk result (Walked id (block_query true reps.now width.now) (state tree.old tally.old passes.old (R.log ruler.old)) (state tree.new tally.new passes.new (R.log ruler.new))) }
-    ensures stopped { OnErr result (Stopped id (block_query true reps.now width.now) (state tree.old tally.old passes.old (R.log ruler.old)) (state tree.new tally.new passes.new (R.log ruler.new))) }
-    ensures found { Found id (block_query true reps.now width.now) (state tree.old tally.old passes.old (R.log ruler.old)) (state tree.new tally.new passes.new (R.log ruler.new)) }
-    ensures own { IfOk result (λ items. Keeps id (block_query true reps.now width.now) (state tree.old tally.old passes.old (R.log ruler.old)) (state tree.new tally.new passes.new (R.log ruler.new)) (answer.Lent items)) }
+    ensures walked { OnOk result
+        (Walked id (block_query true reps.now width.now)
+        (state tree.old tally.old passes.old (R.log ruler.old))
+        (state tree.new tally.new passes.new (R.log ruler.new))) }
+    ensures stopped { OnErr result
+        (Stopped id (block_query true reps.now width.now)
+        (state tree.old tally.old passes.old (R.log ruler.old))
+        (state tree.new tally.new passes.new (R.log ruler.new))) }
+    ensures found { Found id (block_query true reps.now width.now)
+        (state tree.old tally.old passes.old (R.log ruler.old))
+        (state tree.new tally.new passes.new (R.log ruler.new)) }
+    ensures own { IfOk result
+        (λ items. Keeps id (block_query true reps.now width.now)
+        (state tree.old tally.old passes.old (R.log ruler.old))
+        (state tree.new tally.new passes.new (R.log ruler.new)) (answer.Lent items)) }
 {
     if let Some(items) = kept_rows(tree, id, reps, width) {
         return Sequence::from_slice(alloc, items.as_slice());

@@ -101,9 +101,11 @@ pub fn given_view<const AXIS: u8>(
     requires end { span.end ≤ℤ pos (length outer.now.edges) }
     requires near { AreNear outer.now.edges }
     requires gap { pos 0 ≤ℤ outer.now.gap }
-    ensures value { IfOk result (λ given. given ≡ given_view (view_in outer.now span (grid_at AXIS style.now))) }
+    ensures value { IfOk result
+        (λ given. given ≡ given_view (view_in outer.now span (grid_at AXIS style.now))) }
     ensures fits { IfOk result (IsGivenFor true true (above_zero (span.end -ℤ span.start))) }
-    ensures spread { (by : ℕ) → IsUnits outer.now.gap → AreSpread by outer.now.edges → IfOk result (IsSpread (by + 2 ^ 33)) }
+    ensures spread { (by : ℕ) → IsUnits outer.now.gap → AreSpread by outer.now.edges →
+        IfOk result (IsSpread (by + 2 ^ 33)) }
 {
     let View { edges, gap } = view_in::<AXIS>(alloc, outer, span, style)?;
     let tracks = SharedTracks::new(alloc, edges)?;
@@ -178,7 +180,11 @@ fn plain_given<const AXIS: u8>(style: &Style, size: Lu) -> Given
 /// steps for a plain one.
 fn sized_inline(items: Align, style: &Style, room: Lu, sizes: (Lu, Lu)) -> (Lu, Given)
     requires { IsGridStyle (grid_of style.now) }
-    ensures value { result ≡ (own_inline items (styled style.now) room sizes, given_box (grid_of style.now).columns (own_inline items (styled style.now) room sizes)) }
+    ensures value { result ≡ (
+      own_inline items (styled style.now) room sizes,
+      given_box (grid_of style.now).columns
+          (own_inline items (styled style.now) room sizes),
+    ) }
     ensures fits { IsGivenFor true false 0 result.1 }
 {
     if is_plain::<0>(style) {
@@ -193,7 +199,11 @@ fn sized_inline(items: Align, style: &Style, room: Lu, sizes: (Lu, Lu)) -> (Lu, 
 /// steps for a plain one.
 fn sized_block(items: Align, style: &Style, room: Lu, content: Lu) -> (Lu, Given)
     requires { IsGridStyle (grid_of style.now) }
-    ensures value { result ≡ (own_block items (styled style.now) room content, given_box (grid_of style.now).rows (own_block items (styled style.now) room content)) }
+    ensures value { result ≡ (
+      own_block items (styled style.now) room content,
+      given_box (grid_of style.now).rows
+          (own_block items (styled style.now) room content),
+    ) }
     ensures fits { IsGivenFor true false 0 result.1 }
 {
     if is_plain::<1>(style) {
@@ -225,9 +235,12 @@ pub fn child_inline(
     requires end { span.end ≤ℤ pos (length columns.now.edges) }
     requires near { AreNear columns.now.edges }
     requires gap { pos 0 ≤ℤ columns.now.gap }
-    ensures value { IfOk result (λ inline. inline ≡ inline_of_child items columns.now span (styled style.now) shares sizes) }
-    ensures fits { IfOk result (λ inline. IsGivenFor true shares (above_zero (span.end -ℤ span.start)) inline.1) }
-    ensures spread { (by : ℕ) → IsUnits columns.now.gap → AreSpread by columns.now.edges → IfOk result (λ inline. IsSpread (by + 2 ^ 33) inline.1) }
+    ensures value { IfOk result
+        (λ inline. inline ≡ inline_of_child items columns.now span (styled style.now) shares sizes) }
+    ensures fits { IfOk result
+        (λ inline. IsGivenFor true shares (above_zero (span.end -ℤ span.start)) inline.1) }
+    ensures spread { (by : ℕ) → IsUnits columns.now.gap → AreSpread by columns.now.edges →
+        IfOk result (λ inline. IsSpread (by + 2 ^ 33) inline.1) }
 {
     let room = area_size(tracks_over(columns.edges.as_slice(), span));
     if shares {
@@ -261,9 +274,12 @@ pub fn child_block(
     requires near { AreNear rows.now.edges }
     requires gap { pos 0 ≤ℤ rows.now.gap }
     requires last { IsLastIn rows.now last.old }
-    ensures value { IfOk result (λ block. block ≡ block_of_child items rows.now span (styled style.now) shares content) }
-    ensures fits { IfOk result (λ block. IsGivenFor true shares (above_zero (span.end -ℤ span.start)) block.1) }
-    ensures spread { (by : ℕ) → IsUnits rows.now.gap → AreSpread by rows.now.edges → IfOk result (λ block. IsSpread (by + 2 ^ 33) block.1) }
+    ensures value { IfOk result
+        (λ block. block ≡ block_of_child items rows.now span (styled style.now) shares content) }
+    ensures fits { IfOk result
+        (λ block. IsGivenFor true shares (above_zero (span.end -ℤ span.start)) block.1) }
+    ensures spread { (by : ℕ) → IsUnits rows.now.gap → AreSpread by rows.now.edges →
+        IfOk result (λ block. IsSpread (by + 2 ^ 33) block.1) }
     ensures last { OnOk result (IsLastIn rows.now last.new) }
 {
     if shares {

@@ -99,7 +99,8 @@ fn moved_track(moving: &Moving, number: u32, place: Wide, size: Lu) -> (i64, i64
     requires free { IsFree moving.now.free }
     requires number { number < moving.now.count }
     requires place { IsPlace place }
-    ensures value { result ≡ (place +ℤ moved_by moving.now number, place +ℤ moved_by moving.now number +ℤ size) }
+    ensures value { result ≡
+        (place +ℤ moved_by moving.now number, place +ℤ moved_by moving.now number +ℤ size) }
     ensures range { IsBetween first_place last_place result }
 {
     let start = place + offset(moving, number);
@@ -137,7 +138,8 @@ fn moved_tracks(
     requires sizes { length sizes.now ≡ length rules.now }
     requires count { moving.now.count ≡ open_tracks rules.now }
     requires free { IsFree moving.now.free }
-    ensures value { IfOk result (λ edges. edges ≡ edges_from (moved_by moving.now) gap 0 (pos 0) rules.now sizes.now) }
+    ensures value { IfOk result
+        (λ edges. edges ≡ edges_from (moved_by moving.now) gap 0 (pos 0) rules.now sizes.now) }
     ensures counted { IfOk result (λ edges. length edges ≡ length rules.now) }
     ensures range { IfOk result (AreBetween first_place last_place) }
 {
@@ -174,7 +176,9 @@ pub fn edges_in(
 ) -> Result<Sequence<(i64, i64)>, NoMemory>
     requires few { length rules.now ≤ 131072 }
     requires sizes { length sizes.now ≡ length rules.now }
-    ensures value { IfOk result (λ edges. edges ≡ edges_in align.now size (record { rules = rules.now; sizes = sizes.now; gap = gap })) }
+    ensures value { IfOk result
+        (λ edges. edges ≡
+        edges_in align.now size (record { rules = rules.now; sizes = sizes.now; gap = gap })) }
     ensures counted { IfOk result (λ edges. length edges ≡ length rules.now) }
     ensures spread { IfOk result (AreSpread (2 ^ 50 + 2 ^ 34)) }
 {

@@ -61,7 +61,8 @@ pub(crate) fn items_in_row(
     requires live { IsLive (bare tree.now.tree) id }
     requires readable { AreReadable (bare tree.now.tree) }
     requires members { AreMembers (bare tree.now.tree) id members.now }
-    ensures value { IfOk result (λ items. items.items ≡ row_items_seen (bare tree.now.tree) id width) }
+    ensures value { IfOk result
+        (λ items. items.items ≡ row_items_seen (bare tree.now.tree) id width) }
     ensures inner { IfOk result (λ items. HaveInner items.items) }
 {
     root(tree);
@@ -108,9 +109,13 @@ fn outers_in_row(
     requires live { IsLive (bare tree.now.tree) id }
     requires readable { AreReadable (bare tree.now.tree) }
     requires members { AreMembers (bare tree.now.tree) id parts.now.members }
-    requires blocks { parts.now.blocks ≡ map block_of (settled_seen (bare tree.now.tree) id parts.now.lines.mains) }
+    requires blocks { parts.now.blocks ≡
+        map block_of (settled_seen (bare tree.now.tree) id parts.now.lines.mains) }
     requires counted { length parts.now.lines.mains ≡ length parts.now.members }
-    ensures { IfOk result (λ sizes. sizes.items ≡ map (rules.outer_cross false None) (settled_seen (bare tree.now.tree) id parts.now.lines.mains)) }
+    ensures { IfOk result
+        (λ sizes. sizes.items ≡
+        map (rules.outer_cross false None)
+        (settled_seen (bare tree.now.tree) id parts.now.lines.mains)) }
 {
     root(tree);
     let members = parts.members.as_slice();
@@ -134,9 +139,12 @@ fn items_in_column(
     requires live { IsLive (bare tree.now.tree) id }
     requires readable { AreReadable (bare tree.now.tree) }
     requires members { AreMembers (bare tree.now.tree) id parts.now.members }
-    requires blocks { parts.now.blocks ≡ map block_of (settled_seen (bare tree.now.tree) id parts.now.boxes) }
+    requires blocks { parts.now.blocks ≡
+        map block_of (settled_seen (bare tree.now.tree) id parts.now.boxes) }
     requires counted { length parts.now.boxes ≡ length parts.now.members }
-    ensures { IfOk result (λ items. items.items ≡ map (rules.column_item None) (settled_seen (bare tree.now.tree) id parts.now.boxes)) }
+    ensures { IfOk result
+        (λ items. items.items ≡
+        map (rules.column_item None) (settled_seen (bare tree.now.tree) id parts.now.boxes)) }
 {
     root(tree);
     let members = parts.members.as_slice();
@@ -160,7 +168,12 @@ pub(crate) fn row_size(
     requires live { IsLive (bare tree.now.tree) id }
     requires readable { AreReadable (bare tree.now.tree) }
     requires row { IsRow (bare tree.now.tree) id width parts.now }
-    ensures { IfOk result (λ size. size ≡ rules.row_block (flex_seen (bare tree.now.tree) id) (rules.row_lines (flex_seen (bare tree.now.tree) id) width) (rules.row_settled (flex_seen (bare tree.now.tree) id) (rules.row_lines (flex_seen (bare tree.now.tree) id) width))) }
+    ensures { IfOk result
+        (λ size. size ≡
+        rules.row_block (flex_seen (bare tree.now.tree) id)
+        (rules.row_lines (flex_seen (bare tree.now.tree) id) width)
+        (rules.row_settled (flex_seen (bare tree.now.tree) id)
+        (rules.row_lines (flex_seen (bare tree.now.tree) id) width))) }
 {
     let outers = outers_in_row(alloc, tree, id, parts)?;
     let ranges = parts.lines.ranges.as_slice();
@@ -178,7 +191,10 @@ pub(crate) fn column_size(
     requires live { IsLive (bare tree.now.tree) id }
     requires readable { AreReadable (bare tree.now.tree) }
     requires column { IsColumn (bare tree.now.tree) id width parts.now }
-    ensures { IfOk result (λ size. size ≡ rules.column_block (flex_seen (bare tree.now.tree) id) (rules.column_settled (flex_seen (bare tree.now.tree) id) width)) }
+    ensures { IfOk result
+        (λ size. size ≡
+        rules.column_block (flex_seen (bare tree.now.tree) id)
+        (rules.column_settled (flex_seen (bare tree.now.tree) id) width)) }
 {
     let items = items_in_column(alloc, tree, id, parts)?;
     Ok(column_block(&node_at(tree, id).style, &items))

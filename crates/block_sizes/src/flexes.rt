@@ -50,7 +50,8 @@ pub fn lines_by<const AXIS: u8, L: Ledger>(
     passes: &mut Steps<L>,
 ) -> Result<Lines, NoMemory>
     requires few { length items.now < 2 ^ 32 }
-    ensures value { IfOk result (λ lines. lines_of lines ≡ rules.lines_by (styled container.now) main gap items.now) }
+    ensures value { IfOk result
+        (λ lines. lines_of lines ≡ rules.lines_by (styled container.now) main gap items.now) }
     ensures cover { HaveInner items.now → IfOk result (λ lines. AreCovering items.now lines.mains) }
     ensures ranges { IfOk result (λ lines. AreRanges (length items.now) lines.ranges) }
     ensures kept { passes.old ≤ passes.new }
@@ -77,7 +78,8 @@ pub fn row_lines<L: Ledger>(
     passes: &mut Steps<L>,
 ) -> Result<Lines, NoMemory>
     requires few { length items.now < 2 ^ 32 }
-    ensures value { IfOk result (λ lines. lines_of lines ≡ row_lines_by (styled container.now) width items.now) }
+    ensures value { IfOk result
+        (λ lines. lines_of lines ≡ row_lines_by (styled container.now) width items.now) }
     ensures cover { HaveInner items.now → IfOk result (λ lines. AreCovering items.now lines.mains) }
     ensures ranges { IfOk result (λ lines. AreRanges (length items.now) lines.ranges) }
     ensures kept { passes.old ≤ passes.new }
@@ -97,7 +99,10 @@ fn crosses_along<const AXIS: u8>(
     gap: Lu,
 ) -> Result<Sequence<Lu>, NoMemory>
     requires { AreRanges (length outers.now) ranges.now }
-    ensures { IfOk result (λ sizes. sizes ≡ line_crosses outers.now ranges.now cross gap (content_of container.now).wrap (stretches (content_of container.now).block.distribution.mode)) }
+    ensures { IfOk result
+        (λ sizes. sizes ≡
+        line_crosses outers.now ranges.now cross gap (content_of container.now).wrap
+        (stretches (content_of container.now).block.distribution.mode)) }
 {
     let cross = match cross {
         Some(size) => Some(along::<AXIS>(size)),
@@ -121,7 +126,8 @@ pub fn crosses_of(
     cross: Option<Lu>,
 ) -> Result<Sequence<Lu>, NoMemory>
     requires { AreRanges (length outers.now) ranges.now }
-    ensures { IfOk result (λ sizes. sizes ≡ crosses_by column (styled container.now) outers.now ranges.now cross) }
+    ensures { IfOk result
+        (λ sizes. sizes ≡ crosses_by column (styled container.now) outers.now ranges.now cross) }
 {
     if column {
         let gap = gap_by(&cross, Lu::default(), &gap::<0>(container));
@@ -143,7 +149,8 @@ pub fn row_block(
     ranges: &[(usize, usize)],
 ) -> Result<Lu, NoMemory>
     requires { AreRanges (length outers.now) ranges.now }
-    ensures value { IfOk result (λ size. size ≡ row_block_by (styled container.now) outers.now ranges.now) }
+    ensures value { IfOk result
+        (λ size. size ≡ row_block_by (styled container.now) outers.now ranges.now) }
     ensures some { IfOk result (λ size. pos 0 ≤ℤ size) }
 {
     let sizes = crosses_of(alloc, false, container, outers, ranges, None)?;

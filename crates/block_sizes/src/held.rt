@@ -43,12 +43,19 @@ pub fn wide_for<R: Ruler, L: Ledger>(
     requires grid { (sight_at (bare tree.old.tree) id).label.kind ≡ kind.Grid }
     requires reps { length reps.now ≡ length (sight_at (bare tree.old.tree) id).chain }
     requires seat { IsSeat (sight_at (bare tree.old.tree) id) reps.now above.now area }
-    requires inline { IsGivenFor true (sees_columns (sight_at (bare tree.old.tree) id)) (outer_context (sight_at (bare tree.old.tree) id) reps.now).columns.table.tracks width.now }
+    requires inline { IsGivenFor true (sees_columns (sight_at (bare tree.old.tree) id))
+        (outer_context (sight_at (bare tree.old.tree) id) reps.now).columns.table.tracks width.now }
     requires spread { IsSpread (farthest (level_at (bare tree.old.tree) id)) width.now }
     ensures value { IfOk result (IsWide (bare tree.old.tree) id reps.now width.now) }
     ensures right { IsRight tree.new.tree }
-    ensures below { OnOk result ((q : Query) → q.reps ≡ reps.now → q.inline ≡ width.now → needs_inline q.ask ≡ true → WalkedBelow id q 1 (state tree.old tally.old passes.old (R.log ruler.old)) (state tree.new tally.new passes.new (R.log ruler.new))) }
-    ensures stopped { OnErr result ((q : Query) → q.reps ≡ reps.now → q.inline ≡ width.now → needs_inline q.ask ≡ true → Stopped id q (state tree.old tally.old passes.old (R.log ruler.old)) (state tree.new tally.new passes.new (R.log ruler.new))) }
+    ensures below { OnOk result
+        ((q : Query) → q.reps ≡ reps.now → q.inline ≡ width.now → needs_inline q.ask ≡ true →
+        WalkedBelow id q 1 (state tree.old tally.old passes.old (R.log ruler.old))
+        (state tree.new tally.new passes.new (R.log ruler.new))) }
+    ensures stopped { OnErr result
+        ((q : Query) → q.reps ≡ reps.now → q.inline ≡ width.now → needs_inline q.ask ≡ true →
+        Stopped id q (state tree.old tally.old passes.old (R.log ruler.old))
+        (state tree.new tally.new passes.new (R.log ruler.new))) }
 {
     if let Some(wide) = kept_wide(tree, id, reps, width) {
         return wide.again();

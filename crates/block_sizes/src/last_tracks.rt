@@ -84,7 +84,8 @@ fn plain_box<const AXIS: u8>(
     requires room { room ≡ area_size (tracks_over outer.now.edges span) }
     requires some { pos 0 ≤ℤ room }
     requires plain { HasNoSides (grid_at AXIS style.now) }
-    ensures size { result.0 ≡ subgrid_box (grid_at AXIS style.now) (area_size (tracks_over outer.now.edges span)) }
+    ensures size { result.0 ≡
+        subgrid_box (grid_at AXIS style.now) (area_size (tracks_over outer.now.edges span)) }
     ensures view { view_made outer.now result.1 ≡ view_in outer.now span (grid_at AXIS style.now) }
     ensures span { result.1.span ≡ span }
 {
@@ -107,7 +108,8 @@ fn has_no_sides<const AXIS: u8>(style: &Style) -> bool
 fn box_over<const AXIS: u8>(outer: &View<AXIS>, span: Span, style: &Style) -> (Lu, ViewParts)
     requires axis { IsGridAxis (grid_at AXIS style.now) }
     requires span { IsSpanIn outer.now.edges span }
-    ensures size { result.0 ≡ subgrid_box (grid_at AXIS style.now) (area_size (tracks_over outer.now.edges span)) }
+    ensures size { result.0 ≡
+        subgrid_box (grid_at AXIS style.now) (area_size (tracks_over outer.now.edges span)) }
     ensures view { view_made outer.now result.1 ≡ view_in outer.now span (grid_at AXIS style.now) }
     ensures span { result.1.span ≡ span }
 {
@@ -318,9 +320,15 @@ pub fn box_after<const AXIS: u8>(
     requires near { AreNear outer.now.edges }
     requires gap { pos 0 ≤ℤ outer.now.gap }
     requires last { IsLastIn outer.now last.old }
-    ensures value { IfOk result (λ shared. shared ≡ (subgrid_box (grid_at AXIS style.now) (area_size (tracks_over outer.now.edges span)), given_view (view_in outer.now span (grid_at AXIS style.now)))) }
-    ensures fits { IfOk result (λ shared. IsGivenFor true true (above_zero (span.end -ℤ span.start)) shared.1) }
-    ensures spread { (by : ℕ) → IsUnits outer.now.gap → AreSpread by outer.now.edges → IfOk result (λ shared. IsSpread (by + 2 ^ 33) shared.1) }
+    ensures value { IfOk result
+        (λ shared. shared ≡ (
+          subgrid_box (grid_at AXIS style.now) (area_size (tracks_over outer.now.edges span)),
+          given_view (view_in outer.now span (grid_at AXIS style.now)),
+        )) }
+    ensures fits { IfOk result
+        (λ shared. IsGivenFor true true (above_zero (span.end -ℤ span.start)) shared.1) }
+    ensures spread { (by : ℕ) → IsUnits outer.now.gap → AreSpread by outer.now.edges →
+        IfOk result (λ shared. IsSpread (by + 2 ^ 33) shared.1) }
     ensures last { OnOk result (IsLastIn outer.now last.new) }
 {
     let (size, parts) = box_over::<AXIS>(outer, span, style);

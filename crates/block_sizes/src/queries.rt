@@ -45,11 +45,19 @@ pub(crate) fn kept_block(
 ) -> Option<Lu>
     requires live { IsLive (bare tree.now.tree) id }
     requires right { IsRight tree.now.tree }
-    ensures kept { MatchOption result (answer_to (block_query false reps.now width.now) (kept_at tree.now.tree id) ≡ None) (λ size. IsSome (answer_to (block_query false reps.now width.now) (kept_at tree.now.tree id))) }
-    ensures value { IfSome result (λ size. block_size size ≡ answer_of (sight_at (bare tree.now.tree) id) (block_query false reps.now width.now)) }
-    ensures absent { IfNone result (IsAbsent (block_query false reps.now width.now) (kept_at tree.now.tree id)) }
-    ensures start { (s : State) → s.arena ≡ tree.now → WalkedBelow id (block_query false reps.now width.now) 0 s s }
-    ensures found { (s : State) → s.arena ≡ tree.now → Walked id (block_query false reps.now width.now) s s }
+    ensures kept { MatchOption result
+        (answer_to (block_query false reps.now width.now) (kept_at tree.now.tree id) ≡ None)
+        (λ size. IsSome
+        (answer_to (block_query false reps.now width.now) (kept_at tree.now.tree id))) }
+    ensures value { IfSome result
+        (λ size. block_size size ≡
+        answer_of (sight_at (bare tree.now.tree) id) (block_query false reps.now width.now)) }
+    ensures absent { IfNone result
+        (IsAbsent (block_query false reps.now width.now) (kept_at tree.now.tree id)) }
+    ensures start { (s : State) → s.arena ≡ tree.now →
+        WalkedBelow id (block_query false reps.now width.now) 0 s s }
+    ensures found { (s : State) → s.arena ≡ tree.now →
+        Walked id (block_query false reps.now width.now) s s }
 {
     let none = Given::None;
     match find_by(tree, id, Ask::Block, reps, width, &none) {
@@ -68,7 +76,9 @@ pub fn kept_wide<'a>(
 ) -> Option<&'a SharedWide>
     requires live { IsLive (bare tree.now.tree) id }
     requires right { IsRight tree.now.tree }
-    ensures { IfSome result (λ wide. HoldsWide (sight_at (bare tree.now.tree) id) (children_at (bare tree.now.tree) id) reps.now width.now wide.now) }
+    ensures { IfSome result
+        (λ wide. HoldsWide (sight_at (bare tree.now.tree) id) (children_at (bare tree.now.tree) id)
+        reps.now width.now wide.now) }
 {
     let none = Given::None;
     match find_by(tree, id, Ask::Block, reps, width, &none) {
@@ -88,11 +98,19 @@ pub(crate) fn kept_rows<'a>(
 ) -> Option<&'a Sequence<Item>>
     requires live { IsLive (bare tree.now.tree) id }
     requires right { IsRight tree.now.tree }
-    ensures kept { MatchOption result (answer_to (block_query true reps.now width.now) (kept_at tree.now.tree id) ≡ None) (λ items. answer_to (block_query true reps.now width.now) (kept_at tree.now.tree id) ≡ Some (answer.Lent items.now)) }
-    ensures value { IfSome result (λ items. lent_items items.now ≡ answer_of (sight_at (bare tree.now.tree) id) (block_query true reps.now width.now)) }
-    ensures absent { IfNone result (IsAbsent (block_query true reps.now width.now) (kept_at tree.now.tree id)) }
-    ensures start { (s : State) → s.arena ≡ tree.now → WalkedBelow id (block_query true reps.now width.now) 0 s s }
-    ensures found { (s : State) → s.arena ≡ tree.now → Walked id (block_query true reps.now width.now) s s }
+    ensures kept { MatchOption result
+        (answer_to (block_query true reps.now width.now) (kept_at tree.now.tree id) ≡ None)
+        (λ items. answer_to (block_query true reps.now width.now) (kept_at tree.now.tree id) ≡
+        Some (answer.Lent items.now)) }
+    ensures value { IfSome result
+        (λ items. lent_items items.now ≡
+        answer_of (sight_at (bare tree.now.tree) id) (block_query true reps.now width.now)) }
+    ensures absent { IfNone result
+        (IsAbsent (block_query true reps.now width.now) (kept_at tree.now.tree id)) }
+    ensures start { (s : State) → s.arena ≡ tree.now →
+        WalkedBelow id (block_query true reps.now width.now) 0 s s }
+    ensures found { (s : State) → s.arena ≡ tree.now →
+        Walked id (block_query true reps.now width.now) s s }
 {
     let none = Given::None;
     match find_by(tree, id, Ask::LendRows, reps, width, &none) {

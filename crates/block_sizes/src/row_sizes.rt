@@ -37,7 +37,12 @@ fn rows_at(alloc: Global, style: &Style, size: Lu, tracks: &SizedTracks) -> Resu
     requires few { length tracks.now.rules ≤ 131072 }
     requires sizes { length tracks.now.sizes ≡ length tracks.now.rules }
     ensures size { IfOk result (λ rows. rows.size ≡ size) }
-    ensures view { IfOk result (λ rows. rows.view ≡ record { edges = edges_in (content_at 1 style.now).distribution size (sized_of tracks.now); gap = tracks.now.gap }) }
+    ensures view { IfOk result
+        (λ rows. rows.view ≡
+        record {
+          edges = edges_in (content_at 1 style.now).distribution size (sized_of tracks.now);
+          gap = tracks.now.gap;
+        }) }
     ensures counted { IfOk result (λ rows. length rows.view.edges ≡ length tracks.now.rules) }
     ensures spread { IfOk result (λ rows. AreSpread (2 ^ 50 + 2 ^ 34) rows.view.edges) }
 {
@@ -74,8 +79,14 @@ fn rows_total<L: Ledger>(
     requires kind { (sight_at (bare tree.now.tree) id).label.kind ≡ kind.Grid }
     requires own { sees_rows (sight_at (bare tree.now.tree) id) ≡ false }
     requires wide { IsWide (bare tree.now.tree) id reps.now width.now wide.now }
-    ensures value { IfOk result (λ laid. laid.0 ≡ grid_block (grid_seen (bare tree.now.tree) id reps.now width.now) (rows_seen (bare tree.now.tree) id reps.now width.now)) }
-    ensures rows { IfOk result (λ laid. IfSome laid.1 (HoldsRows (rows_seen (bare tree.now.tree) id reps.now width.now) wide.now.parts.base.placed.rows)) }
+    ensures value { IfOk result
+        (λ laid. laid.0 ≡
+        grid_block (grid_seen (bare tree.now.tree) id reps.now width.now)
+        (rows_seen (bare tree.now.tree) id reps.now width.now)) }
+    ensures rows { IfOk result
+        (λ laid. IfSome laid.1
+        (HoldsRows (rows_seen (bare tree.now.tree) id reps.now width.now)
+        wide.now.parts.base.placed.rows)) }
     ensures size { IfOk result (λ laid. IfSome laid.1 (λ rows. rows.size ≡ laid.0)) }
     ensures ticks { passes.new ≤ passes.old + 1 }
 {
@@ -101,7 +112,10 @@ fn rows_total<L: Ledger>(
 
 /// The block size of the content of a grid that sizes its rows, by the rows that it holds for a content box as great as its content.
 fn size_of_rows(wide: &GridWide) -> Option<Lu>
-    ensures { IfSome result (λ size. (base : GridBase) → (s : Seen) → IfSome wide.now.rows (AreRowsFor s base wide.now.items) → size ≡ total_for {axis = 1} (row_axis s base wide.now.items) MaxContent) }
+    ensures { IfSome result
+        (λ size. (base : GridBase) → (s : Seen) →
+        IfSome wide.now.rows (AreRowsFor s base wide.now.items) →
+        size ≡ total_for {axis = 1} (row_axis s base wide.now.items) MaxContent) }
 {
     match &wide.rows {
         Some(rows) => Some(rows.size),
@@ -124,11 +138,17 @@ pub(crate) fn laid_rows<L: Ledger>(
     requires kind { (sight_at (bare tree.now.tree) id).label.kind ≡ kind.Grid }
     requires own { sees_rows (sight_at (bare tree.now.tree) id) ≡ false }
     requires wide { IsWide (bare tree.now.tree) id reps.now width.now wide }
-    requires laid { IfSome wide.rows (AreRowsFor (sight_at (bare tree.now.tree) id) wide.parts.base wide.items) }
-    ensures value { IfOk result (λ laid. laid.0 ≡ grid_block (grid_seen (bare tree.now.tree) id reps.now width.now) (rows_seen (bare tree.now.tree) id reps.now width.now)) }
+    requires laid { IfSome wide.rows
+        (AreRowsFor (sight_at (bare tree.now.tree) id) wide.parts.base wide.items) }
+    ensures value { IfOk result
+        (λ laid. laid.0 ≡
+        grid_block (grid_seen (bare tree.now.tree) id reps.now width.now)
+        (rows_seen (bare tree.now.tree) id reps.now width.now)) }
     ensures wide { IfOk result (λ laid. IsWide (bare tree.now.tree) id reps.now width.now laid.1) }
     ensures same { IfOk result (λ laid. laid.1 ≡ record wide { rows = laid.1.rows }) }
-    ensures laid { IfOk result (λ laid. IfSome laid.1.rows (AreRowsFor (sight_at (bare tree.now.tree) id) wide.parts.base wide.items)) }
+    ensures laid { IfOk result
+        (λ laid. IfSome laid.1.rows
+        (AreRowsFor (sight_at (bare tree.now.tree) id) wide.parts.base wide.items)) }
     ensures ticks { passes.new ≤ passes.old + 1 }
 {
     items_lie_in_their_tracks(tree, id);

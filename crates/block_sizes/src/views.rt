@@ -51,7 +51,11 @@ pub fn view_for<const AXIS: u8, L: Ledger>(
     requires input { CanSize AXIS input.now.style.now input.now.tracks input.now.items.now }
     requires few { track_count input.now.tracks ≤ 131072 }
     requires size { pos 0 ≤ℤ size }
-    ensures value { IfOk result (λ view. view ≡ view_for {axis = AXIS} (track_axis AXIS input.now.style.now input.now.count input.now.spans.now input.now.tracks input.now.items.now) size) }
+    ensures value { IfOk result
+        (λ view. view ≡
+        view_for {axis = AXIS}
+        (track_axis AXIS input.now.style.now input.now.count input.now.spans.now
+        input.now.tracks input.now.items.now) size) }
     ensures counted { IfOk result (λ view. length view.edges ≡ track_count input.now.tracks) }
     ensures gap { IfOk result (λ view. pos 0 ≤ℤ view.gap) }
     ensures range { IfOk result (λ view. IsUnits view.gap) }
@@ -83,14 +87,24 @@ pub fn view_by<const AXIS: u8, L: Ledger>(
     given: &Given,
     passes: &mut Steps<L>,
 ) -> Result<View<AXIS>, NoMemory>
-    requires input { CanSizeFor given.now AXIS input.now.style.now input.now.tracks input.now.items.now }
+    requires input { CanSizeFor given.now AXIS input.now.style.now input.now.tracks
+        input.now.items.now }
     requires few { track_count input.now.tracks ≤ 131072 }
     requires given { IsGivenSize given.now }
-    ensures value { IfOk result (λ view. view ≡ view_by {axis = AXIS} (track_axis AXIS input.now.style.now input.now.count input.now.spans.now input.now.tracks input.now.items.now) given.now) }
-    ensures counted { (shared : Bool) → IsGivenFor true shared (track_count input.now.tracks) given.now → IfOk result (λ view. length view.edges ≡ track_count input.now.tracks) }
-    ensures gap { (shared : Bool) → IsGivenFor true shared (track_count input.now.tracks) given.now → IfOk result (λ view. pos 0 ≤ℤ view.gap) }
+    ensures value { IfOk result
+        (λ view. view ≡
+        view_by {axis = AXIS}
+        (track_axis AXIS input.now.style.now input.now.count input.now.spans.now
+        input.now.tracks input.now.items.now) given.now) }
+    ensures counted { (shared : Bool) →
+        IsGivenFor true shared (track_count input.now.tracks) given.now →
+        IfOk result (λ view. length view.edges ≡ track_count input.now.tracks) }
+    ensures gap { (shared : Bool) →
+        IsGivenFor true shared (track_count input.now.tracks) given.now →
+        IfOk result (λ view. pos 0 ≤ℤ view.gap) }
     ensures range { IfOk result (λ view. IsUnits view.gap) }
-    ensures spread { (by : ℕ) → 2 ^ 51 ≤ by → IsSpread by given.now → IfOk result (λ view. AreSpread by view.edges) }
+    ensures spread { (by : ℕ) → 2 ^ 51 ≤ by → IsSpread by given.now →
+        IfOk result (λ view. AreSpread by view.edges) }
     ensures kept { passes.old ≤ passes.new }
     ensures ticks { passes.new ≤ passes.old + 1 }
 {

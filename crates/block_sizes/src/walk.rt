@@ -73,7 +73,8 @@ pub(crate) fn is_grid(kind: &NodeKind) -> bool
 /// A node that sees a grid above it is a grid itself. The function does next to nothing: the law is its contract.
 fn subgrids_are_grids(tree: &Arena<Node>, id: NodeId)
     requires { IsLive (bare tree.now.tree) id }
-    ensures { has_chain (sight_at (bare tree.now.tree) id).chain ≡ true → (sight_at (bare tree.now.tree) id).label.kind ≡ kind.Grid }
+    ensures { has_chain (sight_at (bare tree.now.tree) id).chain ≡ true →
+        (sight_at (bare tree.now.tree) id).label.kind ≡ kind.Grid }
 {
     parent(tree, id);
 }
@@ -98,10 +99,17 @@ fn ask_members<R: Ruler, L: Ledger>(
     requires flex { (sight_at (bare tree.old.tree) id).label.kind ≡ kind.Flex }
     requires members { AreMembers (bare tree.old.tree) id members.now }
     requires roomy { AreRoomy (flex_seen (bare tree.old.tree) id).members boxes.now }
-    ensures value { IfOk result (λ blocks. blocks ≡ map block_of (settled_seen (bare tree.old.tree) id boxes.now)) }
+    ensures value { IfOk result
+        (λ blocks. blocks ≡ map block_of (settled_seen (bare tree.old.tree) id boxes.now)) }
     ensures right { IsRight tree.new.tree }
-    ensures below { OnOk result ((q : Query) → LeadsTo (bare tree.old.tree) id boxes.now q → WalkedBelow id q 0 (state tree.old tally.old passes.old (R.log ruler.old)) (state tree.new tally.new passes.new (R.log ruler.new))) }
-    ensures stopped { OnErr result ((q : Query) → LeadsTo (bare tree.old.tree) id boxes.now q → Stopped id q (state tree.old tally.old passes.old (R.log ruler.old)) (state tree.new tally.new passes.new (R.log ruler.new))) }
+    ensures below { OnOk result
+        ((q : Query) → LeadsTo (bare tree.old.tree) id boxes.now q →
+        WalkedBelow id q 0 (state tree.old tally.old passes.old (R.log ruler.old))
+        (state tree.new tally.new passes.new (R.log ruler.new))) }
+    ensures stopped { OnErr result
+        ((q : Query) → LeadsTo (bare tree.old.tree) id boxes.now q →
+        Stopped id q (state tree.old tally.old passes.old (R.log ruler.old))
+        (state tree.new tally.new passes.new (R.log ruler.new))) }
 {
     root(tree);
     let mut blocks = Sequence::new(alloc);
@@ -144,8 +152,14 @@ pub fn row_at<R: Ruler, L: Ledger>(
     requires direction { (sight_at (bare tree.old.tree) id).label.content.column ≡ false }
     ensures value { IfOk result (IsRow (bare tree.old.tree) id width) }
     ensures right { IsRight tree.new.tree }
-    ensures below { OnOk result ((q : Query) → given_size q.inline ≡ width → needs_inline q.ask ≡ true → WalkedBelow id q 1 (state tree.old tally.old passes.old (R.log ruler.old)) (state tree.new tally.new passes.new (R.log ruler.new))) }
-    ensures stopped { OnErr result ((q : Query) → given_size q.inline ≡ width → needs_inline q.ask ≡ true → Stopped id q (state tree.old tally.old passes.old (R.log ruler.old)) (state tree.new tally.new passes.new (R.log ruler.new))) }
+    ensures below { OnOk result
+        ((q : Query) → given_size q.inline ≡ width → needs_inline q.ask ≡ true →
+        WalkedBelow id q 1 (state tree.old tally.old passes.old (R.log ruler.old))
+        (state tree.new tally.new passes.new (R.log ruler.new))) }
+    ensures stopped { OnErr result
+        ((q : Query) → given_size q.inline ≡ width → needs_inline q.ask ≡ true →
+        Stopped id q (state tree.old tally.old passes.old (R.log ruler.old))
+        (state tree.new tally.new passes.new (R.log ruler.new))) }
 {
     let parts = flex_at(alloc, tree, id, ruler, tally, passes)?;
     let members = parts.members;
@@ -187,8 +201,14 @@ pub fn column_at<R: Ruler, L: Ledger>(
     requires direction { (sight_at (bare tree.old.tree) id).label.content.column ≡ true }
     ensures value { IfOk result (IsColumn (bare tree.old.tree) id width) }
     ensures right { IsRight tree.new.tree }
-    ensures below { OnOk result ((q : Query) → given_size q.inline ≡ width → needs_inline q.ask ≡ true → WalkedBelow id q 0 (state tree.old tally.old passes.old (R.log ruler.old)) (state tree.new tally.new passes.new (R.log ruler.new))) }
-    ensures stopped { OnErr result ((q : Query) → given_size q.inline ≡ width → needs_inline q.ask ≡ true → Stopped id q (state tree.old tally.old passes.old (R.log ruler.old)) (state tree.new tally.new passes.new (R.log ruler.new))) }
+    ensures below { OnOk result
+        ((q : Query) → given_size q.inline ≡ width → needs_inline q.ask ≡ true →
+        WalkedBelow id q 0 (state tree.old tally.old passes.old (R.log ruler.old))
+        (state tree.new tally.new passes.new (R.log ruler.new))) }
+    ensures stopped { OnErr result
+        ((q : Query) → given_size q.inline ≡ width → needs_inline q.ask ≡ true →
+        Stopped id q (state tree.old tally.old passes.old (R.log ruler.old))
+        (state tree.new tally.new passes.new (R.log ruler.new))) }
 {
     let parts = flex_at(alloc, tree, id, ruler, tally, passes)?;
     let members = parts.members;
@@ -234,11 +254,17 @@ fn grid_anew<R: Ruler, L: Ledger>(
     requires absent { IsAbsent query (kept_at tree.old.tree id) }
     requires seat { IsSeat (sight_at (bare tree.old.tree) id) query.reps above.now area }
     requires spread { IsSpread (farthest (level_at (bare tree.old.tree) id)) query.inline }
-    ensures value { IfOk result (λ size. block_size size ≡ answer_of (sight_at (bare tree.old.tree) id) query) }
+    ensures value { IfOk result
+        (λ size. block_size size ≡ answer_of (sight_at (bare tree.old.tree) id) query) }
     ensures right { IsRight tree.new.tree }
-    ensures walked { OnOk result (Walked id query (state tree.old tally.old passes.old (R.log ruler.old)) (state tree.new tally.new passes.new (R.log ruler.new))) }
-    ensures stopped { OnErr result (Stopped id query (state tree.old tally.old passes.old (R.log ruler.old)) (state tree.new tally.new passes.new (R.log ruler.new))) }
-    ensures own { IfOk result (λ size. GrowsBy (kept_at tree.old.tree id) query size (kept_at tree.new.tree id)) }
+    ensures walked { OnOk result
+        (Walked id query (state tree.old tally.old passes.old (R.log ruler.old))
+        (state tree.new tally.new passes.new (R.log ruler.new))) }
+    ensures stopped { OnErr result
+        (Stopped id query (state tree.old tally.old passes.old (R.log ruler.old))
+        (state tree.new tally.new passes.new (R.log ruler.new))) }
+    ensures own { IfOk result
+        (λ size. GrowsBy (kept_at tree.old.tree id) query size (kept_at tree.new.tree id)) }
 {
     let reps = query.reps.as_slice();
     let width = &query.inline;
@@ -277,11 +303,18 @@ fn column_anew<R: Ruler, L: Ledger>(
     requires fits { Fits (sight_at (bare tree.old.tree) id) query }
     requires absent { IsAbsent query (kept_at tree.old.tree id) }
     requires spread { IsSpread (farthest (level_at (bare tree.old.tree) id)) query.inline }
-    ensures value { IfOk result (λ size. block_size size ≡ answer_of (sight_at (bare tree.old.tree) id) query) }
+    ensures value { IfOk result
+        (λ size. block_size size ≡ answer_of (sight_at (bare tree.old.tree) id) query) }
     ensures right { IsRight tree.new.tree }
-    ensures walked { OnOk result (Walked id query (state tree.old tally.old passes.old (R.log ruler.old)) (state tree.new tally.new passes.new (R.log ruler.new))) }
-    ensures stopped { OnErr result (Stopped id query (state tree.old tally.old passes.old (R.log ruler.old)) (state tree.new tally.new passes.new (R.log ruler.new))) }
-    ensures own { IfOk result (λ size. kept_at tree.new.tree id ≡ kept_with (kept_at tree.old.tree id) ((query, answer.Block size) ∷ [])) }
+    ensures walked { OnOk result
+        (Walked id query (state tree.old tally.old passes.old (R.log ruler.old))
+        (state tree.new tally.new passes.new (R.log ruler.new))) }
+    ensures stopped { OnErr result
+        (Stopped id query (state tree.old tally.old passes.old (R.log ruler.old))
+        (state tree.new tally.new passes.new (R.log ruler.new))) }
+    ensures own { IfOk result
+        (λ size. kept_at tree.new.tree id ≡
+        kept_with (kept_at tree.old.tree id) ((query, answer.Block size) ∷ [])) }
 {
     let width = size_of(&query.inline);
     let parts = column_at(alloc, tree, id, width, ruler, tally, passes)?;
@@ -310,11 +343,18 @@ fn row_anew<R: Ruler, L: Ledger>(
     requires fits { Fits (sight_at (bare tree.old.tree) id) query }
     requires absent { IsAbsent query (kept_at tree.old.tree id) }
     requires spread { IsSpread (farthest (level_at (bare tree.old.tree) id)) query.inline }
-    ensures value { IfOk result (λ size. block_size size ≡ answer_of (sight_at (bare tree.old.tree) id) query) }
+    ensures value { IfOk result
+        (λ size. block_size size ≡ answer_of (sight_at (bare tree.old.tree) id) query) }
     ensures right { IsRight tree.new.tree }
-    ensures walked { OnOk result (Walked id query (state tree.old tally.old passes.old (R.log ruler.old)) (state tree.new tally.new passes.new (R.log ruler.new))) }
-    ensures stopped { OnErr result (Stopped id query (state tree.old tally.old passes.old (R.log ruler.old)) (state tree.new tally.new passes.new (R.log ruler.new))) }
-    ensures own { IfOk result (λ size. kept_at tree.new.tree id ≡ kept_with (kept_at tree.old.tree id) ((query, answer.Block size) ∷ [])) }
+    ensures walked { OnOk result
+        (Walked id query (state tree.old tally.old passes.old (R.log ruler.old))
+        (state tree.new tally.new passes.new (R.log ruler.new))) }
+    ensures stopped { OnErr result
+        (Stopped id query (state tree.old tally.old passes.old (R.log ruler.old))
+        (state tree.new tally.new passes.new (R.log ruler.new))) }
+    ensures own { IfOk result
+        (λ size. kept_at tree.new.tree id ≡
+        kept_with (kept_at tree.old.tree id) ((query, answer.Block size) ∷ [])) }
 {
     let width = size_of(&query.inline);
     let parts = row_at(alloc, tree, id, width, ruler, tally, passes)?;
@@ -344,11 +384,17 @@ pub(crate) fn block_anew<R: Ruler, L: Ledger>(
     requires absent { IsAbsent query (kept_at tree.old.tree id) }
     requires seat { IsSeat (sight_at (bare tree.old.tree) id) query.reps above.now area }
     requires spread { IsSpread (farthest (level_at (bare tree.old.tree) id)) query.inline }
-    ensures value { IfOk result (λ size. block_size size ≡ answer_of (sight_at (bare tree.old.tree) id) query) }
+    ensures value { IfOk result
+        (λ size. block_size size ≡ answer_of (sight_at (bare tree.old.tree) id) query) }
     ensures right { IsRight tree.new.tree }
-    ensures walked { OnOk result (Walked id query (state tree.old tally.old passes.old (R.log ruler.old)) (state tree.new tally.new passes.new (R.log ruler.new))) }
-    ensures stopped { OnErr result (Stopped id query (state tree.old tally.old passes.old (R.log ruler.old)) (state tree.new tally.new passes.new (R.log ruler.new))) }
-    ensures own { IfOk result (λ size. GrowsBy (kept_at tree.old.tree id) query size (kept_at tree.new.tree id)) }
+    ensures walked { OnOk result
+        (Walked id query (state tree.old tally.old passes.old (R.log ruler.old))
+        (state tree.new tally.new passes.new (R.log ruler.new))) }
+    ensures stopped { OnErr result
+        (Stopped id query (state tree.old tally.old passes.old (R.log ruler.old))
+        (state tree.new tally.new passes.new (R.log ruler.new))) }
+    ensures own { IfOk result
+        (λ size. GrowsBy (kept_at tree.old.tree id) query size (kept_at tree.new.tree id)) }
 {
     let kind = &node_at(tree, id).kind;
     if is_grid(kind) {
@@ -384,12 +430,25 @@ pub fn block_at<R: Ruler, L: Ledger>(
     requires fits { Fits (sight_at (bare tree.old.tree) id) (block_query false reps.now width.now) }
     requires seat { IsSeat (sight_at (bare tree.old.tree) id) reps.now above.now area }
     requires spread { IsSpread (farthest (level_at (bare tree.old.tree) id)) width.now }
-    ensures value { IfOk result (λ size. block_size size ≡ answer_of (sight_at (bare tree.old.tree) id) (block_query false reps.now width.now)) }
+    ensures value { IfOk result
+        (λ size. block_size size ≡
+        answer_of (sight_at (bare tree.old.tree) id) (block_query false reps.now width.now)) }
     ensures right { IsRight tree.new.tree }
-    ensures walked { OnOk result (Walked id (block_query false reps.now width.now) (state tree.old tally.old passes.old (R.log ruler.old)) (state tree.new tally.new passes.new (R.log ruler.new))) }
-    ensures stopped { OnErr result (Stopped id (block_query false reps.now width.now) (state tree.old tally.old passes.old (R.log ruler.old)) (state tree.new tally.new passes.new (R.log ruler.new))) }
-    ensures found { Found id (block_query false reps.now width.now) (state tree.old tally.old passes.old (R.log ruler.old)) (state tree.new tally.new passes.new (R.log ruler.new)) }
-    ensures own { IfOk result (λ size. KeepsSize id (block_query false reps.now width.now) (state tree.old tally.old passes.old (R.log ruler.old)) (state tree.new tally.new passes.new (R.log ruler.new)) size) }
+    ensures walked { OnOk result
+        (Walked id (block_query false reps.now width.now)
+        (state tree.old tally.old passes.old (R.log ruler.old))
+        (state tree.new tally.new passes.new (R.log ruler.new))) }
+    ensures stopped { OnErr result
+        (Stopped id (block_query false reps.now width.now)
+        (state tree.old tally.old passes.old (R.log ruler.old))
+        (state tree.new tally.new passes.new (R.log ruler.new))) }
+    ensures found { Found id (block_query false reps.now width.now)
+        (state tree.old tally.old passes.old (R.log ruler.old))
+        (state tree.new tally.new passes.new (R.log ruler.new)) }
+    ensures own { IfOk result
+        (λ size. KeepsSize id (block_query false reps.now width.now)
+        (state tree.old tally.old passes.old (R.log ruler.old))
+        (state tree.new tally.new passes.new (R.log ruler.new)) size) }
 {
     if let Some(size) = kept_block(tree, id, reps, width) {
         return Ok(size);
@@ -422,11 +481,18 @@ pub(crate) fn rows_anew<R: Ruler, L: Ledger>(
     requires absent { IsAbsent query (kept_at tree.old.tree id) }
     requires seat { IsSeat (sight_at (bare tree.old.tree) id) query.reps above.now area }
     requires spread { IsSpread (farthest (level_at (bare tree.old.tree) id)) query.inline }
-    ensures value { IfOk result (λ items. lent_items items ≡ answer_of (sight_at (bare tree.old.tree) id) query) }
+    ensures value { IfOk result
+        (λ items. lent_items items ≡ answer_of (sight_at (bare tree.old.tree) id) query) }
     ensures right { IsRight tree.new.tree }
-    ensures walked { OnOk result (Walked id query (state tree.old tally.old passes.old (R.log ruler.old)) (state tree.new tally.new passes.new (R.log ruler.new))) }
-    ensures stopped { OnErr result (Stopped id query (state tree.old tally.old passes.old (R.log ruler.old)) (state tree.new tally.new passes.new (R.log ruler.new))) }
-    ensures own { IfOk result (λ items. kept_at tree.new.tree id ≡ kept_with (kept_at tree.old.tree id) ((query, answer.Lent items) ∷ [])) }
+    ensures walked { OnOk result
+        (Walked id query (state tree.old tally.old passes.old (R.log ruler.old))
+        (state tree.new tally.new passes.new (R.log ruler.new))) }
+    ensures stopped { OnErr result
+        (Stopped id query (state tree.old tally.old passes.old (R.log ruler.old))
+        (state tree.new tally.new passes.new (R.log ruler.new))) }
+    ensures own { IfOk result
+        (λ items. kept_at tree.new.tree id ≡
+        kept_with (kept_at tree.old.tree id) ((query, answer.Lent items) ∷ [])) }
 {
     subgrids_are_grids(tree, id);
     let reps = query.reps.as_slice();
@@ -461,12 +527,25 @@ pub fn lend_rows_at<R: Ruler, L: Ledger>(
     requires fits { Fits (sight_at (bare tree.old.tree) id) (block_query true reps.now width.now) }
     requires seat { IsSeat (sight_at (bare tree.old.tree) id) reps.now above.now area }
     requires spread { IsSpread (farthest (level_at (bare tree.old.tree) id)) width.now }
-    ensures value { IfOk result (λ items. lent_items items ≡ answer_of (sight_at (bare tree.old.tree) id) (block_query true reps.now width.now)) }
+    ensures value { IfOk result
+        (λ items. lent_items items ≡
+        answer_of (sight_at (bare tree.old.tree) id) (block_query true reps.now width.now)) }
     ensures right { IsRight tree.new.tree }
-    ensures walked { OnOk result (Walked id (block_query true reps.now width.now) (state tree.old tally.old passes.old (R.log ruler.old)) (state tree.new tally.new passes.new (R.log ruler.new))) }
-    ensures stopped { OnErr result (Stopped id (block_query true reps.now width.now) (state tree.old tally.old passes.old (R.log ruler.old)) (state tree.new tally.new passes.new (R.log ruler.new))) }
-    ensures found { Found id (block_query true reps.now width.now) (state tree.old tally.old passes.old (R.log ruler.old)) (state tree.new tally.new passes.new (R.log ruler.new)) }
-    ensures own { IfOk result (λ items. Keeps id (block_query true reps.now width.now) (state tree.old tally.old passes.old (R.log ruler.old)) (state tree.new tally.new passes.new (R.log ruler.new)) (answer.Lent items)) }
+    ensures walked { OnOk result
+        (Walked id (block_query true reps.now width.now)
+        (state tree.old tally.old passes.old (R.log ruler.old))
+        (state tree.new tally.new passes.new (R.log ruler.new))) }
+    ensures stopped { OnErr result
+        (Stopped id (block_query true reps.now width.now)
+        (state tree.old tally.old passes.old (R.log ruler.old))
+        (state tree.new tally.new passes.new (R.log ruler.new))) }
+    ensures found { Found id (block_query true reps.now width.now)
+        (state tree.old tally.old passes.old (R.log ruler.old))
+        (state tree.new tally.new passes.new (R.log ruler.new)) }
+    ensures own { IfOk result
+        (λ items. Keeps id (block_query true reps.now width.now)
+        (state tree.old tally.old passes.old (R.log ruler.old))
+        (state tree.new tally.new passes.new (R.log ruler.new)) (answer.Lent items)) }
 {
     if let Some(items) = kept_rows(tree, id, reps, width) {
         return Sequence::from_slice(alloc, items.as_slice());

@@ -50,7 +50,8 @@ pub(crate) fn row_levels(above: &Above) -> &[Level]
 
 /// The spans of the children of a grid along the columns.
 fn column_spans(alloc: Global, areas: &[(NodeId, Area)]) -> Result<Vec<Span>, NoMemory>
-    ensures { IfOk result (λ spans. spans.items ≡ map (λ (e : NodeId × Area). e.1.columns) areas.now) }
+    ensures { IfOk result
+        (λ spans. spans.items ≡ map (λ (e : NodeId × Area). e.1.columns) areas.now) }
 {
     let mut spans = Vec::with_capacity(alloc, areas.len())?;
     for (_, area) in areas {
@@ -94,7 +95,9 @@ pub(crate) fn append(
 /// Whether a child of a grid is a subgrid in an axis.
 pub(crate) fn shares<const AXIS: u8>(tree: &Arena<Node>, id: NodeId) -> bool
     requires { IsLive (bare tree.now.tree) id }
-    ensures { result ≡ (has_subgrid_kind (sight_at (bare tree.now.tree) id).label && is_subgrid (grid_axis AXIS (sight_at (bare tree.now.tree) id).label.grid).template) }
+    ensures { result ≡
+        (has_subgrid_kind (sight_at (bare tree.now.tree) id).label &&
+        is_subgrid (grid_axis AXIS (sight_at (bare tree.now.tree) id).label.grid).template) }
 {
     let node = node_at(tree, id);
     is_grid(&node.kind) && is_subgrid::<AXIS>(&node.style)
@@ -116,7 +119,9 @@ pub(crate) fn child_in(
     requires index { index < length parts.now.base.placed.areas }
     ensures child { IsChildIn (bare tree.now.tree) id parts.now.base result }
     ensures told { slice_get parts.now.base.placed.areas index ≡ Some (result.child, result.area) }
-    ensures next { drop index (entries_at (bare tree.now.tree) id parts.now.base.placed) ≡ entry_by (bare tree.now.tree) result ∷ drop (index + 1) (entries_at (bare tree.now.tree) id parts.now.base.placed) }
+    ensures next { drop index (entries_at (bare tree.now.tree) id parts.now.base.placed) ≡
+        entry_by (bare tree.now.tree) result ∷
+        drop (index + 1) (entries_at (bare tree.now.tree) id parts.now.base.placed) }
 {
     root(tree);
     items_lie_in_their_tracks(tree, id);
@@ -166,8 +171,12 @@ pub(crate) fn sizes_at(parts: &GridParts, index: usize) -> (Lu, Lu)
 /// does next to nothing: the law is its contract.
 fn columns_reach(tree: &Arena<Node>, id: NodeId)
     requires { AreReadable (bare tree.now.tree) }
-    ensures shared { (outer : List Pair) (width : Given) → sees_columns (sight_at (bare tree.now.tree) id) ≡ true → (grid_seen (bare tree.now.tree) id outer width).placed.columns ≡ tracks_to (outer_context (sight_at (bare tree.now.tree) id) outer).columns.table.tracks }
-    ensures zero { (outer : List Pair) (width : Given) → HasZero (grid_seen (bare tree.now.tree) id outer width).placed.columns }
+    ensures shared { (outer : List Pair) (width : Given) →
+        sees_columns (sight_at (bare tree.now.tree) id) ≡ true →
+        (grid_seen (bare tree.now.tree) id outer width).placed.columns ≡
+        tracks_to (outer_context (sight_at (bare tree.now.tree) id) outer).columns.table.tracks }
+    ensures zero { (outer : List Pair) (width : Given) →
+        HasZero (grid_seen (bare tree.now.tree) id outer width).placed.columns }
 {
     tree.root();
 }
@@ -187,14 +196,20 @@ pub(crate) fn columns_of<L: Ledger>(
     requires readable { AreReadable (bare tree.now.tree) }
     requires kind { (sight_at (bare tree.now.tree) id).label.kind ≡ kind.Grid }
     requires grid { IsGrid (bare tree.now.tree) id reps.now width.now parts.now }
-    requires inline { IsGivenFor true (sees_columns (sight_at (bare tree.now.tree) id)) (outer_context (sight_at (bare tree.now.tree) id) reps.now).columns.table.tracks width.now }
+    requires inline { IsGivenFor true (sees_columns (sight_at (bare tree.now.tree) id))
+        (outer_context (sight_at (bare tree.now.tree) id) reps.now).columns.table.tracks width.now }
     requires spread { IsSpread (farthest (level_at (bare tree.now.tree) id)) width.now }
-    ensures value { IfOk result (λ view. view ≡ columns_seen (bare tree.now.tree) id reps.now width.now) }
-    ensures counted { IfOk result (λ view. pos (length view.edges) ≡ (parts.now.base.placed.columns.end -ℤ parts.now.base.placed.columns.start)) }
+    ensures value { IfOk result
+        (λ view. view ≡ columns_seen (bare tree.now.tree) id reps.now width.now) }
+    ensures counted { IfOk result
+        (λ view. pos (length view.edges) ≡
+        (parts.now.base.placed.columns.end -ℤ parts.now.base.placed.columns.start)) }
     ensures gap { IfOk result (λ view. pos 0 ≤ℤ view.gap) }
     ensures range { IfOk result (λ view. IsUnits view.gap) }
-    ensures spread { IfOk result (λ view. AreSpread (farthest (level_at (bare tree.now.tree) id)) view.edges) }
-    ensures far { IfOk result (λ view. (by : ℕ) → 2 ^ 51 ≤ by → IsSpread by width.now → AreSpread by view.edges) }
+    ensures spread { IfOk result
+        (λ view. AreSpread (farthest (level_at (bare tree.now.tree) id)) view.edges) }
+    ensures far { IfOk result
+        (λ view. (by : ℕ) → 2 ^ 51 ≤ by → IsSpread by width.now → AreSpread by view.edges) }
     ensures kept { passes.old ≤ passes.new }
     ensures ticks { passes.new ≤ passes.old + 1 }
 {
@@ -228,13 +243,23 @@ pub(crate) fn wide_child(
     requires readable { AreReadable (bare tree.now.tree) }
     requires laid { IsLaid (bare tree.now.tree) id base.now }
     requires entry { IsChildIn (bare tree.now.tree) id base.now entry }
-    requires counted { pos (length columns.now.edges) ≡ (base.now.placed.columns.end -ℤ base.now.placed.columns.start) }
+    requires counted { pos (length columns.now.edges) ≡
+        (base.now.placed.columns.end -ℤ base.now.placed.columns.start) }
     requires gap { pos 0 ≤ℤ columns.now.gap }
     requires range { IsUnits columns.now.gap }
     requires spread { AreSpread (farthest (level_at (bare tree.now.tree) id)) columns.now.edges }
-    ensures value { IfOk result (λ inline. inline ≡ inline_of_child (sight_at (bare tree.now.tree) id).label.content.inline.items columns.now (from_first base.now.placed.columns entry.area.columns) (kid_at (bare tree.now.tree) entry.child).label (shares_columns (kid_at (bare tree.now.tree) entry.child)) sizes) }
-    ensures fits { IfOk result (λ inline. Fits (sight_at (bare tree.now.tree) entry.child) (block_query (shares_rows (kid_at (bare tree.now.tree) entry.child)) (pairs_seen (bare tree.now.tree) base.now entry) inline.1)) }
-    ensures spread { IfOk result (λ inline. IsSpread (farthest (level_at (bare tree.now.tree) entry.child)) inline.1) }
+    ensures value { IfOk result
+        (λ inline. inline ≡
+        inline_of_child (sight_at (bare tree.now.tree) id).label.content.inline.items
+        columns.now (from_first base.now.placed.columns entry.area.columns)
+        (kid_at (bare tree.now.tree) entry.child).label
+        (shares_columns (kid_at (bare tree.now.tree) entry.child)) sizes) }
+    ensures fits { IfOk result
+        (λ inline. Fits (sight_at (bare tree.now.tree) entry.child)
+        (block_query (shares_rows (kid_at (bare tree.now.tree) entry.child))
+        (pairs_seen (bare tree.now.tree) base.now entry) inline.1)) }
+    ensures spread { IfOk result
+        (λ inline. IsSpread (farthest (level_at (bare tree.now.tree) entry.child)) inline.1) }
 {
     let align = items::<0>(&node_at(tree, id).style);
     let span = from_first(base.placed.columns, entry.area.columns);
@@ -250,7 +275,13 @@ pub(crate) fn row_item(tree: &Arena<Node>, base: &GridBase, entry: ChildArea, bl
     requires live { IsLive (bare tree.now.tree) entry.child }
     requires readable { AreReadable (bare tree.now.tree) }
     requires lifted { IsLifted (row_levels base.now.above) entry.area.rows }
-    ensures { result ≡ child_item (row_levels base.now.above) (kid_at (bare tree.now.tree) entry.child).label.content.border_box (kid_at (bare tree.now.tree) entry.child).label.content.scrolls (kid_at (bare tree.now.tree) entry.child).label.grid.rows (kid_at (bare tree.now.tree) entry.child).label.content.block entry.area.rows (block, block) }
+    ensures { result ≡
+        child_item (row_levels base.now.above)
+        (kid_at (bare tree.now.tree) entry.child).label.content.border_box
+        (kid_at (bare tree.now.tree) entry.child).label.content.scrolls
+        (kid_at (bare tree.now.tree) entry.child).label.grid.rows
+        (kid_at (bare tree.now.tree) entry.child).label.content.block entry.area.rows
+        (block, block) }
 {
     let style = &node_at(tree, entry.child).style;
     child_item::<1>(
@@ -292,7 +323,10 @@ pub(crate) fn lent_rows(
     requires readable { AreReadable (bare tree.now.tree) }
     requires kind { (sight_at (bare tree.now.tree) id).label.kind ≡ kind.Grid }
     requires wide { IsWide (bare tree.now.tree) id reps.now width.now wide.now }
-    ensures { IfOk result (λ items. items ≡ grid_lends_rows (grid_seen (bare tree.now.tree) id reps.now width.now) (rows_seen (bare tree.now.tree) id reps.now width.now)) }
+    ensures { IfOk result
+        (λ items. items ≡
+        grid_lends_rows (grid_seen (bare tree.now.tree) id reps.now width.now)
+        (rows_seen (bare tree.now.tree) id reps.now width.now)) }
 {
     items_lie_in_their_tracks(tree, id);
     let base = wide.parts.base.grid();

@@ -157,7 +157,8 @@ turn_here b n outer inline block listed seats x y below i c next within f at low
       passes = λ container. passed_there b n c reps outer inline block i (frame_of f) _ _ next.kids frame pairs container;
     }
 
-module _ (b : BareTrees) (n : NodeId) (outer : List Pair) (inline block : Given) (listed : List NodeFrame) (seats : ChildSeats) (x y : ℤ) (below : IsBelow b n (frames_asked outer inline block) listed seats x y) (i : ℕ) (c : NodeId) (next : IsNext b n i c) (within : i < length listed) (f : NodeFrame) (at : f ≡ get_or listed i f) where
+module _ (b : BareTrees) (n : NodeId) (outer : List Pair) (inline block : Given) (listed : List NodeFrame) (seats : ChildSeats) (x y : ℤ) (below : IsBelow b n (frames_asked outer inline block) listed seats x y) (i : ℕ) (c : NodeId) (next : IsNext b n i c) (within : i < length listed)
+    (f : NodeFrame) (at : f ≡ get_or listed i f) where
   pub turn_of : (other : Area) → IsTurn b n (frames_asked outer inline block) x y i c (pairs_to seats (frame_of f)) (above_to seats (frame_of f)) (get_or seats.areas i other) f
   turn_of other = turn_here b n outer inline block listed seats x y below i c next within f at (is_lower (frame_of f)) refl (pairs_to seats (frame_of f)) refl (above_to seats (frame_of f)) refl (get_or seats.areas i other) (λ there d. get_or_default seats.areas i other d there)
 

@@ -128,12 +128,19 @@ module _ (s : Seen) (fine : IsFineSeen s) (q : Query) (inline_fits : IsGivenFor 
   grid_right : EachTwo (λ (k : Kid) (f : Framed). IsGivenRight g.pairs k f.frame) kids (in_document_order (map (grid_child g columns rows) (wide_children g columns)))
   grid_right = frames_right s.label s.chain s.below q.reps q.inline styled columns rows in_columns in_rows (items_in s fine q.reps q.inline).inside.entries
 
-  flex_all : Each (λ (f : Framed). IsOpenGiven f.frame) (if s.label.content.column then column_framed (flex_by s.label kids) (given_size q.inline) (column_settled (flex_by s.label kids) (given_size q.inline)) q.block else row_framed (flex_by s.label kids) (given_size q.inline) (row_lines (flex_by s.label kids) (given_size q.inline)) (row_settled (flex_by s.label kids) (row_lines (flex_by s.label kids) (given_size q.inline))) q.block)
+  flex_all : Each (λ (f : Framed). IsOpenGiven f.frame)
+      (if s.label.content.column then column_framed (flex_by s.label kids) (given_size q.inline) (column_settled (flex_by s.label kids) (given_size q.inline)) q.block else row_framed (flex_by s.label kids) (given_size q.inline) (row_lines (flex_by s.label kids) (given_size q.inline))
+      (row_settled (flex_by s.label kids) (row_lines (flex_by s.label kids) (given_size q.inline))) q.block)
   flex_all = go s.label.content.column
     where
-      go : (b : Bool) → Each (λ (f : Framed). IsOpenGiven f.frame) (if b then column_framed (flex_by s.label kids) (given_size q.inline) (column_settled (flex_by s.label kids) (given_size q.inline)) q.block else row_framed (flex_by s.label kids) (given_size q.inline) (row_lines (flex_by s.label kids) (given_size q.inline)) (row_settled (flex_by s.label kids) (row_lines (flex_by s.label kids) (given_size q.inline))) q.block)
+      go : (b : Bool) →
+          Each (λ (f : Framed). IsOpenGiven f.frame)
+          (if b then column_framed (flex_by s.label kids) (given_size q.inline) (column_settled (flex_by s.label kids) (given_size q.inline)) q.block else row_framed (flex_by s.label kids) (given_size q.inline) (row_lines (flex_by s.label kids) (given_size q.inline))
+          (row_settled (flex_by s.label kids) (row_lines (flex_by s.label kids) (given_size q.inline))) q.block)
       go true = opened (column_framed (flex_by s.label kids) (given_size q.inline) (column_settled (flex_by s.label kids) (given_size q.inline)) q.block) (column_open s.label kids styled (given_size q.inline) q.block)
-      go false = opened (row_framed (flex_by s.label kids) (given_size q.inline) (row_lines (flex_by s.label kids) (given_size q.inline)) (row_settled (flex_by s.label kids) (row_lines (flex_by s.label kids) (given_size q.inline))) q.block) (row_open s.label kids styled (given_size q.inline) q.block)
+      go false =
+          opened (row_framed (flex_by s.label kids) (given_size q.inline) (row_lines (flex_by s.label kids) (given_size q.inline)) (row_settled (flex_by s.label kids) (row_lines (flex_by s.label kids) (given_size q.inline))) q.block)
+          (row_open s.label kids styled (given_size q.inline) q.block)
 
   abbrev frames_by : NodeKind → List Frame
   frames_by k = ((answers_by k s.label s.chain kids).down q.reps q.inline).frames q.block
@@ -151,7 +158,10 @@ module _ (s : Seen) (fine : IsFineSeen s) (q : Query) (inline_fits : IsGivenFor 
           f_by : Flex
           f_by = flex_by s.label kids
 
-          go : (b : Bool) → Each (λ (f : Framed). IsOpenGiven f.frame) (if b then column_framed (flex_by s.label kids) (given_size q.inline) (column_settled (flex_by s.label kids) (given_size q.inline)) q.block else row_framed (flex_by s.label kids) (given_size q.inline) (row_lines (flex_by s.label kids) (given_size q.inline)) (row_settled (flex_by s.label kids) (row_lines (flex_by s.label kids) (given_size q.inline))) q.block)
+          go : (b : Bool) →
+              Each (λ (f : Framed). IsOpenGiven f.frame)
+              (if b then column_framed (flex_by s.label kids) (given_size q.inline) (column_settled (flex_by s.label kids) (given_size q.inline)) q.block else row_framed (flex_by s.label kids) (given_size q.inline) (row_lines (flex_by s.label kids) (given_size q.inline))
+              (row_settled (flex_by s.label kids) (row_lines (flex_by s.label kids) (given_size q.inline))) q.block)
               → drop i ((if b then column_down (flex_by s.label kids) (given_size q.inline) else row_down (flex_by s.label kids) (given_size q.inline)).frames q.block) ≡ f ∷ others → IsOpenGiven f
           go true all there = one_there IsOpenGiven (column_framed (flex_by s.label kids) (given_size q.inline) (column_settled (flex_by s.label kids) (given_size q.inline)) q.block) others i f all there
           go false all there = one_there IsOpenGiven (row_framed (flex_by s.label kids) (given_size q.inline) (row_lines (flex_by s.label kids) (given_size q.inline)) (row_settled (flex_by s.label kids) (row_lines (flex_by s.label kids) (given_size q.inline))) q.block) others i f all there

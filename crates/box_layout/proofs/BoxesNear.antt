@@ -49,7 +49,8 @@ seen_styled t n readable numbered = kids_styled (above_at (bare t) n) 0 (sight_a
 
 -- ---- by kind
 
-module _ (level : ℕ) (x : Label) (chain : List Link) (kids : List Kid) (reps : List Pair) (inline block : Given) (near : level ≤ 64) (style : IsGridStyle x.grid) (styled : Each (λ (k : Kid). IsGridStyle k.label.grid) kids) (few : length kids ≤ 65536) (inline_is : IsGivenNear level inline) (block_is : IsGivenNear level block) where
+module _ (level : ℕ) (x : Label) (chain : List Link) (kids : List Kid) (reps : List Pair) (inline block : Given) (near : level ≤ 64) (style : IsGridStyle x.grid) (styled : Each (λ (k : Kid). IsGridStyle k.label.grid) kids) (few : length kids ≤ 65536)
+    (inline_is : IsGivenNear level inline) (block_is : IsGivenNear level block) where
   grid_case : track_count (grid_by x chain kids reps inline).placed.columns ≤ 131072 → track_count (grid_by x chain kids reps inline).placed.rows ≤ 131072 → StandBelow level (((answers_by kind.Grid x chain kids).down reps inline).frames block)
   grid_case columns_few rows_few =
       let g : Grid = grid_by x chain kids reps inline in

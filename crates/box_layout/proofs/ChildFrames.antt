@@ -88,6 +88,9 @@ module _ (b : BareTrees) (n : NodeId) (outer : List Pair) (width : Given) where
         read_at (grid_child (grid_seen b n outer width) (columns_seen b n outer width) rows) no_frame (λ z. IsFrameOf b n z f) (wides_seen b n outer width) index within
         (λ w next. record {
           child = ap (child_at b n) (ap (λ (z : Entry). z.number) (entry_is b n outer width wide is index e rest w (drop (index + 1) (wides_seen b n outer width)) entries next)) ∙ h.number ∙ ap Some (sym c);
-          value = v ∙ (λ i. frame_over container style s t wide.columns (first i) rows (across i) child.box_ child.inline child.block) ∙ frame_is b n outer width wide is index e rest w (drop (index + 1) (wides_seen b n outer width)) entries next rows container style s t child cg cc_ xg xc (shares_told b n wide.parts.base e h ∙ sym p) (rows_told h ∙ sym q) (held ∙ child_is b n outer width wide is index e rest w (drop (index + 1) (wides_seen b n outer width)) entries next child);
+          value =
+              v ∙ (λ i. frame_over container style s t wide.columns (first i) rows (across i) child.box_ child.inline child.block) ∙
+              frame_is b n outer width wide is index e rest w (drop (index + 1) (wides_seen b n outer width)) entries next rows container style s t child cg cc_ xg xc (shares_told b n wide.parts.base e h ∙ sym p) (rows_told h ∙ sym q)
+              (held ∙ child_is b n outer width wide is index e rest w (drop (index + 1) (wides_seen b n outer width)) entries next child);
         }))
         made value

@@ -224,7 +224,8 @@ flex_stands level column f main cross lines settled style main_is cross_is few c
     let sat : Each (IsSat (level + 1)) all = sittings_sat (level + 1) column cross settled lines.mains fit in
     let numbered : List (ℕ × frames.Framed) = flex_numbered column x main cross sizes lines.ranges all in
     let same : length sizes ≡ length lines.ranges = length_crosses outers lines.ranges (Some cross) between x.content.wrap stretch in
-    let near : StandNear numbered = flex_near column x main cross sizes lines.ranges all style main_is cross_is (crosses_units outers lines.ranges cross between x.content.wrap stretch (outers_units column (Some cross) settled)) (omega (arith, same, few)) (all_sized (level + 1) all sat) (omega (arith, count, zipped_few (frames.sitting_of column (Some cross)) settled lines.mains)) in
+    let near : StandNear numbered = flex_near column x main cross sizes lines.ranges all style main_is cross_is (crosses_units outers lines.ranges cross between x.content.wrap stretch (outers_units column (Some cross) settled)) (omega (arith, same, few)) (all_sized (level + 1) all sat)
+    (omega (arith, count, zipped_few (frames.sitting_of column (Some cross)) settled lines.mains)) in
     let told : AreTold level numbered = lines_told level column x main cross gap between (λ k. content_moved (mode_of a.mode) (is_safe a) free k (length sizes)) 0 (pos 0) sizes lines.ranges all sat in
     told_stand level (sorted_by (λ (e : ℕ × frames.Framed). pos e.0) numbered) (each_sorted (λ (e : ℕ × frames.Framed). pos e.0) (λ (e : ℕ × frames.Framed). StandsBelow level e.1.frame) numbered (both_stand level numbered near told))
 

@@ -365,7 +365,8 @@ module _ (slots : List ℕ) (cs : List (Option Below)) (boxes : List Box) (h : A
         ap (λ (z : Found). same z.id n) k.is ∙ same_not k.below.id n (λ e. before.1 (ap (λ (z : NodeId). slice_get slots z.slot) (sym e) ∙ h.placed k.place k.below before.0)),
       )
 
-  pub forgets_one : (all : List Found) → all_found boxes cs ≡ all → (now : List (Option Below)) (n : NodeId) (number : ℕ) → ((i : ℕ) → slice_get slots n.slot ≡ Some i → number ≡ i) → number < length cs → now ≡ slice_set cs number None → (f : Found) → Contains (all_found boxes now) f → Contains all f × (same f.id n ≡ false)
+  pub forgets_one : (all : List Found) → all_found boxes cs ≡ all → (now : List (Option Below)) (n : NodeId) (number : ℕ) → ((i : ℕ) → slice_get slots n.slot ≡ Some i → number ≡ i) → number < length cs → now ≡ slice_set cs number None → (f : Found) → Contains (all_found boxes now) f →
+      Contains all f × (same f.id n ≡ false)
   forgets_one all view now n number there l is f k =
       let left = others_left now n f (λ i c e. let p = but number i c now l is e in (p.1, λ same. p.0 (sym (there i same)))) (listed_of boxes now f k) in
       (subst (λ (z : List Found). Contains z f) view left.0, left.1)
@@ -407,7 +408,8 @@ module _ (own : Box) (old new : List Box) (few : Option (List Box)) (put : HasPu
         boxes = ap (λ (z : Found). z.boxes) is ∙ put_between;
       }
 
-  pub put_here : (n : NodeId) (q : Query) (slots later : List ℕ) (cs now : List (Option Below)) (start end : ℕ) → take (length old) new ≡ old → start ≡ length old → end ≡ length new → IsClose own.1 → ((boxes : List Box) → few ≡ Some boxes → AreClose boxes) → IsListed (record { id = n; query = q; start = start; end = end }) slots cs later now
+  pub put_here : (n : NodeId) (q : Query) (slots later : List ℕ) (cs now : List (Option Below)) (start end : ℕ) → take (length old) new ≡ old → start ≡ length old → end ≡ length new → IsClose own.1 → ((boxes : List Box) → few ≡ Some boxes → AreClose boxes) →
+      IsListed (record { id = n; query = q; start = start; end = end }) slots cs later now
       → IsPut n q own few slots cs old later now new
   put_here n q slots later cs now start end front at to h k listed =
       record {

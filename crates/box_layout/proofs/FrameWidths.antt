@@ -74,7 +74,8 @@ module _ (b : BareTrees) (n : NodeId) (q : Query) where
       ∙ ap (λ z. map (λ (g : frames.Framed). g.frame) (frames.flex_framed true flex z width (rules.lines_by x z (gap_by (Some z) (pos 0) x.grid.rows.gap) (map (rules.column_item (Some z)) (rules.column_settled flex width))) (rules.column_settled flex width))) asks.block in
       let there : drop k all ≡ f.frame ∷ map (λ (g : frames.Framed). g.frame) (drop (k + 1) (column_seen b n width height)) =
       ap (drop k) (whole ∙ same) ∙ map_drop (λ (g : frames.Framed). g.frame) (column_seen b n width height) (drop (k + 1) (column_seen b n width height)) k f next in
-      let place : drop k (numbered_from 0 all) ≡ (0 + k, f.frame) ∷ numbered_from (0 + k + 1) (map (λ (g : frames.Framed). g.frame) (drop (k + 1) (column_seen b n width height))) = numbered_drop 0 k all (map (λ (g : frames.Framed). g.frame) (drop (k + 1) (column_seen b n width height))) f.frame there in
+      let place : drop k (numbered_from 0 all) ≡
+      (0 + k, f.frame) ∷ numbered_from (0 + k + 1) (map (λ (g : frames.Framed). g.frame) (drop (k + 1) (column_seen b n width height))) = numbered_drop 0 k all (map (λ (g : frames.Framed). g.frame) (drop (k + 1) (column_seen b n width height))) f.frame there in
       let first : 0 + k ≡ k = omega arith in
       let listed : Contains (map frame_width (numbered_from 0 all)) asked =
       subst (λ (i : ℕ). Contains (map frame_width (numbered_from 0 all)) (i, block_query false [] f.frame.inline)) first

@@ -110,7 +110,8 @@ module _ (g : Grid) (columns : View 0) (rows : View 1) (w : Wide) where
       by_cases false false = refl
 
 -- whatever the content of a subgrid in the rows is
-content_read : (parent x : Label) (s t : Bool) (columns : View 0) (span : Span) (rows : View 1) (row_span : Span) (box : ℤ) (inline : Given) (content : ℤ) → frame_by parent x s t columns span rows row_span box inline (if t then pos 0 else content) ≡ frame_by parent x s t columns span rows row_span box inline content
+content_read : (parent x : Label) (s t : Bool) (columns : View 0) (span : Span) (rows : View 1) (row_span : Span) (box : ℤ) (inline : Given) (content : ℤ) →
+    frame_by parent x s t columns span rows row_span box inline (if t then pos 0 else content) ≡ frame_by parent x s t columns span rows row_span box inline content
 content_read parent x s true columns a rows b box inline content = refl
 content_read parent x s false columns a rows b box inline content = refl
 
@@ -205,7 +206,8 @@ pub area_lies : (b : BareTrees) (n : NodeId) (outer : List Pair) (width : Given)
 area_lies b n outer width wide index e is next law =
     let h = law outer width in
     let here : drop index (grid_seen b n outer width).entries ≡ entry_by b e ∷ drop (index + 1) (entries_at b n wide.parts.base.placed) = ap (drop index) (sym is.grid.entries) ∙ next in
-    let a : IsAreaIn (grid_seen b n outer width).placed.columns (grid_seen b n outer width).placed.rows e.area = entry_at (grid_seen b n outer width).placed.columns (grid_seen b n outer width).placed.rows (grid_seen b n outer width).entries (drop (index + 1) (entries_at b n wide.parts.base.placed)) index (entry_by b e) h.inside.entries here in
+    let a : IsAreaIn (grid_seen b n outer width).placed.columns (grid_seen b n outer width).placed.rows e.area = entry_at (grid_seen b n outer width).placed.columns (grid_seen b n outer width).placed.rows (grid_seen b n outer width).entries
+    (drop (index + 1) (entries_at b n wide.parts.base.placed)) index (entry_by b e) h.inside.entries here in
     let same : placed_of wide.parts.base.placed ≡ (grid_seen b n outer width).placed = placed_same b n outer width wide is in (
       subst (λ (p : rules.Placed). LiesIn p.columns e.area.columns) (sym same) (lies_in (grid_seen b n outer width).placed.columns e.area.columns a.columns h.inside.few_columns),
       subst (λ (p : rules.Placed). LiesIn p.rows e.area.rows) (sym same) (lies_in (grid_seen b n outer width).placed.rows e.area.rows a.rows h.inside.few_rows),

@@ -165,7 +165,8 @@ row_near level g rows w h gap_is style =
     let start : IsWithin (near_by level) (first_start tracks) = first_within (near_by level) rows.edges span h in
     let box_is : IsUnits box = block_units b stretched (margins x.grid.rows) room w.down.block in
     let own_is : IsExtentNear level own = record { at = aligned_within (near_by level) a x.grid.rows (first_start tracks) room box axis start (area_units tracks) box_is; size = box_is; given = content_units b.inner box } in
-    let shared_is : IsExtentNear level shared = record { at = shared_within (near_by level) (first_start tracks) (margin x.grid.rows.margin_start) start (margin_units x.grid.rows.margin_start axis.margin_start); size = box_units x.grid.rows room; given = view_given level rows span x.grid.rows axis gap_is h } in
+    let shared_is : IsExtentNear level shared = record
+    { at = shared_within (near_by level) (first_start tracks) (margin x.grid.rows.margin_start) start (margin_units x.grid.rows.margin_start axis.margin_start); size = box_units x.grid.rows room; given = view_given level rows span x.grid.rows axis gap_is h } in
     chosen (IsExtentNear level) (shares_rows w.entry.kid) shared own shared_is own_is
 
 offset_near : (level : ℕ) (i z : ℤ) → level ≤ 64 → IsEdges i → IsWithin (near_by level + 2 ^ 36) z → IsWithin farthest_child (i +ℤ z)

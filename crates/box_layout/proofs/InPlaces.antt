@@ -203,7 +203,8 @@ module _ (b : BareTrees) (n : NodeId) (outer : List Pair) (width : Given) (wide 
         (sym (map_twice (λ (e : ℕ × Kid). e.0) (λ (m : ℕ). (m, child_at b n m)) (in_order (λ (k : Kid). k.label.grid.order) (kids_at b n)))
         ∙ ap (map (λ (m : ℕ). (m, child_at b n m))) (sym (numbers_of_items (λ (k : Kid). k.label.grid.order) (kids_at b n)) ∙ sym is.grid.placed.children.numbers))
 
-    children_from : {A : Type 0} → IsTree b → (xs : List A) (frames : List NodeFrame) (k : ℕ) → map (λ (f : NodeFrame). Some f.child) frames ≡ map (λ (e : ℕ × A). child_at b n e.0) (numbered_from k xs) → k + length xs ≡ length (children_at b n) → map (λ (f : NodeFrame). f.child) frames ≡ drop k (children_at b n)
+    children_from : {A : Type 0} → IsTree b → (xs : List A) (frames : List NodeFrame) (k : ℕ) → map (λ (f : NodeFrame). Some f.child) frames ≡ map (λ (e : ℕ × A). child_at b n e.0) (numbered_from k xs) → k + length xs ≡ length (children_at b n) →
+        map (λ (f : NodeFrame). f.child) frames ≡ drop k (children_at b n)
     children_from tree [] [] k h l = sym (drop_all k (children_at b n) (omega (arith, l)))
     children_from tree [] (f ∷ fs) k h l = absurd cc
     children_from tree (x ∷ xs) [] k h l = absurd cc

@@ -143,7 +143,8 @@ module _ (x : Label) (chain : List Link) (kids : List Kid) (q : Query) (framed :
       let siblings = map (λ (k : Kid). sibling_of k.label) kids in
       let entries_are : EachTwo IsEntry ordered g.entries = each_zipped IsEntry entry_of (λ e a. record { number = refl; kid = refl }) ordered g.placed.areas (length_areas g.context x.grid siblings ∙ length_map (λ (k : Kid). sibling_of k.label) kids ∙ sym (length_in_order order kids)) in
       let wides_are : EachTwo IsWide g.entries wides = each_zipped IsWide (wide_of g columns) (wide_is g columns) g.entries g.inlines (length_map (inline_of_entry g.pairs) g.entries) in
-      let frames_are : EachTwo (λ (n : Entry) (f : ℕ × Framed). (w : Wide) × IsWide n w × IsPlaced g all w f) g.entries found = each_through IsWide (IsPlaced g all) (λ (n : Entry) (f : ℕ × Framed). (w : Wide) × IsWide n w × IsPlaced g all w f) (λ n w f a b. (w, a, b)) g.entries wides found wides_are (placed_are g all columns rows wides block_used) in
+      let frames_are : EachTwo (λ (n : Entry) (f : ℕ × Framed). (w : Wide) × IsWide n w × IsPlaced g all w f) g.entries found = each_through IsWide (IsPlaced g all) (λ (n : Entry) (f : ℕ × Framed). (w : Wide) × IsWide n w × IsPlaced g all w f) (λ n w f a b. (w, a, b)) g.entries wides
+      found wides_are (placed_are g all columns rows wides block_used) in
       let these : EachTwo (IsMeasured g all) ordered found = each_through IsEntry (λ (n : Entry) (f : ℕ × Framed). (w : Wide) × IsWide n w × IsPlaced g all w f) (IsMeasured g all) (λ e n f a b. measured_is g all e n b.0 f a b.1 b.2) ordered g.entries found entries_are frames_are in
       subst (λ l. EachTwo (IsMeasured g all) l (sorted_by (number_of {A = Framed}) found)) (back_in_order order kids)
       (sort_alike (IsMeasured g all) (number_of {A = Kid}) (number_of {A = Framed}) (λ e f r. r.number) ordered found these)

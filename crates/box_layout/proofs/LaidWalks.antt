@@ -128,7 +128,8 @@ module _ (width height : ℤ) (root : NodeId) (s : State) (top : top_numbers (ba
         at (inr j) = inr (record { node = j.node; query = j.query; left = j.left; begun = j.begun ∙ ap (λ z. events_at z j.node j.query) w.bare_same; asked = j.asked; absent = j.absent })
 
     -- the boxes of the root and of all below it
-    pub walk_boxes : (is_container (sight_at (bare_in s) root).label.kind ≡ true → Contains (first_asked width height (sight_at (bare_in s) root).label (sight_at (bare_in s) root).below) (0, first)) → (u : State) → IsChildLaid (bare_in s) root first t u → Walk (IsAsked (bare_in s) width height) 0 [] s u
+    pub walk_boxes : (is_container (sight_at (bare_in s) root).label.kind ≡ true → Contains (first_asked width height (sight_at (bare_in s) root).label (sight_at (bare_in s) root).below) (0, first)) → (u : State) → IsChildLaid (bare_in s) root first t u →
+        Walk (IsAsked (bare_in s) width height) 0 [] s u
     walk_boxes own u (inl e) = subst (Walk (IsAsked (bare_in s) width height) 0 [] s) (sym e) w
     walk_boxes own u (inr (k, x)) = walk_more (own k) u x
 

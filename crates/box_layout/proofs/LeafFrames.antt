@@ -75,7 +75,8 @@ known x e = absurd cc
 
 -- ---- frames of a grid
 
-module _ (t : NodeTrees) (n : NodeId) (readable : AreReadable (bare t)) (numbered : IsNumbered t) (is_tree : IsTree (bare t)) (q : Query) (is : (sight_at (bare t) n).label.kind ≡ kind.Grid) (framed : q ≡ frames_asked q.reps q.inline q.block) (fits : Fits (sight_at (bare t) n) q) (frames : List NodeFrame)
+module _ (t : NodeTrees) (n : NodeId) (readable : AreReadable (bare t)) (numbered : IsNumbered t) (is_tree : IsTree (bare t)) (q : Query) (is : (sight_at (bare t) n).label.kind ≡ kind.Grid) (framed : q ≡ frames_asked q.reps q.inline q.block) (fits : Fits (sight_at (bare t) n) q)
+    (frames : List NodeFrame)
     (value : child_frames (map frame_of frames) ≡ answer_of (sight_at (bare t) n) q) (children : map (λ (f : NodeFrame). f.child) frames ≡ children_at (bare t) n) where
   asks : q.ask ≡ ask.Frames
   asks = ap (λ (z : Query). z.ask) framed

@@ -230,7 +230,8 @@ module _ (column : Bool) (x : Label) (cross gap : ℤ) (style : IsGridStyle x.gr
       let a : Align = x.content.inline.distribution in
       let rest_is : IsLineRest rest = line_rest_is main (gaps gap (length line)) outer (length line) main_is (gaps_are gap (length line) gap_is few) (outer_near line sized) few in
       let frees : IsFree free = free_of rest (sum_of taken) rest_is (taken_sum rest autos) in
-      along_near l (λ k. content_moved (mode_of a.mode) (is_safe a) free k (length line)) (length line) reach size few (λ k less. moved_free (mode_of a.mode) (is_safe a) free k (length line) less frees) 0 (pos 0) taken line (omega arith) (omega (arith, ints)) (omega (arith, ints)) (taken_units rest autos) sized
+      along_near l (λ k. content_moved (mode_of a.mode) (is_safe a) free k (length line)) (length line) reach size few (λ k less. moved_free (mode_of a.mode) (is_safe a) free k (length line) less frees) 0 (pos 0) taken line (omega arith) (omega (arith, ints)) (omega (arith, ints))
+      (taken_units rest autos) sized
 
 -- ---- all lines
 
@@ -280,7 +281,8 @@ module _ (column : Bool) (x : Label) (main cross gap between : ℤ) (style : IsG
       let reach : IsReach (at +ℤ moved k) = reach_of k at (moved k) (omega (arith, within, few)) low high (frees k (omega (arith, within))) in
       let small : length line ≤ 65536 = omega (arith, count, drop_few range.0 all, take_few (range.1 - range.0) (drop range.0 all)) in
       let first : StandNear (rules.line_framed column x main cross gap l line) = line_near column x cross gap style gap_is main l line main_is reach units.0 small (sized_take (range.1 - range.0) (drop range.0 all) (sized_drop range.0 all sized)) in
-      let later : StandNear (rules.lines_framed column x main cross gap between moved (k + 1) next sizes ranges all) = lines_near moved n few frees (k + 1) next sizes ranges all (omega (arith, within)) (row_low k at z between low units.0 between_is) (row_high k at z between high units.0 between_is) units.1 count sized in
+      let later : StandNear (rules.lines_framed column x main cross gap between moved (k + 1) next sizes ranges all) = lines_near moved n few frees (k + 1) next sizes ranges all (omega (arith, within)) (row_low k at z between low units.0 between_is)
+      (row_high k at z between high units.0 between_is) units.1 count sized in
       near_append (rules.line_framed column x main cross gap l line) (rules.lines_framed column x main cross gap between moved (k + 1) next sizes ranges all) first later
 
 pub flex_near : (column : Bool) (x : Label) (main cross : ℤ) (sizes : List ℤ) (ranges : List (ℕ × ℕ)) (all : List rules.Sitting) → IsGridStyle x.grid → IsUnits main → IsUnits cross → AreUnits sizes → length sizes ≤ 65536 → AreSized all → length all ≤ 65536
@@ -293,4 +295,5 @@ flex_near column x main cross sizes ranges all style main_is cross_is units few 
     let free = cross -ℤ gaps between (length sizes) -ℤ sum_of sizes in
     let a : Align = x.content.block.distribution in
     let free_is : IsFree free = cross_left_is cross (gaps between (length sizes)) (sum_of sizes) (length sizes) cross_is (gaps_are between (length sizes) between_is few) (sum_near sizes units) few in
-    lines_near column x main cross gap between style main_is gap_is between_is (λ k. content_moved (mode_of a.mode) (is_safe a) free k (length sizes)) (length sizes) few (λ k less. moved_free (mode_of a.mode) (is_safe a) free k (length sizes) less free_is) 0 (pos 0) sizes ranges all (omega arith) (omega (arith, ints)) (omega (arith, ints)) units count sized
+    lines_near column x main cross gap between style main_is gap_is between_is (λ k. content_moved (mode_of a.mode) (is_safe a) free k (length sizes)) (length sizes) few (λ k less. moved_free (mode_of a.mode) (is_safe a) free k (length sizes) less free_is) 0 (pos 0) sizes ranges all
+    (omega arith) (omega (arith, ints)) (omega (arith, ints)) units count sized

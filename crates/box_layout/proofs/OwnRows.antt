@@ -124,10 +124,12 @@ module _ (b : BareTrees) (n : NodeId) (outer : List Pair) (width : Given) (w : G
   spans_are = sym (spans_zipped w.parts.base.placed.numbers w.parts.base.placed.areas (counts b n w.parts.base.placed wide.grid.placed.children)) ∙ ap (λ (p : rules.Placed). map (λ (a : ℕ × Area). a.1.rows) p.areas) placed_is
 
   -- the counts of its repetitions, which in the rows depend on no width
-  repeats_are : (style : StyleMap) (pair : Pair) → grid_of style ≡ (sight_at b n).label.grid → content_of style ≡ (sight_at b n).label.content → pair ≡ own_pair (record { name = []; kind = kind.Grid; grid = grid_of style; content = content_of style }) given.None → pair.1 ≡ (own_pair (sight_at b n).label given.None).1
+  repeats_are : (style : StyleMap) (pair : Pair) → grid_of style ≡ (sight_at b n).label.grid → content_of style ≡ (sight_at b n).label.content → pair ≡ own_pair (record { name = []; kind = kind.Grid; grid = grid_of style; content = content_of style }) given.None →
+      pair.1 ≡ (own_pair (sight_at b n).label given.None).1
   repeats_are style pair g c p = ap (λ (q : Pair). q.1) p ∙ (λ i. (own_pair (record { name = []; kind = kind.Grid; grid = g i; content = c i }) given.None).1)
 
-  axis_is : (style : StyleMap) (pair : Pair) (spans : List Span) (items : List Item) → grid_of style ≡ (sight_at b n).label.grid → content_of style ≡ (sight_at b n).label.content → pair ≡ own_pair (record { name = []; kind = kind.Grid; grid = grid_of style; content = content_of style }) given.None → spans ≡ map (λ (e : NodeId × Area). e.1.rows) w.parts.base.placed.areas → items ≡ w.items
+  axis_is : (style : StyleMap) (pair : Pair) (spans : List Span) (items : List Item) → grid_of style ≡ (sight_at b n).label.grid → content_of style ≡ (sight_at b n).label.content →
+      pair ≡ own_pair (record { name = []; kind = kind.Grid; grid = grid_of style; content = content_of style }) given.None → spans ≡ map (λ (e : NodeId × Area). e.1.rows) w.parts.base.placed.areas → items ≡ w.items
       → track_axis 1 style pair.1 spans w.parts.base.placed.rows items ≡ rows_seen b n outer width
   unfolding grid_seen rows_seen
   axis_is style pair spans items g c p s same =
@@ -142,7 +144,8 @@ module _ (b : BareTrees) (n : NodeId) (outer : List Pair) (width : Given) (w : G
       }
 
   -- the view
-  pub rows_are : (height : Given) (style : StyleMap) (pair : Pair) (spans : List Span) (items : List Item) → grid_of style ≡ (sight_at b n).label.grid → content_of style ≡ (sight_at b n).label.content → pair ≡ own_pair (record { name = []; kind = kind.Grid; grid = grid_of style; content = content_of style }) given.None → spans ≡ map (λ (e : NodeId × Area). e.1.rows) w.parts.base.placed.areas → items ≡ w.items
+  pub rows_are : (height : Given) (style : StyleMap) (pair : Pair) (spans : List Span) (items : List Item) → grid_of style ≡ (sight_at b n).label.grid → content_of style ≡ (sight_at b n).label.content →
+      pair ≡ own_pair (record { name = []; kind = kind.Grid; grid = grid_of style; content = content_of style }) given.None → spans ≡ map (λ (e : NodeId × Area). e.1.rows) w.parts.base.placed.areas → items ≡ w.items
       → view_by {axis = 1} (track_axis 1 style pair.1 spans w.parts.base.placed.rows items) height ≡ view_by {axis = 1} (rows_seen b n outer width) height
   rows_are height style pair spans items g c p s same = ap (λ (a : TrackAxis). view_by {axis = 1} a height) (axis_is style pair spans items g c p s same)
 

@@ -38,7 +38,9 @@ has_lower (f ∷ rest) = is_lower f || has_lower rest
 
 -- The frames of the children of a node tell which of them are subgrids of it: those that are given tracks.
 abbrev pub AreTelling : BareTrees → NodeId → List Frame → Type 0
-AreTelling b n frames = (index : ℕ) (c : NodeId) (f : Frame) (rest : List Frame) → child_at b n index ≡ Some c → drop index frames ≡ f ∷ rest → has_chain (sight_at b c).chain ≡ is_lower f
+AreTelling b n frames =
+    (index : ℕ) (c : NodeId) (f : Frame) (rest : List Frame) → child_at b n index ≡ Some c → drop index frames ≡ f ∷ rest →
+    has_chain (sight_at b c).chain ≡ is_lower f
 
 -- the grid before its children are asked, wherever it is held
 abbrev pub base_held : HeldBase → GridBase
@@ -65,12 +67,15 @@ above_to seats f = if is_lower f then above_held seats.held above.Nothing else a
 
 -- the seat of the child of this number and frame, in its area
 abbrev pub IsSeatTo : BareTrees → NodeId → ChildSeats → ℕ → Frame → Type 0
-IsSeatTo b c seats number f = (a : Area) → (number < length seats.areas → (d : Area) → a ≡ get_or seats.areas number d) → IsSeat (sight_at b c) (pairs_to seats f) (above_to seats f) a
+IsSeatTo b c seats number f =
+    (a : Area) → (number < length seats.areas → (d : Area) → a ≡ get_or seats.areas number d) →
+    IsSeat (sight_at b c) (pairs_to seats f) (above_to seats f) a
 
 -- the area of the child of this number, where it is a subgrid of the node
 abbrev pub IsAreaOf : BareTrees → NodeId → Placed → ℕ → Area → Type 0
 IsAreaOf b n p number a =
-    (c : NodeId) (made : Context) (reps : List Pair) → child_at b n number ≡ Some c → context_of made ≡ context_at (sight_at b n) reps → IsPlaced b n (context_of made) p → has_chain (sight_at b c).chain ≡ true → IsSeat (sight_at b c) reps (above.Grid made) a
+    (c : NodeId) (made : Context) (reps : List Pair) → child_at b n number ≡ Some c → context_of made ≡ context_at (sight_at b n) reps →
+    IsPlaced b n (context_of made) p → has_chain (sight_at b c).chain ≡ true → IsSeat (sight_at b c) reps (above.Grid made) a
 
 -- the seat of a child that is a subgrid of the node
 pub record IsSeated (b : BareTrees) (c : NodeId) (number : ℕ) (seats : ChildSeats) : Type 0 where

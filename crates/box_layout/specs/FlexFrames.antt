@@ -38,7 +38,8 @@ numbered b n k = unwrap_or (child_at b n k) n
 
 -- the hypothetical cross size of a child by its inline size and the block size of its content
 abbrev pub cross_by : Bool → ℤ → Label → ℤ → ℤ → ℤ
-cross_by column cross y inline block = if column then inline else block_used (bounds_of (Some cross) y.content.border_box y.grid.rows y.content.block) false (pos 0) (pos 0) block
+cross_by column cross y inline block =
+    if column then inline else block_used (bounds_of (Some cross) y.content.border_box y.grid.rows y.content.block) false (pos 0) (pos 0) block
 
 abbrev pub member_cross : BareTrees → Bool → ℤ → Member → ℤ → ℤ → ℤ
 member_cross b column cross m inline block = cross_by column cross (kid_at b m.child).label inline block
@@ -81,11 +82,15 @@ pub record AreFrames (b : BareTrees) (n : NodeId) (framed : List frames.Framed) 
 
 -- the children of a row of this inline size, given this block size
 abbrev pub row_seen : BareTrees → NodeId → ℤ → ℤ → List frames.Framed
-row_seen b n width height = frames.row_framed (flex_seen b n) width (rules.row_lines (flex_seen b n) width) (rules.row_settled (flex_seen b n) (rules.row_lines (flex_seen b n) width)) (given.Size height)
+row_seen b n width height =
+    frames.row_framed (flex_seen b n) width (rules.row_lines (flex_seen b n) width)
+    (rules.row_settled (flex_seen b n) (rules.row_lines (flex_seen b n) width)) (given.Size height)
 
 -- the lines of a column of this height
 abbrev pub column_lines_seen : BareTrees → NodeId → ℤ → List rules.Settled → rules.Lines
-column_lines_seen b n height settled = rules.lines_by (flex_seen b n).label height (gap_by (Some height) (pos 0) (flex_seen b n).label.grid.rows.gap) (map (rules.column_item (Some height)) settled)
+column_lines_seen b n height settled =
+    rules.lines_by (flex_seen b n).label height (gap_by (Some height) (pos 0) (flex_seen b n).label.grid.rows.gap)
+    (map (rules.column_item (Some height)) settled)
 
 -- the children of a column of this inline size, given this block size
 abbrev pub column_seen : BareTrees → NodeId → ℤ → ℤ → List frames.Framed

@@ -66,7 +66,16 @@ AreIndices count (p ∷ rest) = (p.0 < count) × AreIndices count rest
 
 -- no child
 abbrev pub no_frame : ℕ × Framed
-no_frame = (0, record { name = []; frame = record { rect = record { x = pos 0; y = pos 0; width = pos 0; height = pos 0 }; inline = given.None; block = given.None }; down = down_of (pos 0) [] (λ height. []) })
+no_frame = (
+  0,
+  record {
+    name = [];
+    frame = record
+        { rect = record { x = pos 0; y = pos 0; width = pos 0; height = pos 0 }; inline = given.None; block = given.None };
+    down = down_of (pos 0)
+        [] (λ height. []);
+  },
+)
 
 -- The frames are those of the children at these places.
 abbrev pub AreFramesAt : BareTrees → NodeId → List (ℕ × Framed) → List (ℕ × ℤ) → List NodeFrame → Type 0
@@ -76,9 +85,11 @@ AreFramesAt b n framed (p ∷ places) [] = ⊥
 AreFramesAt b n framed (p ∷ places) (f ∷ frames) = IsFrameOf b n (get_or framed p.0 no_frame) f × AreFramesAt b n framed places frames
 
 -- One frame for each of these places: those of the first places are right, and so are those of children that are marked.
-pub record AreAgain (b : BareTrees) (n : NodeId) (framed : List (ℕ × Framed)) (places : List (ℕ × ℤ)) (fresh : List Bool) (at : ℕ) (frames : List NodeFrame) : Type 0 where
+pub record AreAgain (b : BareTrees) (n : NodeId) (framed : List (ℕ × Framed)) (places : List (ℕ × ℤ)) (fresh : List Bool) (at : ℕ) (frames : List NodeFrame) : Type
+    0 where
   pub counted : length frames ≡ length places
-  pub each : (i : ℕ) (p : ℕ × ℤ) (f : NodeFrame) → slice_get places i ≡ Some p → slice_get frames i ≡ Some f → (i < at) ⊎ Marked fresh p.0 → IsFrameOf b n (get_or framed p.0 no_frame) f
+  pub each : (i : ℕ) (p : ℕ × ℤ) (f : NodeFrame) → slice_get places i ≡ Some p → slice_get frames i ≡ Some f → (i < at) ⊎ Marked fresh p.0 →
+      IsFrameOf b n (get_or framed p.0 no_frame) f
 
 -- The frames that a grid gave its children last, in these columns and rows: those count that are marked.
 pub record IsLastOf (b : BareTrees) (n : NodeId) (base : GridBase) (columns : View 0) (rows : View 1) (p : PastFrames) : Type 0 where

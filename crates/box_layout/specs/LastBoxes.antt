@@ -68,7 +68,8 @@ KeepsSlots before now = (i x : ℕ) → slice_get before i ≡ Some x → slice_
 
 -- At most this container comes to those that are listed, and all stay listed as they should be. That it comes is not said: memory may be wanting.
 pub record IsListed (b : Below) (slots : List ℕ) (containers : List (Option Below)) (later : List ℕ) (now : List (Option Below)) : Type 0 where
-  pub listed : (boxes : List Box) → AreListed slots containers boxes → b.start ≤ b.end → b.end ≤ length boxes → AreClose (boxes_between boxes b.start b.end) → AreListed later now boxes
+  pub listed : (boxes : List Box) → AreListed slots containers boxes → b.start ≤ b.end → b.end ≤ length boxes →
+      AreClose (boxes_between boxes b.start b.end) → AreListed later now boxes
   pub all : (boxes : List Box) (f : Found) → Contains (all_found boxes now) f → Contains (all_found boxes containers) f ⊎ (f ≡ found_at boxes b)
 
 -- what comes to it: a container with its own box, and those below it where they are few
@@ -80,9 +81,11 @@ pub record IsFoundOf (n : NodeId) (q : Query) (own : Box) (listed : Option (List
   pub boxes : f.boxes ≡ own ∷ below
 
 -- The same with its own box and those below it, which come to the list of all. Nothing comes where they are not few.
-pub record IsPut (n : NodeId) (q : Query) (own : Box) (few : Option (List Box)) (slots : List ℕ) (containers : List (Option Below)) (boxes : List Box) (later : List ℕ) (now : List (Option Below)) (longer : List Box) : Type 0 where
+pub record IsPut (n : NodeId) (q : Query) (own : Box) (few : Option (List Box)) (slots : List ℕ) (containers : List (Option Below)) (boxes : List Box) (later : List ℕ) (now : List (Option Below)) (longer : List Box) : Type
+    0 where
   pub listed : AreListed slots containers boxes → AreListed later now longer
-  pub all : AreListed slots containers boxes → (f : Found) → Contains (all_found longer now) f → Contains (all_found boxes containers) f ⊎ IsFoundOf n q own few f
+  pub all : AreListed slots containers boxes → (f : Found) → Contains (all_found longer now) f →
+      Contains (all_found boxes containers) f ⊎ IsFoundOf n q own few f
 
 -- ---- what is right
 
@@ -110,6 +113,7 @@ boxes_now (own ∷ below) r = (own.0, r) ∷ moved_boxes (r.x -ℤ own.1.x, r.y 
 abbrev place : ℤ → ℤ → ℤ → ℤ → Rect
 place x y width height = record { x = x; y = y; width = width; height = height }
 
-moved_down : boxes_now ((codes "a", place (pos 10) (pos 20) (pos 5) (pos 6)) ∷ (codes "b", place (pos 12) (pos 23) (pos 1) (pos 2)) ∷ []) (place (pos 10) (pos 50) (pos 8) (pos 6))
+moved_down : boxes_now ((codes "a", place (pos 10) (pos 20) (pos 5) (pos 6)) ∷ (codes "b", place (pos 12) (pos 23) (pos 1) (pos 2)) ∷ [])
+    (place (pos 10) (pos 50) (pos 8) (pos 6))
     ≡ (codes "a", place (pos 10) (pos 50) (pos 8) (pos 6)) ∷ (codes "b", place (pos 12) (pos 53) (pos 1) (pos 2)) ∷ []
 moved_down = refl

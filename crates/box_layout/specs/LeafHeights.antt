@@ -23,7 +23,9 @@ height_asked x width = block_query false [] (given_box x.grid.columns width)
 
 -- Each leaf among the children of a node keeps its block size at the content width of the rectangle that it has by this question for frames.
 abbrev pub AreLeavesKept : BareTrees → NodeId → Query → State → Type 0
-AreLeavesKept b n q s = (i : ℕ) (c : NodeId) (f : Frame) (rest : List Frame) → child_at b n i ≡ Some c → is_leaf (sight_at b c).label.kind ≡ true → drop i (frames_seen b n q) ≡ f ∷ rest
+AreLeavesKept b n q s =
+    (i : ℕ) (c : NodeId) (f : Frame) (rest : List Frame) → child_at b n i ≡ Some c → is_leaf (sight_at b c).label.kind ≡ true →
+    drop i (frames_seen b n q) ≡ f ∷ rest
     → IsSome (answer_to (height_asked (sight_at b c).label f.rect.width) (kept_in s c))
 
 -- So it is with a grid that did not keep these frames before.
@@ -52,11 +54,15 @@ pub record AreLeafFrames (b : BareTrees) (n : NodeId) (frames : List NodeFrame) 
 
 -- a question that uses the block sizes of these leaves
 abbrev pub UsesLeaves : BareTrees → NodeId → Query → List NodeFrame → Type 0
-UsesLeaves b n q frames = (i : ℕ) (f : NodeFrame) (rest : List NodeFrame) → drop i frames ≡ f ∷ rest → is_leaf (sight_at b f.child).label.kind ≡ true → Contains (uses_at b n q) (i, block_query false [] f.inline)
+UsesLeaves b n q frames =
+    (i : ℕ) (f : NodeFrame) (rest : List NodeFrame) → drop i frames ≡ f ∷ rest → is_leaf (sight_at b f.child).label.kind ≡ true →
+    Contains (uses_at b n q) (i, block_query false [] f.inline)
 
 -- the first so many of these leaves keep them
 abbrev pub HoldLeaves : BareTrees → ℕ → List NodeFrame → State → Type 0
-HoldLeaves b few frames s = (i : ℕ) (f : NodeFrame) (rest : List NodeFrame) → i < few → drop i frames ≡ f ∷ rest → is_leaf (sight_at b f.child).label.kind ≡ true → IsSome (answer_to (block_query false [] f.inline) (kept_in s f.child))
+HoldLeaves b few frames s =
+    (i : ℕ) (f : NodeFrame) (rest : List NodeFrame) → i < few → drop i frames ≡ f ∷ rest → is_leaf (sight_at b f.child).label.kind ≡ true →
+    IsSome (answer_to (block_query false [] f.inline) (kept_in s f.child))
 
 -- A child with this frame was asked for its block size where it is a leaf, and nothing was done where it is not.
 abbrev pub IsLeafAsked : BareTrees → NodeFrame → State → State → Type 0

@@ -34,7 +34,8 @@ passes_at b n q =
 -- The questions that one to a node leads to on the way of the boxes: itself, and those that the questions to its children lead to.
 pub data Leads (b : BareTrees) : NodeId → Query → NodeId → Query → Type 0 where
   itself : (n : NodeId) (q : Query) → Leads b n q n q
-  through : (n c m : NodeId) (q r s : Query) (index : ℕ) → child_at b n index ≡ Some c → Contains (leads_at b n q) (index, r) → Leads b c r m s → Leads b n q m s
+  through : (n c m : NodeId) (q r s : Query) (index : ℕ) → child_at b n index ≡ Some c → Contains (leads_at b n q) (index, r) → Leads b c r m s →
+      Leads b n q m s
 
 -- The questions for frames that one for frames leads to: itself, and those of the containers below.
 pub data Passes (b : BareTrees) : NodeId → Query → NodeId → Query → Type 0 where
@@ -79,7 +80,11 @@ IsPathKept b width height s = (m : NodeId) (q : Query) → IsOnPath b width heig
 pub record IsAllKept (b : BareTrees) (width height : ℤ) (s : State) : Type 0 where
   pub inline : (root : NodeId) → top_numbers b ≡ root ∷ [] → IsSome (answer_to (inline_query false []) (kept_in s root))
   pub block : (root : NodeId) → top_numbers b ≡ root ∷ [] →
-      IsSome (answer_to (block_query false [] (root_inline (root_of (sight_at b root).label (sight_at b root).below) (root_width width (root_of (sight_at b root).label (sight_at b root).below)))) (kept_in s root))
+      IsSome
+      (answer_to
+      (block_query false []
+      (root_inline (root_of (sight_at b root).label (sight_at b root).below)
+      (root_width width (root_of (sight_at b root).label (sight_at b root).below)))) (kept_in s root))
   pub path : IsPathKept b width height s
 
 -- the lists of a node and of the containers below it hold the questions that this one for frames leads to

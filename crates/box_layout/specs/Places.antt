@@ -35,4 +35,5 @@ frame_in parent i b = (framed_at (styled parent) (styled parent) i b (down_of (p
 
 -- the frame of a child with these places and sizes in a content box that starts here in the border box of its parent
 abbrev pub frame_from : ℤ × ℤ → Extent → Extent → Frame
-frame_from origin i b = record { rect = record { x = origin.0 +ℤ i.at; y = origin.1 +ℤ b.at; width = i.size; height = b.size }; inline = i.given; block = b.given }
+frame_from origin i b = record
+    { rect = record { x = origin.0 +ℤ i.at; y = origin.1 +ℤ b.at; width = i.size; height = b.size }; inline = i.given; block = b.given }

@@ -10,7 +10,9 @@ use Rattle.tree_rules.specs.declared.query.Given.{Given}
 
 -- the inline size of its border box, by the two inline sizes of its content
 abbrev pub width_by : ℤ → Label → ℤ × ℤ → ℤ
-width_by width x sizes = inline_used (bounds_of (Some width) x.content.border_box x.grid.columns x.content.inline) (is_stretched root_justify x.grid.columns x.content.inline) (margins x.grid.columns) width sizes
+width_by width x sizes =
+    inline_used (bounds_of (Some width) x.content.border_box x.grid.columns x.content.inline)
+    (is_stretched root_justify x.grid.columns x.content.inline) (margins x.grid.columns) width sizes
 
 -- the block size of its border box, by the block size of its content
 abbrev pub height_by : ℤ → Label → ℤ → ℤ
@@ -21,7 +23,8 @@ abbrev pub root_frame_by : ℤ × ℤ → Label → ℤ → Given → ℤ → Fr
 root_frame_by viewport x across inline content =
     let height = height_by viewport.1 x content in
     record {
-      rect = record { x = aligned_at root_justify x.grid.columns (pos 0) viewport.0 across; y = aligned_at root_align x.grid.rows (pos 0) viewport.1 height; width = across; height = height };
+      rect = record
+          { x = aligned_at root_justify x.grid.columns (pos 0) viewport.0 across; y = aligned_at root_align x.grid.rows (pos 0) viewport.1 height; width = across; height = height };
       inline = inline;
       block = given_box x.grid.rows height;
     }

@@ -41,8 +41,24 @@ place_in l s size =
 -- the seat of a child with these places, and this size across
 abbrev pub seat_by : Container → ℤ → ℤ → ℤ → Sitting → Seat
 seat_by c start across size s =
-    let row : Seat = record { number = pos s.number; child = s.child; rect = record { x = c.inline_start +ℤ start; y = c.block_start +ℤ across; width = s.main; height = size }; inline = content_of_box s.inline_inner s.main; block = content_of_box s.block_inner size } in
-    let column : Seat = record { number = pos s.number; child = s.child; rect = record { x = c.inline_start +ℤ across; y = c.block_start +ℤ start; width = size; height = s.main }; inline = content_of_box s.inline_inner size; block = content_of_box s.block_inner s.main } in
+    let row : Seat = record {
+      number = pos s.number;
+      child = s.child;
+      rect = record
+          { x = c.inline_start +ℤ start; y = c.block_start +ℤ across; width = s.main; height = size };
+      inline = content_of_box s.inline_inner
+          s.main;
+      block = content_of_box s.block_inner size;
+    } in
+    let column : Seat = record {
+      number = pos s.number;
+      child = s.child;
+      rect = record
+          { x = c.inline_start +ℤ across; y = c.block_start +ℤ start; width = size; height = s.main };
+      inline = content_of_box s.inline_inner
+          size;
+      block = content_of_box s.block_inner s.main;
+    } in
     if c.column then column else row
 
 -- the seat of a child in its line
@@ -98,7 +114,8 @@ abbrev pub seats_from : Container → (ℕ → ℤ) → ℕ → ℤ → List ℤ
 seats_from c moved k at [] ranges all = []
 seats_from c moved k at (size ∷ sizes) [] all = []
 seats_from c moved k at (size ∷ sizes) (range ∷ ranges) all =
-    line_seats c (record { at = at +ℤ moved k; size = size }) (slice_range all range.0 range.1) ++ seats_from c moved (k + 1) (at +ℤ size +ℤ c.between) sizes ranges all
+    line_seats c (record { at = at +ℤ moved k; size = size }) (slice_range all range.0 range.1) ++
+    seats_from c moved (k + 1) (at +ℤ size +ℤ c.between) sizes ranges all
 
 -- what the lines leave of the cross size
 abbrev pub cross_left : Container → List ℤ → ℤ

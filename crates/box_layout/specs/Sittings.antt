@@ -65,7 +65,9 @@ limits_across stretched b own =
 -- A child of this number, with this size along the main axis, and this hypothetical one across it, of a container with this size across.
 abbrev pub sitting_by : Bool → ℤ → Label → ℕ → NodeId → Label → ℤ → ℤ → Sitting
 sitting_by column across container number child x main cross =
-    let limits : ℤ × ℤ = limits_across (is_stretched_across column container x) (bounds_of (Some across) x.content.border_box (cross_grid column x) (cross_content column x)) cross in
+    let limits : ℤ ×
+    ℤ = limits_across (is_stretched_across column container x)
+    (bounds_of (Some across) x.content.border_box (cross_grid column x) (cross_content column x)) cross in
     record {
       number = number;
       child = child;
@@ -81,7 +83,8 @@ sitting_by column across container number child x main cross =
 
 -- the same of a child of the definitions, where this is the child of each number
 abbrev pub sitting_of : Bool → ℤ → Label → (ℕ → NodeId) → rules.Sitting → Sitting
-sitting_of column across container child s = sitting_by column across container s.settled.member.number (child s.settled.member.number) s.settled.member.kid.label s.main s.cross
+sitting_of column across container child s =
+    sitting_by column across container s.settled.member.number (child s.settled.member.number) s.settled.member.kid.label s.main s.cross
 
 -- What a child is given in the inline axis is the size of its content box there: in a row by its main size, in a column by the width that it
 -- had before its line was known.

@@ -29,7 +29,12 @@ pub struct Margins {
 
 /// The margins that a style has along an axis.
 pub fn margins_of<const AXIS: u8>(style: &Style) -> Margins
-    ensures { result ≡ record { start = (grid_at AXIS style.now).margin_start; end = (grid_at AXIS style.now).margin_end } }
+    ensures { result ≡
+        record {
+          start = (grid_at AXIS style.now).margin_start;
+          end =
+              (grid_at AXIS style.now).margin_end;
+        } }
 {
     Margins {
         start: margin_start::<AXIS>(style),
@@ -73,7 +78,9 @@ fn is_no_margin(length: &Option<Lu>) -> bool
 
 /// Whether each margin along an axis is 0 or `auto`.
 fn has_no_margins<const AXIS: u8>(style: &Style) -> bool
-    ensures { result ≡ (int_eq (margin (grid_at AXIS style.now).margin_start) (pos 0) && int_eq (margin (grid_at AXIS style.now).margin_end) (pos 0)) }
+    ensures { result ≡
+        (int_eq (margin (grid_at AXIS style.now).margin_start) (pos 0) &&
+        int_eq (margin (grid_at AXIS style.now).margin_end) (pos 0)) }
 {
     is_no_margin(&margin_start::<AXIS>(style)) && is_no_margin(&margin_end::<AXIS>(style))
 }
@@ -117,7 +124,8 @@ fn exact(units: i64) -> Wide
 /// What the margins before and after a node take of a room.
 fn auto_taken(margins: &Margins, room: Wide) -> (Wide, Wide)
     requires { IsRoom room }
-    ensures { result ≡ auto_taken room (is_auto_margin margins.now.start) (is_auto_margin margins.now.end) }
+    ensures { result ≡
+        auto_taken room (is_auto_margin margins.now.start) (is_auto_margin margins.now.end) }
 {
     let (before, after) = auto_margins(
         room.units(),
@@ -130,7 +138,8 @@ fn auto_taken(margins: &Margins, room: Wide) -> (Wide, Wide)
 /// What the margins before and after a node take of a room: where it is positive, the `auto` ones take it (CSS Grid 2, 11.2).
 pub fn taken(margins: &Margins, room: Wide) -> (Wide, Wide)
     requires { IsRoom room }
-    ensures value { result ≡ auto_taken room (is_auto_margin margins.now.start) (is_auto_margin margins.now.end) }
+    ensures value { result ≡
+        auto_taken room (is_auto_margin margins.now.start) (is_auto_margin margins.now.end) }
     ensures before { IsRoom result.0 }
     ensures after { IsRoom result.1 }
 {
@@ -170,7 +179,8 @@ pub fn placed(start: Wide, margin: Lu, taken: Wide, moved: Wide) -> Wide
 /// Where a node of these margins stands, as `aligned_at` says.
 fn aligned(align: &Align, margins: &Margins, start: Wide, size: Lu, box_size: Lu) -> Wide
     requires { IsTotal start }
-    ensures value { (g : GridAxis) → g.margin_start ≡ margins.now.start → g.margin_end ≡ margins.now.end → result ≡ aligned_at align.now g start size box_size }
+    ensures value { (g : GridAxis) → g.margin_start ≡ margins.now.start →
+        g.margin_end ≡ margins.now.end → result ≡ aligned_at align.now g start size box_size }
     ensures near { IsNearTo start result }
 {
     let room = room_of(margins, size, box_size);

@@ -113,8 +113,11 @@ fn areas_by_number(
 ) -> Result<Sequence<Area>, NoMemory>
     requires live { IsLive (bare tree.now.tree) id }
     requires children { HasChildren (bare tree.now.tree) id placed.now }
-    ensures counted { IfOk result (λ areas. length areas ≡ length (kids_at (bare tree.now.tree) id)) }
-    ensures areas { IfOk result (λ areas. (number : ℕ) → number < length (kids_at (bare tree.now.tree) id) → (d : Area) → IsAreaOf (bare tree.now.tree) id placed.now number (get_or areas number d)) }
+    ensures counted { IfOk result
+        (λ areas. length areas ≡ length (kids_at (bare tree.now.tree) id)) }
+    ensures areas { IfOk result
+        (λ areas. (number : ℕ) → number < length (kids_at (bare tree.now.tree) id) → (d : Area) →
+        IsAreaOf (bare tree.now.tree) id placed.now number (get_or areas number d)) }
 {
     root(tree);
     let mut areas = all_areas(alloc, placed.areas.as_slice())?;
@@ -165,7 +168,8 @@ fn held_base(
     requires reps { length reps.now ≡ length (sight_at (bare tree.now.tree) id).chain }
     requires seat { IsSeat (sight_at (bare tree.now.tree) id) reps.now above.now area }
     requires width { IsGivenSize inline.now }
-    ensures { IfOk result (λ held. IsBase (bare tree.now.tree) id reps.now inline.now (base_held held)) }
+    ensures { IfOk result
+        (λ held. IsBase (bare tree.now.tree) id reps.now inline.now (base_held held)) }
 {
     if let Some(wide) = kept_wide(tree, id, reps, inline) {
         let wide = wide.again()?;
@@ -210,7 +214,9 @@ pub(crate) fn seats_below(
     requires tell { AreTelling (bare tree.now.tree) id (map frame_of frames.now) }
     requires counted { length frames.now ≡ length (kids_at (bare tree.now.tree) id) }
     ensures seats { IfOk result (AreSeats (bare tree.now.tree) id) }
-    ensures pairs { IfOk result (λ seats. (q : Query) → q.reps ≡ reps.now → q.inline ≡ inline.now → HasPairs (bare tree.now.tree) id q seats) }
+    ensures pairs { IfOk result
+        (λ seats. (q : Query) → q.reps ≡ reps.now → q.inline ≡ inline.now →
+        HasPairs (bare tree.now.tree) id q seats) }
 {
     root(tree);
     if !has_lower(frames) {
@@ -242,7 +248,8 @@ pub(crate) fn pairs_for(seats: &ChildSeats, lower: bool) -> &[(u32, u32)]
 /// What a child sees above it, where the others see nothing.
 pub(crate) fn above_for<'a>(seats: &'a ChildSeats, nothing: &'a Above, lower: bool) -> &'a Above
     requires { nothing.now ≡ above.Nothing }
-    ensures { result.now ≡ (if lower then above_held seats.now.held above.Nothing else above.Nothing) }
+    ensures { result.now ≡
+        (if lower then above_held seats.now.held above.Nothing else above.Nothing) }
 {
     if !lower {
         return nothing;
@@ -255,7 +262,8 @@ pub(crate) fn above_for<'a>(seats: &'a ChildSeats, nothing: &'a Above, lower: bo
 
 /// The area of the child of a number; none where there are no seats.
 pub(crate) fn area_for(seats: &ChildSeats, number: usize) -> Area
-    ensures { number < length seats.now.areas → (d : Area) → result ≡ get_or seats.now.areas number d }
+    ensures { number < length seats.now.areas → (d : Area) →
+        result ≡ get_or seats.now.areas number d }
 {
     match seats.areas.get(number) {
         Some(area) => *area,

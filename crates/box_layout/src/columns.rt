@@ -43,7 +43,9 @@ fn items_at(
     requires readable { AreReadable (bare tree.now.tree) }
     requires members { AreMembers (bare tree.now.tree) id members.now }
     requires counted { length blocks.now ≡ length members.now }
-    ensures { IfOk result (λ items. items.items ≡ zipped (member_item (bare tree.now.tree) height) members.now blocks.now) }
+    ensures { IfOk result
+        (λ items. items.items ≡
+        zipped (member_item (bare tree.now.tree) height) members.now blocks.now) }
 {
     let mut items = Vec::new(alloc);
     for index in 0..members.len() {
@@ -56,7 +58,8 @@ fn items_at(
 /// The gap between two children of a column of this height.
 fn column_gap(tree: &Arena<Node>, id: NodeId, height: Lu) -> Lu
     requires { IsLive (bare tree.now.tree) id }
-    ensures { result ≡ gap_by (Some height) (pos 0) (sight_at (bare tree.now.tree) id).label.grid.rows.gap }
+    ensures { result ≡
+        gap_by (Some height) (pos 0) (sight_at (bare tree.now.tree) id).label.grid.rows.gap }
 {
     gap_in::<1>(&node_at(tree, id).style, height)
 }
@@ -76,7 +79,12 @@ pub fn column_lines<L: Ledger>(
     requires readable { AreReadable (bare tree.now.tree) }
     requires members { AreMembers (bare tree.now.tree) id members.now }
     requires counted { length blocks.now ≡ length members.now }
-    ensures value { (boxes : List ℤ) → blocks.now ≡ map block_of (settled_by (bare tree.now.tree) members.now boxes) → IfOk result (λ lines. lines_of lines ≡ column_lines_seen (bare tree.now.tree) id height (settled_by (bare tree.now.tree) members.now boxes)) }
+    ensures value { (boxes : List ℤ) →
+        blocks.now ≡ map block_of (settled_by (bare tree.now.tree) members.now boxes) →
+        IfOk result
+        (λ lines. lines_of lines ≡
+        column_lines_seen (bare tree.now.tree) id height
+        (settled_by (bare tree.now.tree) members.now boxes)) }
     ensures ranges { IfOk result (λ lines. AreRanges (length members.now) lines.ranges) }
     ensures kept { passes.old ≤ passes.new }
     ensures ticks { passes.new ≤ passes.old + 1 }

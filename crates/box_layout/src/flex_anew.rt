@@ -50,11 +50,18 @@ fn row_found<R: Ruler, L: Ledger>(
     requires flex { (sight_at (bare tree.old.tree) id).label.kind ≡ kind.Flex }
     requires direction { (sight_at (bare tree.old.tree) id).label.content.column ≡ false }
     requires ask { query.now.ask ≡ ask.Frames }
-    ensures value { IfOk result (λ frames. child_frames (map frame_of frames) ≡ answer_of (sight_at (bare tree.old.tree) id) query.now) }
-    ensures children { IfOk result (λ frames. map (λ (f : NodeFrame). f.child) frames ≡ children_at (bare tree.old.tree) id) }
+    ensures value { IfOk result
+        (λ frames. child_frames (map frame_of frames) ≡
+        answer_of (sight_at (bare tree.old.tree) id) query.now) }
+    ensures children { IfOk result
+        (λ frames. map (λ (f : NodeFrame). f.child) frames ≡ children_at (bare tree.old.tree) id) }
     ensures right { IsRight tree.new.tree }
-    ensures below { OnOk result (WalkedBelow id query.now 1 (state tree.old tally.old passes.old (R.log ruler.old)) (state tree.new tally.new passes.new (R.log ruler.new))) }
-    ensures stopped { OnErr result (Stopped id query.now (state tree.old tally.old passes.old (R.log ruler.old)) (state tree.new tally.new passes.new (R.log ruler.new))) }
+    ensures below { OnOk result
+        (WalkedBelow id query.now 1 (state tree.old tally.old passes.old (R.log ruler.old))
+        (state tree.new tally.new passes.new (R.log ruler.new))) }
+    ensures stopped { OnErr result
+        (Stopped id query.now (state tree.old tally.old passes.old (R.log ruler.old))
+        (state tree.new tally.new passes.new (R.log ruler.new))) }
 {
     let width = size_given(&query.inline);
     let height = size_given(&query.block);
@@ -78,11 +85,18 @@ fn column_found<R: Ruler, L: Ledger>(
     requires flex { (sight_at (bare tree.old.tree) id).label.kind ≡ kind.Flex }
     requires direction { (sight_at (bare tree.old.tree) id).label.content.column ≡ true }
     requires ask { query.now.ask ≡ ask.Frames }
-    ensures value { IfOk result (λ frames. child_frames (map frame_of frames) ≡ answer_of (sight_at (bare tree.old.tree) id) query.now) }
-    ensures children { IfOk result (λ frames. map (λ (f : NodeFrame). f.child) frames ≡ children_at (bare tree.old.tree) id) }
+    ensures value { IfOk result
+        (λ frames. child_frames (map frame_of frames) ≡
+        answer_of (sight_at (bare tree.old.tree) id) query.now) }
+    ensures children { IfOk result
+        (λ frames. map (λ (f : NodeFrame). f.child) frames ≡ children_at (bare tree.old.tree) id) }
     ensures right { IsRight tree.new.tree }
-    ensures below { OnOk result (WalkedBelow id query.now 1 (state tree.old tally.old passes.old (R.log ruler.old)) (state tree.new tally.new passes.new (R.log ruler.new))) }
-    ensures stopped { OnErr result (Stopped id query.now (state tree.old tally.old passes.old (R.log ruler.old)) (state tree.new tally.new passes.new (R.log ruler.new))) }
+    ensures below { OnOk result
+        (WalkedBelow id query.now 1 (state tree.old tally.old passes.old (R.log ruler.old))
+        (state tree.new tally.new passes.new (R.log ruler.new))) }
+    ensures stopped { OnErr result
+        (Stopped id query.now (state tree.old tally.old passes.old (R.log ruler.old))
+        (state tree.new tally.new passes.new (R.log ruler.new))) }
 {
     let width = size_given(&query.inline);
     let height = size_given(&query.block);
@@ -105,11 +119,18 @@ fn flex_found<R: Ruler, L: Ledger>(
     requires readable { AreReadable (bare tree.old.tree) }
     requires flex { (sight_at (bare tree.old.tree) id).label.kind ≡ kind.Flex }
     requires ask { query.now.ask ≡ ask.Frames }
-    ensures value { IfOk result (λ frames. child_frames (map frame_of frames) ≡ answer_of (sight_at (bare tree.old.tree) id) query.now) }
-    ensures children { IfOk result (λ frames. map (λ (f : NodeFrame). f.child) frames ≡ children_at (bare tree.old.tree) id) }
+    ensures value { IfOk result
+        (λ frames. child_frames (map frame_of frames) ≡
+        answer_of (sight_at (bare tree.old.tree) id) query.now) }
+    ensures children { IfOk result
+        (λ frames. map (λ (f : NodeFrame). f.child) frames ≡ children_at (bare tree.old.tree) id) }
     ensures right { IsRight tree.new.tree }
-    ensures below { OnOk result (WalkedBelow id query.now 1 (state tree.old tally.old passes.old (R.log ruler.old)) (state tree.new tally.new passes.new (R.log ruler.new))) }
-    ensures stopped { OnErr result (Stopped id query.now (state tree.old tally.old passes.old (R.log ruler.old)) (state tree.new tally.new passes.new (R.log ruler.new))) }
+    ensures below { OnOk result
+        (WalkedBelow id query.now 1 (state tree.old tally.old passes.old (R.log ruler.old))
+        (state tree.new tally.new passes.new (R.log ruler.new))) }
+    ensures stopped { OnErr result
+        (Stopped id query.now (state tree.old tally.old passes.old (R.log ruler.old))
+        (state tree.new tally.new passes.new (R.log ruler.new))) }
 {
     if is_column(&node_at(tree, id).style) {
         return column_found(alloc, tree, id, query, ruler, tally, passes);
@@ -135,12 +156,21 @@ pub(crate) fn flex_frames_anew<R: Ruler, L: Ledger>(
     requires query { query ≡ frames_asked query.reps query.inline query.block }
     requires fits { Fits (sight_at (bare tree.old.tree) id) query }
     requires absent { IsAbsent query (kept_at tree.old.tree id) }
-    ensures value { IfOk result (λ frames. child_frames (map frame_of frames) ≡ answer_of (sight_at (bare tree.old.tree) id) query) }
-    ensures children { IfOk result (λ frames. map (λ (f : NodeFrame). f.child) frames ≡ children_at (bare tree.old.tree) id) }
+    ensures value { IfOk result
+        (λ frames. child_frames (map frame_of frames) ≡
+        answer_of (sight_at (bare tree.old.tree) id) query) }
+    ensures children { IfOk result
+        (λ frames. map (λ (f : NodeFrame). f.child) frames ≡ children_at (bare tree.old.tree) id) }
     ensures right { IsRight tree.new.tree }
-    ensures walked { OnOk result (Walked id query (state tree.old tally.old passes.old (R.log ruler.old)) (state tree.new tally.new passes.new (R.log ruler.new))) }
-    ensures stopped { OnErr result (Stopped id query (state tree.old tally.old passes.old (R.log ruler.old)) (state tree.new tally.new passes.new (R.log ruler.new))) }
-    ensures own { IfOk result (λ frames. kept_at tree.new.tree id ≡ kept_with (kept_at tree.old.tree id) ((query, answer.Frames frames) ∷ [])) }
+    ensures walked { OnOk result
+        (Walked id query (state tree.old tally.old passes.old (R.log ruler.old))
+        (state tree.new tally.new passes.new (R.log ruler.new))) }
+    ensures stopped { OnErr result
+        (Stopped id query (state tree.old tally.old passes.old (R.log ruler.old))
+        (state tree.new tally.new passes.new (R.log ruler.new))) }
+    ensures own { IfOk result
+        (λ frames. kept_at tree.new.tree id ≡
+        kept_with (kept_at tree.old.tree id) ((query, answer.Frames frames) ∷ [])) }
 {
     let frames = flex_found(alloc, tree, id, &query, ruler, tally, passes)?;
     let shared = SharedFrames::new(alloc, frames)?;

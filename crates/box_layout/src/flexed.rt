@@ -43,7 +43,8 @@ fn frames_in_row(
     requires live { IsLive (bare tree.now.tree) id }
     requires readable { AreReadable (bare tree.now.tree) }
     requires row { IsRow (bare tree.now.tree) id width row.now }
-    ensures { IfOk result (AreFrames (bare tree.now.tree) id (row_seen (bare tree.now.tree) id width height)) }
+    ensures { IfOk result
+        (AreFrames (bare tree.now.tree) id (row_seen (bare tree.now.tree) id width height)) }
 {
     count(tree, id);
     let members = row.members.as_slice();
@@ -68,9 +69,12 @@ fn frames_in_column(
     requires live { IsLive (bare tree.now.tree) id }
     requires readable { AreReadable (bare tree.now.tree) }
     requires column { IsColumn (bare tree.now.tree) id width column.now }
-    requires lines { lines_of lines.now ≡ column_lines_seen (bare tree.now.tree) id height (settled_by (bare tree.now.tree) column.now.members column.now.boxes) }
+    requires lines { lines_of lines.now ≡
+        column_lines_seen (bare tree.now.tree) id height
+        (settled_by (bare tree.now.tree) column.now.members column.now.boxes) }
     requires ranges { AreRanges (length column.now.members) lines.now.ranges }
-    ensures { IfOk result (AreFrames (bare tree.now.tree) id (column_seen (bare tree.now.tree) id width height)) }
+    ensures { IfOk result
+        (AreFrames (bare tree.now.tree) id (column_seen (bare tree.now.tree) id width height)) }
 {
     count(tree, id);
     let members = column.members.as_slice();
@@ -100,10 +104,17 @@ pub fn row_frames<R: Ruler, L: Ledger>(
     requires readable { AreReadable (bare tree.old.tree) }
     requires flex { (sight_at (bare tree.old.tree) id).label.kind ≡ kind.Flex }
     requires direction { (sight_at (bare tree.old.tree) id).label.content.column ≡ false }
-    ensures value { IfOk result (AreFrames (bare tree.old.tree) id (row_seen (bare tree.old.tree) id width height)) }
+    ensures value { IfOk result
+        (AreFrames (bare tree.old.tree) id (row_seen (bare tree.old.tree) id width height)) }
     ensures right { IsRight tree.new.tree }
-    ensures below { OnOk result ((q : Query) → given_size q.inline ≡ width → needs_inline q.ask ≡ true → WalkedBelow id q 1 (state tree.old tally.old passes.old (R.log ruler.old)) (state tree.new tally.new passes.new (R.log ruler.new))) }
-    ensures stopped { OnErr result ((q : Query) → given_size q.inline ≡ width → needs_inline q.ask ≡ true → Stopped id q (state tree.old tally.old passes.old (R.log ruler.old)) (state tree.new tally.new passes.new (R.log ruler.new))) }
+    ensures below { OnOk result
+        ((q : Query) → given_size q.inline ≡ width → needs_inline q.ask ≡ true →
+        WalkedBelow id q 1 (state tree.old tally.old passes.old (R.log ruler.old))
+        (state tree.new tally.new passes.new (R.log ruler.new))) }
+    ensures stopped { OnErr result
+        ((q : Query) → given_size q.inline ≡ width → needs_inline q.ask ≡ true →
+        Stopped id q (state tree.old tally.old passes.old (R.log ruler.old))
+        (state tree.new tally.new passes.new (R.log ruler.new))) }
 {
     let row = row_at(alloc, tree, id, width, ruler, tally, passes)?;
     let frames = frames_in_row(alloc, tree, id, width, height, &row)?;
@@ -128,10 +139,17 @@ fn ask_widths<R: Ruler, L: Ledger>(
     requires flex { (sight_at (bare tree.old.tree) id).label.kind ≡ kind.Flex }
     requires direction { (sight_at (bare tree.old.tree) id).label.content.column ≡ true }
     requires grids { AreStyled (flex_seen (bare tree.old.tree) id).members }
-    requires frames { AreFrames (bare tree.old.tree) id (column_seen (bare tree.old.tree) id width height) frames.now }
+    requires frames { AreFrames (bare tree.old.tree) id
+        (column_seen (bare tree.old.tree) id width height) frames.now }
     ensures right { IsRight tree.new.tree }
-    ensures below { OnOk result ((q : Query) → AsksWidths width height q → WalkedBelow id q 0 (state tree.old tally.old passes.old (R.log ruler.old)) (state tree.new tally.new passes.new (R.log ruler.new))) }
-    ensures stopped { OnErr result ((q : Query) → AsksWidths width height q → Stopped id q (state tree.old tally.old passes.old (R.log ruler.old)) (state tree.new tally.new passes.new (R.log ruler.new))) }
+    ensures below { OnOk result
+        ((q : Query) → AsksWidths width height q →
+        WalkedBelow id q 0 (state tree.old tally.old passes.old (R.log ruler.old))
+        (state tree.new tally.new passes.new (R.log ruler.new))) }
+    ensures stopped { OnErr result
+        ((q : Query) → AsksWidths width height q →
+        Stopped id q (state tree.old tally.old passes.old (R.log ruler.old))
+        (state tree.new tally.new passes.new (R.log ruler.new))) }
 {
     root(tree);
     for index in 0..frames.len() {
@@ -169,10 +187,17 @@ pub fn column_frames<R: Ruler, L: Ledger>(
     requires readable { AreReadable (bare tree.old.tree) }
     requires flex { (sight_at (bare tree.old.tree) id).label.kind ≡ kind.Flex }
     requires direction { (sight_at (bare tree.old.tree) id).label.content.column ≡ true }
-    ensures value { IfOk result (AreFrames (bare tree.old.tree) id (column_seen (bare tree.old.tree) id width height)) }
+    ensures value { IfOk result
+        (AreFrames (bare tree.old.tree) id (column_seen (bare tree.old.tree) id width height)) }
     ensures right { IsRight tree.new.tree }
-    ensures below { OnOk result ((q : Query) → AsksWidths width height q → WalkedBelow id q 1 (state tree.old tally.old passes.old (R.log ruler.old)) (state tree.new tally.new passes.new (R.log ruler.new))) }
-    ensures stopped { OnErr result ((q : Query) → AsksWidths width height q → Stopped id q (state tree.old tally.old passes.old (R.log ruler.old)) (state tree.new tally.new passes.new (R.log ruler.new))) }
+    ensures below { OnOk result
+        ((q : Query) → AsksWidths width height q →
+        WalkedBelow id q 1 (state tree.old tally.old passes.old (R.log ruler.old))
+        (state tree.new tally.new passes.new (R.log ruler.new))) }
+    ensures stopped { OnErr result
+        ((q : Query) → AsksWidths width height q →
+        Stopped id q (state tree.old tally.old passes.old (R.log ruler.old))
+        (state tree.new tally.new passes.new (R.log ruler.new))) }
 {
     let column = column_at(alloc, tree, id, width, ruler, tally, passes)?;
     let members = column.members.as_slice();

@@ -73,7 +73,8 @@ fn member_sitting(
     requires live { IsLive (bare tree.now.tree) id }
     requires readable { AreReadable (bare tree.now.tree) }
     requires child { IsChild (bare tree.now.tree) id member.now }
-    ensures value { result ≡ member_sitting (bare tree.now.tree) id flex.now.column flex.now.cross member.now main own }
+    ensures value { result ≡
+        member_sitting (bare tree.now.tree) id flex.now.column flex.now.cross member.now main own }
     ensures units { IsUnits main }
 {
     root(tree);
@@ -99,7 +100,10 @@ fn own_crosses(
     requires members { AreMembers (bare tree.now.tree) id members.now }
     requires boxes { length boxes.now ≡ length members.now }
     requires blocks { length blocks.now ≡ length members.now }
-    ensures { IfOk result (λ sizes. sizes.items ≡ zipped3 (member_cross (bare tree.now.tree) column cross) members.now boxes.now blocks.now) }
+    ensures { IfOk result
+        (λ sizes. sizes.items ≡
+        zipped3 (member_cross (bare tree.now.tree) column cross) members.now boxes.now
+        blocks.now) }
 {
     let mut sizes = Vec::new(alloc);
     for index in 0..members.len() {
@@ -122,7 +126,9 @@ fn own_outers(
     requires readable { AreReadable (bare tree.now.tree) }
     requires members { AreMembers (bare tree.now.tree) id members.now }
     requires counted { length crosses.now ≡ length members.now }
-    ensures { IfOk result (λ sizes. sizes.items ≡ zipped (member_outer (bare tree.now.tree) column) members.now crosses.now) }
+    ensures { IfOk result
+        (λ sizes. sizes.items ≡
+        zipped (member_outer (bare tree.now.tree) column) members.now crosses.now) }
 {
     let mut sizes = Vec::new(alloc);
     for index in 0..members.len() {
@@ -147,7 +153,10 @@ fn sittings(
     requires members { AreMembers (bare tree.now.tree) id members.now }
     requires mains { length mains.now ≡ length members.now }
     requires counted { length crosses.now ≡ length members.now }
-    ensures value { IfOk result (λ children. children.items ≡ zipped3 (member_sitting (bare tree.now.tree) id flex.now.column flex.now.cross) members.now mains.now crosses.now) }
+    ensures value { IfOk result
+        (λ children. children.items ≡
+        zipped3 (member_sitting (bare tree.now.tree) id flex.now.column flex.now.cross)
+        members.now mains.now crosses.now) }
     ensures units { IfOk result (λ children. AreUnits mains.now) }
 {
     let mut children = Vec::new(alloc);
@@ -180,7 +189,10 @@ fn line_sizes(
 ) -> Result<Sequence<Lu>, NoMemory>
     requires live { IsLive (bare tree.now.tree) id }
     requires ranges { AreRanges (length outers.now) ranges.now }
-    ensures { IfOk result (λ sizes. sizes ≡ crosses_by column (sight_at (bare tree.now.tree) id).label outers.now ranges.now (Some cross)) }
+    ensures { IfOk result
+        (λ sizes. sizes ≡
+        crosses_by column (sight_at (bare tree.now.tree) id).label outers.now ranges.now
+        (Some cross)) }
 {
     let container = &node_at(tree, id).style;
     crosses_of(alloc, column, container, outers, ranges, Some(cross))
@@ -209,12 +221,17 @@ pub fn frames_in_lines(
     requires readable { AreReadable (bare tree.now.tree) }
     requires members { AreMembers (bare tree.now.tree) id members.now }
     requires boxes { length boxes.now ≡ length members.now }
-    requires blocks { blocks.now ≡ map block_of (settled_by (bare tree.now.tree) members.now boxes.now) }
+    requires blocks { blocks.now ≡
+        map block_of (settled_by (bare tree.now.tree) members.now boxes.now) }
     requires mains { length mains.now ≡ length members.now }
     requires row { column ≡ false → boxes.now ≡ mains.now }
     requires ranges { AreRanges (length members.now) ranges.now }
     requires lines { length ranges.now ≤ 65536 }
-    ensures { IfOk result (λ frames. frames ≡ flex_told (numbered (bare tree.now.tree) id) column (flex_seen (bare tree.now.tree) id) main cross (record { ranges = ranges.now; mains = mains.now }) (settled_by (bare tree.now.tree) members.now boxes.now)) }
+    ensures { IfOk result
+        (λ frames. frames ≡
+        flex_told (numbered (bare tree.now.tree) id) column (flex_seen (bare tree.now.tree) id)
+        main cross (record { ranges = ranges.now; mains = mains.now })
+        (settled_by (bare tree.now.tree) members.now boxes.now)) }
 {
     let own = own_crosses(alloc, tree, id, column, cross, members, boxes, blocks)?;
     let outers = own_outers(alloc, tree, id, column, members, &own)?;

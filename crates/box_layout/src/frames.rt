@@ -70,7 +70,9 @@ pub(crate) fn frame_from(
     requires columns { IsPlace place.0 }
     requires rows { IsPlace place.1 }
     ensures child { result.child ≡ child }
-    ensures value { frame_of result ≡ frame_from origin (record { at = place.0; size = size.0; given = inline }) (record { at = place.1; size = size.1; given = block }) }
+    ensures value { frame_of result ≡
+        frame_from origin (record { at = place.0; size = size.0; given = inline })
+        (record { at = place.1; size = size.1; given = block }) }
     ensures x { (by : ℕ) → IsWithin by place.0 → IsWithin (by + 2 ^ 28) result.rect.x }
     ensures y { (by : ℕ) → IsWithin by place.1 → IsWithin (by + 2 ^ 28) result.rect.y }
 {
@@ -101,7 +103,9 @@ pub fn frame_in(
     requires columns { IsPlace place.0 }
     requires rows { IsPlace place.1 }
     ensures child { result.child ≡ child }
-    ensures value { frame_of result ≡ frame_in parent.now (record { at = place.0; size = size.0; given = inline }) (record { at = place.1; size = size.1; given = block }) }
+    ensures value { frame_of result ≡
+        frame_in parent.now (record { at = place.0; size = size.0; given = inline })
+        (record { at = place.1; size = size.1; given = block }) }
     ensures x { (by : ℕ) → IsWithin by place.0 → IsWithin (by + 2 ^ 28) result.rect.x }
     ensures y { (by : ℕ) → IsWithin by place.1 → IsWithin (by + 2 ^ 28) result.rect.y }
 {

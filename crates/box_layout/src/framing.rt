@@ -70,8 +70,10 @@ fn keep_last(
 ) -> Result<(), NoMemory>
     requires live { IsLive (bare tree.old.tree) id }
     requires right { IsRight tree.old.tree }
-    requires places { HoldsPlaces (sight_at (bare tree.old.tree) id) (children_at (bare tree.old.tree) id) wide.now.parts.base }
-    requires frames { AreFrames (sight_at (bare tree.old.tree) id) (kid_at (bare tree.old.tree)) wide.now.parts.base wide.now.columns rows Each frames.now }
+    requires places { HoldsPlaces (sight_at (bare tree.old.tree) id)
+        (children_at (bare tree.old.tree) id) wide.now.parts.base }
+    requires frames { AreFrames (sight_at (bare tree.old.tree) id) (kid_at (bare tree.old.tree))
+        wide.now.parts.base wide.now.columns rows Each frames.now }
     ensures right { IsRight tree.new.tree }
     ensures alike { IsAlike tree.old tree.new }
 {
@@ -106,12 +108,21 @@ fn grid_frames_anew<R: Ruler, L: Ledger>(
     requires seat { IsSeat (sight_at (bare tree.old.tree) id) query.reps above.now area }
     requires columns { IsSpread (farthest (level_at (bare tree.old.tree) id)) query.inline }
     requires rows { IsSpread (farthest (level_at (bare tree.old.tree) id)) query.block }
-    ensures value { IfOk result (λ frames. child_frames (map frame_of frames) ≡ answer_of (sight_at (bare tree.old.tree) id) query) }
-    ensures children { IfOk result (λ frames. map (λ (f : NodeFrame). f.child) frames ≡ children_at (bare tree.old.tree) id) }
+    ensures value { IfOk result
+        (λ frames. child_frames (map frame_of frames) ≡
+        answer_of (sight_at (bare tree.old.tree) id) query) }
+    ensures children { IfOk result
+        (λ frames. map (λ (f : NodeFrame). f.child) frames ≡ children_at (bare tree.old.tree) id) }
     ensures right { IsRight tree.new.tree }
-    ensures walked { OnOk result (Walked id query (state tree.old tally.old passes.old (R.log ruler.old)) (state tree.new tally.new passes.new (R.log ruler.new))) }
-    ensures stopped { OnErr result (Stopped id query (state tree.old tally.old passes.old (R.log ruler.old)) (state tree.new tally.new passes.new (R.log ruler.new))) }
-    ensures own { IfOk result (λ frames. kept_at tree.new.tree id ≡ kept_with (kept_at tree.old.tree id) ((query, answer.Frames frames) ∷ [])) }
+    ensures walked { OnOk result
+        (Walked id query (state tree.old tally.old passes.old (R.log ruler.old))
+        (state tree.new tally.new passes.new (R.log ruler.new))) }
+    ensures stopped { OnErr result
+        (Stopped id query (state tree.old tally.old passes.old (R.log ruler.old))
+        (state tree.new tally.new passes.new (R.log ruler.new))) }
+    ensures own { IfOk result
+        (λ frames. kept_at tree.new.tree id ≡
+        kept_with (kept_at tree.old.tree id) ((query, answer.Frames frames) ∷ [])) }
 {
     root(tree);
     let reps = query.reps.as_slice();
@@ -154,13 +165,25 @@ fn grid_frames_kept<R: Ruler, L: Ledger>(
     requires seat { IsSeat (sight_at (bare tree.old.tree) id) query.reps above.now area }
     requires columns { IsSpread (farthest (level_at (bare tree.old.tree) id)) query.inline }
     requires rows { IsSpread (farthest (level_at (bare tree.old.tree) id)) query.block }
-    ensures value { IfOk result (λ frames. child_frames (map frame_of frames) ≡ answer_of (sight_at (bare tree.old.tree) id) query) }
-    ensures children { IfOk result (λ frames. map (λ (f : NodeFrame). f.child) frames ≡ children_at (bare tree.old.tree) id) }
+    ensures value { IfOk result
+        (λ frames. child_frames (map frame_of frames) ≡
+        answer_of (sight_at (bare tree.old.tree) id) query) }
+    ensures children { IfOk result
+        (λ frames. map (λ (f : NodeFrame). f.child) frames ≡ children_at (bare tree.old.tree) id) }
     ensures right { IsRight tree.new.tree }
-    ensures walked { OnOk result (Walked id query (state tree.old tally.old passes.old (R.log ruler.old)) (state tree.new tally.new passes.new (R.log ruler.new))) }
-    ensures stopped { OnErr result (Stopped id query (state tree.old tally.old passes.old (R.log ruler.old)) (state tree.new tally.new passes.new (R.log ruler.new))) }
-    ensures own { IfOk result (λ frames. kept_at tree.new.tree id ≡ kept_with (kept_at tree.old.tree id) ((query, answer.Frames frames) ∷ [])) }
-    ensures leaves { OnOk result ((sight_at (bare tree.old.tree) id).label.kind ≡ kind.Grid → AreLeavesKept (bare tree.old.tree) id query (state tree.new tally.new passes.new (R.log ruler.new))) }
+    ensures walked { OnOk result
+        (Walked id query (state tree.old tally.old passes.old (R.log ruler.old))
+        (state tree.new tally.new passes.new (R.log ruler.new))) }
+    ensures stopped { OnErr result
+        (Stopped id query (state tree.old tally.old passes.old (R.log ruler.old))
+        (state tree.new tally.new passes.new (R.log ruler.new))) }
+    ensures own { IfOk result
+        (λ frames. kept_at tree.new.tree id ≡
+        kept_with (kept_at tree.old.tree id) ((query, answer.Frames frames) ∷ [])) }
+    ensures leaves { OnOk result
+        ((sight_at (bare tree.old.tree) id).label.kind ≡ kind.Grid →
+        AreLeavesKept (bare tree.old.tree) id query
+        (state tree.new tally.new passes.new (R.log ruler.new))) }
 {
     root(tree);
     stands(tree);
@@ -191,13 +214,25 @@ fn frames_anew<R: Ruler, L: Ledger>(
     requires seat { IsSeat (sight_at (bare tree.old.tree) id) query.reps above.now area }
     requires columns { IsSpread (farthest (level_at (bare tree.old.tree) id)) query.inline }
     requires rows { IsSpread (farthest (level_at (bare tree.old.tree) id)) query.block }
-    ensures value { IfOk result (λ frames. child_frames (map frame_of frames) ≡ answer_of (sight_at (bare tree.old.tree) id) query) }
-    ensures children { IfOk result (λ frames. map (λ (f : NodeFrame). f.child) frames ≡ children_at (bare tree.old.tree) id) }
+    ensures value { IfOk result
+        (λ frames. child_frames (map frame_of frames) ≡
+        answer_of (sight_at (bare tree.old.tree) id) query) }
+    ensures children { IfOk result
+        (λ frames. map (λ (f : NodeFrame). f.child) frames ≡ children_at (bare tree.old.tree) id) }
     ensures right { IsRight tree.new.tree }
-    ensures walked { OnOk result (Walked id query (state tree.old tally.old passes.old (R.log ruler.old)) (state tree.new tally.new passes.new (R.log ruler.new))) }
-    ensures stopped { OnErr result (Stopped id query (state tree.old tally.old passes.old (R.log ruler.old)) (state tree.new tally.new passes.new (R.log ruler.new))) }
-    ensures own { IfOk result (λ frames. kept_at tree.new.tree id ≡ kept_with (kept_at tree.old.tree id) ((query, answer.Frames frames) ∷ [])) }
-    ensures leaves { OnOk result ((sight_at (bare tree.old.tree) id).label.kind ≡ kind.Grid → AreLeavesKept (bare tree.old.tree) id query (state tree.new tally.new passes.new (R.log ruler.new))) }
+    ensures walked { OnOk result
+        (Walked id query (state tree.old tally.old passes.old (R.log ruler.old))
+        (state tree.new tally.new passes.new (R.log ruler.new))) }
+    ensures stopped { OnErr result
+        (Stopped id query (state tree.old tally.old passes.old (R.log ruler.old))
+        (state tree.new tally.new passes.new (R.log ruler.new))) }
+    ensures own { IfOk result
+        (λ frames. kept_at tree.new.tree id ≡
+        kept_with (kept_at tree.old.tree id) ((query, answer.Frames frames) ∷ [])) }
+    ensures leaves { OnOk result
+        ((sight_at (bare tree.old.tree) id).label.kind ≡ kind.Grid →
+        AreLeavesKept (bare tree.old.tree) id query
+        (state tree.new tally.new passes.new (R.log ruler.new))) }
 {
     if is_grid(&node_at(tree, id).kind) {
         return grid_frames_kept(alloc, tree, id, query, above, area, ruler, tally, passes);
@@ -224,18 +259,37 @@ pub fn frames_at<R: Ruler, L: Ledger>(
     requires live { IsLive (bare tree.old.tree) id }
     requires right { IsRight tree.old.tree }
     requires readable { AreReadable (bare tree.old.tree) }
-    requires fits { Fits (sight_at (bare tree.old.tree) id) (frames_asked reps.now inline.now block.now) }
+    requires fits { Fits (sight_at (bare tree.old.tree) id)
+        (frames_asked reps.now inline.now block.now) }
     requires seat { IsSeat (sight_at (bare tree.old.tree) id) reps.now above.now area }
     requires columns { IsSpread (farthest (level_at (bare tree.old.tree) id)) inline.now }
     requires rows { IsSpread (farthest (level_at (bare tree.old.tree) id)) block.now }
-    ensures value { IfOk result (λ frames. child_frames (map frame_of frames) ≡ answer_of (sight_at (bare tree.old.tree) id) (frames_asked reps.now inline.now block.now)) }
-    ensures children { IfOk result (λ frames. map (λ (f : NodeFrame). f.child) frames ≡ children_at (bare tree.old.tree) id) }
+    ensures value { IfOk result
+        (λ frames. child_frames (map frame_of frames) ≡
+        answer_of (sight_at (bare tree.old.tree) id)
+        (frames_asked reps.now inline.now block.now)) }
+    ensures children { IfOk result
+        (λ frames. map (λ (f : NodeFrame). f.child) frames ≡ children_at (bare tree.old.tree) id) }
     ensures right { IsRight tree.new.tree }
-    ensures walked { OnOk result (Walked id (frames_asked reps.now inline.now block.now) (state tree.old tally.old passes.old (R.log ruler.old)) (state tree.new tally.new passes.new (R.log ruler.new))) }
-    ensures stopped { OnErr result (Stopped id (frames_asked reps.now inline.now block.now) (state tree.old tally.old passes.old (R.log ruler.old)) (state tree.new tally.new passes.new (R.log ruler.new))) }
-    ensures found { Found id (frames_asked reps.now inline.now block.now) (state tree.old tally.old passes.old (R.log ruler.old)) (state tree.new tally.new passes.new (R.log ruler.new)) }
-    ensures own { IfOk result (λ frames. Keeps id (frames_asked reps.now inline.now block.now) (state tree.old tally.old passes.old (R.log ruler.old)) (state tree.new tally.new passes.new (R.log ruler.new)) (answer.Frames frames)) }
-    ensures leaves { OnOk result (MeasuresLeaves (bare tree.old.tree) id (frames_asked reps.now inline.now block.now) (state tree.old tally.old passes.old (R.log ruler.old)) (state tree.new tally.new passes.new (R.log ruler.new))) }
+    ensures walked { OnOk result
+        (Walked id (frames_asked reps.now inline.now block.now)
+        (state tree.old tally.old passes.old (R.log ruler.old))
+        (state tree.new tally.new passes.new (R.log ruler.new))) }
+    ensures stopped { OnErr result
+        (Stopped id (frames_asked reps.now inline.now block.now)
+        (state tree.old tally.old passes.old (R.log ruler.old))
+        (state tree.new tally.new passes.new (R.log ruler.new))) }
+    ensures found { Found id (frames_asked reps.now inline.now block.now)
+        (state tree.old tally.old passes.old (R.log ruler.old))
+        (state tree.new tally.new passes.new (R.log ruler.new)) }
+    ensures own { IfOk result
+        (λ frames. Keeps id (frames_asked reps.now inline.now block.now)
+        (state tree.old tally.old passes.old (R.log ruler.old))
+        (state tree.new tally.new passes.new (R.log ruler.new)) (answer.Frames frames)) }
+    ensures leaves { OnOk result
+        (MeasuresLeaves (bare tree.old.tree) id (frames_asked reps.now inline.now block.now)
+        (state tree.old tally.old passes.old (R.log ruler.old))
+        (state tree.new tally.new passes.new (R.log ruler.new))) }
 {
     if let Some(frames) = kept_frames(tree, id, reps, inline, block) {
         return frames.again();
@@ -266,17 +320,36 @@ pub fn frames_of<R: Ruler, L: Ledger>(
     requires live { IsLive (bare tree.old.tree) id }
     requires right { IsRight tree.old.tree }
     requires readable { AreReadable (bare tree.old.tree) }
-    requires fits { Fits (sight_at (bare tree.old.tree) id) (frames_asked reps.now inline.now block.now) }
+    requires fits { Fits (sight_at (bare tree.old.tree) id)
+        (frames_asked reps.now inline.now block.now) }
     requires columns { IsSpread (farthest (level_at (bare tree.old.tree) id)) inline.now }
     requires rows { IsSpread (farthest (level_at (bare tree.old.tree) id)) block.now }
-    ensures value { IfOk result (λ frames. child_frames (map frame_of frames) ≡ answer_of (sight_at (bare tree.old.tree) id) (frames_asked reps.now inline.now block.now)) }
-    ensures children { IfOk result (λ frames. map (λ (f : NodeFrame). f.child) frames ≡ children_at (bare tree.old.tree) id) }
+    ensures value { IfOk result
+        (λ frames. child_frames (map frame_of frames) ≡
+        answer_of (sight_at (bare tree.old.tree) id)
+        (frames_asked reps.now inline.now block.now)) }
+    ensures children { IfOk result
+        (λ frames. map (λ (f : NodeFrame). f.child) frames ≡ children_at (bare tree.old.tree) id) }
     ensures right { IsRight tree.new.tree }
-    ensures walked { OnOk result (Walked id (frames_asked reps.now inline.now block.now) (state tree.old tally.old passes.old (R.log ruler.old)) (state tree.new tally.new passes.new (R.log ruler.new))) }
-    ensures stopped { OnErr result (Stopped id (frames_asked reps.now inline.now block.now) (state tree.old tally.old passes.old (R.log ruler.old)) (state tree.new tally.new passes.new (R.log ruler.new))) }
-    ensures found { Found id (frames_asked reps.now inline.now block.now) (state tree.old tally.old passes.old (R.log ruler.old)) (state tree.new tally.new passes.new (R.log ruler.new)) }
-    ensures own { IfOk result (λ frames. Keeps id (frames_asked reps.now inline.now block.now) (state tree.old tally.old passes.old (R.log ruler.old)) (state tree.new tally.new passes.new (R.log ruler.new)) (answer.Frames frames)) }
-    ensures leaves { OnOk result (MeasuresLeaves (bare tree.old.tree) id (frames_asked reps.now inline.now block.now) (state tree.old tally.old passes.old (R.log ruler.old)) (state tree.new tally.new passes.new (R.log ruler.new))) }
+    ensures walked { OnOk result
+        (Walked id (frames_asked reps.now inline.now block.now)
+        (state tree.old tally.old passes.old (R.log ruler.old))
+        (state tree.new tally.new passes.new (R.log ruler.new))) }
+    ensures stopped { OnErr result
+        (Stopped id (frames_asked reps.now inline.now block.now)
+        (state tree.old tally.old passes.old (R.log ruler.old))
+        (state tree.new tally.new passes.new (R.log ruler.new))) }
+    ensures found { Found id (frames_asked reps.now inline.now block.now)
+        (state tree.old tally.old passes.old (R.log ruler.old))
+        (state tree.new tally.new passes.new (R.log ruler.new)) }
+    ensures own { IfOk result
+        (λ frames. Keeps id (frames_asked reps.now inline.now block.now)
+        (state tree.old tally.old passes.old (R.log ruler.old))
+        (state tree.new tally.new passes.new (R.log ruler.new)) (answer.Frames frames)) }
+    ensures leaves { OnOk result
+        (MeasuresLeaves (bare tree.old.tree) id (frames_asked reps.now inline.now block.now)
+        (state tree.old tally.old passes.old (R.log ruler.old))
+        (state tree.new tally.new passes.new (R.log ruler.new))) }
 {
     if let Some(frames) = kept_frames(tree, id, reps, inline, block) {
         return frames.again();

@@ -40,8 +40,12 @@ use std::alloc::Global;
 /// Whether a child of a grid is a subgrid in the columns, and in the rows.
 fn shares(tree: &Arena<Node>, id: NodeId) -> (bool, bool)
     requires { IsLive (bare tree.now.tree) id }
-    ensures columns { result.0 ≡ (has_subgrid_kind (sight_at (bare tree.now.tree) id).label && is_subgrid (sight_at (bare tree.now.tree) id).label.grid.columns.template) }
-    ensures rows { result.1 ≡ (has_subgrid_kind (sight_at (bare tree.now.tree) id).label && is_subgrid (sight_at (bare tree.now.tree) id).label.grid.rows.template) }
+    ensures columns { result.0 ≡
+        (has_subgrid_kind (sight_at (bare tree.now.tree) id).label &&
+        is_subgrid (sight_at (bare tree.now.tree) id).label.grid.columns.template) }
+    ensures rows { result.1 ≡
+        (has_subgrid_kind (sight_at (bare tree.now.tree) id).label &&
+        is_subgrid (sight_at (bare tree.now.tree) id).label.grid.rows.template) }
 {
     let node = node_at(tree, id);
     let lower = is_grid(&node.kind);
@@ -65,7 +69,9 @@ fn child_over(
     requires wide { IsWide (bare tree.now.tree) id reps.now width.now wide.now }
     requires index { index < length wide.now.parts.base.placed.areas }
     ensures entry { IsEntry (bare tree.now.tree) id wide.now.parts.base result }
-    ensures next { drop index (entries_at (bare tree.now.tree) id wide.now.parts.base.placed) ≡ entry_by (bare tree.now.tree) result ∷ drop (index + 1) (entries_at (bare tree.now.tree) id wide.now.parts.base.placed) }
+    ensures next { drop index (entries_at (bare tree.now.tree) id wide.now.parts.base.placed) ≡
+        entry_by (bare tree.now.tree) result ∷
+        drop (index + 1) (entries_at (bare tree.now.tree) id wide.now.parts.base.placed) }
     ensures columns { LiesIn wide.now.parts.base.placed.columns result.area.columns }
     ensures rows { LiesIn wide.now.parts.base.placed.rows result.area.rows }
     ensures there { index < length wide.now.children }
@@ -110,7 +116,13 @@ fn framed_child(
     requires y { origin.1 ≡ inner_start (sight_at (bare tree.now.tree) id).label.grid.rows }
     requires index { index < length wide.now.parts.base.placed.areas }
     requires last { IsLastIn rows.now last.old }
-    ensures frame { IfOk result (IsFrameOf (bare tree.now.tree) id (get_or (map (grid_child (grid_seen (bare tree.now.tree) id reps.now width.now) (columns_seen (bare tree.now.tree) id reps.now width.now) rows.now) (wides_seen (bare tree.now.tree) id reps.now width.now)) index no_frame)) }
+    ensures frame { IfOk result
+        (IsFrameOf (bare tree.now.tree) id
+        (get_or
+        (map
+        (grid_child (grid_seen (bare tree.now.tree) id reps.now width.now)
+        (columns_seen (bare tree.now.tree) id reps.now width.now) rows.now)
+        (wides_seen (bare tree.now.tree) id reps.now width.now)) index no_frame)) }
     ensures last { OnOk result (IsLastIn rows.now last.new) }
 {
     let entry = child_over(tree, id, reps, width, wide, index);
@@ -161,7 +173,12 @@ fn framed_children(
     requires rows { AreTracks wide.now.parts.base.placed.rows rows.now.edges }
     requires gap { pos 0 ≤ℤ rows.now.gap }
     requires places { AreIndices (length wide.now.parts.base.placed.areas) places.now }
-    ensures { IfOk result (AreFramesAt (bare tree.now.tree) id (map (grid_child (grid_seen (bare tree.now.tree) id reps.now width.now) (columns_seen (bare tree.now.tree) id reps.now width.now) rows.now) (wides_seen (bare tree.now.tree) id reps.now width.now)) places.now) }
+    ensures { IfOk result
+        (AreFramesAt (bare tree.now.tree) id
+        (map
+        (grid_child (grid_seen (bare tree.now.tree) id reps.now width.now)
+        (columns_seen (bare tree.now.tree) id reps.now width.now) rows.now)
+        (wides_seen (bare tree.now.tree) id reps.now width.now)) places.now) }
 {
     let origin = origin_of(&node_at(tree, id).style);
     let mut frames = Sequence::from_vec(Vec::with_capacity(alloc, places.len())?);
@@ -225,9 +242,20 @@ fn frame_again(
     requires places { AreIndices (length wide.now.parts.base.placed.areas) places.now }
     requires fresh { length fresh.now ≡ length wide.now.parts.base.placed.areas }
     requires at { at < length places.now }
-    requires frames { AreAgain (bare tree.now.tree) id (map (grid_child (grid_seen (bare tree.now.tree) id reps.now width.now) (columns_seen (bare tree.now.tree) id reps.now width.now) rows.now) (wides_seen (bare tree.now.tree) id reps.now width.now)) places.now fresh.now at frames.old }
+    requires frames { AreAgain (bare tree.now.tree) id
+        (map
+        (grid_child (grid_seen (bare tree.now.tree) id reps.now width.now)
+        (columns_seen (bare tree.now.tree) id reps.now width.now) rows.now)
+        (wides_seen (bare tree.now.tree) id reps.now width.now)) places.now fresh.now at
+        frames.old }
     requires last { IsLastIn rows.now last.old }
-    ensures frames { OnOk result (AreAgain (bare tree.now.tree) id (map (grid_child (grid_seen (bare tree.now.tree) id reps.now width.now) (columns_seen (bare tree.now.tree) id reps.now width.now) rows.now) (wides_seen (bare tree.now.tree) id reps.now width.now)) places.now fresh.now (at + 1) frames.new) }
+    ensures frames { OnOk result
+        (AreAgain (bare tree.now.tree) id
+        (map
+        (grid_child (grid_seen (bare tree.now.tree) id reps.now width.now)
+        (columns_seen (bare tree.now.tree) id reps.now width.now) rows.now)
+        (wides_seen (bare tree.now.tree) id reps.now width.now)) places.now fresh.now
+        (at + 1) frames.new) }
     ensures last { OnOk result (IsLastIn rows.now last.new) }
 {
     let index = places[at].0;
@@ -265,8 +293,14 @@ fn framed_again(
     requires gap { pos 0 ≤ℤ rows.now.gap }
     requires places { places.now ≡ turns wide.now.parts.base.placed.numbers }
     requires fresh { length fresh.now ≡ length wide.now.parts.base.placed.areas }
-    requires frames { AreFrames (sight_at (bare tree.now.tree) id) (kid_at (bare tree.now.tree)) wide.now.parts.base wide.now.columns rows.now (Marked fresh.now) frames }
-    ensures { IfOk result (AreFramesAt (bare tree.now.tree) id (map (grid_child (grid_seen (bare tree.now.tree) id reps.now width.now) (columns_seen (bare tree.now.tree) id reps.now width.now) rows.now) (wides_seen (bare tree.now.tree) id reps.now width.now)) places.now) }
+    requires frames { AreFrames (sight_at (bare tree.now.tree) id) (kid_at (bare tree.now.tree))
+        wide.now.parts.base wide.now.columns rows.now (Marked fresh.now) frames }
+    ensures { IfOk result
+        (AreFramesAt (bare tree.now.tree) id
+        (map
+        (grid_child (grid_seen (bare tree.now.tree) id reps.now width.now)
+        (columns_seen (bare tree.now.tree) id reps.now width.now) rows.now)
+        (wides_seen (bare tree.now.tree) id reps.now width.now)) places.now) }
 {
     root(tree);
     let mut frames = frames;
@@ -303,7 +337,8 @@ fn last_for(
     requires live { IsLive (bare tree.now.tree) id }
     requires wide { IsWide (bare tree.now.tree) id reps.now width.now wide.now }
     requires past { IfSome past (ArePastFrames (bare tree.now.tree) id) }
-    ensures { IfSome result (IsLastOf (bare tree.now.tree) id wide.now.parts.base wide.now.columns rows.now) }
+    ensures { IfSome result
+        (IsLastOf (bare tree.now.tree) id wide.now.parts.base wide.now.columns rows.now) }
 {
     let past = past?;
     if !serves(wide, rows, &past) {
@@ -333,9 +368,19 @@ pub(crate) fn grid_frames(
     requires rows { AreTracks wide.now.parts.base.placed.rows rows.now.edges }
     requires gap { pos 0 ≤ℤ rows.now.gap }
     requires past { IfSome past (ArePastFrames (bare tree.now.tree) id) }
-    ensures value { IfOk result (λ frames. map frame_of frames ≡ map (λ (f : Framed). f.frame) (in_document_order (map (grid_child (grid_seen (bare tree.now.tree) id reps.now width.now) (columns_seen (bare tree.now.tree) id reps.now width.now) rows.now) (wides_seen (bare tree.now.tree) id reps.now width.now)))) }
-    ensures children { IfOk result (λ frames. map (λ (f : NodeFrame). f.child) frames ≡ children_at (bare tree.now.tree) id) }
-    ensures frames { IfOk result (AreFrames (sight_at (bare tree.now.tree) id) (kid_at (bare tree.now.tree)) wide.now.parts.base wide.now.columns rows.now Each) }
+    ensures value { IfOk result
+        (λ frames. map frame_of frames ≡
+        map (λ (f : Framed). f.frame)
+        (in_document_order
+        (map
+        (grid_child (grid_seen (bare tree.now.tree) id reps.now width.now)
+        (columns_seen (bare tree.now.tree) id reps.now width.now) rows.now)
+        (wides_seen (bare tree.now.tree) id reps.now width.now)))) }
+    ensures children { IfOk result
+        (λ frames. map (λ (f : NodeFrame). f.child) frames ≡ children_at (bare tree.now.tree) id) }
+    ensures frames { IfOk result
+        (AreFrames (sight_at (bare tree.now.tree) id) (kid_at (bare tree.now.tree))
+        wide.now.parts.base wide.now.columns rows.now Each) }
 {
     root(tree);
     count(tree, id);

@@ -103,7 +103,10 @@ fn block_over(
     requires over { IsOver rows.now.edges child.now.rows }
     requires gap { pos 0 ≤ℤ rows.now.gap }
     requires last { IsLastIn rows.now last.old }
-    ensures value { IfOk result (λ block. block ≡ block_over child.now.shares.1 container.now child.now.style.now rows.now child.now.rows child.now.content) }
+    ensures value { IfOk result
+        (λ block. block ≡
+        block_over child.now.shares.1 container.now child.now.style.now rows.now child.now.rows
+        child.now.content) }
     ensures last { OnOk result (IsLastIn rows.now last.new) }
 {
     let align = items::<1>(container);
@@ -141,7 +144,11 @@ pub(crate) fn frame_over_from(
     requires y { origin.1 ≡ inner_start (grid_at 1 container.now) }
     requires last { IsLastIn rows.now last.old }
     ensures child { IfOk result (λ frame. frame.child ≡ child.now.child) }
-    ensures value { IfOk result (λ frame. frame_of frame ≡ frame_over container.now child.now.style.now child.now.shares.0 child.now.shares.1 columns.now child.now.columns rows.now child.now.rows child.now.width child.now.inline.now child.now.content) }
+    ensures value { IfOk result
+        (λ frame. frame_of frame ≡
+        frame_over container.now child.now.style.now child.now.shares.0 child.now.shares.1
+        columns.now child.now.columns rows.now child.now.rows child.now.width
+        child.now.inline.now child.now.content) }
     ensures last { OnOk result (IsLastIn rows.now last.new) }
 {
     let (size, given) = block_over(alloc, container, rows, child, last)?;
@@ -184,7 +191,11 @@ pub fn frame_over(
     requires rows { IsOver rows.now.edges child.now.rows }
     requires gap { pos 0 ≤ℤ rows.now.gap }
     ensures child { IfOk result (λ frame. frame.child ≡ child.now.child) }
-    ensures value { IfOk result (λ frame. frame_of frame ≡ frame_over container.now child.now.style.now child.now.shares.0 child.now.shares.1 columns.now child.now.columns rows.now child.now.rows child.now.width child.now.inline.now child.now.content) }
+    ensures value { IfOk result
+        (λ frame. frame_of frame ≡
+        frame_over container.now child.now.style.now child.now.shares.0 child.now.shares.1
+        columns.now child.now.columns rows.now child.now.rows child.now.width
+        child.now.inline.now child.now.content) }
 {
     let origin = origin_of(container);
     let mut last = None;

@@ -83,7 +83,8 @@ impl Few {
 
     /// Those of a container among the children more.
     pub(crate) fn add(&mut self, other: &Few)
-        ensures { (more : List Box) → AddsFew more (Some []) other.now → AddsFew more self.old self.new }
+        ensures { (more : List Box) → AddsFew more (Some []) other.now →
+            AddsFew more self.old self.new }
     {
         if !other.whole {
             self.whole = false;
@@ -151,7 +152,14 @@ impl LastBoxes {
         inline: &Given,
         block: &Given,
     ) -> Option<&[(Name, Rect)]>
-        ensures found { IfSome result (λ boxes. Contains self.now (record { id = id; query = frames_asked reps.now inline.now block.now; boxes = boxes.now })) }
+        ensures found { IfSome result
+            (λ boxes. Contains self.now
+            (record {
+              id = id;
+              query = frames_asked reps.now inline.now block.now;
+              boxes =
+                  boxes.now;
+            })) }
         ensures close { IfSome result (λ boxes. AreClose boxes.now) }
     {
         let number = number_at(self.slots.as_slice(), id.slot());
@@ -174,7 +182,9 @@ impl LastBoxes {
         rect: Rect,
         few: &Few,
     )
-        ensures { (f : Found) → Contains self.new f → Contains self.old f ⊎ IsFoundOf id (frames_asked reps.now inline.now block.now) (name.now, rect) few.now f }
+        ensures { (f : Found) → Contains self.new f →
+            Contains self.old f ⊎
+            IsFoundOf id (frames_asked reps.now inline.now block.now) (name.now, rect) few.now f }
     {
         if !is_worth(&rect, few) {
             return;
@@ -285,7 +295,8 @@ fn put(
 )
     requires own { IsClose rect }
     requires below { (boxes : List Box) → few.now ≡ Some boxes → AreClose boxes }
-    ensures { IsPut id query (name.now, rect) few.now slots.old.items containers.old.items boxes.old.items slots.new.items containers.new.items boxes.new.items }
+    ensures { IsPut id query (name.now, rect) few.now slots.old.items containers.old.items
+        boxes.old.items slots.new.items containers.new.items boxes.new.items }
 {
     let start = boxes.len();
     if append(boxes, name, rect, few) {
@@ -304,7 +315,8 @@ fn put(
 /// listed before stays.
 fn append(boxes: &mut Vec<(Name, Rect)>, name: &Name, rect: Rect, few: &Few) -> bool
     ensures before { take (length boxes.old.items) boxes.new.items ≡ boxes.old.items }
-    ensures put { result ≡ true → IfSome few.now (λ below. boxes.new.items ≡ boxes.old.items ++ (name.now, rect) ∷ below) }
+    ensures put { result ≡ true →
+        IfSome few.now (λ below. boxes.new.items ≡ boxes.old.items ++ (name.now, rect) ∷ below) }
     ensures few { result ≡ true → IsSome few.now }
 {
     if !few.whole {
@@ -359,8 +371,10 @@ fn make_slots(slots: &mut Vec<u32>, slot: usize) -> bool
 /// Lists a container at the end, and its place in its slot. Where memory is wanting it is not listed.
 fn list_last(slots: &mut Vec<u32>, containers: &mut Vec<Option<Below>>, below: Below)
     requires slot { below.id.slot < length slots.old.items }
-    requires free { (i : ℕ) → slice_get slots.old.items below.id.slot ≡ Some i → length containers.old.items ≤ i }
-    ensures { IsListed below slots.old.items containers.old.items slots.new.items containers.new.items }
+    requires free { (i : ℕ) → slice_get slots.old.items below.id.slot ≡ Some i →
+        length containers.old.items ≤ i }
+    ensures { IsListed below slots.old.items containers.old.items slots.new.items
+        containers.new.items }
 {
     let slot = below.id.slot();
     let Ok(next) = u32::try_from(containers.len()) else {
@@ -373,7 +387,8 @@ fn list_last(slots: &mut Vec<u32>, containers: &mut Vec<Option<Below>>, below: B
 
 /// Lists a container in place of what is listed in its slot. Where memory is wanting it is not listed.
 fn list(slots: &mut Vec<u32>, containers: &mut Vec<Option<Below>>, below: Below)
-    ensures { IsListed below slots.old.items containers.old.items slots.new.items containers.new.items }
+    ensures { IsListed below slots.old.items containers.old.items slots.new.items
+        containers.new.items }
 {
     let slot = below.id.slot();
     if !make_slots(slots, slot) {

@@ -29,7 +29,10 @@ use placing::{Node, root};
 /// most 65,536 of them and as many lines, their values are ones that a text reads as, and all sizes are lengths. So the positions of 64
 /// levels sum to no more than 2^56.
 pub fn flex_children_stand_near()
-    ensures { (column : Bool) (x : Label) (main cross : ℤ) (sizes : List ℤ) (ranges : List (ℕ × ℕ)) (all : List rules.Sitting) → IsGridStyle x.grid → IsUnits main → IsUnits cross → AreUnits sizes → length sizes ≤ 65536 → AreSized all → length all ≤ 65536 → StandNear (flex_numbered column x main cross sizes ranges all) }
+    ensures { (column : Bool) (x : Label) (main cross : ℤ) (sizes : List ℤ) (ranges : List (ℕ × ℕ))
+        (all : List rules.Sitting) → IsGridStyle x.grid → IsUnits main → IsUnits cross →
+        AreUnits sizes → length sizes ≤ 65536 → AreSized all → length all ≤ 65536 →
+        StandNear (flex_numbered column x main cross sizes ranges all) }
 {}
 
 /// What holds of every arena.
@@ -47,7 +50,10 @@ fn sound(tree: &Arena<Node>) -> NodeId
 pub fn frames_stand_near(tree: &Arena<Node>, id: NodeId)
     requires live { IsLive (bare tree.now.tree) id }
     requires readable { AreReadable (bare tree.now.tree) }
-    ensures { (level : ℕ) (reps : List Pair) (inline block : Given) → level ≤ 64 → IsGivenNear level inline → IsGivenNear level block → StandBelow level (((answers_of (sight_at (bare tree.now.tree) id)).down reps inline).frames block) }
+    ensures { (level : ℕ) (reps : List Pair) (inline block : Given) → level ≤ 64 →
+        IsGivenNear level inline → IsGivenNear level block →
+        StandBelow level
+        (((answers_of (sight_at (bare tree.now.tree) id)).down reps inline).frames block) }
 {
     sound(tree);
 }
@@ -58,7 +64,19 @@ pub fn frames_stand_near(tree: &Arena<Node>, id: NodeId)
 /// next to nothing: the law is its contract.
 pub fn frames_fit_below(tree: &Arena<Node>, id: NodeId)
     requires { AreReadable (bare tree.now.tree) }
-    ensures { (reps : List Pair) (inline block : Given) → Fits (sight_at (bare tree.now.tree) id) (frames_asked reps inline block) → (index : ℕ) (c : NodeId) (f : Frame) (rest : List Frame) → child_at (bare tree.now.tree) id index ≡ Some c → drop index (((answers_of (sight_at (bare tree.now.tree) id)).down reps inline).frames block) ≡ f ∷ rest → is_container (sight_at (bare tree.now.tree) c).label.kind ≡ true → Fits (sight_at (bare tree.now.tree) c) (frames_asked (pairs_for (kid_at (bare tree.now.tree) c) (pairs_below (sight_at (bare tree.now.tree) id).label.kind (sight_at (bare tree.now.tree) id).label (sight_at (bare tree.now.tree) id).chain (kids_at (bare tree.now.tree) id) (frames_asked reps inline block))) f.inline f.block) }
+    ensures { (reps : List Pair) (inline block : Given) →
+        Fits (sight_at (bare tree.now.tree) id) (frames_asked reps inline block) →
+        (index : ℕ) (c : NodeId) (f : Frame) (rest : List Frame) →
+        child_at (bare tree.now.tree) id index ≡ Some c →
+        drop index (((answers_of (sight_at (bare tree.now.tree) id)).down reps inline).frames block)
+        ≡ f ∷ rest → is_container (sight_at (bare tree.now.tree) c).label.kind ≡ true →
+        Fits (sight_at (bare tree.now.tree) c)
+        (frames_asked
+        (pairs_for (kid_at (bare tree.now.tree) c)
+        (pairs_below (sight_at (bare tree.now.tree) id).label.kind
+        (sight_at (bare tree.now.tree) id).label
+        (sight_at (bare tree.now.tree) id).chain (kids_at (bare tree.now.tree) id)
+        (frames_asked reps inline block))) f.inline f.block) }
 {
     root(tree);
     sound(tree);
@@ -69,7 +87,10 @@ pub fn frames_fit_below(tree: &Arena<Node>, id: NodeId)
 /// given tracks. The function does next to nothing: the law is its contract.
 pub(crate) fn frames_tell_subgrids(tree: &Arena<Node>, id: NodeId)
     requires { AreReadable (bare tree.now.tree) }
-    ensures { (reps : List Pair) (inline block : Given) → Fits (sight_at (bare tree.now.tree) id) (frames_asked reps inline block) → AreTelling (bare tree.now.tree) id (((answers_of (sight_at (bare tree.now.tree) id)).down reps inline).frames block) }
+    ensures { (reps : List Pair) (inline block : Given) →
+        Fits (sight_at (bare tree.now.tree) id) (frames_asked reps inline block) →
+        AreTelling (bare tree.now.tree) id
+        (((answers_of (sight_at (bare tree.now.tree) id)).down reps inline).frames block) }
 {
     root(tree);
     sound(tree);

@@ -63,15 +63,30 @@ pub fn walk_boxes<T: BoxSink, R: Ruler, L: Ledger>(
     requires readable { AreReadable (bare tree.old.tree) }
     requires last { AreFound (bare tree.old.tree) (kept_at tree.old.tree) last.old }
     ensures root { IfOk result (λ root. IsRootFrame (bare tree.old.tree) width height root) }
-    ensures value { OnOk result (T.adds told.old told.new (bare_boxes width height (bare tree.old.tree))) }
+    ensures value { OnOk result
+        (T.adds told.old told.new (bare_boxes width height (bare tree.old.tree))) }
     ensures near { OnOk result (AreNear (bare_boxes width height (bare tree.old.tree))) }
     ensures bare { bare tree.new.tree ≡ bare tree.old.tree }
     ensures right { IsRight tree.new.tree }
-    ensures laid { OnOk result (Walk (IsAsked (bare tree.old.tree) width height) 0 [] (state tree.old tally.old passes.old (R.log ruler.old)) (state tree.new tally.new passes.new (R.log ruler.new))) }
-    ensures cut { OnErr result (IsCutShort (bare tree.old.tree) width height (state tree.old tally.old passes.old (R.log ruler.old)) (state tree.new tally.new passes.new (R.log ruler.new))) }
-    ensures paths { OnOk result (IsPathKept (bare tree.old.tree) width height (state tree.new tally.new passes.new (R.log ruler.new))) }
-    ensures leaves { OnOk result (AreMeasured (bare tree.old.tree) width height (state tree.old tally.old passes.old (R.log ruler.old)) (state tree.new tally.new passes.new (R.log ruler.new))) }
-    ensures quiet { IsAllKept (bare tree.old.tree) width height (state tree.old tally.old passes.old (R.log ruler.old)) → state tree.new tally.new passes.new (R.log ruler.new) ≡ state tree.old tally.old passes.old (R.log ruler.old) }
+    ensures laid { OnOk result
+        (Walk (IsAsked (bare tree.old.tree) width height) 0 []
+        (state tree.old tally.old passes.old (R.log ruler.old))
+        (state tree.new tally.new passes.new (R.log ruler.new))) }
+    ensures cut { OnErr result
+        (IsCutShort (bare tree.old.tree) width height
+        (state tree.old tally.old passes.old (R.log ruler.old))
+        (state tree.new tally.new passes.new (R.log ruler.new))) }
+    ensures paths { OnOk result
+        (IsPathKept (bare tree.old.tree) width height
+        (state tree.new tally.new passes.new (R.log ruler.new))) }
+    ensures leaves { OnOk result
+        (AreMeasured (bare tree.old.tree) width height
+        (state tree.old tally.old passes.old (R.log ruler.old))
+        (state tree.new tally.new passes.new (R.log ruler.new))) }
+    ensures quiet { IsAllKept (bare tree.old.tree) width height
+        (state tree.old tally.old passes.old (R.log ruler.old)) →
+        state tree.new tally.new passes.new (R.log ruler.new) ≡
+        state tree.old tally.old passes.old (R.log ruler.old) }
     ensures last { AreFound (bare tree.new.tree) (kept_at tree.new.tree) last.new }
 {
     last.trim(tree.len());
@@ -98,16 +113,32 @@ fn boxes_of_tree<T: BoxSink, R: Ruler, L: Ledger>(
     requires readable { AreReadable (bare tree.old.tree) }
     requires last { AreFound (bare tree.old.tree) (kept_at tree.old.tree) last.old }
     ensures root { IfOk result (λ root. IsRootFrame (bare tree.old.tree) width height root) }
-    ensures value { OnOk result (T.adds told.old told.new (bare_boxes width height (bare tree.old.tree))) }
+    ensures value { OnOk result
+        (T.adds told.old told.new (bare_boxes width height (bare tree.old.tree))) }
     ensures near { OnOk result (AreNear (bare_boxes width height (bare tree.old.tree))) }
     ensures bare { bare tree.new.tree ≡ bare tree.old.tree }
     ensures right { IsRight tree.new.tree }
-    ensures laid { OnOk result (Walk (IsAsked (bare tree.old.tree) width height) 0 [] (state tree.old tally.old passes.old (R.log ruler.old)) (state tree.new tally.new passes.new (R.log ruler.new))) }
-    ensures cut { OnErr result (IsCutShort (bare tree.old.tree) width height (state tree.old tally.old passes.old (R.log ruler.old)) (state tree.new tally.new passes.new (R.log ruler.new))) }
-    ensures paths { OnOk result (IsPathKept (bare tree.old.tree) width height (state tree.new tally.new passes.new (R.log ruler.new))) }
-    ensures leaves { OnOk result (AreMeasured (bare tree.old.tree) width height (state tree.old tally.old passes.old (R.log ruler.old)) (state tree.new tally.new passes.new (R.log ruler.new))) }
-    ensures quiet { IsAllKept (bare tree.old.tree) width height (state tree.old tally.old passes.old (R.log ruler.old)) → state tree.new tally.new passes.new (R.log ruler.new) ≡ state tree.old tally.old passes.old (R.log ruler.old) }
-    ensures last { tally.new.lost ≡ false → AreFound (bare tree.old.tree) (kept_at tree.new.tree) last.new }
+    ensures laid { OnOk result
+        (Walk (IsAsked (bare tree.old.tree) width height) 0 []
+        (state tree.old tally.old passes.old (R.log ruler.old))
+        (state tree.new tally.new passes.new (R.log ruler.new))) }
+    ensures cut { OnErr result
+        (IsCutShort (bare tree.old.tree) width height
+        (state tree.old tally.old passes.old (R.log ruler.old))
+        (state tree.new tally.new passes.new (R.log ruler.new))) }
+    ensures paths { OnOk result
+        (IsPathKept (bare tree.old.tree) width height
+        (state tree.new tally.new passes.new (R.log ruler.new))) }
+    ensures leaves { OnOk result
+        (AreMeasured (bare tree.old.tree) width height
+        (state tree.old tally.old passes.old (R.log ruler.old))
+        (state tree.new tally.new passes.new (R.log ruler.new))) }
+    ensures quiet { IsAllKept (bare tree.old.tree) width height
+        (state tree.old tally.old passes.old (R.log ruler.old)) →
+        state tree.new tally.new passes.new (R.log ruler.new) ≡
+        state tree.old tally.old passes.old (R.log ruler.old) }
+    ensures last { tally.new.lost ≡ false →
+        AreFound (bare tree.old.tree) (kept_at tree.new.tree) last.new }
 {
     let id = root(tree);
     let frame = root_frame(alloc, tree, id, width, height, ruler, tally, passes)?;
@@ -152,10 +183,15 @@ pub fn kept_boxes<T: BoxSink, L: Ledger>(
     requires right { IsRight tree.old.tree }
     requires readable { AreReadable (bare tree.old.tree) }
     requires last { AreFound (bare tree.old.tree) (kept_at tree.old.tree) last.old }
-    requires root { IsRootFrame (bare tree.old.tree) root_frame.now.width root_frame.now.height root_frame.now }
-    requires kept { IsPathKept (bare tree.old.tree) root_frame.now.width root_frame.now.height (kept_state tree.old) }
-    ensures value { OnOk result (T.adds told.old told.new (bare_boxes root_frame.now.width root_frame.now.height (bare tree.old.tree))) }
-    ensures near { OnOk result (AreNear (bare_boxes root_frame.now.width root_frame.now.height (bare tree.old.tree))) }
+    requires root { IsRootFrame (bare tree.old.tree) root_frame.now.width root_frame.now.height
+        root_frame.now }
+    requires kept { IsPathKept (bare tree.old.tree) root_frame.now.width root_frame.now.height
+        (kept_state tree.old) }
+    ensures value { OnOk result
+        (T.adds told.old told.new
+        (bare_boxes root_frame.now.width root_frame.now.height (bare tree.old.tree))) }
+    ensures near { OnOk result
+        (AreNear (bare_boxes root_frame.now.width root_frame.now.height (bare tree.old.tree))) }
     ensures same { tree.new ≡ tree.old }
     ensures passes { passes.new ≡ passes.old }
     ensures last { AreFound (bare tree.new.tree) (kept_at tree.new.tree) last.new }

@@ -51,12 +51,24 @@ fn ask_leaf<R: Ruler, L: Ledger>(
     requires live { IsLive (bare tree.old.tree) frame.now.child }
     requires right { IsRight tree.old.tree }
     requires readable { AreReadable (bare tree.old.tree) }
-    requires alone { is_leaf (sight_at (bare tree.old.tree) frame.now.child).label.kind ≡ true → (sight_at (bare tree.old.tree) frame.now.child).chain ≡ [] }
-    requires given { is_leaf (sight_at (bare tree.old.tree) frame.now.child).label.kind ≡ true → IsGivenFor true false 0 frame.now.inline }
+    requires alone { is_leaf (sight_at (bare tree.old.tree) frame.now.child).label.kind ≡ true →
+        (sight_at (bare tree.old.tree) frame.now.child).chain ≡ [] }
+    requires given { is_leaf (sight_at (bare tree.old.tree) frame.now.child).label.kind ≡ true →
+        IsGivenFor true false 0 frame.now.inline }
     ensures right { IsRight tree.new.tree }
-    ensures asked { OnOk result (IsLeafAsked (bare tree.old.tree) frame.now (state tree.old tally.old passes.old (R.log ruler.old)) (state tree.new tally.new passes.new (R.log ruler.new))) }
-    ensures stopped { OnErr result (IsLeafStopped (bare tree.old.tree) frame.now (state tree.old tally.old passes.old (R.log ruler.old)) (state tree.new tally.new passes.new (R.log ruler.new))) }
-    ensures held { OnOk result (is_leaf (sight_at (bare tree.old.tree) frame.now.child).label.kind ≡ true → IsSome (answer_to (block_query false [] frame.now.inline) (kept_at tree.new.tree frame.now.child))) }
+    ensures asked { OnOk result
+        (IsLeafAsked (bare tree.old.tree) frame.now
+        (state tree.old tally.old passes.old (R.log ruler.old))
+        (state tree.new tally.new passes.new (R.log ruler.new))) }
+    ensures stopped { OnErr result
+        (IsLeafStopped (bare tree.old.tree) frame.now
+        (state tree.old tally.old passes.old (R.log ruler.old))
+        (state tree.new tally.new passes.new (R.log ruler.new))) }
+    ensures held { OnOk result
+        (is_leaf (sight_at (bare tree.old.tree) frame.now.child).label.kind ≡ true →
+        IsSome
+        (answer_to (block_query false [] frame.now.inline)
+        (kept_at tree.new.tree frame.now.child))) }
 {
     if !is_leaf(&node_at(tree, frame.child).kind) {
         return Ok(());
@@ -89,10 +101,20 @@ pub(crate) fn ask_leaves<R: Ruler, L: Ledger>(
     requires readable { AreReadable (bare tree.old.tree) }
     requires frames { AreLeafFrames (bare tree.old.tree) id frames.now }
     ensures right { IsRight tree.new.tree }
-    ensures walked { OnOk result ((q : Query) (s : State) → UsesLeaves (bare tree.old.tree) id q frames.now → bare_in s ≡ bare tree.old.tree → Walked id q s (state tree.old tally.old passes.old (R.log ruler.old)) → Walked id q s (state tree.new tally.new passes.new (R.log ruler.new))) }
-    ensures stopped { OnErr result ((q : Query) (s : State) → UsesLeaves (bare tree.old.tree) id q frames.now → bare_in s ≡ bare tree.old.tree → Walked id q s (state tree.old tally.old passes.old (R.log ruler.old)) → Stopped id q s (state tree.new tally.new passes.new (R.log ruler.new))) }
+    ensures walked { OnOk result
+        ((q : Query) (s : State) → UsesLeaves (bare tree.old.tree) id q frames.now →
+        bare_in s ≡ bare tree.old.tree →
+        Walked id q s (state tree.old tally.old passes.old (R.log ruler.old)) →
+        Walked id q s (state tree.new tally.new passes.new (R.log ruler.new))) }
+    ensures stopped { OnErr result
+        ((q : Query) (s : State) → UsesLeaves (bare tree.old.tree) id q frames.now →
+        bare_in s ≡ bare tree.old.tree →
+        Walked id q s (state tree.old tally.old passes.old (R.log ruler.old)) →
+        Stopped id q s (state tree.new tally.new passes.new (R.log ruler.new))) }
     ensures own { OnOk result (kept_at tree.new.tree id ≡ kept_at tree.old.tree id) }
-    ensures held { OnOk result (HoldLeaves (bare tree.old.tree) (length frames.now) frames.now (state tree.new tally.new passes.new (R.log ruler.new))) }
+    ensures held { OnOk result
+        (HoldLeaves (bare tree.old.tree) (length frames.now) frames.now
+        (state tree.new tally.new passes.new (R.log ruler.new))) }
 {
     root(tree);
     stands(tree);

@@ -80,7 +80,8 @@ fn outer_sum(line: &[Sitting]) -> Wide
 /// What a line leaves of the main size beside its children and the gaps between them.
 fn line_rest(flex: &Container, line: &[Sitting]) -> Wide
     requires { length line.now ≤ 65536 }
-    ensures value { result ≡ line_rest flex.now (length line.now) (sum_of (map outer_main line.now)) }
+    ensures value { result ≡
+        line_rest flex.now (length line.now) (sum_of (map outer_main line.now)) }
     ensures range { IsLineRest result }
 {
     flex.main.wide() - gaps(flex.gap, line.len()) - outer_sum(line)
@@ -158,7 +159,8 @@ fn parts_of(alloc: Global, rows: &[Share]) -> Result<Vec<Lu>, NoMemory>
 /// What the margins of the children of a line, two for each, take of what it leaves: the `auto` ones share it in equal parts
 /// (CSS Flexbox 1, 9.5, step 12).
 fn taken_of(alloc: Global, rest: Wide, line: &[Sitting]) -> Result<Vec<Lu>, NoMemory>
-    ensures value { IfOk result (λ taken. taken.items ≡ line_margins rest (joined (map autos_of line.now))) }
+    ensures value { IfOk result
+        (λ taken. taken.items ≡ line_margins rest (joined (map autos_of line.now))) }
     ensures count { IfOk result (λ taken. length taken.items ≡ 2 * length line.now) }
 {
     let mut rows = shares_of(alloc, line)?;
@@ -203,7 +205,12 @@ fn seat_along(
     requires free { IsFree free }
     requires few { length line.now ≤ 65536 }
     requires count { length taken.now ≡ 2 * length line.now }
-    ensures { IfOk result (λ all. all ≡ seats ++ seats_along flex.now (record { at = at; size = size }) (moved_by_rest flex.now.along free (length line.now)) 0 (pos 0) taken.now line.now) }
+    ensures { IfOk result
+        (λ all. all ≡
+        seats ++
+        seats_along flex.now (record { at = at; size = size })
+        (moved_by_rest flex.now.along free (length line.now)) 0 (pos 0) taken.now
+        line.now) }
 {
     let mut place = Wide::of(0);
     for (k, child) in line.iter().enumerate() {
@@ -229,7 +236,8 @@ pub fn seat_line(
 ) -> Result<Sequence<Seat>, NoMemory>
     requires line { IsReach at }
     requires few { length line.now ≤ 65536 }
-    ensures { IfOk result (λ all. all ≡ seats ++ line_seats flex.now (record { at = at; size = size }) line.now) }
+    ensures { IfOk result
+        (λ all. all ≡ seats ++ line_seats flex.now (record { at = at; size = size }) line.now) }
 {
     let rest = line_rest(flex, line);
     let taken = taken_of(alloc, rest, line)?;

@@ -109,7 +109,9 @@ fn ordered_frames(
     requires lines { length sizes.now ≤ 65536 }
     requires same { length sizes.now ≡ length ranges.now }
     requires ranges { AreRanges (length children.now) ranges.now }
-    ensures { IfOk result (λ frames. frames ≡ map frame_of_seat (ordered_seats (all_seats flex.now sizes.now ranges.now children.now))) }
+    ensures { IfOk result
+        (λ frames. frames ≡
+        map frame_of_seat (ordered_seats (all_seats flex.now sizes.now ranges.now children.now))) }
 {
     let mut seats = all_seats(alloc, flex, sizes, ranges, children)?.into_vec();
     sort(&mut seats)?;
@@ -132,7 +134,12 @@ pub fn flex_frames(
     requires lines { length sizes.now ≤ 65536 }
     requires same { length sizes.now ≡ length ranges.now }
     requires ranges { AreRanges (length children.now) ranges.now }
-    ensures { (column : Bool) (x : Label) (main cross : ℤ) (child : ℕ → NodeId) (all : List rules.Sitting) → flex.now ≡ container_by column x main cross → children.now ≡ map (sitting_of column cross x child) all → AreGiven column all → IfOk result (λ frames. frames ≡ flex_ordered child (flex_numbered column x main cross sizes.now ranges.now all)) }
+    ensures { (column : Bool) (x : Label) (main cross : ℤ) (child : ℕ → NodeId)
+        (all : List rules.Sitting) → flex.now ≡ container_by column x main cross →
+        children.now ≡ map (sitting_of column cross x child) all → AreGiven column all →
+        IfOk result
+        (λ frames. frames ≡
+        flex_ordered child (flex_numbered column x main cross sizes.now ranges.now all)) }
 {
     ordered_frames(alloc, flex, sizes, ranges, children)
 }

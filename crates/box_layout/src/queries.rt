@@ -47,12 +47,23 @@ pub(crate) fn kept_frames<'a>(
 ) -> Option<&'a SharedFrames>
     requires live { IsLive (bare tree.now.tree) id }
     requires right { IsRight tree.now.tree }
-    ensures kept { MatchOption result (answer_to (frames_asked reps.now inline.now block.now) (kept_at tree.now.tree id) ≡ None) (λ frames. answer_to (frames_asked reps.now inline.now block.now) (kept_at tree.now.tree id) ≡ Some (answer.Frames frames.now)) }
-    ensures value { IfSome result (λ frames. child_frames (map frame_of frames.now) ≡ answer_of (sight_at (bare tree.now.tree) id) (frames_asked reps.now inline.now block.now)) }
-    ensures children { IfSome result (λ frames. map (λ (f : NodeFrame). f.child) frames.now ≡ children_at (bare tree.now.tree) id) }
-    ensures absent { IfNone result (IsAbsent (frames_asked reps.now inline.now block.now) (kept_at tree.now.tree id)) }
-    ensures start { (s : State) → s.arena ≡ tree.now → WalkedBelow id (frames_asked reps.now inline.now block.now) 0 s s }
-    ensures found { (s : State) → s.arena ≡ tree.now → Walked id (frames_asked reps.now inline.now block.now) s s }
+    ensures kept { MatchOption result
+        (answer_to (frames_asked reps.now inline.now block.now) (kept_at tree.now.tree id) ≡ None)
+        (λ frames. answer_to (frames_asked reps.now inline.now block.now) (kept_at tree.now.tree id)
+        ≡ Some (answer.Frames frames.now)) }
+    ensures value { IfSome result
+        (λ frames. child_frames (map frame_of frames.now) ≡
+        answer_of (sight_at (bare tree.now.tree) id)
+        (frames_asked reps.now inline.now block.now)) }
+    ensures children { IfSome result
+        (λ frames. map (λ (f : NodeFrame). f.child) frames.now ≡
+        children_at (bare tree.now.tree) id) }
+    ensures absent { IfNone result
+        (IsAbsent (frames_asked reps.now inline.now block.now) (kept_at tree.now.tree id)) }
+    ensures start { (s : State) → s.arena ≡ tree.now →
+        WalkedBelow id (frames_asked reps.now inline.now block.now) 0 s s }
+    ensures found { (s : State) → s.arena ≡ tree.now →
+        Walked id (frames_asked reps.now inline.now block.now) s s }
 {
     match find_by(tree, id, Ask::Frames, reps, inline, block) {
         Some(Answer::Frames(frames)) => Some(frames),

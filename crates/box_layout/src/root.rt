@@ -57,7 +57,8 @@ pub fn root_width(style: &Style, width: Lu, content: (Lu, Lu)) -> Lu
 /// borders and paddings.
 pub fn root_height(style: &Style, height: Lu, content: Lu) -> Lu
     requires { IsGridStyle (grid_of style.now) }
-    ensures value { result ≡ root_height height (root_by style.now (pos 0, pos 0) content) (with_block content) }
+    ensures value { result ≡
+        root_height height (root_by style.now (pos 0, pos 0) content) (with_block content) }
     ensures least { inner (grid_of style.now).rows ≤ℤ result }
 {
     let bounds = bounds_of::<1>(style, Some(height));

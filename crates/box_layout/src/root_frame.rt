@@ -63,7 +63,8 @@ fn root_placed(
     requires live { IsLive (bare tree.now.tree) id }
     requires readable { AreReadable (bare tree.now.tree) }
     ensures child { result.child ≡ id }
-    ensures value { frame_of result ≡ root_frame_by viewport (sight_at (bare tree.now.tree) id).label across inline content }
+    ensures value { frame_of result ≡
+        root_frame_by viewport (sight_at (bare tree.now.tree) id).label across inline content }
     ensures some { IsGivenFor true false 0 result.block }
     ensures x { IsWithin (2 ^ 36) result.rect.x }
     ensures y { IsWithin (2 ^ 36) result.rect.y }
@@ -96,15 +97,41 @@ pub(crate) fn root_frame<R: Ruler, L: Ledger>(
     requires right { IsRight tree.old.tree }
     requires readable { AreReadable (bare tree.old.tree) }
     ensures child { IfOk result (λ frame. frame.child ≡ id) }
-    ensures value { IfOk result (λ frame. frame_of frame ≡ (root_framed width height (root_of (sight_at (bare tree.old.tree) id).label (sight_at (bare tree.old.tree) id).below)).frame) }
-    ensures fits { is_container (sight_at (bare tree.old.tree) id).label.kind ≡ true → IfOk result (λ frame. Fits (sight_at (bare tree.old.tree) id) (frames_asked [] frame.inline frame.block)) }
-    ensures near { (level : ℕ) → 1 ≤ level → IfOk result (λ frame. IsNearAt level (pos 0) (pos 0) (frame_of frame)) }
+    ensures value { IfOk result
+        (λ frame. frame_of frame ≡
+        (root_framed width height (root_of (sight_at (bare tree.old.tree) id).label (sight_at (bare tree.old.tree) id).below)).frame) }
+    ensures fits { is_container (sight_at (bare tree.old.tree) id).label.kind ≡ true →
+        IfOk result
+        (λ frame. Fits (sight_at (bare tree.old.tree) id)
+        (frames_asked [] frame.inline frame.block)) }
+    ensures near { (level : ℕ) → 1 ≤ level →
+        IfOk result (λ frame. IsNearAt level (pos 0) (pos 0) (frame_of frame)) }
     ensures right { IsRight tree.new.tree }
     ensures bare { bare tree.new.tree ≡ bare tree.old.tree }
-    ensures laid { OnOk result (Walk (IsAsked (bare tree.old.tree) width height) 0 [] (state tree.old tally.old passes.old (R.log ruler.old)) (state tree.new tally.new passes.new (R.log ruler.new))) }
-    ensures cut { OnErr result (IsCutShort (bare tree.old.tree) width height (state tree.old tally.old passes.old (R.log ruler.old)) (state tree.new tally.new passes.new (R.log ruler.new))) }
-    ensures frames { OnOk result ((m : NodeId) (p : Query) → p.ask ≡ ask.Frames → answer_to p (kept_at tree.old.tree m) ≡ None → answer_to p (kept_at tree.new.tree m) ≡ None) }
-    ensures quiet { IsSome (answer_to (inline_query false []) (kept_at tree.old.tree id)) → IsSome (answer_to (block_query false [] (root_inline (root_of (sight_at (bare tree.old.tree) id).label (sight_at (bare tree.old.tree) id).below) (root_width width (root_of (sight_at (bare tree.old.tree) id).label (sight_at (bare tree.old.tree) id).below)))) (kept_at tree.old.tree id)) → state tree.new tally.new passes.new (R.log ruler.new) ≡ state tree.old tally.old passes.old (R.log ruler.old) }
+    ensures laid { OnOk result
+        (Walk (IsAsked (bare tree.old.tree) width height) 0 []
+        (state tree.old tally.old passes.old (R.log ruler.old))
+        (state tree.new tally.new passes.new (R.log ruler.new))) }
+    ensures cut { OnErr result
+        (IsCutShort (bare tree.old.tree) width height
+        (state tree.old tally.old passes.old (R.log ruler.old))
+        (state tree.new tally.new passes.new (R.log ruler.new))) }
+    ensures frames { OnOk result
+        ((m : NodeId) (p : Query) → p.ask ≡ ask.Frames →
+        answer_to p (kept_at tree.old.tree m) ≡ None →
+        answer_to p (kept_at tree.new.tree m) ≡ None) }
+    ensures quiet { IsSome (answer_to (inline_query false []) (kept_at tree.old.tree id)) →
+        IsSome
+        (answer_to
+        (block_query false []
+        (root_inline
+        (root_of (sight_at (bare tree.old.tree) id).label
+        (sight_at (bare tree.old.tree) id).below)
+        (root_width width
+        (root_of (sight_at (bare tree.old.tree) id).label
+        (sight_at (bare tree.old.tree) id).below)))) (kept_at tree.old.tree id)) →
+        state tree.new tally.new passes.new (R.log ruler.new) ≡
+        state tree.old tally.old passes.old (R.log ruler.old) }
 {
     let sizes = inline_of(alloc, tree, id, &[], ruler, tally, passes)?;
     let across = root_box(tree, id, width, sizes);

@@ -44,8 +44,12 @@ fn row_spans(alloc: Global, areas: &[(NodeId, Area)]) -> Result<Vec<Span>, NoMem
 /// next to nothing: the law is its contract.
 fn rows_reach(tree: &Arena<Node>, id: NodeId)
     requires { AreReadable (bare tree.now.tree) }
-    ensures shared { (outer : List Pair) (width : Given) → sees_rows (sight_at (bare tree.now.tree) id) ≡ true → (grid_seen (bare tree.now.tree) id outer width).placed.rows ≡ tracks_to (outer_context (sight_at (bare tree.now.tree) id) outer).rows.table.tracks }
-    ensures zero { (outer : List Pair) (width : Given) → HasZero (grid_seen (bare tree.now.tree) id outer width).placed.rows }
+    ensures shared { (outer : List Pair) (width : Given) →
+        sees_rows (sight_at (bare tree.now.tree) id) ≡ true →
+        (grid_seen (bare tree.now.tree) id outer width).placed.rows ≡
+        tracks_to (outer_context (sight_at (bare tree.now.tree) id) outer).rows.table.tracks }
+    ensures zero { (outer : List Pair) (width : Given) →
+        HasZero (grid_seen (bare tree.now.tree) id outer width).placed.rows }
 {
     tree.root();
 }
@@ -94,9 +98,12 @@ pub(crate) fn rows_of<L: Ledger>(
     requires readable { AreReadable (bare tree.now.tree) }
     requires kind { (sight_at (bare tree.now.tree) id).label.kind ≡ kind.Grid }
     requires wide { IsWide (bare tree.now.tree) id reps.now width.now wide.now }
-    requires block { IsGivenFor true (sees_rows (sight_at (bare tree.now.tree) id)) (outer_context (sight_at (bare tree.now.tree) id) reps.now).rows.table.tracks height.now }
+    requires block { IsGivenFor true (sees_rows (sight_at (bare tree.now.tree) id))
+        (outer_context (sight_at (bare tree.now.tree) id) reps.now).rows.table.tracks height.now }
     requires spread { IsSpread (farthest (level_at (bare tree.now.tree) id)) height.now }
-    ensures value { IfOk result (λ view. view ≡ view_by {axis = 1} (rows_seen (bare tree.now.tree) id reps.now width.now) height.now) }
+    ensures value { IfOk result
+        (λ view. view ≡
+        view_by {axis = 1} (rows_seen (bare tree.now.tree) id reps.now width.now) height.now) }
     ensures tracks { IfOk result (λ view. AreTracks wide.now.parts.base.placed.rows view.edges) }
     ensures gap { IfOk result (λ view. pos 0 ≤ℤ view.gap) }
     ensures ticks { passes.new ≤ passes.old + 1 }
@@ -125,9 +132,12 @@ fn rows_anew<L: Ledger>(
     requires readable { AreReadable (bare tree.now.tree) }
     requires kind { (sight_at (bare tree.now.tree) id).label.kind ≡ kind.Grid }
     requires wide { IsWide (bare tree.now.tree) id reps.now width.now wide.now }
-    requires block { IsGivenFor true (sees_rows (sight_at (bare tree.now.tree) id)) (outer_context (sight_at (bare tree.now.tree) id) reps.now).rows.table.tracks height.now }
+    requires block { IsGivenFor true (sees_rows (sight_at (bare tree.now.tree) id))
+        (outer_context (sight_at (bare tree.now.tree) id) reps.now).rows.table.tracks height.now }
     requires spread { IsSpread (farthest (level_at (bare tree.now.tree) id)) height.now }
-    ensures value { IfOk result (λ view. view ≡ view_by {axis = 1} (rows_seen (bare tree.now.tree) id reps.now width.now) height.now) }
+    ensures value { IfOk result
+        (λ view. view ≡
+        view_by {axis = 1} (rows_seen (bare tree.now.tree) id reps.now width.now) height.now) }
     ensures tracks { IfOk result (λ view. AreTracks wide.now.parts.base.placed.rows view.edges) }
     ensures gap { IfOk result (λ view. pos 0 ≤ℤ view.gap) }
     ensures ticks { passes.new ≤ passes.old + 1 }

@@ -60,7 +60,10 @@ fn is_below_zero(number: Wide) -> bool
 /// and a size beyond the line it is placed as start (CSS Flexbox 1, 9.6).
 fn moved_by_self(child: &Sitting, room: Wide, rest: Wide) -> Wide
     requires { IsRest rest }
-    ensures value { result ≡ (if int_lt room (pos 0) && has_auto child.now.across then pos 0 else self_moved (mode_of child.now.align.mode) (is_safe child.now.align) rest) }
+    ensures value { result ≡
+        (if int_lt room (pos 0) &&
+        has_auto child.now.across then pos 0 else self_moved (mode_of child.now.align.mode)
+        (is_safe child.now.align) rest) }
     ensures range { IsRest result }
 {
     if is_below_zero(room) && has_auto(&child.across) {

@@ -131,7 +131,10 @@ fn most_of(bounds: &Bounds) -> Lu
 /// stretched, of which percentages are of the container's size there.
 fn limits<const AXIS: u8>(stretched: bool, style: &Style, container: Lu, own: Lu) -> (Lu, Lu)
     requires { IsGridAxis (grid_at AXIS style.now) }
-    ensures { result ≡ limits_across stretched (bounds_of (Some container) (content_of style.now).border_box (grid_at AXIS style.now) (content_at AXIS style.now)) own }
+    ensures { result ≡
+        limits_across stretched
+        (bounds_of (Some container) (content_of style.now).border_box (grid_at AXIS style.now)
+        (content_at AXIS style.now)) own }
 {
     if stretched {
         let bounds = bounds_of::<AXIS>(style, Some(container));
@@ -144,7 +147,11 @@ fn limits<const AXIS: u8>(stretched: bool, style: &Style, container: Lu, own: Lu
 /// The least and the greatest size of a child across its line.
 fn limits_across(flex: &Container, stretched: bool, style: &Style, own: Lu) -> (Lu, Lu)
     requires { IsGridStyle (grid_of style.now) }
-    ensures { result ≡ limits_across stretched (bounds_of (Some flex.now.cross) (content_of style.now).border_box (cross_grid flex.now.column (styled style.now)) (cross_content flex.now.column (styled style.now))) own }
+    ensures { result ≡
+        limits_across stretched
+        (bounds_of (Some flex.now.cross) (content_of style.now).border_box
+        (cross_grid flex.now.column (styled style.now))
+        (cross_content flex.now.column (styled style.now))) own }
 {
     if flex.column {
         limits::<0>(stretched, style, flex.cross, own)
@@ -155,7 +162,9 @@ fn limits_across(flex: &Container, stretched: bool, style: &Style, own: Lu) -> (
 
 /// The margins of a style in the block axis, or in the inline axis.
 fn margins_by(block: bool, style: &Style) -> Margins
-    ensures { result ≡ (if block then margins_in (grid_of style.now).rows else margins_in (grid_of style.now).columns) }
+    ensures { result ≡
+        (if block then margins_in (grid_of style.now).rows else margins_in
+        (grid_of style.now).columns) }
 {
     if block {
         margins_of::<1>(style)
@@ -177,7 +186,9 @@ pub fn sitting_of(
 ) -> Sitting
     requires number { number < 2 ^ 32 }
     requires style { IsGridStyle (grid_of style.now) }
-    ensures { result ≡ sitting_by flex.now.column flex.now.cross (styled container.now) number child (styled style.now) main cross }
+    ensures { result ≡
+        sitting_by flex.now.column flex.now.cross (styled container.now) number child
+        (styled style.now) main cross }
 {
     let stretched = is_stretched_across(flex.column, container, style);
     let (least, most) = limits_across(flex, stretched, style, cross);

@@ -50,7 +50,8 @@ fn is_container(kind: &NodeKind) -> bool
 /// The child of a node that the frame of an index among its children's frames is of.
 fn child_of_frame(tree: &Arena<Node>, id: NodeId, frames: &[Frame], index: usize) -> NodeId
     requires tree { IsTree (bare tree.now.tree) }
-    requires children { map (λ (f : NodeFrame). f.child) frames.now ≡ children_at (bare tree.now.tree) id }
+    requires children { map (λ (f : NodeFrame). f.child) frames.now ≡
+        children_at (bare tree.now.tree) id }
     requires index { index < length frames.now }
     ensures { IsNext (bare tree.now.tree) id index result }
 {
@@ -74,7 +75,14 @@ fn found_boxes<'a>(
     frame: &Frame,
     rect: &Rect,
 ) -> Option<&'a [(Name, Rect)]>
-    ensures found { IfSome result (λ boxes. Contains last.now (record { id = id; query = frames_asked reps.now frame.now.inline frame.now.block; boxes = boxes.now })) }
+    ensures found { IfSome result
+        (λ boxes. Contains last.now
+        (record {
+          id = id;
+          query = frames_asked reps.now frame.now.inline frame.now.block;
+          boxes =
+              boxes.now;
+        })) }
     ensures close { IfSome result (λ boxes. AreClose boxes.now) }
     ensures own { OnSome result (IsClose rect.now) }
     ensures lasts { OnSome result (tally.now.lost ≡ false) }
@@ -110,23 +118,59 @@ fn child_boxes<T: BoxSink, R: Ruler, L: Ledger>(
     requires live { IsLive (bare tree.old.tree) id }
     requires right { IsRight tree.old.tree }
     requires readable { AreReadable (bare tree.old.tree) }
-    requires reps { length (pairs_to seats.now (frame_of frame.now)) ≡ length (sight_at (bare tree.old.tree) id).chain }
+    requires reps { length (pairs_to seats.now (frame_of frame.now)) ≡
+        length (sight_at (bare tree.old.tree) id).chain }
     requires seat { IsSeatTo (bare tree.old.tree) id seats.now index (frame_of frame.now) }
     requires nothing { nothing.now ≡ seen.Nothing }
-    requires fits { is_container (sight_at (bare tree.old.tree) id).label.kind ≡ true → Fits (sight_at (bare tree.old.tree) id) (frames_asked (pairs_to seats.now (frame_of frame.now)) frame.now.inline frame.now.block) }
+    requires fits { is_container (sight_at (bare tree.old.tree) id).label.kind ≡ true →
+        Fits (sight_at (bare tree.old.tree) id)
+        (frames_asked (pairs_to seats.now (frame_of frame.now)) frame.now.inline frame.now.block) }
     requires level { 1 ≤ level_at (bare tree.old.tree) id }
     requires near { IsNearAt (level_at (bare tree.old.tree) id) x y (frame_of frame.now) }
-    requires last { tally.old.lost ≡ false → AreFound (bare tree.old.tree) (kept_at tree.old.tree) last.old }
-    ensures value { OnOk result (T.adds told.old told.new (boxes_with (bare tree.old.tree) id (pairs_to seats.now (frame_of frame.now)) (frame_of frame.now) (x, y))) }
-    ensures near { OnOk result (AreNear (boxes_with (bare tree.old.tree) id (pairs_to seats.now (frame_of frame.now)) (frame_of frame.now) (x, y))) }
-    ensures few { OnOk result (AddsFew (boxes_with (bare tree.old.tree) id (pairs_to seats.now (frame_of frame.now)) (frame_of frame.now) (x, y)) few.old few.new) }
-    ensures last { tally.new.lost ≡ false → AreFound (bare tree.old.tree) (kept_at tree.new.tree) last.new }
+    requires last { tally.old.lost ≡ false →
+        AreFound (bare tree.old.tree) (kept_at tree.old.tree) last.old }
+    ensures value { OnOk result
+        (T.adds told.old told.new
+        (boxes_with (bare tree.old.tree) id (pairs_to seats.now (frame_of frame.now))
+        (frame_of frame.now) (x, y))) }
+    ensures near { OnOk result
+        (AreNear
+        (boxes_with (bare tree.old.tree) id (pairs_to seats.now (frame_of frame.now))
+        (frame_of frame.now) (x, y))) }
+    ensures few { OnOk result
+        (AddsFew
+        (boxes_with (bare tree.old.tree) id (pairs_to seats.now (frame_of frame.now))
+        (frame_of frame.now) (x, y)) few.old few.new) }
+    ensures last { tally.new.lost ≡ false →
+        AreFound (bare tree.old.tree) (kept_at tree.new.tree) last.new }
     ensures right { IsRight tree.new.tree }
-    ensures laid { OnOk result (IsChildLaid (bare tree.old.tree) id (frames_asked (pairs_to seats.now (frame_of frame.now)) frame.now.inline frame.now.block) (state tree.old tally.old passes.old (R.log ruler.old)) (state tree.new tally.new passes.new (R.log ruler.new))) }
-    ensures part { OnErr result (IsChildPart (bare tree.old.tree) id (frames_asked (pairs_to seats.now (frame_of frame.now)) frame.now.inline frame.now.block) (state tree.old tally.old passes.old (R.log ruler.old)) (state tree.new tally.new passes.new (R.log ruler.new))) }
-    ensures leaves { OnOk result (is_container (sight_at (bare tree.old.tree) id).label.kind ≡ true → MeasuresBelow (bare tree.old.tree) id (frames_asked (pairs_to seats.now (frame_of frame.now)) frame.now.inline frame.now.block) (state tree.old tally.old passes.old (R.log ruler.old)) (state tree.new tally.new passes.new (R.log ruler.new))) }
-    ensures paths { OnOk result (is_container (sight_at (bare tree.old.tree) id).label.kind ≡ true → AreKeptBelow (bare tree.old.tree) id (frames_asked (pairs_to seats.now (frame_of frame.now)) frame.now.inline frame.now.block) (state tree.new tally.new passes.new (R.log ruler.new))) }
-    ensures quiet { (is_container (sight_at (bare tree.old.tree) id).label.kind ≡ true → AreKeptBelow (bare tree.old.tree) id (frames_asked (pairs_to seats.now (frame_of frame.now)) frame.now.inline frame.now.block) (state tree.old tally.old passes.old (R.log ruler.old))) → state tree.new tally.new passes.new (R.log ruler.new) ≡ state tree.old tally.old passes.old (R.log ruler.old) }
+    ensures laid { OnOk result
+        (IsChildLaid (bare tree.old.tree) id
+        (frames_asked (pairs_to seats.now (frame_of frame.now)) frame.now.inline frame.now.block)
+        (state tree.old tally.old passes.old (R.log ruler.old))
+        (state tree.new tally.new passes.new (R.log ruler.new))) }
+    ensures part { OnErr result
+        (IsChildPart (bare tree.old.tree) id
+        (frames_asked (pairs_to seats.now (frame_of frame.now)) frame.now.inline frame.now.block)
+        (state tree.old tally.old passes.old (R.log ruler.old))
+        (state tree.new tally.new passes.new (R.log ruler.new))) }
+    ensures leaves { OnOk result
+        (is_container (sight_at (bare tree.old.tree) id).label.kind ≡ true →
+        MeasuresBelow (bare tree.old.tree) id
+        (frames_asked (pairs_to seats.now (frame_of frame.now)) frame.now.inline
+        frame.now.block) (state tree.old tally.old passes.old (R.log ruler.old))
+        (state tree.new tally.new passes.new (R.log ruler.new))) }
+    ensures paths { OnOk result
+        (is_container (sight_at (bare tree.old.tree) id).label.kind ≡ true →
+        AreKeptBelow (bare tree.old.tree) id
+        (frames_asked (pairs_to seats.now (frame_of frame.now)) frame.now.inline
+        frame.now.block) (state tree.new tally.new passes.new (R.log ruler.new))) }
+    ensures quiet { (is_container (sight_at (bare tree.old.tree) id).label.kind ≡ true →
+        AreKeptBelow (bare tree.old.tree) id
+        (frames_asked (pairs_to seats.now (frame_of frame.now)) frame.now.inline
+        frame.now.block) (state tree.old tally.old passes.old (R.log ruler.old))) →
+        state tree.new tally.new passes.new (R.log ruler.new) ≡
+        state tree.old tally.old passes.old (R.log ruler.old) }
 {
     boxes_move_along();
     let rect = moved_by(x, y, &frame.rect);
@@ -193,7 +237,8 @@ fn boxes_below<T: BoxSink, R: Ruler, L: Ledger>(
     requires live { IsLive (bare tree.old.tree) id }
     requires right { IsRight tree.old.tree }
     requires readable { AreReadable (bare tree.old.tree) }
-    requires fits { Fits (sight_at (bare tree.old.tree) id) (frames_asked reps.now inline.now block.now) }
+    requires fits { Fits (sight_at (bare tree.old.tree) id)
+        (frames_asked reps.now inline.now block.now) }
     requires seat { IsSeat (sight_at (bare tree.old.tree) id) reps.now above.now area }
     requires nothing { nothing.now ≡ seen.Nothing }
     requires level { 1 ≤ level_at (bare tree.old.tree) id }
@@ -201,17 +246,41 @@ fn boxes_below<T: BoxSink, R: Ruler, L: Ledger>(
     requires rows { IsGivenNear (level_at (bare tree.old.tree) id) block.now }
     requires x { IsWithin (reach (level_at (bare tree.old.tree) id)) x }
     requires y { IsWithin (reach (level_at (bare tree.old.tree) id)) y }
-    requires last { tally.old.lost ≡ false → AreFound (bare tree.old.tree) (kept_at tree.old.tree) last.old }
-    ensures value { OnOk result (T.adds told.old told.new (boxes_seen (bare tree.old.tree) id (frames_asked reps.now inline.now block.now) (x, y))) }
-    ensures near { OnOk result (AreNear (boxes_seen (bare tree.old.tree) id (frames_asked reps.now inline.now block.now) (x, y))) }
-    ensures few { OnOk result (AddsFew (boxes_seen (bare tree.old.tree) id (frames_asked reps.now inline.now block.now) (x, y)) few.old few.new) }
-    ensures last { tally.new.lost ≡ false → AreFound (bare tree.old.tree) (kept_at tree.new.tree) last.new }
+    requires last { tally.old.lost ≡ false →
+        AreFound (bare tree.old.tree) (kept_at tree.old.tree) last.old }
+    ensures value { OnOk result
+        (T.adds told.old told.new
+        (boxes_seen (bare tree.old.tree) id (frames_asked reps.now inline.now block.now) (x, y))) }
+    ensures near { OnOk result
+        (AreNear
+        (boxes_seen (bare tree.old.tree) id (frames_asked reps.now inline.now block.now) (x, y))) }
+    ensures few { OnOk result
+        (AddsFew
+        (boxes_seen (bare tree.old.tree) id (frames_asked reps.now inline.now block.now) (x, y))
+        few.old few.new) }
+    ensures last { tally.new.lost ≡ false →
+        AreFound (bare tree.old.tree) (kept_at tree.new.tree) last.new }
     ensures right { IsRight tree.new.tree }
-    ensures laid { OnOk result (IsLaidOut id (frames_asked reps.now inline.now block.now) (state tree.old tally.old passes.old (R.log ruler.old)) (state tree.new tally.new passes.new (R.log ruler.new))) }
-    ensures part { OnErr result (IsLaidPart id (frames_asked reps.now inline.now block.now) (state tree.old tally.old passes.old (R.log ruler.old)) (state tree.new tally.new passes.new (R.log ruler.new))) }
-    ensures leaves { OnOk result (MeasuresBelow (bare tree.old.tree) id (frames_asked reps.now inline.now block.now) (state tree.old tally.old passes.old (R.log ruler.old)) (state tree.new tally.new passes.new (R.log ruler.new))) }
-    ensures paths { OnOk result (AreKeptBelow (bare tree.old.tree) id (frames_asked reps.now inline.now block.now) (state tree.new tally.new passes.new (R.log ruler.new))) }
-    ensures quiet { AreKeptBelow (bare tree.old.tree) id (frames_asked reps.now inline.now block.now) (state tree.old tally.old passes.old (R.log ruler.old)) → state tree.new tally.new passes.new (R.log ruler.new) ≡ state tree.old tally.old passes.old (R.log ruler.old) }
+    ensures laid { OnOk result
+        (IsLaidOut id (frames_asked reps.now inline.now block.now)
+        (state tree.old tally.old passes.old (R.log ruler.old))
+        (state tree.new tally.new passes.new (R.log ruler.new))) }
+    ensures part { OnErr result
+        (IsLaidPart id (frames_asked reps.now inline.now block.now)
+        (state tree.old tally.old passes.old (R.log ruler.old))
+        (state tree.new tally.new passes.new (R.log ruler.new))) }
+    ensures leaves { OnOk result
+        (MeasuresBelow (bare tree.old.tree) id (frames_asked reps.now inline.now block.now)
+        (state tree.old tally.old passes.old (R.log ruler.old))
+        (state tree.new tally.new passes.new (R.log ruler.new))) }
+    ensures paths { OnOk result
+        (AreKeptBelow (bare tree.old.tree) id (frames_asked reps.now inline.now block.now)
+        (state tree.new tally.new passes.new (R.log ruler.new))) }
+    ensures quiet { AreKeptBelow (bare tree.old.tree) id
+        (frames_asked reps.now inline.now block.now)
+        (state tree.old tally.old passes.old (R.log ruler.old)) →
+        state tree.new tally.new passes.new (R.log ruler.new) ≡
+        state tree.old tally.old passes.old (R.log ruler.old) }
 {
     root(tree);
     differ(tree);
@@ -259,19 +328,48 @@ pub(crate) fn boxes_of<T: BoxSink, R: Ruler, L: Ledger>(
     requires reps { length reps.now ≡ length (sight_at (bare tree.old.tree) id).chain }
     requires seat { IsSeat (sight_at (bare tree.old.tree) id) reps.now above.now area }
     requires nothing { nothing.now ≡ seen.Nothing }
-    requires fits { is_container (sight_at (bare tree.old.tree) id).label.kind ≡ true → Fits (sight_at (bare tree.old.tree) id) (frames_asked reps.now frame.now.inline frame.now.block) }
+    requires fits { is_container (sight_at (bare tree.old.tree) id).label.kind ≡ true →
+        Fits (sight_at (bare tree.old.tree) id)
+        (frames_asked reps.now frame.now.inline frame.now.block) }
     requires level { 1 ≤ level_at (bare tree.old.tree) id }
     requires near { IsNearAt (level_at (bare tree.old.tree) id) x y (frame_of frame.now) }
-    requires last { tally.old.lost ≡ false → AreFound (bare tree.old.tree) (kept_at tree.old.tree) last.old }
-    ensures value { OnOk result (T.adds told.old told.new (boxes_with (bare tree.old.tree) id reps.now (frame_of frame.now) (x, y))) }
-    ensures near { OnOk result (AreNear (boxes_with (bare tree.old.tree) id reps.now (frame_of frame.now) (x, y))) }
-    ensures last { tally.new.lost ≡ false → AreFound (bare tree.old.tree) (kept_at tree.new.tree) last.new }
+    requires last { tally.old.lost ≡ false →
+        AreFound (bare tree.old.tree) (kept_at tree.old.tree) last.old }
+    ensures value { OnOk result
+        (T.adds told.old told.new
+        (boxes_with (bare tree.old.tree) id reps.now (frame_of frame.now) (x, y))) }
+    ensures near { OnOk result
+        (AreNear (boxes_with (bare tree.old.tree) id reps.now (frame_of frame.now) (x, y))) }
+    ensures last { tally.new.lost ≡ false →
+        AreFound (bare tree.old.tree) (kept_at tree.new.tree) last.new }
     ensures right { IsRight tree.new.tree }
-    ensures laid { OnOk result (IsChildLaid (bare tree.old.tree) id (frames_asked reps.now frame.now.inline frame.now.block) (state tree.old tally.old passes.old (R.log ruler.old)) (state tree.new tally.new passes.new (R.log ruler.new))) }
-    ensures part { OnErr result (IsChildPart (bare tree.old.tree) id (frames_asked reps.now frame.now.inline frame.now.block) (state tree.old tally.old passes.old (R.log ruler.old)) (state tree.new tally.new passes.new (R.log ruler.new))) }
-    ensures leaves { OnOk result (is_container (sight_at (bare tree.old.tree) id).label.kind ≡ true → MeasuresBelow (bare tree.old.tree) id (frames_asked reps.now frame.now.inline frame.now.block) (state tree.old tally.old passes.old (R.log ruler.old)) (state tree.new tally.new passes.new (R.log ruler.new))) }
-    ensures paths { OnOk result (is_container (sight_at (bare tree.old.tree) id).label.kind ≡ true → AreKeptBelow (bare tree.old.tree) id (frames_asked reps.now frame.now.inline frame.now.block) (state tree.new tally.new passes.new (R.log ruler.new))) }
-    ensures quiet { (is_container (sight_at (bare tree.old.tree) id).label.kind ≡ true → AreKeptBelow (bare tree.old.tree) id (frames_asked reps.now frame.now.inline frame.now.block) (state tree.old tally.old passes.old (R.log ruler.old))) → state tree.new tally.new passes.new (R.log ruler.new) ≡ state tree.old tally.old passes.old (R.log ruler.old) }
+    ensures laid { OnOk result
+        (IsChildLaid (bare tree.old.tree) id
+        (frames_asked reps.now frame.now.inline frame.now.block)
+        (state tree.old tally.old passes.old (R.log ruler.old))
+        (state tree.new tally.new passes.new (R.log ruler.new))) }
+    ensures part { OnErr result
+        (IsChildPart (bare tree.old.tree) id
+        (frames_asked reps.now frame.now.inline frame.now.block)
+        (state tree.old tally.old passes.old (R.log ruler.old))
+        (state tree.new tally.new passes.new (R.log ruler.new))) }
+    ensures leaves { OnOk result
+        (is_container (sight_at (bare tree.old.tree) id).label.kind ≡ true →
+        MeasuresBelow (bare tree.old.tree) id
+        (frames_asked reps.now frame.now.inline frame.now.block)
+        (state tree.old tally.old passes.old (R.log ruler.old))
+        (state tree.new tally.new passes.new (R.log ruler.new))) }
+    ensures paths { OnOk result
+        (is_container (sight_at (bare tree.old.tree) id).label.kind ≡ true →
+        AreKeptBelow (bare tree.old.tree) id
+        (frames_asked reps.now frame.now.inline frame.now.block)
+        (state tree.new tally.new passes.new (R.log ruler.new))) }
+    ensures quiet { (is_container (sight_at (bare tree.old.tree) id).label.kind ≡ true →
+        AreKeptBelow (bare tree.old.tree) id
+        (frames_asked reps.now frame.now.inline frame.now.block)
+        (state tree.old tally.old passes.old (R.log ruler.old))) →
+        state tree.new tally.new passes.new (R.log ruler.new) ≡
+        state tree.old tally.old passes.old (R.log ruler.old) }
 {
     root(tree);
     let node = node_at(tree, id);

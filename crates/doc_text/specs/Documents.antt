@@ -45,7 +45,9 @@ abbrev pub viewport_in : Text → Option (ℤ × ℤ)
 viewport_in text = if is_word (codes "viewport") text then sizes_in (after_word text) else None
 
 abbrev pub header : {A : Type 0} → (Text → Option A) → Line → Result A Fault
-header form line = elim line.fault [ Some fault ↦ Err fault | None ↦ elim (form (text_of line)) [ Some read ↦ Ok read | None ↦ Err (fault_at 3 (word_place (text_of line))) ] ]
+header form line =
+    elim line.fault
+    [ Some fault ↦ Err fault | None ↦ elim (form (text_of line)) [ Some read ↦ Ok read | None ↦ Err (fault_at 3 (word_place (text_of line))) ] ]
 
 -- ---- the lines of nodes
 

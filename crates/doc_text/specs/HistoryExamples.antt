@@ -14,7 +14,13 @@ place = record { line = 9; column = 6 }
 
 -- the document in a viewport of this width
 abbrev wide : ℕ → Doc
-wide width = record { version = 1; width = pos width; height = pos 64; root = record { name = codes "main"; kind = kind.Flex; style = map.empty; children = leafless } }
+wide width = record {
+  version = 1;
+  width = pos width;
+  height = pos 64;
+  root = record
+      { name = codes "main"; kind = kind.Flex; style = map.empty; children = leafless };
+}
 
 -- three viewports one after another, the last two of them taken back
 abbrev two_back : History

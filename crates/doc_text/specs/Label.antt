@@ -20,4 +20,7 @@ pub record Label : Type 0 where
   pub style : DeclaredMap
 
 abbrev pub coded_label : Coded Label
-coded_label = code_by (List ℕ × (Kind × DeclaredMap)) (coded× (coded_list coded_ℕ) (coded× kind.the_row.coded (map.code {R = prop_cmp} prop.the_row.coded declared_value.the_row.coded))) (λ l. (l.name, (l.kind, l.style))) (λ p. record { name = p.0; kind = p.1.0; style = p.1.1 }) (λ _. refl)
+coded_label =
+    code_by (List ℕ × (Kind × DeclaredMap))
+    (coded× (coded_list coded_ℕ) (coded× kind.the_row.coded (map.code {R = prop_cmp} prop.the_row.coded declared_value.the_row.coded)))
+    (λ l. (l.name, (l.kind, l.style))) (λ p. record { name = p.0; kind = p.1.0; style = p.1.1 }) (λ _. refl)

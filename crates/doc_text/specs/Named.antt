@@ -10,7 +10,9 @@ use Rattle.doc_text.specs.Growth.{holds, alone}
 abbrev pub IsDistinct : Trees Label → Type 0
 IsDistinct leafless = ⊤
 IsDistinct (tree x below after) =
-    (holds below x.name ≡ false) × ((holds after x.name ≡ false) × (((name : Word) → holds below name ≡ true → holds after name ≡ false) × (IsDistinct below × IsDistinct after)))
+    (holds below x.name ≡ false) ×
+    ((holds after x.name ≡ false) ×
+    (((name : Word) → holds below name ≡ true → holds after name ≡ false) × (IsDistinct below × IsDistinct after)))
 
 -- the tree of this name becomes these
 abbrev pub replaced : Word → (Label → Trees Label → Trees Label) → Trees Label → Trees Label

@@ -133,7 +133,8 @@ fn pushed(path: Sequence<Plain>, level: usize, node: Plain) -> Result<Sequence<P
     requires level { level ≤ length path }
     requires root { is_second_root level (assembled path) ≡ false }
     requires bare { node.children ≡ leafless }
-    ensures last { IfOk result (λ left. assembled left ≡ put_last level (label_of node) (assembled path)) }
+    ensures last { IfOk result
+        (λ left. assembled left ≡ put_last level (label_of node) (assembled path)) }
     ensures bare { IfOk result (λ left. EndsBare left) }
     ensures names { IfOk result (λ left. HasMore left path node.name) }
     ensures count { IfOk result (λ left. size_of (assembled left) ≡ size_of (assembled path) + 1) }
@@ -277,7 +278,9 @@ impl Growth {
     #[tactic(auto, using(crate::proofs::Opening::last_root))]
     /// The root with all below it; `None` where there is no node.
     pub(crate) fn root(self) -> Result<Option<Plain>, NoMemory>
-        ensures { IfOk result (λ root. MatchOption root (self ≡ leafless) (λ node. self ≡ tree (label_of node) node.children leafless)) }
+        ensures { IfOk result
+            (λ root. MatchOption root (self ≡ leafless)
+            (λ node. self ≡ tree (label_of node) node.children leafless)) }
     {
         let Growth {
             path,

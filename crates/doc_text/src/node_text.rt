@@ -56,7 +56,9 @@ fn brace_of(bytes: &[u8]) -> usize
 /// The width of the word at a token; fault 9 at it where it is none.
 fn width_of(text: &Text, token: Token) -> Result<Lu, ReadError>
     requires { fits text.now.bytes token ≡ true }
-    ensures { Reads result (width_at (place_after text.now.at token.start) (size_of_word (word_at text.now.bytes token))) }
+    ensures { Reads result
+        (width_at (place_after text.now.at token.start)
+        (size_of_word (word_at text.now.bytes token))) }
 {
     let bytes = text.bytes();
     size_of_word(&bytes[token.start..token.end]).ok_or(fault(

@@ -28,7 +28,8 @@ pub(crate) const NO_ROOT: u8 = 16;
 
 /// The first line that is not skipped, and the lines after it.
 fn first_counted(lines: &[Line]) -> Option<(&Line, &[Line])>
-    ensures { MatchOption result (from_counted lines.now ≡ []) (λ found. from_counted lines.now ≡ found.0.now ∷ found.1.now) }
+    ensures { MatchOption result (from_counted lines.now ≡ [])
+        (λ found. from_counted lines.now ≡ found.0.now ∷ found.1.now) }
 {
     let mut left = lines;
     while let Some((line, rest)) = left.split_first() {

@@ -53,7 +53,9 @@ without_grid = with_children (tree (label (codes "a") leaf) leafless leafless)
 removed_grid : step_for page (edit.Remove (named (codes "g")))
     ≡ record {
       forward = change.Take (codes "g");
-      back = change.Bring (codes "main") 1 (node (codes "g") kind.Grid (tree (label (codes "b") leaf) leafless (tree (label (codes "c") leaf) leafless leafless)));
+      back =
+          change.Bring (codes "main") 1
+          (node (codes "g") kind.Grid (tree (label (codes "b") leaf) leafless (tree (label (codes "c") leaf) leafless leafless)));
     }
 removed_grid = refl
 
@@ -64,11 +66,15 @@ brings_grid : turned (step_for page (edit.Remove (named (codes "g")))).back with
 brings_grid = refl
 
 -- a leaf that is moved to the front goes back to its index under the grid
-moved_leaf : step_for page (edit.Move (named (codes "c")) (named (codes "main")) 0 place) ≡ record { forward = change.Shift (codes "c") (codes "main") 0; back = change.Shift (codes "c") (codes "g") 1 }
+moved_leaf : step_for page (edit.Move (named (codes "c")) (named (codes "main")) 0 place) ≡
+    record { forward = change.Shift (codes "c") (codes "main") 0; back = change.Shift (codes "c") (codes "g") 1 }
 moved_leaf = refl
 
 shifts_leaf : turned (change.Shift (codes "c") (codes "main") 2) page
-    ≡ with_children (tree (label (codes "a") leaf) leafless (tree (label (codes "g") kind.Grid) (tree (label (codes "b") leaf) leafless leafless) (tree (label (codes "c") leaf) leafless leafless)))
+    ≡ with_children
+    (tree (label (codes "a") leaf) leafless
+    (tree (label (codes "g") kind.Grid) (tree (label (codes "b") leaf) leafless leafless)
+    (tree (label (codes "c") leaf) leafless leafless)))
 shifts_leaf = refl
 
 -- an index is counted after the node was taken out
@@ -76,7 +82,8 @@ shifts_forth : turned (change.Shift (codes "a") (codes "main") 1) page ≡ with_
 shifts_forth = refl
 
 -- a node that is inserted stands alone
-inserted_leaf : step_for without_grid (edit.Insert (named (codes "main")) 1 place (named (codes "g")) (node (codes "g") kind.Grid (tree (label (codes "z") leaf) leafless leafless)))
+inserted_leaf : step_for without_grid
+    (edit.Insert (named (codes "main")) 1 place (named (codes "g")) (node (codes "g") kind.Grid (tree (label (codes "z") leaf) leafless leafless)))
     ≡ record { forward = change.Bring (codes "main") 1 (node (codes "g") kind.Grid leafless); back = change.Take (codes "g") }
 inserted_leaf = refl
 
@@ -111,8 +118,10 @@ sets : (step_for page (edit.Set (named (codes "a")) ((prop.Order, order 2) ∷ (
 sets = refl
 
 -- a property that was not set is no longer set after it
-unsets : (step_for page (edit.Set (named (codes "a")) ((prop.Order, order 2) ∷ (prop.Order, order 3) ∷ []))).back ≡ change.Style (codes "a") ((prop.Order, None) ∷ [])
+unsets : (step_for page (edit.Set (named (codes "a")) ((prop.Order, order 2) ∷ (prop.Order, order 3) ∷ []))).back ≡
+    change.Style (codes "a") ((prop.Order, None) ∷ [])
 unsets = λ i. change.Style (codes "a") ((prop.Order, map.get-empty prop_cmp prop.Order i) ∷ [])
 
-unset_forward : (step_for page (edit.Unset (named (codes "a")) (prop.MarginTop ∷ prop.MarginLeft ∷ []))).forward ≡ change.Style (codes "a") ((prop.MarginTop, None) ∷ (prop.MarginLeft, None) ∷ [])
+unset_forward : (step_for page (edit.Unset (named (codes "a")) (prop.MarginTop ∷ prop.MarginLeft ∷ []))).forward ≡
+    change.Style (codes "a") ((prop.MarginTop, None) ∷ (prop.MarginLeft, None) ∷ [])
 unset_forward = refl

@@ -13,7 +13,9 @@ pub record Lists : Type 0 where
   pub spare : ℕ
 
 abbrev pub coded_lists : Coded Lists
-coded_lists = code_by (List Step × (List Step × ℕ)) (coded× (coded_list step.the_row.coded) (coded× (coded_list step.the_row.coded) coded_ℕ)) (λ l. (l.done, (l.undone, l.spare))) (λ p. record { done = p.0; undone = p.1.0; spare = p.1.1 }) (λ _. refl)
+coded_lists =
+    code_by (List Step × (List Step × ℕ)) (coded× (coded_list step.the_row.coded) (coded× (coded_list step.the_row.coded) coded_ℕ))
+    (λ l. (l.done, (l.undone, l.spare))) (λ p. record { done = p.0; undone = p.1.0; spare = p.1.1 }) (λ _. refl)
 
 -- the lists of steps that stand in one list with so much room: so many that were made, then those that were taken back, the last
 -- one first

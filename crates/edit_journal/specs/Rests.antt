@@ -9,7 +9,9 @@ use Rattle.edit_journal.specs.Journals.{Lists, IsTakenBack, IsMadeAgain}
 module _ (journal : MutBor Lists) {E : Type 0} (result : Result (Bor Change) E) where
   -- as it was, or this
   abbrev RestsAs : (Lists → Lists → Type 0) → Fml
-  RestsAs moves = follows_so the_row the_row journal.ghost_name none (λ _ _. ⊤) (λ after. MatchResult result (λ _. moves journal.now after) (λ _. after ≡ journal.now))
+  RestsAs moves =
+      follows_so the_row the_row journal.ghost_name none (λ _ _. ⊤)
+      (λ after. MatchResult result (λ _. moves journal.now after) (λ _. after ≡ journal.now))
 
   abbrev pub RestsTakenBack : Fml
   RestsTakenBack = RestsAs IsTakenBack

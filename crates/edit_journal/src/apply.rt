@@ -45,7 +45,8 @@ fn with_child(
     index: usize,
     child: &Plain,
 ) -> Result<Children, NoMemory>
-    ensures { IfOk result (λ children. children ≡ put_at index (tree_of_node child.now) (trees_of nodes.now)) }
+    ensures { IfOk result
+        (λ children. children ≡ put_at index (tree_of_node child.now) (trees_of nodes.now)) }
 {
     let (before, after) = nodes.split_at(index.min(nodes.len()));
     let mut children = copy_all(alloc, before)?;
@@ -56,7 +57,8 @@ fn with_child(
 
 /// What a change of a node makes of it: no node where it is taken out.
 fn becomes(alloc: Global, change: &Change, node: &Plain) -> Result<Option<Plain>, NoMemory>
-    ensures { IfOk result (λ made. trees_of_option made ≡ becomes change.now (label_of node.now) node.now.children) }
+    ensures { IfOk result
+        (λ made. trees_of_option made ≡ becomes change.now (label_of node.now) node.now.children) }
 {
     match change {
         Change::Style(_, values) => Ok(Some(Plain {
@@ -102,7 +104,9 @@ fn turned_node(
     change: &Change,
 ) -> Result<Option<Plain>, NoMemory>
     requires { IsDistinct (tree_of_node node.now) }
-    ensures { IfOk result (λ made. trees_of_option made ≡ replaced name.now (becomes change.now) (tree_of_node node.now)) }
+    ensures { IfOk result
+        (λ made. trees_of_option made ≡
+        replaced name.now (becomes change.now) (tree_of_node node.now)) }
 {
     if node.name == *name {
         return becomes(alloc, change, node);
@@ -130,7 +134,8 @@ fn shifted(
 ) -> Result<Option<Plain>, NoMemory>
     requires distinct { IsDistinct (tree_of doc.now) }
     requires there { IsThere name.now doc.now }
-    ensures { IfOk result (λ made. trees_of_option made ≡ moved name.now parent.now index (tree_of doc.now)) }
+    ensures { IfOk result
+        (λ made. trees_of_option made ≡ moved name.now parent.now index (tree_of doc.now)) }
 {
     let node = node_at(doc, name).copy(alloc)?;
     match turned_node(alloc, &doc.root, name, &Change::Take(*name))? {
@@ -156,7 +161,10 @@ fn set_root(doc: &mut Doc, root: Option<Plain>)
 /// unchanged.
 fn turn_node(alloc: Global, doc: &mut Doc, name: &Name, change: &Change) -> Result<(), NoMemory>
     requires { IsDistinct (tree_of doc.old) }
-    ensures ok { OnOk result (doc.new ≡ with_root doc.old (doc.old.width, doc.old.height) (replaced name.now (becomes change.now) (tree_of doc.old))) }
+    ensures ok { OnOk result
+        (doc.new ≡
+        with_root doc.old (doc.old.width, doc.old.height)
+        (replaced name.now (becomes change.now) (tree_of doc.old))) }
     ensures err { OnErr result (doc.new ≡ doc.old) }
 {
     let root = turned_node(alloc, &doc.root, name, change)?;

@@ -15,7 +15,8 @@ ghost use Rattle.edit_journal.specs.Laws.{Leads};
 /// second, after it, the document as it was. The edit is none of `Undo`, `Redo` and `Hit`, which
 /// have no step.
 pub fn steps_lead_back()
-    ensures { (e : Edit) (doc made : Doc) → IsSound doc → IsChange e → NamesItsNode e → edited e doc ≡ Ok made → Leads (step_for doc e) doc made }
+    ensures { (e : Edit) (doc made : Doc) → IsSound doc → IsChange e → NamesItsNode e →
+        edited e doc ≡ Ok made → Leads (step_for doc e) doc made }
 {}
 
 #[tactic(auto, using(crate::proofs::Stepping::forward_is))]

@@ -99,7 +99,10 @@ fn is_among(props: &[Prop], property: Prop) -> bool
 
 /// Adds the property at the end, unless it is there.
 fn add_once(props: &mut Sequence<Prop>, property: Prop) -> Result<(), NoMemory>
-    ensures { OnOk result (props.new ≡ (if list_any (λ p. place_of p == place_of property) props.old then props.old else props.old ++ property ∷ [])) }
+    ensures { OnOk result
+        (props.new ≡
+        (if list_any (λ p. place_of p == place_of property) props.old then props.old else
+        props.old ++ property ∷ [])) }
 {
     if is_among(props.as_slice(), property) {
         return Ok(());

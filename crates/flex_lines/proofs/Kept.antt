@@ -76,7 +76,9 @@ left_is grow space whole sum place before (p ∷ rest) = go p.item p.frozen (λ 
 
     go : (i : FlexItem) (o : Option ℤ) → ((b : ℕ) → Ih b)
         → left sum (flexible_from place (record { item = i; frozen = o } ∷ rest)) (trials grow space whole before (flexible_from place (record { item = i; frozen = o } ∷ rest))) ≡ flexible_from place (next grow space whole sum before (record { item = i; frozen = o } ∷ rest))
-    go i None ih = free i (before + weight_of grow (free_item i)) (tried grow (free_item i) (given space whole before (weight_of grow (free_item i)))) (stops sum (at place i) (tried grow (free_item i) (given space whole before (weight_of grow (free_item i))))) (ih (before + weight_of grow (free_item i)))
+    go i None ih =
+        free i (before + weight_of grow (free_item i)) (tried grow (free_item i) (given space whole before (weight_of grow (free_item i)))) (stops sum (at place i) (tried grow (free_item i) (given space whole before (weight_of grow (free_item i)))))
+        (ih (before + weight_of grow (free_item i)))
     go i (Some s) ih = ih before ∙ sym (ap (λ (b : ℕ). flexible_from (suc place) (next grow space whole sum b rest)) (past grow i s before))
 
 -- ---- what is held
@@ -99,10 +101,14 @@ held_is grow space whole sum place before (p ∷ rest) = go p.item p.frozen (λ 
     free i after t false ih = omega (arith, ints, ih)
 
     go : (i : FlexItem) (o : Option ℤ) → ((b : ℕ) → Ih b)
-        → held_by (record { item = i; frozen = o } ∷ rest) +ℤ newly_held sum (flexible_from place (record { item = i; frozen = o } ∷ rest)) (trials grow space whole before (flexible_from place (record { item = i; frozen = o } ∷ rest))) ≡ held_by (next grow space whole sum before (record { item = i; frozen = o } ∷ rest))
-    go i None ih = free i (before + weight_of grow (free_item i)) (tried grow (free_item i) (given space whole before (weight_of grow (free_item i)))) (stops sum (at place i) (tried grow (free_item i) (given space whole before (weight_of grow (free_item i))))) (ih (before + weight_of grow (free_item i)))
+        → held_by (record { item = i; frozen = o } ∷ rest) +ℤ newly_held sum (flexible_from place (record { item = i; frozen = o } ∷ rest)) (trials grow space whole before (flexible_from place (record { item = i; frozen = o } ∷ rest))) ≡
+        held_by (next grow space whole sum before (record { item = i; frozen = o } ∷ rest))
+    go i None ih =
+        free i (before + weight_of grow (free_item i)) (tried grow (free_item i) (given space whole before (weight_of grow (free_item i)))) (stops sum (at place i) (tried grow (free_item i) (given space whole before (weight_of grow (free_item i)))))
+        (ih (before + weight_of grow (free_item i)))
     go i (Some s) ih =
-        let rest_same : held_by rest +ℤ newly_held sum (flexible_from (suc place) rest) (trials grow space whole before (flexible_from (suc place) rest)) ≡ held_by (next grow space whole sum (before + weight_of grow (frozen_item i s)) rest) = ih before ∙ sym (ap (λ (b : ℕ). held_by (next grow space whole sum b rest)) (past grow i s before)) in
+        let rest_same : held_by rest +ℤ newly_held sum (flexible_from (suc place) rest) (trials grow space whole before (flexible_from (suc place) rest)) ≡
+        held_by (next grow space whole sum (before + weight_of grow (frozen_item i s)) rest) = ih before ∙ sym (ap (λ (b : ℕ). held_by (next grow space whole sum b rest)) (past grow i s before)) in
         omega (arith, ints, rest_same)
 
 -- ---- the sizes
@@ -135,8 +141,11 @@ sizes_are grow space whole sum place before (p ∷ rest) done h = go p.item p.fr
     free i after t false ih = follows after i.base ih
 
     go : (i : FlexItem) (o : Option ℤ) → ((b : ℕ) → Ih b)
-        → settled sum (flexible_from place (record { item = i; frozen = o } ∷ rest)) (trials grow space whole before (flexible_from place (record { item = i; frozen = o } ∷ rest))) (done ++ map size_of (record { item = i; frozen = o } ∷ rest)) ≡ done ++ map size_of (next grow space whole sum before (record { item = i; frozen = o } ∷ rest))
-    go i None ih = free i (before + weight_of grow (free_item i)) (tried grow (free_item i) (given space whole before (weight_of grow (free_item i)))) (stops sum (at place i) (tried grow (free_item i) (given space whole before (weight_of grow (free_item i))))) (ih (before + weight_of grow (free_item i)))
+        → settled sum (flexible_from place (record { item = i; frozen = o } ∷ rest)) (trials grow space whole before (flexible_from place (record { item = i; frozen = o } ∷ rest))) (done ++ map size_of (record { item = i; frozen = o } ∷ rest)) ≡
+        done ++ map size_of (next grow space whole sum before (record { item = i; frozen = o } ∷ rest))
+    go i None ih =
+        free i (before + weight_of grow (free_item i)) (tried grow (free_item i) (given space whole before (weight_of grow (free_item i)))) (stops sum (at place i) (tried grow (free_item i) (given space whole before (weight_of grow (free_item i)))))
+        (ih (before + weight_of grow (free_item i)))
     go i (Some s) ih = follows before s (ih before) ∙ sym (ap (λ (b : ℕ). done ++ s ∷ map size_of (next grow space whole sum b rest)) (past grow i s before))
 
 -- ---- the sums
@@ -150,10 +159,12 @@ changes_are grow space whole place before (p ∷ rest) = go p.item p.frozen (λ 
     Ih b = sum_of (zipped violation (pieces (flexible_from (suc place) rest)) (trials grow space whole b (flexible_from (suc place) rest))) ≡ sum_of (zipped violation rest (tries grow space whole b rest))
 
     go : (i : FlexItem) (o : Option ℤ) → ((b : ℕ) → Ih b)
-        → sum_of (zipped violation (pieces (flexible_from place (record { item = i; frozen = o } ∷ rest))) (trials grow space whole before (flexible_from place (record { item = i; frozen = o } ∷ rest)))) ≡ sum_of (zipped violation (record { item = i; frozen = o } ∷ rest) (tries grow space whole before (record { item = i; frozen = o } ∷ rest)))
+        → sum_of (zipped violation (pieces (flexible_from place (record { item = i; frozen = o } ∷ rest))) (trials grow space whole before (flexible_from place (record { item = i; frozen = o } ∷ rest)))) ≡
+        sum_of (zipped violation (record { item = i; frozen = o } ∷ rest) (tries grow space whole before (record { item = i; frozen = o } ∷ rest)))
     go i None ih = ap (λ (z : ℤ). violation (free_item i) (tried grow (free_item i) (given space whole before (weight_of grow (free_item i)))) +ℤ z) (ih (before + weight_of grow (free_item i)))
     go i (Some s) ih =
-        let same : sum_of (zipped violation (pieces (flexible_from (suc place) rest)) (trials grow space whole before (flexible_from (suc place) rest))) ≡ sum_of (zipped violation rest (tries grow space whole (before + weight_of grow (frozen_item i s)) rest)) = ih before ∙ sym (ap (λ (b : ℕ). sum_of (zipped violation rest (tries grow space whole b rest))) (past grow i s before)) in
+        let same : sum_of (zipped violation (pieces (flexible_from (suc place) rest)) (trials grow space whole before (flexible_from (suc place) rest))) ≡
+        sum_of (zipped violation rest (tries grow space whole (before + weight_of grow (frozen_item i s)) rest)) = ih before ∙ sym (ap (λ (b : ℕ). sum_of (zipped violation rest (tries grow space whole b rest))) (past grow i s before)) in
         omega (arith, ints, same)
 
 pub weights_are : (grow : Bool) (place : ℕ) (line : List Piece) → total_of (map (weight_of grow) (pieces (flexible_from place line))) ≡ total_of (map (weight_of grow) line)

@@ -88,7 +88,8 @@ space_given initial whole factors = if nat_lt factors 1000 then int_min whole (f
 
 -- the space that a round gives
 unfoldable pub round_space : Bool → ℤ → ℤ → ℤ → List Flexible → ℤ
-round_space grow main initial taken fs = space_given initial (space_left grow main taken (sum_of (map outer_now (pieces fs)))) (total_of (map (free_factor grow) (pieces fs)))
+round_space grow main initial taken fs =
+    space_given initial (space_left grow main taken (sum_of (map outer_now (pieces fs)))) (total_of (map (free_factor grow) (pieces fs)))
 
 -- the sizes that a round tries
 unfoldable pub round_sizes : Bool → ℤ → ℤ → ℤ → List Flexible → List ℤ
@@ -99,7 +100,8 @@ abbrev pub change_of : List Flexible → List ℤ → ℤ
 change_of fs sizes = sum_of (zipped violation (pieces fs) sizes)
 
 -- What is kept of a line after a round.
-pub record IsRoundOf (grow : Bool) (main initial : ℤ) (fs : List Flexible) (taken : ℤ) (all : List ℤ) (rest : List Flexible) (held : ℤ) (sizes : List ℤ) : Type 0 where
+pub record IsRoundOf (grow : Bool) (main initial : ℤ) (fs : List Flexible) (taken : ℤ) (all : List ℤ) (rest : List Flexible) (held : ℤ) (sizes : List ℤ) : Type
+    0 where
   pub flexible : rest ≡ left (change_of fs (round_sizes grow main initial taken fs)) fs (round_sizes grow main initial taken fs)
   pub taken_is : held ≡ taken +ℤ newly_held (change_of fs (round_sizes grow main initial taken fs)) fs (round_sizes grow main initial taken fs)
   pub sizes_are : sizes ≡ settled (change_of fs (round_sizes grow main initial taken fs)) fs (round_sizes grow main initial taken fs) all

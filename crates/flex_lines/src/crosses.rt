@@ -55,7 +55,8 @@ fn own_crosses(
     lines: &[(usize, usize)],
 ) -> Result<Vec<Lu>, NoMemory>
     requires { AreRanges (length outer.now) lines.now }
-    ensures { IfOk result (λ sizes. sizes.items ≡ map (own_cross outer.now cross.now wrap) lines.now) }
+    ensures { IfOk result
+        (λ sizes. sizes.items ≡ map (own_cross outer.now cross.now wrap) lines.now) }
 {
     let mut sizes = Vec::new(alloc);
     for line in lines {
@@ -144,7 +145,8 @@ pub fn cross_sizes<const AXIS: u8>(
     stretch: bool,
 ) -> Result<Vec<Lu>, NoMemory>
     requires { AreRanges (length outer.now) lines.now }
-    ensures { IfOk result (λ sizes. sizes.items ≡ line_crosses outer.now lines.now cross.entry gap wrap stretch) }
+    ensures { IfOk result
+        (λ sizes. sizes.items ≡ line_crosses outer.now lines.now cross.entry gap wrap stretch) }
 {
     let cross = exact(cross);
     let sizes = own_crosses(alloc, outer, &cross, wrap, lines)?;

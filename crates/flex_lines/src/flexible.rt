@@ -27,7 +27,9 @@ pub fn factor_of(grow: bool, item: &FlexItem) -> u32
 
 /// Whether the limits of an item hold it against the way in which sizes change.
 fn is_held_back(grow: bool, item: &FlexItem) -> bool
-    ensures { result ≡ if grow then int_lt (hypothetical item.now) item.now.base else int_lt item.now.base (hypothetical item.now) }
+    ensures { result ≡
+        if grow then int_lt (hypothetical item.now) item.now.base else int_lt item.now.base
+        (hypothetical item.now) }
 {
     let size = hypothetical(item).wide();
     if grow {
@@ -88,7 +90,8 @@ pub fn first_sizes(alloc: Global, grow: bool, items: &[FlexItem]) -> Result<Vec<
 #[tactic(auto, using(crate::proofs::Starts::held_frozen, crate::proofs::Starts::held_free))]
 /// What an item takes that is frozen from the start; 0 for another.
 fn held_at_first(grow: bool, item: &FlexItem) -> Wide
-    ensures value { result ≡ if is_free (begin grow item.now) then pos 0 else outer_now (begin grow item.now) }
+    ensures value { result ≡
+        if is_free (begin grow item.now) then pos 0 else outer_now (begin grow item.now) }
     ensures range { IsOuter result }
 {
     if is_inflexible(grow, item) {

@@ -56,7 +56,9 @@ fn grows(main: Wide, gap: Lu, items: &[FlexItem]) -> bool
 /// A line as it begins.
 fn begin(alloc: Global, grow: bool, gap: Lu, items: &[FlexItem]) -> Result<Kept, NoMemory>
     requires { length items.now < 2 ^ 32 }
-    ensures kept { IfOk result (λ kept. IsKeptOf gap (map (begin grow) items.now) kept.flexible.items kept.taken kept.sizes.items) }
+    ensures kept { IfOk result
+        (λ kept. IsKeptOf gap (map (begin grow) items.now) kept.flexible.items kept.taken
+        kept.sizes.items) }
     ensures range { IfOk result (λ kept. IsTaken 0 kept.taken) }
 {
     let flexible = first_flexible(alloc, grow, items)?;
@@ -73,7 +75,9 @@ fn initial_space(grow: bool, main: Wide, kept: &Kept) -> Lu
     requires few { length kept.now.flexible.items < 2 ^ 32 }
     requires main { IsSum main }
     requires taken { IsSum kept.now.taken }
-    ensures value { result ≡ space_left grow main kept.now.taken (sum_of (map outer_now (pieces kept.now.flexible.items))) }
+    ensures value { result ≡
+        space_left grow main kept.now.taken
+        (sum_of (map outer_now (pieces kept.now.flexible.items))) }
     ensures some { pos 0 ≤ℤ result }
 {
     let sums = sums_of(grow, &kept.flexible);
@@ -91,7 +95,9 @@ fn trials(
     requires main { IsSum line.now.main }
     requires initial { pos 0 ≤ℤ line.now.initial }
     requires taken { IsSum taken }
-    ensures value { IfOk result (λ sizes. sizes.items ≡ round_sizes line.now.grow line.now.main line.now.initial taken flexible.now) }
+    ensures value { IfOk result
+        (λ sizes. sizes.items ≡
+        round_sizes line.now.grow line.now.main line.now.initial taken flexible.now) }
     ensures length { IfOk result (λ sizes. length sizes.items ≡ length flexible.now) }
     ensures range { IfOk result (λ sizes. All IsSize sizes.items) }
 {
@@ -109,7 +115,9 @@ fn resolve_round(alloc: Global, line: &Line, kept: Kept) -> Result<Kept, NoMemor
     requires main { IsSum line.now.main }
     requires initial { pos 0 ≤ℤ line.now.initial }
     requires taken { IsSum kept.taken }
-    ensures { IfOk result (λ next. IsRoundOf line.now.grow line.now.main line.now.initial kept.flexible.items kept.taken kept.sizes.items next.flexible.items next.taken next.sizes.items) }
+    ensures { IfOk result
+        (λ next. IsRoundOf line.now.grow line.now.main line.now.initial kept.flexible.items
+        kept.taken kept.sizes.items next.flexible.items next.taken next.sizes.items) }
 {
     let Kept {
         flexible,
@@ -227,7 +235,8 @@ pub fn resolve_lengths<const AXIS: u8, L: Ledger>(
 ) -> Result<Vec<Lu>, NoMemory>
     requires few { length items.now < 2 ^ 32 }
     requires ranges { AreRanges (length items.now) lines.now }
-    ensures sizes { IfOk result (λ sizes. sizes.items ≡ main_sizes main.entry gap items.now lines.now) }
+    ensures sizes { IfOk result
+        (λ sizes. sizes.items ≡ main_sizes main.entry gap items.now lines.now) }
     ensures step { passes.new ≡ passes.old + 1 }
 {
     passes.tick();

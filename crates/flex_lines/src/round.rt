@@ -85,7 +85,8 @@ pub fn try_sizes(
     requires space { pos 0 ≤ℤ space }
     requires whole { whole ≡ total_of (map (weight_of grow) (pieces flexible.now)) }
     requires few { whole ≤ 2 ^ 95 }
-    ensures value { IfOk result (λ sizes. sizes.items ≡ tries grow space whole 0 (pieces flexible.now)) }
+    ensures value { IfOk result
+        (λ sizes. sizes.items ≡ tries grow space whole 0 (pieces flexible.now)) }
     ensures range { IfOk result (λ sizes. All IsSize sizes.items) }
 {
     let mut sizes = Vec::new(alloc);

@@ -100,7 +100,9 @@ both_fall l w f g f' g' h k h' k' a b =
 
 all_fall : (l : ℤ) (w : ℕ) (rows : List FrRow) → HaveBases rows → Falls l w (total_of (map factor_of rows)) (total_of (map factor_of (map (settled l w) rows))) (sum_of (map held rows)) (sum_of (map held (map (settled l w) rows)))
 all_fall l w [] b = record { parts = omega (arith, ints); held = omega (arith, ints); fewer = omega arith }
-all_fall l w (r ∷ rest) b = both_fall l w (factor_of r) (factor_of (settled l w r)) (total_of (map factor_of rest)) (total_of (map factor_of (map (settled l w) rest))) (held r) (held (settled l w r)) (sum_of (map held rest)) (sum_of (map held (map (settled l w) rest))) (one_falls l w r b.0) (all_fall l w rest b.1)
+all_fall l w (r ∷ rest) b =
+    both_fall l w (factor_of r) (factor_of (settled l w r)) (total_of (map factor_of rest)) (total_of (map factor_of (map (settled l w) rest))) (held r) (held (settled l w r)) (sum_of (map held rest)) (sum_of (map held (map (settled l w) rest))) (one_falls l w r b.0)
+    (all_fall l w rest b.1)
 
 pub leftover_some : (space : ℤ) (rows : List FrRow) → pos 0 ≤ℤ leftover space rows
 unfolding clamp

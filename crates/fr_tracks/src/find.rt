@@ -29,10 +29,12 @@ fn shared(space: Wide) -> Lu
 fn next_fraction(last: &Fraction, rows: &[FrRow], space: Wide) -> Fraction
     requires few { length rows.now < 2 ^ 32 }
     requires space { IsSpace space }
-    ensures space { result.space ≡ leftover space (map (settled last.now.space last.now.weight) rows.now) }
+    ensures space { result.space ≡
+        leftover space (map (settled last.now.space last.now.weight) rows.now) }
     ensures least { pos 0 ≤ℤ result.space }
     ensures some { 0 < result.weight }
-    ensures weight { result.weight ≡ weight_of (map (settled last.now.space last.now.weight) rows.now) }
+    ensures weight { result.weight ≡
+        weight_of (map (settled last.now.space last.now.weight) rows.now) }
 {
     let mut sum = Wide::of(0);
     let mut weight = 0;
@@ -48,7 +50,9 @@ fn next_fraction(last: &Fraction, rows: &[FrRow], space: Wide) -> Fraction
 
 /// Whether some track that does not fall short of the last fraction falls short of the next.
 fn some_fall_short(last: &Fraction, next: &Fraction, rows: &[FrRow]) -> bool
-    ensures { result ≡ list_any (falls_short next.now.space next.now.weight) (map (settled last.now.space last.now.weight) rows.now) }
+    ensures { result ≡
+        list_any (falls_short next.now.space next.now.weight)
+        (map (settled last.now.space last.now.weight) rows.now) }
 {
     for row in rows {
         if is_left(last, row) && falls_short(next, row) {
@@ -60,7 +64,8 @@ fn some_fall_short(last: &Fraction, next: &Fraction, rows: &[FrRow]) -> bool
 
 /// Whether some track does not fall short of the last fraction.
 fn some_left(last: &Fraction, rows: &[FrRow]) -> bool
-    ensures { result ≡ list_any is_flexible (map (settled last.now.space last.now.weight) rows.now) }
+    ensures { result ≡
+        list_any is_flexible (map (settled last.now.space last.now.weight) rows.now) }
 {
     for row in rows {
         if is_left(last, row) {
@@ -79,7 +84,8 @@ fn last_short(rows: &[FrRow], space: Wide) -> Fraction
     requires few { length rows.now < 2 ^ 32 }
     requires space { IsSpace space }
     requires bases { HaveBases rows.now }
-    ensures { left_flexible (length rows.now) space rows.now ≡ map (settled result.space result.weight) rows.now }
+    ensures { left_flexible (length rows.now) space rows.now ≡
+        map (settled result.space result.weight) rows.now }
 {
     let mut last = Fraction {
         space: Lu::of(0),

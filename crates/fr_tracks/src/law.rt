@@ -15,8 +15,11 @@ pub fn fractions_fill_the_space(rows: &[FrRow], gutters: Lu, space: Lu)
     requires gutters { pos 0 ≤ℤ gutters }
     requires bases { HaveBases rows.now }
     requires room { (sum_of (map (λ (r : FrRow). r.base) rows.now) +ℤ gutters) <ℤ space }
-    requires factors { 1000 ≤ total_of (map factor_of (left_flexible (length rows.now) (space -ℤ gutters) rows.now)) }
-    ensures { (sum_of (map (λ (r : FrRow). r.base) (expanded (found rows.now gutters space) rows.now)) +ℤ gutters) ≡ space }
+    requires factors { 1000 ≤ total_of
+        (map factor_of (left_flexible (length rows.now) (space -ℤ gutters) rows.now)) }
+    ensures { (sum_of
+        (map (λ (r : FrRow). r.base) (expanded (found rows.now gutters space) rows.now)) +ℤ
+        gutters) ≡ space }
 {
     // its range
     let _most = space.wide();

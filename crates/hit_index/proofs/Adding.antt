@@ -72,7 +72,8 @@ adds_none edges box number old first count rising few begins = record {
 }
 
 -- to one strip more
-pub adds_next : (edges : List ℤ) (box : Rect) (number : ℕ) (old : List (List ℕ)) (strip : ℕ) (now next : List (List ℕ)) (wanted : Bool) → AddsUpTo edges box number old strip now → strip < 64 → wanted ≡ reaches_strip edges box strip → next ≡ slice_set now strip (get_or now strip [] ++ one_if wanted number) → AddsUpTo edges box number old (strip + 1) next
+pub adds_next : (edges : List ℤ) (box : Rect) (number : ℕ) (old : List (List ℕ)) (strip : ℕ) (now next : List (List ℕ)) (wanted : Bool) → AddsUpTo edges box number old strip now → strip < 64 → wanted ≡ reaches_strip edges box strip →
+    next ≡ slice_set now strip (get_or now strip [] ++ one_if wanted number) → AddsUpTo edges box number old (strip + 1) next
 adds_next edges box number old strip now next wanted h few w e = record {
   count = ap length e ∙ length-set now strip (get_or now strip [] ++ one_if wanted number) ∙ h.count;
   within = omega arith;

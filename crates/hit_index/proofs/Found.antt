@@ -67,17 +67,20 @@ chosen_hits true q h k ns ms f e g w r = ap (λ b. if b then k ∷ filter f ns e
 chosen_hits false true h k ns ms f e g w r = absurd (false≢true (w refl))
 chosen_hits false false h k ns ms f e g w r = r
 
-hits_of_numbers : (k : ℕ) (all : List Rect) (x y : ℤ) (p : Rect → Bool) (boxes : List Rect) → ((i : ℕ) (d : Rect) → i < length boxes → slice_get all (k + i) ≡ Some (get_or boxes i d)) → All (λ box. contains x y box ≡ true → p box ≡ true) boxes → filter (hits all x y) (numbers_from k p boxes) ≡ numbers_from k (contains x y) boxes
+hits_of_numbers : (k : ℕ) (all : List Rect) (x y : ℤ) (p : Rect → Bool) (boxes : List Rect) → ((i : ℕ) (d : Rect) → i < length boxes → slice_get all (k + i) ≡ Some (get_or boxes i d)) → All (λ box. contains x y box ≡ true → p box ≡ true) boxes →
+    filter (hits all x y) (numbers_from k p boxes) ≡ numbers_from k (contains x y) boxes
 unfolding hits
 hits_of_numbers k all x y p [] at weaker = refl
 hits_of_numbers k all x y p (box ∷ boxes) at weaker =
     let here : slice_get all k ≡ Some box = ap (slice_get all) (omega arith) ∙ at 0 box (omega arith) in
     let later : (i : ℕ) (d : Rect) → i < length boxes → slice_get all (k + 1 + i) ≡ Some (get_or boxes i d) = λ i d l. ap (slice_get all) (omega arith) ∙ at (suc i) d (omega arith) in
-    chosen_hits (p box) (contains x y box) (hits all x y k) k (numbers_from (k + 1) p boxes) (numbers_from (k + 1) (contains x y) boxes) (hits all x y) refl (ap (λ (o : Option Rect). option_map_or (contains x y) o false) here) (All-head (λ (b : Rect). contains x y b ≡ true → p b ≡ true) box boxes weaker)
+    chosen_hits (p box) (contains x y box) (hits all x y k) k (numbers_from (k + 1) p boxes) (numbers_from (k + 1) (contains x y) boxes) (hits all x y) refl (ap (λ (o : Option Rect). option_map_or (contains x y) o false) here)
+    (All-head (λ (b : Rect). contains x y b ≡ true → p b ≡ true) box boxes weaker)
     (hits_of_numbers (k + 1) all x y p boxes later (All-tail (λ (b : Rect). contains x y b ≡ true → p b ≡ true) box boxes weaker))
 
 -- the last of the numbers of the strip that hit is the one that is defined
-pub found_is : (boxes : List Rect) (edges : List ℤ) (strips : List (List ℕ)) (x y : ℤ) (j : ℕ) (found : Option ℕ) → AreEdges boxes 65 edges → AreStrips edges boxes strips → j < 64 → (0 < j → get_or edges j (pos 0) ≤ℤ y) → (j < 63 → y <ℤ get_or edges (j + 1) (pos 0)) → found ≡ last_or None (filter (hits boxes x y) (get_or strips j [])) → found ≡ hit_of boxes x y
+pub found_is : (boxes : List Rect) (edges : List ℤ) (strips : List (List ℕ)) (x y : ℤ) (j : ℕ) (found : Option ℕ) → AreEdges boxes 65 edges → AreStrips edges boxes strips → j < 64 → (0 < j → get_or edges j (pos 0) ≤ℤ y) → (j < 63 → y <ℤ get_or edges (j + 1) (pos 0)) →
+    found ≡ last_or None (filter (hits boxes x y) (get_or strips j [])) → found ≡ hit_of boxes x y
 unfolding hit_of
 found_is boxes edges strips x y j found e s h begins ends is =
     is
@@ -213,14 +216,18 @@ reached from to box = (point_there from to box, point_back from to box)
 abbrev Box : Type 0
 Box = List ℕ × Rect
 
-box_from : (k : ℕ) (all : List Box) (x y : ℤ) (boxes : List Box) (o : Option ℕ) → ((i : ℕ) (d : Box) → i < length boxes → slice_get all (k + i) ≡ Some (get_or boxes i d)) → box_at all (last_or o (numbers_from k (contains x y) (rects_of boxes))) ≡ last_or (box_at all o) (filter (λ (box : Box). contains x y box.1) boxes)
+box_from : (k : ℕ) (all : List Box) (x y : ℤ) (boxes : List Box) (o : Option ℕ) → ((i : ℕ) (d : Box) → i < length boxes → slice_get all (k + i) ≡ Some (get_or boxes i d)) →
+    box_at all (last_or o (numbers_from k (contains x y) (rects_of boxes))) ≡ last_or (box_at all o) (filter (λ (box : Box). contains x y box.1) boxes)
 box_from k all x y [] o at = refl
 box_from k all x y (box ∷ boxes) o at =
     let here : slice_get all k ≡ Some box = ap (slice_get all) (omega arith) ∙ at 0 box (omega arith) in
     let later : (i : ℕ) (d : Box) → i < length boxes → slice_get all (k + 1 + i) ≡ Some (get_or boxes i d) = λ i d l. ap (slice_get all) (omega arith) ∙ at (suc i) d (omega arith) in
     by (contains x y box.1) here (box_from (k + 1) all x y boxes (Some k) later) (box_from (k + 1) all x y boxes o later)
   where
-    by : (b : Bool) → slice_get all k ≡ Some box → box_at all (last_or (Some k) (numbers_from (k + 1) (contains x y) (rects_of boxes))) ≡ last_or (box_at all (Some k)) (filter (λ (box : Box). contains x y box.1) boxes) → box_at all (last_or o (numbers_from (k + 1) (contains x y) (rects_of boxes))) ≡ last_or (box_at all o) (filter (λ (box : Box). contains x y box.1) boxes) → box_at all (last_or o (if b then k ∷ numbers_from (k + 1) (contains x y) (rects_of boxes) else numbers_from (k + 1) (contains x y) (rects_of boxes))) ≡ last_or (box_at all o) (if b then box ∷ filter (λ (box : Box). contains x y box.1) boxes else filter (λ (box : Box). contains x y box.1) boxes)
+    by : (b : Bool) → slice_get all k ≡ Some box → box_at all (last_or (Some k) (numbers_from (k + 1) (contains x y) (rects_of boxes))) ≡ last_or (box_at all (Some k)) (filter (λ (box : Box). contains x y box.1) boxes) →
+        box_at all (last_or o (numbers_from (k + 1) (contains x y) (rects_of boxes))) ≡ last_or (box_at all o) (filter (λ (box : Box). contains x y box.1) boxes) →
+        box_at all (last_or o (if b then k ∷ numbers_from (k + 1) (contains x y) (rects_of boxes) else numbers_from (k + 1) (contains x y) (rects_of boxes))) ≡
+        last_or (box_at all o) (if b then box ∷ filter (λ (box : Box). contains x y box.1) boxes else filter (λ (box : Box). contains x y box.1) boxes)
     by true here taken passed = taken ∙ ap (λ (p : Option Box). last_or p (filter (λ (box : Box). contains x y box.1) boxes)) here
     by false here taken passed = passed
 

@@ -62,7 +62,8 @@ run_before p numbers run next n none =
     run_split p numbers (run * 64) ∙ ap (λ m. filter p (take 64 (drop (run * 64) numbers)) ++ filter p (drop m numbers)) place ∙ ap (λ ns. filter p (take 64 (drop (run * 64) numbers)) ++ ns) none ∙ append-nil (filter p (take 64 (drop (run * 64) numbers)))
 
 -- a number of this run passes, where none of a later one does
-pub run_last : (p : ℕ → Bool) (numbers part : List ℕ) (run next number : ℕ) (found : Option ℕ) → next ≡ run + 1 → part ≡ take 64 (drop (run * 64) numbers) → found ≡ Some number → found ≡ last_or None (filter p part) → filter p (drop (next * 64) numbers) ≡ [] → Some number ≡ last_or None (filter p numbers)
+pub run_last : (p : ℕ → Bool) (numbers part : List ℕ) (run next number : ℕ) (found : Option ℕ) → next ≡ run + 1 → part ≡ take 64 (drop (run * 64) numbers) → found ≡ Some number → found ≡ last_or None (filter p part) → filter p (drop (next * 64) numbers) ≡ [] →
+    Some number ≡ last_or None (filter p numbers)
 run_last p numbers part run next number found n e s is none =
     let rest : filter p (drop (run * 64) numbers) ≡ filter p part = run_before p numbers run next n none ∙ ap (filter p) (sym e) in
     sym (ap (last_or None) (split_at p numbers (run * 64) ∙ ap (λ ns. filter p (take (run * 64) numbers) ++ ns) rest) ∙ last_or-append None (filter p (take (run * 64) numbers)) (filter p part) ∙ whatever_before (last_or None (filter p (take (run * 64) numbers))) (filter p part) number (sym is ∙ s))

@@ -132,7 +132,8 @@ run_is numbers start last e =
 pub all_none : (boxes : List Rect) (strips : List (List ℕ)) → AreRuns boxes strips 0 []
 all_none boxes strips = record { counted = refl; counts = λ j h. absurd (omega (arith, h)); around = λ j h. absurd (omega (arith, h)) }
 
-pub all_next : (boxes : List Rect) (strips : List (List ℕ)) (j : ℕ) (numbers : List ℕ) (now : List (List Extent)) (extents : List Extent) → j < length strips → numbers ≡ get_or strips j numbers → AreRuns boxes strips j now → CountsRuns numbers extents → AreAround boxes numbers extents → AreRuns boxes strips (j + 1) (now ++ extents ∷ [])
+pub all_next : (boxes : List Rect) (strips : List (List ℕ)) (j : ℕ) (numbers : List ℕ) (now : List (List Extent)) (extents : List Extent) → j < length strips → numbers ≡ get_or strips j numbers → AreRuns boxes strips j now → CountsRuns numbers extents →
+    AreAround boxes numbers extents → AreRuns boxes strips (j + 1) (now ++ extents ∷ [])
 all_next boxes strips j numbers now extents l e a counts around = record {
   counted = length-append now (extents ∷ []) ∙ ap (λ n. n + 1) a.counted;
   counts = λ i h. by_counts i h (cases_eq i j);

@@ -25,4 +25,5 @@ pub record AreRanges (grid : Grid) (boxes : List Rect) (count : ℕ) (ranges : L
 
 -- each box that contains the point reaches the column
 pub record TellColumn (x y : ℤ) (boxes : List Rect) (ranges : List ColumnRange) (column : ℕ) : Type 0 where
-  pub told : (k : ℕ) (box : Rect) (d : ColumnRange) → k < length boxes → contains x y (get_or boxes k box) ≡ true → reaches_column (get_or ranges k d) column ≡ true
+  pub told : (k : ℕ) (box : Rect) (d : ColumnRange) → k < length boxes → contains x y (get_or boxes k box) ≡ true →
+      reaches_column (get_or ranges k d) column ≡ true

@@ -34,7 +34,8 @@ fn least_y(first: i64, rects: &[Rect]) -> i64
 /// The greatest of a number and the y + height of each box.
 fn greatest_end(first: i64, rects: &[Rect]) -> i64
     requires { All IsSmallRect rects.now }
-    ensures { result ≡ fold (λ bottom other. int_max bottom (other.y +ℤ other.height)) first rects.now }
+    ensures { result ≡
+        fold (λ bottom other. int_max bottom (other.y +ℤ other.height)) first rects.now }
 {
     let mut bottom = first;
     for rect in rects {

@@ -47,7 +47,9 @@ fn empty_strips(alloc: Global, counts: &[u32]) -> Result<Strips, NoMemory>
 /// Adds a number to a strip where it is wanted.
 fn push_if(strips: &mut Strips, strip: usize, wanted: bool, number: u32) -> Result<(), NoMemory>
     requires { strip < length strips.old }
-    ensures { OnOk result (strips.new ≡ slice_set strips.old strip (get_or strips.old strip [] ++ one_if wanted number)) }
+    ensures { OnOk result
+        (strips.new ≡
+        slice_set strips.old strip (get_or strips.old strip [] ++ one_if wanted number)) }
 {
     if !wanted {
         return Ok(());

@@ -41,7 +41,8 @@ module _ (axis : ℕ) (style : StyleMap) (count : ℕ) (spans : List Span) (trac
   fit_with size gap = fit_in (content_of style).border_box (grid_at axis style) (content_at axis style) (Definite size) gap
 
   pub tracks_last : (rules : List Rule) (gap : ℤ) (sizes : List ℤ) (total : ℤ) → DoLast rules tracks.start items (fit_in {axis = axis} (content_of style).border_box (grid_at axis style) (content_at axis style) MaxContent gap) sizes
-      → clamp total ≡ total → total ≡ total_of_tracks (record { rules = rules; sizes = sizes; gap = gap }) → total ≤ℤ top → rules ≡ axis_rules (Some (clamp total)) (grid_at axis style) (written (grid_at axis style).template count) spans (tracks_of tracks) → gap ≡ gap_by (Some (clamp total)) (pos 0) (grid_at axis style).gap
+      → clamp total ≡ total → total ≡ total_of_tracks (record { rules = rules; sizes = sizes; gap = gap }) → total ≤ℤ top → rules ≡ axis_rules (Some (clamp total)) (grid_at axis style) (written (grid_at axis style).template count) spans (tracks_of tracks) →
+      gap ≡ gap_by (Some (clamp total)) (pos 0) (grid_at axis style).gap
       → ◌≡◌ {A = Sized} (record { rules = rules; sizes = sizes; gap = gap }) (sized_for {axis = axis} (track_axis axis style count spans tracks items) (Definite (clamp total)) (Some (clamp total)))
   tracks_last rules gap sizes total last s t le r g =
       let same : track_sizes rules tracks.start items (fit_with (clamp total) gap) ≡ sizes = subst (λ z. track_sizes rules tracks.start items (fit_with z gap) ≡ sizes) (sym s) (last total t le) in

@@ -105,7 +105,18 @@ module _ (g : GridAxis) (c : ContentAxis) (h : is_plain g c ≡ true) where
 pub free_contribution : (z : ℤ) → IsUnits z → int_max (pos 0) z ≡ contribution no_bounds (pos 0) z
 unfolding clamp
 free_contribution z h =
-    omega (arith, ints, h.0, h.1, int_max_is (pos 0) z, int_max_is (pos 0) (z +ℤ pos 0), int_max_is (pos 0) (int_max (pos 0) (z +ℤ pos 0)), int_min_is top (pos 0 +ℤ int_max (pos 0) (int_max (pos 0) (z +ℤ pos 0))), int_max_is bottom (int_min top (pos 0 +ℤ int_max (pos 0) (int_max (pos 0) (z +ℤ pos 0)))))
+    omega (
+      arith,
+      ints,
+      h.0,
+      h.1,
+      int_max_is (pos 0) z,
+      int_max_is (pos 0) (z +ℤ pos 0),
+      int_max_is (pos 0) (int_max (pos 0) (z +ℤ pos 0)),
+      int_min_is top (pos 0 +ℤ int_max (pos 0) (int_max (pos 0) (z +ℤ pos 0))),
+      int_max_is bottom
+          (int_min top (pos 0 +ℤ int_max (pos 0) (int_max (pos 0) (z +ℤ pos 0)))),
+    )
 
 free_content : (z : ℤ) → IsUnits z → z ≡ clamp (z +ℤ pos 0)
 unfolding clamp

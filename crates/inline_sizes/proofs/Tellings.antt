@@ -95,10 +95,13 @@ module _ (b : BareTrees) (n : NodeId) (base : GridBase) where
   -- what they told is what they answer
   have_answers : IsTree b → HasChildren b n base.placed → (sizes : List (ℤ × ℤ)) (made : List Item) (ends : List ℕ) → HaveTold b n base Each sizes made ends → AreAnswers b n base sizes made
   have_answers tree children sizes made ends t =
-      let lists = told_lists (TellsColumns (sight_at b n) (kid_at b) base) sizes made ends (entries_at b n base.placed) (inline_of_entry base.pairs) (λ (e : Entry). column_items_of (context_at (sight_at b n) base.pairs).columns base.pairs e (inline_of_entry base.pairs e)) (t.counted ∙ sym (entries_counted b n base.placed children)) each t.told in
+      let lists =
+      told_lists (TellsColumns (sight_at b n) (kid_at b) base) sizes made ends (entries_at b n base.placed) (inline_of_entry base.pairs) (λ (e : Entry). column_items_of (context_at (sight_at b n) base.pairs).columns base.pairs e (inline_of_entry base.pairs e))
+      (t.counted ∙ sym (entries_counted b n base.placed children)) each t.told in
       record { inlines = lists.0; items = lists.1 ∙ ap joined (maps (entries_at b n base.placed)) }
     where
-      maps : (entries : List Entry) → map (λ (e : Entry). column_items_of (context_at (sight_at b n) base.pairs).columns base.pairs e (inline_of_entry base.pairs e)) entries ≡ zipped (column_items_of (context_at (sight_at b n) base.pairs).columns base.pairs) entries (map (inline_of_entry base.pairs) entries)
+      maps : (entries : List Entry) →
+          map (λ (e : Entry). column_items_of (context_at (sight_at b n) base.pairs).columns base.pairs e (inline_of_entry base.pairs e)) entries ≡ zipped (column_items_of (context_at (sight_at b n) base.pairs).columns base.pairs) entries (map (inline_of_entry base.pairs) entries)
       maps [] = refl
       maps (e ∷ rest) = ap (λ l. column_items_of (context_at (sight_at b n) base.pairs).columns base.pairs e (inline_of_entry base.pairs e) ∷ l) (maps rest)
 
@@ -120,7 +123,8 @@ tells_as b n p q pairs placed k x made h =
     }
 
 -- what was told by the same counts
-module _ (b : BareTrees) (n : NodeId) (past : PastColumns) (base : GridBase) (is : IsPastColumns b n past) (places : HoldsPlaces (sight_at b n) (children_at b n) base) (counts : List Pair) (counted : counts ≡ past.told.parts.base.pairs) (t : Bool) (same : t ≡ same_pairs counts base.pairs) (yes : t ≡ true) where
+module _ (b : BareTrees) (n : NodeId) (past : PastColumns) (base : GridBase) (is : IsPastColumns b n past) (places : HoldsPlaces (sight_at b n) (children_at b n) base) (counts : List Pair) (counted : counts ≡ past.told.parts.base.pairs) (t : Bool)
+    (same : t ≡ same_pairs counts base.pairs) (yes : t ≡ true) where
   pairs_same : past.told.parts.base.pairs ≡ base.pairs
   pairs_same = sym counted ∙ items_is (λ (x : Pair) (y : Pair). (x.0 == y.0) && (x.1 == y.1)) count_is counts base.pairs (sym same ∙ yes)
 

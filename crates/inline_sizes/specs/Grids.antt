@@ -92,7 +92,9 @@ items_from c pairs entries = joined (zipped (column_items_of c pairs) entries (m
 
 -- A question to the grid that leads to a question to each of its children, for its inline sizes or its lent columns.
 abbrev pub LeadsOn : BareTrees → NodeId → GridBase → Query → Type 0
-LeadsOn b n base q = (k : ℕ) (e : Entry) → drop k (entries_at b n base.placed) ≡ e ∷ drop (k + 1) (entries_at b n base.placed) → Contains (uses_at b n q) (e.number, inline_query (shares_columns e.kid) (pairs_for e.kid base.pairs))
+LeadsOn b n base q =
+    (k : ℕ) (e : Entry) → drop k (entries_at b n base.placed) ≡ e ∷ drop (k + 1) (entries_at b n base.placed) →
+    Contains (uses_at b n q) (e.number, inline_query (shares_columns e.kid) (pairs_for e.kid base.pairs))
 
 -- The inline sizes of the children, and their items along the columns.
 pub record AreAnswers (b : BareTrees) (n : NodeId) (base : GridBase) (sizes : List (ℤ × ℤ)) (made : List Item) : Type 0 where
@@ -100,7 +102,8 @@ pub record AreAnswers (b : BareTrees) (n : NodeId) (base : GridBase) (sizes : Li
   pub items : made ≡ items_from (context_at (sight_at b n) base.pairs).columns base.pairs (entries_at b n base.placed)
 
 -- So the children told them: as many sizes as there are areas, and the items of each child up to its end, where those count.
-pub record HaveTold (b : BareTrees) (n : NodeId) (base : GridBase) (Counts : ℕ → Type 0) (sizes : List (ℤ × ℤ)) (made : List Item) (ends : List ℕ) : Type 0 where
+pub record HaveTold (b : BareTrees) (n : NodeId) (base : GridBase) (Counts : ℕ → Type 0) (sizes : List (ℤ × ℤ)) (made : List Item) (ends : List ℕ) : Type
+    0 where
   pub counted : length sizes ≡ length base.placed.areas
   pub told : AreTold Counts (TellsColumns (sight_at b n) (kid_at b) base) sizes made ends
 

@@ -45,7 +45,8 @@ abbrev pub AreEntriesIn : Span → Span → List Entry → Type 0
 AreEntriesIn columns rows [] = Unit {0}
 AreEntriesIn columns rows (e ∷ rest) = IsAreaIn columns rows e.area × AreEntriesIn columns rows rest
 
--- The tracks of a grid are near and not many, and the areas of its children lie in them. Where it sizes them itself, each item, lent ones too, spans some of them and no others; for the rows whatever
+-- The tracks of a grid are near and not many, and the areas of its children lie in them. Where it sizes them itself, each item, lent ones too, spans some of
+-- them and no others; for the rows whatever
 -- the columns are.
 pub record IsInTracks (g : Grid) : Type 0 where
   pub near_columns : IsNear g.placed.columns
@@ -55,7 +56,8 @@ pub record IsInTracks (g : Grid) : Type 0 where
   pub areas : AreAreasIn g.placed.columns g.placed.rows g.placed.areas
   pub entries : AreEntriesIn g.placed.columns g.placed.rows g.entries
   pub columns : g.context.columns.subgrid ≡ false → AreIn g.placed.columns.start (track_count g.placed.columns) g.columns.items
-  pub rows : (columns : View 0) → g.context.rows.subgrid ≡ false → AreIn g.placed.rows.start (track_count g.placed.rows) (rows_of_grid g (wide_children g columns)).items
+  pub rows : (columns : View 0) → g.context.rows.subgrid ≡ false →
+      AreIn g.placed.rows.start (track_count g.placed.rows) (rows_of_grid g (wide_children g columns)).items
 
 -- So it is with the grid of a node, which is a subgrid in each axis as the node is.
 pub record HasItemsInTracks (s : Seen) (g : Grid) : Type 0 where

@@ -51,4 +51,10 @@ pub record IsPlain (g : GridAxis) (c : ContentAxis) : Type 0 where
 
 -- It as an item of a grid that sizes its tracks itself, over this span of lines, with these two content sizes.
 abbrev pub plain_item : Bool → Span → ℤ × ℤ → Item
-plain_item scrolls span content = record { span = span; low = contribution no_bounds (pos 0) content.0; high = contribution no_bounds (pos 0) content.1; floor = floor_of keyword.Auto scrolls no_bounds (pos 0) content.0 }
+plain_item scrolls span content = record {
+  span = span;
+  low = contribution no_bounds (pos 0) content.0;
+  high = contribution no_bounds (pos 0) content.1;
+  floor = floor_of keyword.Auto
+      scrolls no_bounds (pos 0) content.0;
+}

@@ -35,7 +35,14 @@ track_axis axis style count spans tracks items = record {
 abbrev pub fit_in : {axis : ℕ} → Bool → GridAxis → ContentAxis → Space axis → ℤ → Fit axis
 fit_in border_box g c space gap =
     let b = bounds_of None border_box g c in
-    record { space = space; min = option_map (λ v. v -ℤ b.inner) b.least; max = option_map (λ v. v -ℤ b.inner) b.most; gap = gap; stretch = stretches c.distribution.mode }
+    record {
+      space = space;
+      min = option_map (λ v. v -ℤ b.inner) b.least;
+      max = option_map (λ v. v -ℤ b.inner) b.most;
+      gap = gap;
+      stretch = stretches
+          c.distribution.mode;
+    }
 
 -- the sized tracks of the definitions
 abbrev pub sized_of : SizedTracks → rules.Sized

@@ -68,7 +68,8 @@ pub fn border_size(border_box: bool, inner: Lu, size: Lu) -> Wide
 /// The border-box size of a size, where it is a length or a percentage of something.
 fn bound(border_box: bool, inner: Lu, base: &Option<Lu>, size: &Size) -> Option<Wide>
     requires { pos 0 ≤ℤ inner }
-    ensures value { result ≡ option_map (border_size border_box inner) (resolved base.now size.now) }
+    ensures value { result ≡
+        option_map (border_size border_box inner) (resolved base.now size.now) }
     ensures range { IsBound inner result }
 {
     match resolved(base, size) {
@@ -151,7 +152,16 @@ impl Bounds {
         most: &Size,
     ) -> Bounds
         requires { pos 0 ≤ℤ inner }
-        ensures { result ≡ record { inner = inner; size = option_map (border_size border_box inner) (resolved base size.now); least = option_map (border_size border_box inner) (resolved base least.now); most = option_map (border_size border_box inner) (resolved base most.now) } }
+        ensures { result ≡
+            record {
+              inner = inner;
+              size = option_map (border_size border_box inner)
+                  (resolved base size.now);
+              least = option_map (border_size border_box inner)
+                  (resolved base least.now);
+              most = option_map (border_size border_box inner)
+                  (resolved base most.now);
+            } }
     {
         Bounds {
             inner,

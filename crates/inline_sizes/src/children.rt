@@ -34,7 +34,9 @@ pub(crate) fn is_grid(kind: &NodeKind) -> bool
 /// Whether a child of a grid is a subgrid in the columns.
 pub(crate) fn shares_columns(tree: &Arena<Node>, id: NodeId) -> bool
     requires { IsLive (bare tree.now.tree) id }
-    ensures { result ≡ (has_subgrid_kind (sight_at (bare tree.now.tree) id).label && is_subgrid (sight_at (bare tree.now.tree) id).label.grid.columns.template) }
+    ensures { result ≡
+        (has_subgrid_kind (sight_at (bare tree.now.tree) id).label &&
+        is_subgrid (sight_at (bare tree.now.tree) id).label.grid.columns.template) }
 {
     let node = node_at(tree, id);
     is_grid(&node.kind) && is_subgrid::<0>(&node.style)
@@ -51,7 +53,13 @@ pub(crate) fn own_item(
     requires live { IsLive (bare tree.now.tree) entry.child }
     requires readable { AreReadable (bare tree.now.tree) }
     requires lifted { IsLifted (column_levels base.now.above) entry.area.columns }
-    ensures { result ≡ child_item (column_levels base.now.above) (kid_at (bare tree.now.tree) entry.child).label.content.border_box (kid_at (bare tree.now.tree) entry.child).label.content.scrolls (kid_at (bare tree.now.tree) entry.child).label.grid.columns (kid_at (bare tree.now.tree) entry.child).label.content.inline entry.area.columns (low, high) }
+    ensures { result ≡
+        child_item (column_levels base.now.above)
+        (kid_at (bare tree.now.tree) entry.child).label.content.border_box
+        (kid_at (bare tree.now.tree) entry.child).label.content.scrolls
+        (kid_at (bare tree.now.tree) entry.child).label.grid.columns
+        (kid_at (bare tree.now.tree) entry.child).label.content.inline entry.area.columns
+        (low, high) }
 {
     let style = &node_at(tree, entry.child).style;
     child_item::<0>(
@@ -72,8 +80,10 @@ pub(crate) fn keep_told(
 ) -> Result<(), NoMemory>
     requires live { IsLive (bare tree.old.tree) id }
     requires right { IsRight tree.old.tree }
-    requires places { HoldsPlaces (sight_at (bare tree.old.tree) id) (children_at (bare tree.old.tree) id) told.parts.base }
-    requires told { AreColumns (sight_at (bare tree.old.tree) id) (kid_at (bare tree.old.tree)) Each told }
+    requires places { HoldsPlaces (sight_at (bare tree.old.tree) id)
+        (children_at (bare tree.old.tree) id) told.parts.base }
+    requires told { AreColumns (sight_at (bare tree.old.tree) id) (kid_at (bare tree.old.tree)) Each
+        told }
     ensures right { IsRight tree.new.tree }
     ensures alike { IsAlike tree.old tree.new }
 {

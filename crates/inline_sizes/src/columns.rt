@@ -53,7 +53,9 @@ pub(crate) fn grid_inline<L: Ledger>(
     requires readable { AreReadable (bare tree.now.tree) }
     requires own { sees_columns (sight_at (bare tree.now.tree) id) ≡ false }
     requires grid { IsSomeGrid (bare tree.now.tree) id parts.now }
-    ensures value { (outer : List Pair) (width : Given) → IsGrid (bare tree.now.tree) id outer width parts.now → IfOk result (λ sizes. sizes ≡ grid_inline (grid_seen (bare tree.now.tree) id outer width)) }
+    ensures value { (outer : List Pair) (width : Given) →
+        IsGrid (bare tree.now.tree) id outer width parts.now →
+        IfOk result (λ sizes. sizes ≡ grid_inline (grid_seen (bare tree.now.tree) id outer width)) }
     ensures step { OnOk result (passes.new ≡ passes.old + 2) }
     ensures stopped { OnErr result ((passes.old ≤ passes.new) × (passes.new ≤ passes.old + 2)) }
 {
@@ -74,7 +76,9 @@ pub(crate) fn grid_inline<L: Ledger>(
 /// `NoMemory` where memory is wanting.
 pub(crate) fn grid_lends(alloc: Global, parts: &GridParts) -> Result<Sequence<Item>, NoMemory>
     requires lifted { IsSelfLifted (column_levels parts.now.base.above) }
-    ensures { (b : BareTrees) (id : NodeId) (outer : List Pair) (width : Given) → IsGrid b id outer width parts.now → IfOk result (λ items. items ≡ grid_lends_columns (grid_seen b id outer width)) }
+    ensures { (b : BareTrees) (id : NodeId) (outer : List Pair) (width : Given) →
+        IsGrid b id outer width parts.now →
+        IfOk result (λ items. items ≡ grid_lends_columns (grid_seen b id outer width)) }
 {
     let mut items = Sequence::new(alloc);
     if let Some(item) = empty_item(column_levels(&parts.base.grid().above)) {

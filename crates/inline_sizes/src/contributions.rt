@@ -42,7 +42,9 @@ fn bare_floor(bounds: &Bounds, margins: Wide) -> Floor
 /// The minimum of a declared length.
 fn declared_floor(bounds: &Bounds, margins: Wide) -> Floor
     requires { IsSum margins }
-    ensures { result ≡ Floor.Known (clamp (margins +ℤ int_max bounds.now.inner (unwrap_or bounds.now.least (pos 0)))) }
+    ensures { result ≡
+        Floor.Known
+        (clamp (margins +ℤ int_max bounds.now.inner (unwrap_or bounds.now.least (pos 0)))) }
 {
     let least = or(bounds.least(), Wide::of(0));
     Floor::Known((margins + bounds.inner().wide().max(least)).clamp())
@@ -51,7 +53,9 @@ fn declared_floor(bounds: &Bounds, margins: Wide) -> Floor
 /// The automatic minimum of a node that is no scroll container (CSS Grid 2, 6.6).
 fn content_floor(bounds: &Bounds, margins: Wide, content: Lu) -> Floor
     requires { IsSum margins }
-    ensures { result ≡ Floor.Content (clamp (at_most bounds.now.most (content +ℤ bounds.now.inner))) (clamp margins) bounds.now.inner }
+    ensures { result ≡
+        Floor.Content (clamp (at_most bounds.now.most (content +ℤ bounds.now.inner)))
+        (clamp margins) bounds.now.inner }
 {
     Floor::Content {
         size: at_most(bounds.most(), with_inner(bounds, content)).clamp(),

@@ -94,7 +94,8 @@ fn gaps(gap: Lu, count: usize) -> Wide
 
 /// The sizes of all tracks and the gutters between those that are not collapsed (CSS Grid 2, 7.2.3.2). It is exact.
 pub fn total_of_tracks(rules: &[Rule], sizes: &[Lu], gap: Lu) -> Wide
-    ensures value { result ≡ total_of_tracks (record { rules = rules.now; sizes = sizes.now; gap = gap }) }
+    ensures value { result ≡
+        total_of_tracks (record { rules = rules.now; sizes = sizes.now; gap = gap }) }
 {
     sum_of(sizes) + gaps(gap, open_tracks(rules))
 }

@@ -45,7 +45,10 @@ fn low_contributions(
     requires live { IsLive (bare tree.now.tree) id }
     requires readable { AreReadable (bare tree.now.tree) }
     requires members { AreMembers (bare tree.now.tree) id members.now }
-    ensures { IfOk result (λ sizes. sizes.items ≡ map (λ (m : rules.Member). rules.inline_contribution m m.inline.0) (flex_seen (bare tree.now.tree) id).members) }
+    ensures { IfOk result
+        (λ sizes. sizes.items ≡
+        map (λ (m : rules.Member). rules.inline_contribution m m.inline.0)
+        (flex_seen (bare tree.now.tree) id).members) }
 {
     let mut sizes = Vec::new(alloc);
     for member in members {
@@ -65,7 +68,10 @@ fn high_contributions(
     requires live { IsLive (bare tree.now.tree) id }
     requires readable { AreReadable (bare tree.now.tree) }
     requires members { AreMembers (bare tree.now.tree) id members.now }
-    ensures { IfOk result (λ sizes. sizes.items ≡ map (λ (m : rules.Member). rules.inline_contribution m m.inline.1) (flex_seen (bare tree.now.tree) id).members) }
+    ensures { IfOk result
+        (λ sizes. sizes.items ≡
+        map (λ (m : rules.Member). rules.inline_contribution m m.inline.1)
+        (flex_seen (bare tree.now.tree) id).members) }
 {
     let mut sizes = Vec::new(alloc);
     for member in members {

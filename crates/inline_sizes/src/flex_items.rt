@@ -22,7 +22,10 @@ use style_types::{Align, Size, Style};
 
 /// The base size by a basis that is not `content`.
 fn base_by(main: &Option<Lu>, border_box: bool, basis: &Size, bounds: &Bounds, content: Lu) -> Wide
-    ensures value { result ≡ unwrap_or (option_map (border_size border_box bounds.now.inner) (resolved main.now basis.now)) (unwrap_or bounds.now.size (content +ℤ bounds.now.inner)) }
+    ensures value { result ≡
+        unwrap_or
+        (option_map (border_size border_box bounds.now.inner) (resolved main.now basis.now))
+        (unwrap_or bounds.now.size (content +ℤ bounds.now.inner)) }
     ensures range { IsSum result }
 {
     match resolved(main, basis) {
@@ -77,7 +80,11 @@ fn clamped(number: Option<Wide>) -> Option<Lu>
 
 /// A base size, but at least borders and paddings.
 fn base_of(main: &Option<Lu>, style: &Style, bounds: &Bounds, content: Lu) -> Lu
-    ensures { result ≡ clamp (int_max bounds.now.inner (base_size main.now (content_of style.now).border_box (content_of style.now).basis bounds.now content)) }
+    ensures { result ≡
+        clamp
+        (int_max bounds.now.inner
+        (base_size main.now (content_of style.now).border_box (content_of style.now).basis
+        bounds.now content)) }
 {
     let base = base_size(main, is_border_box(style), &basis(style), bounds, content);
     bounds.inner().wide().max(base).clamp()
@@ -85,7 +92,10 @@ fn base_of(main: &Option<Lu>, style: &Style, bounds: &Bounds, content: Lu) -> Lu
 
 /// The least main size: a declared minimum, or the automatic one.
 fn least_of(style: &Style, bounds: &Bounds, content: Lu) -> Lu
-    ensures { result ≡ clamp (unwrap_or bounds.now.least (automatic_minimum (content_of style.now).scrolls bounds.now content)) }
+    ensures { result ≡
+        clamp
+        (unwrap_or bounds.now.least
+        (automatic_minimum (content_of style.now).scrolls bounds.now content)) }
 {
     or(
         bounds.least(),
@@ -129,7 +139,10 @@ pub fn flex_item(column: bool, main: &Option<Lu>, style: &Style, content: (Lu, L
 /// plays no part is an own rule).
 pub fn inline_contribution(style: &Style, content: Lu) -> Lu
     requires { IsGridStyle (grid_of style.now) }
-    ensures { result ≡ contribution (bounds_of None (content_of style.now).border_box (grid_of style.now).columns (content_of style.now).inline) (margins (grid_of style.now).columns) content }
+    ensures { result ≡
+        contribution
+        (bounds_of None (content_of style.now).border_box (grid_of style.now).columns
+        (content_of style.now).inline) (margins (grid_of style.now).columns) content }
 {
     let bounds = bounds_of::<0>(style, None);
     contribution(&bounds, margins::<0>(style).wide(), content)
@@ -157,7 +170,9 @@ pub fn is_stretched_across(column: bool, container: &Style, style: &Style) -> bo
 
 /// Whether a child of a column takes its width: the column does not wrap, and the child is stretched.
 fn fills_column(container: &Style, style: &Style) -> bool
-    ensures { result ≡ not (content_of container.now).wrap && is_stretched_across true (styled container.now) (styled style.now) }
+    ensures { result ≡
+        not (content_of container.now).wrap &&
+        is_stretched_across true (styled container.now) (styled style.now) }
 {
     !wraps(container) && is_stretched_across(true, container, style)
 }
@@ -167,7 +182,13 @@ fn fills_column(container: &Style, style: &Style) -> bool
 /// sizes (CSS Flexbox 1, 9.4, step 7). It is at least its borders and paddings.
 pub fn column_box(container: &Style, style: &Style, width: Lu, content: (Lu, Lu)) -> Lu
     requires { IsGridStyle (grid_of style.now) }
-    ensures value { result ≡ inline_used (bounds_of (Some width) (content_of style.now).border_box (grid_of style.now).columns (content_of style.now).inline) (not (content_of container.now).wrap && is_stretched_across true (styled container.now) (styled style.now)) (margins (grid_of style.now).columns) width content }
+    ensures value { result ≡
+        inline_used
+        (bounds_of (Some width) (content_of style.now).border_box (grid_of style.now).columns
+        (content_of style.now).inline)
+        (not (content_of container.now).wrap &&
+        is_stretched_across true (styled container.now) (styled style.now))
+        (margins (grid_of style.now).columns) width content }
     ensures least { inner (grid_of style.now).columns ≤ℤ result }
 {
     let bounds = bounds_of::<0>(style, Some(width));
@@ -179,7 +200,10 @@ pub fn column_box(container: &Style, style: &Style, width: Lu, content: (Lu, Lu)
 /// is given, where percentages are of the container's cross size, or of none; in a column its inline size, which is given.
 pub fn cross_box(column: bool, cross: Option<Lu>, style: &Style, inline: Lu, block: Lu) -> Lu
     requires { IsGridStyle (grid_of style.now) }
-    ensures { result ≡ if column then inline else block_used (bounds_of cross (content_of style.now).border_box (grid_of style.now).rows (content_of style.now).block) false (pos 0) (pos 0) block }
+    ensures { result ≡
+        if column then inline else block_used
+        (bounds_of cross (content_of style.now).border_box (grid_of style.now).rows
+        (content_of style.now).block) false (pos 0) (pos 0) block }
 {
     if column {
         inline

@@ -53,7 +53,8 @@ pub(crate) fn column_levels(above: &Above) -> &[Level]
 
 /// The spans of the children of a grid along the columns.
 pub(crate) fn column_spans(alloc: Global, areas: &[(NodeId, Area)]) -> Result<Vec<Span>, NoMemory>
-    ensures { IfOk result (λ spans. spans.items ≡ map (λ (e : NodeId × Area). e.1.columns) areas.now) }
+    ensures { IfOk result
+        (λ spans. spans.items ≡ map (λ (e : NodeId × Area). e.1.columns) areas.now) }
 {
     let mut spans = Vec::with_capacity(alloc, areas.len())?;
     for (_, area) in areas {
@@ -94,7 +95,11 @@ fn base_by(
     requires live { IsLive (bare tree.now.tree) id }
     requires readable { AreReadable (bare tree.now.tree) }
     requires area { IsInsideOf above.now area }
-    ensures { (outer : List Pair) (width : Given) → length outer ≡ length (sight_at (bare tree.now.tree) id).chain → IsCounted (bare tree.now.tree) id outer width counts → IsSeat (sight_at (bare tree.now.tree) id) outer above.now area → IfOk result (IsBase (bare tree.now.tree) id outer width) }
+    ensures { (outer : List Pair) (width : Given) →
+        length outer ≡ length (sight_at (bare tree.now.tree) id).chain →
+        IsCounted (bare tree.now.tree) id outer width counts →
+        IsSeat (sight_at (bare tree.now.tree) id) outer above.now area →
+        IfOk result (IsBase (bare tree.now.tree) id outer width) }
 {
     let (pair, pairs) = counts;
     let style = &node_at(tree, id).style;
@@ -140,12 +145,17 @@ fn kept_base(
 ) -> Result<SharedBase, NoMemory>
     requires live { IsLive (bare tree.old.tree) id }
     requires right { IsRight tree.old.tree }
-    requires holds { HoldsPlaces (sight_at (bare tree.old.tree) id) (children_at (bare tree.old.tree) id) base }
+    requires holds { HoldsPlaces (sight_at (bare tree.old.tree) id)
+        (children_at (bare tree.old.tree) id) base }
     ensures value { IfOk result (λ kept. kept ≡ base) }
     ensures right { IsRight tree.new.tree }
     ensures same { bare tree.new.tree ≡ bare tree.old.tree }
-    ensures below { (q : Query) (more passes : ℕ) (tally : Told) (log : Option (List Event)) (new : State) → WalkedBelow id q more (state tree.new tally passes log) new → WalkedBelow id q more (state tree.old tally passes log) new }
-    ensures stopped { (q : Query) (passes : ℕ) (tally : Told) (log : Option (List Event)) (new : State) → Stopped id q (state tree.new tally passes log) new → Stopped id q (state tree.old tally passes log) new }
+    ensures below { (q : Query) (more passes : ℕ) (tally : Told) (log : Option (List Event))
+        (new : State) → WalkedBelow id q more (state tree.new tally passes log) new →
+        WalkedBelow id q more (state tree.old tally passes log) new }
+    ensures stopped { (q : Query) (passes : ℕ) (tally : Told) (log : Option (List Event))
+        (new : State) → Stopped id q (state tree.new tally passes log) new →
+        Stopped id q (state tree.old tally passes log) new }
 {
     let base = SharedBase::new(alloc, base)?;
     let other = base.again()?;
@@ -173,8 +183,12 @@ pub(crate) fn shared_base(
     ensures value { IfOk result (IsBase (bare tree.old.tree) id reps.now width.now) }
     ensures right { IsRight tree.new.tree }
     ensures same { bare tree.new.tree ≡ bare tree.old.tree }
-    ensures below { (q : Query) (more passes : ℕ) (tally : Told) (log : Option (List Event)) (new : State) → WalkedBelow id q more (state tree.new tally passes log) new → WalkedBelow id q more (state tree.old tally passes log) new }
-    ensures stopped { (q : Query) (passes : ℕ) (tally : Told) (log : Option (List Event)) (new : State) → Stopped id q (state tree.new tally passes log) new → Stopped id q (state tree.old tally passes log) new }
+    ensures below { (q : Query) (more passes : ℕ) (tally : Told) (log : Option (List Event))
+        (new : State) → WalkedBelow id q more (state tree.new tally passes log) new →
+        WalkedBelow id q more (state tree.old tally passes log) new }
+    ensures stopped { (q : Query) (passes : ℕ) (tally : Told) (log : Option (List Event))
+        (new : State) → Stopped id q (state tree.new tally passes log) new →
+        Stopped id q (state tree.old tally passes log) new }
 {
     let counts = counts_in(alloc, tree, id, reps, width)?;
     if let Some(base) = find_base(tree, id, counts.1.as_slice()) {

@@ -38,12 +38,25 @@ pub fn inline_of<R: Ruler, L: Ledger>(
     requires right { IsRight tree.old.tree }
     requires readable { AreReadable (bare tree.old.tree) }
     requires fits { Fits (sight_at (bare tree.old.tree) id) (inline_query false reps.now) }
-    ensures value { IfOk result (λ sizes. inline_sizes sizes ≡ answer_of (sight_at (bare tree.old.tree) id) (inline_query false reps.now)) }
+    ensures value { IfOk result
+        (λ sizes. inline_sizes sizes ≡
+        answer_of (sight_at (bare tree.old.tree) id) (inline_query false reps.now)) }
     ensures right { IsRight tree.new.tree }
-    ensures walked { OnOk result (Walked id (inline_query false reps.now) (state tree.old tally.old passes.old (R.log ruler.old)) (state tree.new tally.new passes.new (R.log ruler.new))) }
-    ensures stopped { OnErr result (Stopped id (inline_query false reps.now) (state tree.old tally.old passes.old (R.log ruler.old)) (state tree.new tally.new passes.new (R.log ruler.new))) }
-    ensures found { Found id (inline_query false reps.now) (state tree.old tally.old passes.old (R.log ruler.old)) (state tree.new tally.new passes.new (R.log ruler.new)) }
-    ensures own { IfOk result (λ sizes. Keeps id (inline_query false reps.now) (state tree.old tally.old passes.old (R.log ruler.old)) (state tree.new tally.new passes.new (R.log ruler.new)) (answer.Sizes sizes.0 sizes.1)) }
+    ensures walked { OnOk result
+        (Walked id (inline_query false reps.now)
+        (state tree.old tally.old passes.old (R.log ruler.old))
+        (state tree.new tally.new passes.new (R.log ruler.new))) }
+    ensures stopped { OnErr result
+        (Stopped id (inline_query false reps.now)
+        (state tree.old tally.old passes.old (R.log ruler.old))
+        (state tree.new tally.new passes.new (R.log ruler.new))) }
+    ensures found { Found id (inline_query false reps.now)
+        (state tree.old tally.old passes.old (R.log ruler.old))
+        (state tree.new tally.new passes.new (R.log ruler.new)) }
+    ensures own { IfOk result
+        (λ sizes. Keeps id (inline_query false reps.now)
+        (state tree.old tally.old passes.old (R.log ruler.old))
+        (state tree.new tally.new passes.new (R.log ruler.new)) (answer.Sizes sizes.0 sizes.1)) }
 {
     if let Some(sizes) = kept_sizes(tree, id, reps) {
         return Ok(sizes);
@@ -72,12 +85,25 @@ pub fn lend_columns<R: Ruler, L: Ledger>(
     requires right { IsRight tree.old.tree }
     requires readable { AreReadable (bare tree.old.tree) }
     requires fits { Fits (sight_at (bare tree.old.tree) id) (inline_query true reps.now) }
-    ensures value { IfOk result (λ items. lent_items items ≡ answer_of (sight_at (bare tree.old.tree) id) (inline_query true reps.now)) }
+    ensures value { IfOk result
+        (λ items. lent_items items ≡
+        answer_of (sight_at (bare tree.old.tree) id) (inline_query true reps.now)) }
     ensures right { IsRight tree.new.tree }
-    ensures walked { OnOk result (Walked id (inline_query true reps.now) (state tree.old tally.old passes.old (R.log ruler.old)) (state tree.new tally.new passes.new (R.log ruler.new))) }
-    ensures stopped { OnErr result (Stopped id (inline_query true reps.now) (state tree.old tally.old passes.old (R.log ruler.old)) (state tree.new tally.new passes.new (R.log ruler.new))) }
-    ensures found { Found id (inline_query true reps.now) (state tree.old tally.old passes.old (R.log ruler.old)) (state tree.new tally.new passes.new (R.log ruler.new)) }
-    ensures own { IfOk result (λ items. Keeps id (inline_query true reps.now) (state tree.old tally.old passes.old (R.log ruler.old)) (state tree.new tally.new passes.new (R.log ruler.new)) (answer.Lent items)) }
+    ensures walked { OnOk result
+        (Walked id (inline_query true reps.now)
+        (state tree.old tally.old passes.old (R.log ruler.old))
+        (state tree.new tally.new passes.new (R.log ruler.new))) }
+    ensures stopped { OnErr result
+        (Stopped id (inline_query true reps.now)
+        (state tree.old tally.old passes.old (R.log ruler.old))
+        (state tree.new tally.new passes.new (R.log ruler.new))) }
+    ensures found { Found id (inline_query true reps.now)
+        (state tree.old tally.old passes.old (R.log ruler.old))
+        (state tree.new tally.new passes.new (R.log ruler.new)) }
+    ensures own { IfOk result
+        (λ items. Keeps id (inline_query true reps.now)
+        (state tree.old tally.old passes.old (R.log ruler.old))
+        (state tree.new tally.new passes.new (R.log ruler.new)) (answer.Lent items)) }
 {
     if let Some(items) = kept_items(tree, id, reps) {
         return Sequence::from_slice(alloc, items.as_slice());

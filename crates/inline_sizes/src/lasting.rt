@@ -114,8 +114,15 @@ fn same_with_base<const AXIS: u8>(
 ) -> Result<bool, NoMemory>
     requires input { CanSize AXIS input.now.style.now input.now.tracks input.now.items.now }
     requires base { pos 0 ≤ℤ base }
-    ensures rules { IfOk result (λ same. same ≡ true → rules.now ≡ axis_rules (Some base) (grid_at AXIS input.now.style.now) (written (grid_at AXIS input.now.style.now).template input.now.count) input.now.spans.now (tracks_of input.now.tracks)) }
-    ensures gap { IfOk result (λ same. same ≡ true → gap ≡ gap_by (Some base) (pos 0) (grid_at AXIS input.now.style.now).gap) }
+    ensures rules { IfOk result
+        (λ same. same ≡ true →
+        rules.now ≡
+        axis_rules (Some base) (grid_at AXIS input.now.style.now)
+        (written (grid_at AXIS input.now.style.now).template input.now.count)
+        input.now.spans.now (tracks_of input.now.tracks)) }
+    ensures gap { IfOk result
+        (λ same. same ≡ true →
+        gap ≡ gap_by (Some base) (pos 0) (grid_at AXIS input.now.style.now).gap) }
 {
     let base = Some(base);
     if gap_for::<AXIS>(input.style, &base).units() != gap.units() {
@@ -139,8 +146,15 @@ fn lasts<const AXIS: u8>(
     ensures low { IfOk result (λ lasts. lasts ≡ true → pos 0 ≤ℤ clamp total) }
     ensures same { IfOk result (λ lasts. lasts ≡ true → clamp total ≡ total) }
     ensures high { IfOk result (λ lasts. lasts ≡ true → total ≤ℤ top) }
-    ensures rules { IfOk result (λ lasts. lasts ≡ true → rules.now ≡ axis_rules (Some (clamp total)) (grid_at AXIS input.now.style.now) (written (grid_at AXIS input.now.style.now).template input.now.count) input.now.spans.now (tracks_of input.now.tracks)) }
-    ensures gap { IfOk result (λ lasts. lasts ≡ true → gap ≡ gap_by (Some (clamp total)) (pos 0) (grid_at AXIS input.now.style.now).gap) }
+    ensures rules { IfOk result
+        (λ lasts. lasts ≡ true →
+        rules.now ≡
+        axis_rules (Some (clamp total)) (grid_at AXIS input.now.style.now)
+        (written (grid_at AXIS input.now.style.now).template input.now.count)
+        input.now.spans.now (tracks_of input.now.tracks)) }
+    ensures gap { IfOk result
+        (λ lasts. lasts ≡ true →
+        gap ≡ gap_by (Some (clamp total)) (pos 0) (grid_at AXIS input.now.style.now).gap) }
 {
     if !lasting {
         return Ok(false);
@@ -165,8 +179,18 @@ fn lasting_sizes<const AXIS: u8, L: Ledger>(
     requires counted { length rules.now ≡ track_count input.now.tracks }
     requires few { track_count input.now.tracks < 2 ^ 32 }
     requires gap { pos 0 ≤ℤ gap }
-    ensures value { IfOk result (λ made. made.0 ≡ track_sizes rules.now input.now.tracks.start input.now.items.now (fit_in {axis = AXIS} (content_of input.now.style.now).border_box (grid_at AXIS input.now.style.now) (content_at AXIS input.now.style.now) MaxContent gap)) }
-    ensures lasting { IfOk result (λ made. made.1 ≡ true → DoLast rules.now input.now.tracks.start input.now.items.now (fit_in {axis = AXIS} (content_of input.now.style.now).border_box (grid_at AXIS input.now.style.now) (content_at AXIS input.now.style.now) MaxContent gap) made.0) }
+    ensures value { IfOk result
+        (λ made. made.0 ≡
+        track_sizes rules.now input.now.tracks.start input.now.items.now
+        (fit_in {axis = AXIS} (content_of input.now.style.now).border_box
+        (grid_at AXIS input.now.style.now) (content_at AXIS input.now.style.now)
+        MaxContent gap)) }
+    ensures lasting { IfOk result
+        (λ made. made.1 ≡ true →
+        DoLast rules.now input.now.tracks.start input.now.items.now
+        (fit_in {axis = AXIS} (content_of input.now.style.now).border_box
+        (grid_at AXIS input.now.style.now) (content_at AXIS input.now.style.now)
+        MaxContent gap) made.0) }
     ensures counted { IfOk result (λ made. length made.0 ≡ length rules.now) }
     ensures step { passes.new ≡ passes.old + 1 }
 {
@@ -184,8 +208,18 @@ pub fn lasting_for<const AXIS: u8, L: Ledger>(
     passes: &mut Steps<L>,
 ) -> Result<LastingTracks, NoMemory>
     requires { CanSize AXIS input.now.style.now input.now.tracks input.now.items.now }
-    ensures total { IfOk result (λ made. made.total ≡ total_for {axis = AXIS} (track_axis AXIS input.now.style.now input.now.count input.now.spans.now input.now.tracks input.now.items.now) MaxContent) }
-    ensures lasting { IfOk result (λ made. made.lasting ≡ true → sized_of made.tracks ≡ sized_for {axis = AXIS} (track_axis AXIS input.now.style.now input.now.count input.now.spans.now input.now.tracks input.now.items.now) (Definite made.total) (Some made.total)) }
+    ensures total { IfOk result
+        (λ made. made.total ≡
+        total_for {axis = AXIS}
+        (track_axis AXIS input.now.style.now input.now.count input.now.spans.now
+        input.now.tracks input.now.items.now) MaxContent) }
+    ensures lasting { IfOk result
+        (λ made. made.lasting ≡ true →
+        sized_of made.tracks ≡
+        sized_for {axis = AXIS}
+        (track_axis AXIS input.now.style.now input.now.count input.now.spans.now
+        input.now.tracks input.now.items.now) (Definite made.total)
+        (Some made.total)) }
     ensures some { IfOk result (λ made. made.lasting ≡ true → pos 0 ≤ℤ made.total) }
     ensures counted { IfOk result (λ made. IsCounted input.now.tracks made.tracks) }
     ensures step { OnOk result (passes.new ≡ passes.old + 1) }

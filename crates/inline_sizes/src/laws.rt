@@ -22,7 +22,8 @@ use placing::Node;
 pub fn lent_items_stay_inside(level: &Level, outer: &[Level], span: Span)
     requires lifted { IsLifted outer.now level.now.span }
     requires inside { IsInside level.now span }
-    ensures covered { IsCovered (lifted outer.now level.now.span) (lifted (level.now ∷ outer.now) span) }
+    ensures covered { IsCovered (lifted outer.now level.now.span)
+        (lifted (level.now ∷ outer.now) span) }
     ensures lifted { IsLifted (level.now ∷ outer.now) span }
 {}
 
@@ -39,8 +40,11 @@ fn stands(tree: &Arena<Node>) -> NodeId
 /// tracks. The function does next to nothing: the law is its contract.
 pub fn items_lie_in_their_tracks(tree: &Arena<Node>, id: NodeId)
     requires { AreReadable (bare tree.now.tree) }
-    ensures items { (outer : List Pair) (width : Given) → HasItemsInTracks (sight_at (bare tree.now.tree) id) (grid_seen (bare tree.now.tree) id outer width) }
-    ensures lines { (reps : List Pair) → HasLines (context_at (sight_at (bare tree.now.tree) id) reps) }
+    ensures items { (outer : List Pair) (width : Given) →
+        HasItemsInTracks (sight_at (bare tree.now.tree) id)
+        (grid_seen (bare tree.now.tree) id outer width) }
+    ensures lines { (reps : List Pair) →
+        HasLines (context_at (sight_at (bare tree.now.tree) id) reps) }
 {
     stands(tree);
 }

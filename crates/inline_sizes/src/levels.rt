@@ -64,7 +64,8 @@ pub fn extra_margins(levels: &[Level], span: Span) -> Wide
 
 /// The size of the item that stands for a subgrid under these levels: its own margins, borders and paddings with its extra margins.
 fn empty_size(level: &Level, outer: &[Level]) -> Lu
-    ensures { result ≡ clamp (level.now.before +ℤ level.now.after +ℤ extra_margins outer.now level.now.span) }
+    ensures { result ≡
+        clamp (level.now.before +ℤ level.now.after +ℤ extra_margins outer.now level.now.span) }
 {
     let extra = extra_margins(outer, level.span);
     (level.before.wide() + level.after.wide() + extra).clamp()
@@ -88,7 +89,8 @@ fn standing_item(level: &Level, outer: &[Level]) -> Item
 /// rule); `None` exactly where there are no levels, since a grid that sizes its tracks itself lends nothing.
 pub fn empty_item(levels: &[Level]) -> Option<Item>
     requires { IsSelfLifted levels.now }
-    ensures { MatchOption result (empty_item levels.now ≡ []) (λ item. empty_item levels.now ≡ item ∷ []) }
+    ensures { MatchOption result (empty_item levels.now ≡ [])
+        (λ item. empty_item levels.now ≡ item ∷ []) }
 {
     match levels.split_first() {
         Some((level, outer)) => Some(standing_item(level, outer)),

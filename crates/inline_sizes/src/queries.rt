@@ -37,10 +37,17 @@ pub fn inline_query(alloc: Global, shared: bool, reps: &[(u32, u32)]) -> Result<
 pub(crate) fn kept_sizes(tree: &Arena<Node>, id: NodeId, reps: &[(u32, u32)]) -> Option<(Lu, Lu)>
     requires live { IsLive (bare tree.now.tree) id }
     requires right { IsRight tree.now.tree }
-    ensures kept { MatchOption result (answer_to (inline_query false reps.now) (kept_at tree.now.tree id) ≡ None) (λ sizes. answer_to (inline_query false reps.now) (kept_at tree.now.tree id) ≡ Some (answer.Sizes sizes.0 sizes.1)) }
-    ensures value { IfSome result (λ sizes. inline_sizes sizes ≡ answer_of (sight_at (bare tree.now.tree) id) (inline_query false reps.now)) }
-    ensures absent { IfNone result (IsAbsent (inline_query false reps.now) (kept_at tree.now.tree id)) }
-    ensures start { (s : State) → s.arena ≡ tree.now → WalkedBelow id (inline_query false reps.now) 0 s s }
+    ensures kept { MatchOption result
+        (answer_to (inline_query false reps.now) (kept_at tree.now.tree id) ≡ None)
+        (λ sizes. answer_to (inline_query false reps.now) (kept_at tree.now.tree id) ≡
+        Some (answer.Sizes sizes.0 sizes.1)) }
+    ensures value { IfSome result
+        (λ sizes. inline_sizes sizes ≡
+        answer_of (sight_at (bare tree.now.tree) id) (inline_query false reps.now)) }
+    ensures absent { IfNone result
+        (IsAbsent (inline_query false reps.now) (kept_at tree.now.tree id)) }
+    ensures start { (s : State) → s.arena ≡ tree.now →
+        WalkedBelow id (inline_query false reps.now) 0 s s }
     ensures found { (s : State) → s.arena ≡ tree.now → Walked id (inline_query false reps.now) s s }
 {
     match find_by(tree, id, Ask::Inline, reps, &Given::None, &Given::None) {
@@ -58,10 +65,17 @@ pub(crate) fn kept_items<'a>(
 ) -> Option<&'a Sequence<Item>>
     requires live { IsLive (bare tree.now.tree) id }
     requires right { IsRight tree.now.tree }
-    ensures kept { MatchOption result (answer_to (inline_query true reps.now) (kept_at tree.now.tree id) ≡ None) (λ items. answer_to (inline_query true reps.now) (kept_at tree.now.tree id) ≡ Some (answer.Lent items.now)) }
-    ensures value { IfSome result (λ items. lent_items items.now ≡ answer_of (sight_at (bare tree.now.tree) id) (inline_query true reps.now)) }
-    ensures absent { IfNone result (IsAbsent (inline_query true reps.now) (kept_at tree.now.tree id)) }
-    ensures start { (s : State) → s.arena ≡ tree.now → WalkedBelow id (inline_query true reps.now) 0 s s }
+    ensures kept { MatchOption result
+        (answer_to (inline_query true reps.now) (kept_at tree.now.tree id) ≡ None)
+        (λ items. answer_to (inline_query true reps.now) (kept_at tree.now.tree id) ≡
+        Some (answer.Lent items.now)) }
+    ensures value { IfSome result
+        (λ items. lent_items items.now ≡
+        answer_of (sight_at (bare tree.now.tree) id) (inline_query true reps.now)) }
+    ensures absent { IfNone result
+        (IsAbsent (inline_query true reps.now) (kept_at tree.now.tree id)) }
+    ensures start { (s : State) → s.arena ≡ tree.now →
+        WalkedBelow id (inline_query true reps.now) 0 s s }
     ensures found { (s : State) → s.arena ≡ tree.now → Walked id (inline_query true reps.now) s s }
 {
     match find_by(tree, id, Ask::LendColumns, reps, &Given::None, &Given::None) {

@@ -26,7 +26,9 @@ use style_types::{Align, Style};
 /// The declared sizes of a node along an axis, where percentages are of this size; without one they are none (own rule).
 pub fn bounds_of<const AXIS: u8>(style: &Style, base: Option<Lu>) -> Bounds
     requires { IsGridAxis (grid_at AXIS style.now) }
-    ensures { result ≡ bounds_of base (content_of style.now).border_box (grid_at AXIS style.now) (content_at AXIS style.now) }
+    ensures { result ≡
+        bounds_of base (content_of style.now).border_box (grid_at AXIS style.now)
+        (content_at AXIS style.now) }
 {
     Bounds::of(
         is_border_box(style),
@@ -40,14 +42,19 @@ pub fn bounds_of<const AXIS: u8>(style: &Style, base: Option<Lu>) -> Bounds
 
 /// Whether neither margin is `auto`.
 fn has_margins<const AXIS: u8>(style: &Style) -> bool
-    ensures { result ≡ is_some (grid_at AXIS style.now).margin_start && is_some (grid_at AXIS style.now).margin_end }
+    ensures { result ≡
+        is_some (grid_at AXIS style.now).margin_start &&
+        is_some (grid_at AXIS style.now).margin_end }
 {
     margin_start::<AXIS>(style).is_some() && margin_end::<AXIS>(style).is_some()
 }
 
 /// Whether the size is `auto`, and neither margin is.
 fn is_open<const AXIS: u8>(style: &Style) -> bool
-    ensures { result ≡ is_auto (content_at AXIS style.now).size && (is_some (grid_at AXIS style.now).margin_start && is_some (grid_at AXIS style.now).margin_end) }
+    ensures { result ≡
+        is_auto (content_at AXIS style.now).size &&
+        (is_some (grid_at AXIS style.now).margin_start &&
+        is_some (grid_at AXIS style.now).margin_end) }
 {
     is_auto(&size::<AXIS>(style)) && has_margins::<AXIS>(style)
 }
@@ -65,7 +72,9 @@ pub fn is_stretched<const AXIS: u8>(align: &Align, style: &Style) -> bool
 fn item_of<const AXIS: u8>(style: &Style, span: Span, margins: Wide, content: (Lu, Lu)) -> Item
     requires axis { IsGridAxis (grid_at AXIS style.now) }
     requires margins { IsSum margins }
-    ensures { result ≡ item_of (content_of style.now).border_box (content_of style.now).scrolls (grid_at AXIS style.now) (content_at AXIS style.now) span margins content }
+    ensures { result ≡
+        item_of (content_of style.now).border_box (content_of style.now).scrolls
+        (grid_at AXIS style.now) (content_at AXIS style.now) span margins content }
 {
     let bounds = bounds_of::<AXIS>(style, None);
     let least = least::<AXIS>(style);
@@ -91,7 +100,9 @@ fn all_margins<const AXIS: u8>(levels: &[Level], style: &Style, span: Span) -> W
 /// A plain child of a grid that sizes the tracks itself as an item of it.
 fn plain_child<const AXIS: u8>(style: &Style, span: Span, content: (Lu, Lu)) -> Item
     requires { IsPlain (grid_at AXIS style.now) (content_at AXIS style.now) }
-    ensures { result ≡ child_item [] (content_of style.now).border_box (content_of style.now).scrolls (grid_at AXIS style.now) (content_at AXIS style.now) span content }
+    ensures { result ≡
+        child_item [] (content_of style.now).border_box (content_of style.now).scrolls
+        (grid_at AXIS style.now) (content_at AXIS style.now) span content }
 {
     plain_item(scrolls(style), span, content)
 }
@@ -106,7 +117,9 @@ pub fn child_item<const AXIS: u8>(
 ) -> Item
     requires axis { IsGridAxis (grid_at AXIS style.now) }
     requires lifted { IsLifted levels.now span }
-    ensures { result ≡ child_item levels.now (content_of style.now).border_box (content_of style.now).scrolls (grid_at AXIS style.now) (content_at AXIS style.now) span content }
+    ensures { result ≡
+        child_item levels.now (content_of style.now).border_box (content_of style.now).scrolls
+        (grid_at AXIS style.now) (content_at AXIS style.now) span content }
 {
     if levels.is_empty() && is_plain::<AXIS>(style) {
         return plain_child::<AXIS>(style, span, content);

@@ -56,7 +56,9 @@ pub struct SizedTracks {
 /// What the tracks of an axis are sized for: the declared minimum and maximum count where they are lengths, as content sizes.
 pub(crate) fn fit_for<const AXIS: u8>(style: &Style, space: Space<AXIS>, gap: Lu) -> Fit<AXIS>
     requires { IsGridAxis (grid_at AXIS style.now) }
-    ensures { result ≡ fit_in (content_of style.now).border_box (grid_at AXIS style.now) (content_at AXIS style.now) space.entry gap }
+    ensures { result ≡
+        fit_in (content_of style.now).border_box (grid_at AXIS style.now)
+        (content_at AXIS style.now) space.entry gap }
 {
     let bounds = bounds_of::<AXIS>(style, None);
     Fit {
@@ -89,7 +91,11 @@ pub(crate) fn rules_for<const AXIS: u8>(
     requires axis { IsGridAxis (grid_at AXIS input.now.style.now) }
     requires near { IsNear input.now.tracks }
     requires base { IsBase base }
-    ensures value { IfOk result (λ rules. rules ≡ axis_rules base (grid_at AXIS input.now.style.now) (written (grid_at AXIS input.now.style.now).template input.now.count) input.now.spans.now (tracks_of input.now.tracks)) }
+    ensures value { IfOk result
+        (λ rules. rules ≡
+        axis_rules base (grid_at AXIS input.now.style.now)
+        (written (grid_at AXIS input.now.style.now).template input.now.count)
+        input.now.spans.now (tracks_of input.now.tracks)) }
     ensures fixed { IfOk result (λ rules. HaveFixed rules) }
     ensures counted { IfOk result (λ rules. length rules ≡ track_count input.now.tracks) }
     ensures few { track_count input.now.tracks < 2 ^ 32 }
@@ -120,7 +126,12 @@ fn sizes_for<const AXIS: u8, L: Ledger>(
     requires counted { length rules.now ≡ track_count input.now.tracks }
     requires few { track_count input.now.tracks < 2 ^ 32 }
     requires gap { pos 0 ≤ℤ gap }
-    ensures value { IfOk result (λ sizes. sizes ≡ track_sizes rules.now input.now.tracks.start input.now.items.now (fit_in (content_of input.now.style.now).border_box (grid_at AXIS input.now.style.now) (content_at AXIS input.now.style.now) space.entry gap)) }
+    ensures value { IfOk result
+        (λ sizes. sizes ≡
+        track_sizes rules.now input.now.tracks.start input.now.items.now
+        (fit_in (content_of input.now.style.now).border_box
+        (grid_at AXIS input.now.style.now) (content_at AXIS input.now.style.now)
+        space.entry gap)) }
     ensures counted { IfOk result (λ sizes. length sizes ≡ length rules.now) }
     ensures step { passes.new ≡ passes.old + 1 }
 {
@@ -142,7 +153,11 @@ pub fn sized_for<const AXIS: u8, L: Ledger>(
     requires input { CanSize AXIS input.now.style.now input.now.tracks input.now.items.now }
     requires space { IsKnownSpace space }
     requires base { IsBase base }
-    ensures value { IfOk result (λ sized. sized_of sized ≡ sized_for (track_axis AXIS input.now.style.now input.now.count input.now.spans.now input.now.tracks input.now.items.now) space.entry base) }
+    ensures value { IfOk result
+        (λ sized. sized_of sized ≡
+        sized_for
+        (track_axis AXIS input.now.style.now input.now.count input.now.spans.now
+        input.now.tracks input.now.items.now) space.entry base) }
     ensures counted { IfOk result (IsCounted input.now.tracks) }
     ensures step { OnOk result (passes.new ≡ passes.old + 1) }
     ensures stopped { OnErr result ((passes.old ≤ passes.new) × (passes.new ≤ passes.old + 1)) }
@@ -163,7 +178,11 @@ pub fn total_for<const AXIS: u8, L: Ledger>(
 ) -> Result<Lu, NoMemory>
     requires input { CanSize AXIS input.now.style.now input.now.tracks input.now.items.now }
     requires space { IsKnownSpace space }
-    ensures value { IfOk result (λ total. total ≡ total_for (track_axis AXIS input.now.style.now input.now.count input.now.spans.now input.now.tracks input.now.items.now) space.entry) }
+    ensures value { IfOk result
+        (λ total. total ≡
+        total_for
+        (track_axis AXIS input.now.style.now input.now.count input.now.spans.now
+        input.now.tracks input.now.items.now) space.entry) }
     ensures step { OnOk result (passes.new ≡ passes.old + 1) }
     ensures stopped { OnErr result ((passes.old ≤ passes.new) × (passes.new ≤ passes.old + 1)) }
 {
@@ -179,7 +198,11 @@ pub fn intrinsic_totals<L: Ledger>(
     passes: &mut Steps<L>,
 ) -> Result<(Lu, Lu), NoMemory>
     requires { CanSize 0 input.now.style.now input.now.tracks input.now.items.now }
-    ensures value { IfOk result (λ sizes. sizes ≡ intrinsic_totals (track_axis 0 input.now.style.now input.now.count input.now.spans.now input.now.tracks input.now.items.now)) }
+    ensures value { IfOk result
+        (λ sizes. sizes ≡
+        intrinsic_totals
+        (track_axis 0 input.now.style.now input.now.count input.now.spans.now
+        input.now.tracks input.now.items.now)) }
     ensures step { OnOk result (passes.new ≡ passes.old + 2) }
     ensures stopped { OnErr result ((passes.old ≤ passes.new) × (passes.new ≤ passes.old + 2)) }
 {

@@ -29,7 +29,9 @@ fn gap_in<const AXIS: u8>(
     requires start { pos 0 ≤ℤ span.start }
     requires order { span.start ≤ℤ span.end }
     requires end { span.end ≤ℤ pos (length edges.now) }
-    ensures { result ≡ gap_by (Some (content_size (tracks_over edges.now span) sides.0 sides.1)) outer_gap (grid_at AXIS style.now).gap }
+    ensures { result ≡
+        gap_by (Some (content_size (tracks_over edges.now span) sides.0 sides.1)) outer_gap
+        (grid_at AXIS style.now).gap }
 {
     let content = content_size(tracks_over(edges, span), sides.0, sides.1);
     gap_by(&Some(content), outer_gap, &gap::<AXIS>(style))

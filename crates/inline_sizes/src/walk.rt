@@ -62,7 +62,8 @@ fn is_leaf(kind: &NodeKind) -> bool
 /// A node that sees a grid above it is a grid itself. The function does next to nothing: the law is its contract.
 fn subgrids_are_grids(tree: &Arena<Node>, id: NodeId)
     requires { IsLive (bare tree.now.tree) id }
-    ensures { has_chain (sight_at (bare tree.now.tree) id).chain ≡ true → (sight_at (bare tree.now.tree) id).label.kind ≡ kind.Grid }
+    ensures { has_chain (sight_at (bare tree.now.tree) id).chain ≡ true →
+        (sight_at (bare tree.now.tree) id).label.kind ≡ kind.Grid }
 {
     parent(tree, id);
 }
@@ -88,10 +89,17 @@ fn ask_shared<R: Ruler, L: Ledger>(
     requires laid { IsLaid (bare tree.old.tree) id base.now }
     requires entry { IsEntry (bare tree.old.tree) id base.now entry }
     requires shared { shares_columns (kid_at (bare tree.old.tree) entry.child) ≡ true }
-    ensures items { OnOk result (items.new ≡ items.old ++ items_seen (bare tree.old.tree) id base.now entry) }
+    ensures items { OnOk result
+        (items.new ≡ items.old ++ items_seen (bare tree.old.tree) id base.now entry) }
     ensures right { IsRight tree.new.tree }
-    ensures walked { OnOk result (Walked entry.child (asked_of (bare tree.old.tree) base.now entry) (state tree.old tally.old passes.old (R.log ruler.old)) (state tree.new tally.new passes.new (R.log ruler.new))) }
-    ensures stopped { OnErr result (Stopped entry.child (asked_of (bare tree.old.tree) base.now entry) (state tree.old tally.old passes.old (R.log ruler.old)) (state tree.new tally.new passes.new (R.log ruler.new))) }
+    ensures walked { OnOk result
+        (Walked entry.child (asked_of (bare tree.old.tree) base.now entry)
+        (state tree.old tally.old passes.old (R.log ruler.old))
+        (state tree.new tally.new passes.new (R.log ruler.new))) }
+    ensures stopped { OnErr result
+        (Stopped entry.child (asked_of (bare tree.old.tree) base.now entry)
+        (state tree.old tally.old passes.old (R.log ruler.old))
+        (state tree.new tally.new passes.new (R.log ruler.new))) }
 {
     let reps = base.pairs.as_slice();
     let lent = lend_columns_at(
@@ -125,10 +133,16 @@ fn ask_alone<R: Ruler, L: Ledger>(
     requires readable { AreReadable (bare tree.old.tree) }
     requires fits { Fits (sight_at (bare tree.old.tree) id) (inline_query false []) }
     requires seat { IsSeat (sight_at (bare tree.old.tree) id) [] over.Nothing area }
-    ensures value { IfOk result (λ sizes. inline_sizes sizes ≡ answer_of (sight_at (bare tree.old.tree) id) (inline_query false [])) }
+    ensures value { IfOk result
+        (λ sizes. inline_sizes sizes ≡
+        answer_of (sight_at (bare tree.old.tree) id) (inline_query false [])) }
     ensures right { IsRight tree.new.tree }
-    ensures walked { OnOk result (Walked id (inline_query false []) (state tree.old tally.old passes.old (R.log ruler.old)) (state tree.new tally.new passes.new (R.log ruler.new))) }
-    ensures stopped { OnErr result (Stopped id (inline_query false []) (state tree.old tally.old passes.old (R.log ruler.old)) (state tree.new tally.new passes.new (R.log ruler.new))) }
+    ensures walked { OnOk result
+        (Walked id (inline_query false []) (state tree.old tally.old passes.old (R.log ruler.old))
+        (state tree.new tally.new passes.new (R.log ruler.new))) }
+    ensures stopped { OnErr result
+        (Stopped id (inline_query false []) (state tree.old tally.old passes.old (R.log ruler.old))
+        (state tree.new tally.new passes.new (R.log ruler.new))) }
 {
     inline_at(
         alloc,
@@ -163,8 +177,14 @@ fn ask_sizes<R: Ruler, L: Ledger>(
     requires own { shares_columns (kid_at (bare tree.old.tree) entry.child) ≡ false }
     ensures sizes { IfOk result (λ sizes. sizes ≡ sizes_seen (bare tree.old.tree) base.now entry) }
     ensures right { IsRight tree.new.tree }
-    ensures walked { OnOk result (Walked entry.child (asked_of (bare tree.old.tree) base.now entry) (state tree.old tally.old passes.old (R.log ruler.old)) (state tree.new tally.new passes.new (R.log ruler.new))) }
-    ensures stopped { OnErr result (Stopped entry.child (asked_of (bare tree.old.tree) base.now entry) (state tree.old tally.old passes.old (R.log ruler.old)) (state tree.new tally.new passes.new (R.log ruler.new))) }
+    ensures walked { OnOk result
+        (Walked entry.child (asked_of (bare tree.old.tree) base.now entry)
+        (state tree.old tally.old passes.old (R.log ruler.old))
+        (state tree.new tally.new passes.new (R.log ruler.new))) }
+    ensures stopped { OnErr result
+        (Stopped entry.child (asked_of (bare tree.old.tree) base.now entry)
+        (state tree.old tally.old passes.old (R.log ruler.old))
+        (state tree.new tally.new passes.new (R.log ruler.new))) }
 {
     let id = entry.child;
     if has_subgrid(node_at(tree, id)) {
@@ -207,10 +227,17 @@ fn ask_child<R: Ruler, L: Ledger>(
     requires laid { IsLaid (bare tree.old.tree) id base.now }
     requires entry { IsEntry (bare tree.old.tree) id base.now entry }
     ensures sizes { IfOk result (λ sizes. sizes ≡ sizes_seen (bare tree.old.tree) base.now entry) }
-    ensures items { OnOk result (items.new ≡ items.old ++ items_seen (bare tree.old.tree) id base.now entry) }
+    ensures items { OnOk result
+        (items.new ≡ items.old ++ items_seen (bare tree.old.tree) id base.now entry) }
     ensures right { IsRight tree.new.tree }
-    ensures walked { OnOk result (Walked entry.child (asked_of (bare tree.old.tree) base.now entry) (state tree.old tally.old passes.old (R.log ruler.old)) (state tree.new tally.new passes.new (R.log ruler.new))) }
-    ensures stopped { OnErr result (Stopped entry.child (asked_of (bare tree.old.tree) base.now entry) (state tree.old tally.old passes.old (R.log ruler.old)) (state tree.new tally.new passes.new (R.log ruler.new))) }
+    ensures walked { OnOk result
+        (Walked entry.child (asked_of (bare tree.old.tree) base.now entry)
+        (state tree.old tally.old passes.old (R.log ruler.old))
+        (state tree.new tally.new passes.new (R.log ruler.new))) }
+    ensures stopped { OnErr result
+        (Stopped entry.child (asked_of (bare tree.old.tree) base.now entry)
+        (state tree.old tally.old passes.old (R.log ruler.old))
+        (state tree.new tally.new passes.new (R.log ruler.new))) }
 {
     if shares_columns(tree, entry.child) {
         ask_shared(alloc, tree, id, base, entry, items, ruler, tally, passes)?;
@@ -237,10 +264,17 @@ fn ask_children<R: Ruler, L: Ledger>(
     requires readable { AreReadable (bare tree.old.tree) }
     requires grid { (sight_at (bare tree.old.tree) id).label.kind ≡ kind.Grid }
     requires laid { IsLaid (bare tree.old.tree) id base.now }
-    ensures told { IfOk result (λ told. HaveTold (bare tree.old.tree) id base.now Each told.0 told.1 told.2) }
+    ensures told { IfOk result
+        (λ told. HaveTold (bare tree.old.tree) id base.now Each told.0 told.1 told.2) }
     ensures right { IsRight tree.new.tree }
-    ensures below { OnOk result ((q : Query) → LeadsOn (bare tree.old.tree) id base.now q → WalkedBelow id q 0 (state tree.old tally.old passes.old (R.log ruler.old)) (state tree.new tally.new passes.new (R.log ruler.new))) }
-    ensures stopped { OnErr result ((q : Query) → LeadsOn (bare tree.old.tree) id base.now q → Stopped id q (state tree.old tally.old passes.old (R.log ruler.old)) (state tree.new tally.new passes.new (R.log ruler.new))) }
+    ensures below { OnOk result
+        ((q : Query) → LeadsOn (bare tree.old.tree) id base.now q →
+        WalkedBelow id q 0 (state tree.old tally.old passes.old (R.log ruler.old))
+        (state tree.new tally.new passes.new (R.log ruler.new))) }
+    ensures stopped { OnErr result
+        ((q : Query) → LeadsOn (bare tree.old.tree) id base.now q →
+        Stopped id q (state tree.old tally.old passes.old (R.log ruler.old))
+        (state tree.new tally.new passes.new (R.log ruler.new))) }
 {
     root(tree);
     items_lie_in_their_tracks(tree, id);
@@ -280,11 +314,19 @@ fn ask_stale<R: Ruler, L: Ledger>(
     requires grid { (sight_at (bare tree.old.tree) id).label.kind ≡ kind.Grid }
     requires laid { IsLaid (bare tree.old.tree) id base.now }
     requires stale { All (λ k. k < length base.now.placed.areas) stale.now }
-    requires told { HaveTold (bare tree.old.tree) id base.now (AllBut stale.now) inlines.old items.old ends.old }
-    ensures told { OnOk result (HaveTold (bare tree.old.tree) id base.now Each inlines.new items.new ends.new) }
+    requires told { HaveTold (bare tree.old.tree) id base.now (AllBut stale.now) inlines.old
+        items.old ends.old }
+    ensures told { OnOk result
+        (HaveTold (bare tree.old.tree) id base.now Each inlines.new items.new ends.new) }
     ensures right { IsRight tree.new.tree }
-    ensures below { OnOk result ((q : Query) → LeadsOn (bare tree.old.tree) id base.now q → WalkedBelow id q 0 (state tree.old tally.old passes.old (R.log ruler.old)) (state tree.new tally.new passes.new (R.log ruler.new))) }
-    ensures stopped { OnErr result ((q : Query) → LeadsOn (bare tree.old.tree) id base.now q → Stopped id q (state tree.old tally.old passes.old (R.log ruler.old)) (state tree.new tally.new passes.new (R.log ruler.new))) }
+    ensures below { OnOk result
+        ((q : Query) → LeadsOn (bare tree.old.tree) id base.now q →
+        WalkedBelow id q 0 (state tree.old tally.old passes.old (R.log ruler.old))
+        (state tree.new tally.new passes.new (R.log ruler.new))) }
+    ensures stopped { OnErr result
+        ((q : Query) → LeadsOn (bare tree.old.tree) id base.now q →
+        Stopped id q (state tree.old tally.old passes.old (R.log ruler.old))
+        (state tree.new tally.new passes.new (R.log ruler.new))) }
 {
     root(tree);
     items_lie_in_their_tracks(tree, id);
@@ -317,11 +359,19 @@ fn ask_again<R: Ruler, L: Ledger>(
     requires grid { (sight_at (bare tree.old.tree) id).label.kind ≡ kind.Grid }
     requires laid { IsLaid (bare tree.old.tree) id base.now }
     requires stale { All (λ k. k < length base.now.placed.areas) past.stale }
-    requires told { HaveTold (bare tree.old.tree) id base.now (AllBut past.stale) past.told.parts.inlines past.told.parts.items past.told.ends }
-    ensures told { IfOk result (λ told. HaveTold (bare tree.old.tree) id base.now Each told.0 told.1 told.2) }
+    requires told { HaveTold (bare tree.old.tree) id base.now (AllBut past.stale)
+        past.told.parts.inlines past.told.parts.items past.told.ends }
+    ensures told { IfOk result
+        (λ told. HaveTold (bare tree.old.tree) id base.now Each told.0 told.1 told.2) }
     ensures right { IsRight tree.new.tree }
-    ensures below { OnOk result ((q : Query) → LeadsOn (bare tree.old.tree) id base.now q → WalkedBelow id q 0 (state tree.old tally.old passes.old (R.log ruler.old)) (state tree.new tally.new passes.new (R.log ruler.new))) }
-    ensures stopped { OnErr result ((q : Query) → LeadsOn (bare tree.old.tree) id base.now q → Stopped id q (state tree.old tally.old passes.old (R.log ruler.old)) (state tree.new tally.new passes.new (R.log ruler.new))) }
+    ensures below { OnOk result
+        ((q : Query) → LeadsOn (bare tree.old.tree) id base.now q →
+        WalkedBelow id q 0 (state tree.old tally.old passes.old (R.log ruler.old))
+        (state tree.new tally.new passes.new (R.log ruler.new))) }
+    ensures stopped { OnErr result
+        ((q : Query) → LeadsOn (bare tree.old.tree) id base.now q →
+        Stopped id q (state tree.old tally.old passes.old (R.log ruler.old))
+        (state tree.new tally.new passes.new (R.log ruler.new))) }
 {
     let PastColumns { told, stale } = past;
     let ToldColumns { parts, ends } = told;
@@ -367,12 +417,20 @@ fn ask_needed<R: Ruler, L: Ledger>(
     requires readable { AreReadable (bare tree.old.tree) }
     requires grid { (sight_at (bare tree.old.tree) id).label.kind ≡ kind.Grid }
     requires laid { IsLaid (bare tree.old.tree) id base.now }
-    requires places { HoldsPlaces (sight_at (bare tree.old.tree) id) (children_at (bare tree.old.tree) id) base.now }
+    requires places { HoldsPlaces (sight_at (bare tree.old.tree) id)
+        (children_at (bare tree.old.tree) id) base.now }
     requires past { IfSome past (IsPastColumns (bare tree.old.tree) id) }
-    ensures told { IfOk result (λ told. HaveTold (bare tree.old.tree) id base.now Each told.0 told.1 told.2) }
+    ensures told { IfOk result
+        (λ told. HaveTold (bare tree.old.tree) id base.now Each told.0 told.1 told.2) }
     ensures right { IsRight tree.new.tree }
-    ensures below { OnOk result ((q : Query) → LeadsOn (bare tree.old.tree) id base.now q → WalkedBelow id q 0 (state tree.old tally.old passes.old (R.log ruler.old)) (state tree.new tally.new passes.new (R.log ruler.new))) }
-    ensures stopped { OnErr result ((q : Query) → LeadsOn (bare tree.old.tree) id base.now q → Stopped id q (state tree.old tally.old passes.old (R.log ruler.old)) (state tree.new tally.new passes.new (R.log ruler.new))) }
+    ensures below { OnOk result
+        ((q : Query) → LeadsOn (bare tree.old.tree) id base.now q →
+        WalkedBelow id q 0 (state tree.old tally.old passes.old (R.log ruler.old))
+        (state tree.new tally.new passes.new (R.log ruler.new))) }
+    ensures stopped { OnErr result
+        ((q : Query) → LeadsOn (bare tree.old.tree) id base.now q →
+        Stopped id q (state tree.old tally.old passes.old (R.log ruler.old))
+        (state tree.new tally.new passes.new (R.log ruler.new))) }
 {
     let Some(past) = past else {
         return ask_children(alloc, tree, id, base, ruler, tally, passes);
@@ -409,11 +467,19 @@ pub fn grid_at<R: Ruler, L: Ledger>(
     requires seat { IsSeat (sight_at (bare tree.old.tree) id) reps.now above.now area }
     requires width { IsGivenSize width.now }
     requires past { IfSome past (IsPastColumns (bare tree.old.tree) id) }
-    ensures value { IfOk result (λ told. IsGrid (bare tree.old.tree) id reps.now width.now told.parts) }
-    ensures told { IfOk result (AreColumns (sight_at (bare tree.old.tree) id) (kid_at (bare tree.old.tree)) Each) }
+    ensures value { IfOk result
+        (λ told. IsGrid (bare tree.old.tree) id reps.now width.now told.parts) }
+    ensures told { IfOk result
+        (AreColumns (sight_at (bare tree.old.tree) id) (kid_at (bare tree.old.tree)) Each) }
     ensures right { IsRight tree.new.tree }
-    ensures below { OnOk result ((q : Query) → q.reps ≡ reps.now → q.inline ≡ width.now → WalkedBelow id q 0 (state tree.old tally.old passes.old (R.log ruler.old)) (state tree.new tally.new passes.new (R.log ruler.new))) }
-    ensures stopped { OnErr result ((q : Query) → q.reps ≡ reps.now → q.inline ≡ width.now → Stopped id q (state tree.old tally.old passes.old (R.log ruler.old)) (state tree.new tally.new passes.new (R.log ruler.new))) }
+    ensures below { OnOk result
+        ((q : Query) → q.reps ≡ reps.now → q.inline ≡ width.now →
+        WalkedBelow id q 0 (state tree.old tally.old passes.old (R.log ruler.old))
+        (state tree.new tally.new passes.new (R.log ruler.new))) }
+    ensures stopped { OnErr result
+        ((q : Query) → q.reps ≡ reps.now → q.inline ≡ width.now →
+        Stopped id q (state tree.old tally.old passes.old (R.log ruler.old))
+        (state tree.new tally.new passes.new (R.log ruler.new))) }
 {
     root(tree);
     let base = shared_base(alloc, tree, id, reps, above, area, width)?;
@@ -454,8 +520,14 @@ pub fn flex_at<R: Ruler, L: Ledger>(
     requires flex { (sight_at (bare tree.old.tree) id).label.kind ≡ kind.Flex }
     ensures value { IfOk result (λ parts. AreMembers (bare tree.old.tree) id parts.members) }
     ensures right { IsRight tree.new.tree }
-    ensures below { OnOk result ((q : Query) → WalkedBelow id q 0 (state tree.old tally.old passes.old (R.log ruler.old)) (state tree.new tally.new passes.new (R.log ruler.new))) }
-    ensures stopped { OnErr result ((q : Query) → Stopped id q (state tree.old tally.old passes.old (R.log ruler.old)) (state tree.new tally.new passes.new (R.log ruler.new))) }
+    ensures below { OnOk result
+        ((q : Query) →
+        WalkedBelow id q 0 (state tree.old tally.old passes.old (R.log ruler.old))
+        (state tree.new tally.new passes.new (R.log ruler.new))) }
+    ensures stopped { OnErr result
+        ((q : Query) →
+        Stopped id q (state tree.old tally.old passes.old (R.log ruler.old))
+        (state tree.new tally.new passes.new (R.log ruler.new))) }
 {
     let numbers = ordered(alloc, tree, id)?;
     let mut members = with_room(alloc, numbers.len())?;
@@ -504,10 +576,15 @@ fn grid_sizes<R: Ruler, L: Ledger>(
     requires query { query.now ≡ inline_query false query.now.reps }
     requires fits { Fits (sight_at (bare tree.old.tree) id) query.now }
     requires seat { IsSeat (sight_at (bare tree.old.tree) id) query.now.reps above.now area }
-    ensures value { IfOk result (λ sizes. inline_sizes sizes ≡ answer_of (sight_at (bare tree.old.tree) id) query.now) }
+    ensures value { IfOk result
+        (λ sizes. inline_sizes sizes ≡ answer_of (sight_at (bare tree.old.tree) id) query.now) }
     ensures right { IsRight tree.new.tree }
-    ensures below { OnOk result (WalkedBelow id query.now 2 (state tree.old tally.old passes.old (R.log ruler.old)) (state tree.new tally.new passes.new (R.log ruler.new))) }
-    ensures stopped { OnErr result (Stopped id query.now (state tree.old tally.old passes.old (R.log ruler.old)) (state tree.new tally.new passes.new (R.log ruler.new))) }
+    ensures below { OnOk result
+        (WalkedBelow id query.now 2 (state tree.old tally.old passes.old (R.log ruler.old))
+        (state tree.new tally.new passes.new (R.log ruler.new))) }
+    ensures stopped { OnErr result
+        (Stopped id query.now (state tree.old tally.old passes.old (R.log ruler.old))
+        (state tree.new tally.new passes.new (R.log ruler.new))) }
 {
     let past = take_columns(alloc, tree, id)?;
     let reps = query.reps.as_slice();
@@ -550,11 +627,18 @@ fn grid_anew<R: Ruler, L: Ledger>(
     requires fits { Fits (sight_at (bare tree.old.tree) id) query }
     requires absent { IsAbsent query (kept_at tree.old.tree id) }
     requires seat { IsSeat (sight_at (bare tree.old.tree) id) query.reps above.now area }
-    ensures value { IfOk result (λ sizes. inline_sizes sizes ≡ answer_of (sight_at (bare tree.old.tree) id) query) }
+    ensures value { IfOk result
+        (λ sizes. inline_sizes sizes ≡ answer_of (sight_at (bare tree.old.tree) id) query) }
     ensures right { IsRight tree.new.tree }
-    ensures walked { OnOk result (Walked id query (state tree.old tally.old passes.old (R.log ruler.old)) (state tree.new tally.new passes.new (R.log ruler.new))) }
-    ensures stopped { OnErr result (Stopped id query (state tree.old tally.old passes.old (R.log ruler.old)) (state tree.new tally.new passes.new (R.log ruler.new))) }
-    ensures own { IfOk result (λ sizes. kept_at tree.new.tree id ≡ kept_with (kept_at tree.old.tree id) ((query, answer.Sizes sizes.0 sizes.1) ∷ [])) }
+    ensures walked { OnOk result
+        (Walked id query (state tree.old tally.old passes.old (R.log ruler.old))
+        (state tree.new tally.new passes.new (R.log ruler.new))) }
+    ensures stopped { OnErr result
+        (Stopped id query (state tree.old tally.old passes.old (R.log ruler.old))
+        (state tree.new tally.new passes.new (R.log ruler.new))) }
+    ensures own { IfOk result
+        (λ sizes. kept_at tree.new.tree id ≡
+        kept_with (kept_at tree.old.tree id) ((query, answer.Sizes sizes.0 sizes.1) ∷ [])) }
 {
     let (low, high) = grid_sizes(alloc, tree, id, &query, above, area, ruler, tally, passes)?;
     put(tree, id, query, Answer::Sizes(low, high), tally)?;
@@ -579,11 +663,18 @@ fn flex_anew<R: Ruler, L: Ledger>(
     requires query { query ≡ inline_query false query.reps }
     requires fits { Fits (sight_at (bare tree.old.tree) id) query }
     requires absent { IsAbsent query (kept_at tree.old.tree id) }
-    ensures value { IfOk result (λ sizes. inline_sizes sizes ≡ answer_of (sight_at (bare tree.old.tree) id) query) }
+    ensures value { IfOk result
+        (λ sizes. inline_sizes sizes ≡ answer_of (sight_at (bare tree.old.tree) id) query) }
     ensures right { IsRight tree.new.tree }
-    ensures walked { OnOk result (Walked id query (state tree.old tally.old passes.old (R.log ruler.old)) (state tree.new tally.new passes.new (R.log ruler.new))) }
-    ensures stopped { OnErr result (Stopped id query (state tree.old tally.old passes.old (R.log ruler.old)) (state tree.new tally.new passes.new (R.log ruler.new))) }
-    ensures own { IfOk result (λ sizes. kept_at tree.new.tree id ≡ kept_with (kept_at tree.old.tree id) ((query, answer.Sizes sizes.0 sizes.1) ∷ [])) }
+    ensures walked { OnOk result
+        (Walked id query (state tree.old tally.old passes.old (R.log ruler.old))
+        (state tree.new tally.new passes.new (R.log ruler.new))) }
+    ensures stopped { OnErr result
+        (Stopped id query (state tree.old tally.old passes.old (R.log ruler.old))
+        (state tree.new tally.new passes.new (R.log ruler.new))) }
+    ensures own { IfOk result
+        (λ sizes. kept_at tree.new.tree id ≡
+        kept_with (kept_at tree.old.tree id) ((query, answer.Sizes sizes.0 sizes.1) ∷ [])) }
 {
     let parts = flex_at(alloc, tree, id, ruler, tally, passes)?;
     let (low, high) = flex_inline(alloc, tree, id, &parts)?;
@@ -611,11 +702,18 @@ pub(crate) fn sizes_anew<R: Ruler, L: Ledger>(
     requires fits { Fits (sight_at (bare tree.old.tree) id) query }
     requires absent { IsAbsent query (kept_at tree.old.tree id) }
     requires seat { IsSeat (sight_at (bare tree.old.tree) id) query.reps above.now area }
-    ensures value { IfOk result (λ sizes. inline_sizes sizes ≡ answer_of (sight_at (bare tree.old.tree) id) query) }
+    ensures value { IfOk result
+        (λ sizes. inline_sizes sizes ≡ answer_of (sight_at (bare tree.old.tree) id) query) }
     ensures right { IsRight tree.new.tree }
-    ensures walked { OnOk result (Walked id query (state tree.old tally.old passes.old (R.log ruler.old)) (state tree.new tally.new passes.new (R.log ruler.new))) }
-    ensures stopped { OnErr result (Stopped id query (state tree.old tally.old passes.old (R.log ruler.old)) (state tree.new tally.new passes.new (R.log ruler.new))) }
-    ensures own { IfOk result (λ sizes. kept_at tree.new.tree id ≡ kept_with (kept_at tree.old.tree id) ((query, answer.Sizes sizes.0 sizes.1) ∷ [])) }
+    ensures walked { OnOk result
+        (Walked id query (state tree.old tally.old passes.old (R.log ruler.old))
+        (state tree.new tally.new passes.new (R.log ruler.new))) }
+    ensures stopped { OnErr result
+        (Stopped id query (state tree.old tally.old passes.old (R.log ruler.old))
+        (state tree.new tally.new passes.new (R.log ruler.new))) }
+    ensures own { IfOk result
+        (λ sizes. kept_at tree.new.tree id ≡
+        kept_with (kept_at tree.old.tree id) ((query, answer.Sizes sizes.0 sizes.1) ∷ [])) }
 {
     let kind = &node_at(tree, id).kind;
     if is_grid(kind) {
@@ -645,12 +743,25 @@ pub fn inline_at<R: Ruler, L: Ledger>(
     requires readable { AreReadable (bare tree.old.tree) }
     requires fits { Fits (sight_at (bare tree.old.tree) id) (inline_query false reps.now) }
     requires seat { IsSeat (sight_at (bare tree.old.tree) id) reps.now above.now area }
-    ensures value { IfOk result (λ sizes. inline_sizes sizes ≡ answer_of (sight_at (bare tree.old.tree) id) (inline_query false reps.now)) }
+    ensures value { IfOk result
+        (λ sizes. inline_sizes sizes ≡
+        answer_of (sight_at (bare tree.old.tree) id) (inline_query false reps.now)) }
     ensures right { IsRight tree.new.tree }
-    ensures walked { OnOk result (Walked id (inline_query false reps.now) (state tree.old tally.old passes.old (R.log ruler.old)) (state tree.new tally.new passes.new (R.log ruler.new))) }
-    ensures stopped { OnErr result (Stopped id (inline_query false reps.now) (state tree.old tally.old passes.old (R.log ruler.old)) (state tree.new tally.new passes.new (R.log ruler.new))) }
-    ensures found { Found id (inline_query false reps.now) (state tree.old tally.old passes.old (R.log ruler.old)) (state tree.new tally.new passes.new (R.log ruler.new)) }
-    ensures own { IfOk result (λ sizes. Keeps id (inline_query false reps.now) (state tree.old tally.old passes.old (R.log ruler.old)) (state tree.new tally.new passes.new (R.log ruler.new)) (answer.Sizes sizes.0 sizes.1)) }
+    ensures walked { OnOk result
+        (Walked id (inline_query false reps.now)
+        (state tree.old tally.old passes.old (R.log ruler.old))
+        (state tree.new tally.new passes.new (R.log ruler.new))) }
+    ensures stopped { OnErr result
+        (Stopped id (inline_query false reps.now)
+        (state tree.old tally.old passes.old (R.log ruler.old))
+        (state tree.new tally.new passes.new (R.log ruler.new))) }
+    ensures found { Found id (inline_query false reps.now)
+        (state tree.old tally.old passes.old (R.log ruler.old))
+        (state tree.new tally.new passes.new (R.log ruler.new)) }
+    ensures own { IfOk result
+        (λ sizes. Keeps id (inline_query false reps.now)
+        (state tree.old tally.old passes.old (R.log ruler.old))
+        (state tree.new tally.new passes.new (R.log ruler.new)) (answer.Sizes sizes.0 sizes.1)) }
 {
     if let Some(sizes) = kept_sizes(tree, id, reps) {
         return Ok(sizes);
@@ -682,11 +793,18 @@ pub(crate) fn columns_anew<R: Ruler, L: Ledger>(
     requires fits { Fits (sight_at (bare tree.old.tree) id) query }
     requires absent { IsAbsent query (kept_at tree.old.tree id) }
     requires seat { IsSeat (sight_at (bare tree.old.tree) id) query.reps above.now area }
-    ensures value { IfOk result (λ items. lent_items items ≡ answer_of (sight_at (bare tree.old.tree) id) query) }
+    ensures value { IfOk result
+        (λ items. lent_items items ≡ answer_of (sight_at (bare tree.old.tree) id) query) }
     ensures right { IsRight tree.new.tree }
-    ensures walked { OnOk result (Walked id query (state tree.old tally.old passes.old (R.log ruler.old)) (state tree.new tally.new passes.new (R.log ruler.new))) }
-    ensures stopped { OnErr result (Stopped id query (state tree.old tally.old passes.old (R.log ruler.old)) (state tree.new tally.new passes.new (R.log ruler.new))) }
-    ensures own { IfOk result (λ items. kept_at tree.new.tree id ≡ kept_with (kept_at tree.old.tree id) ((query, answer.Lent items) ∷ [])) }
+    ensures walked { OnOk result
+        (Walked id query (state tree.old tally.old passes.old (R.log ruler.old))
+        (state tree.new tally.new passes.new (R.log ruler.new))) }
+    ensures stopped { OnErr result
+        (Stopped id query (state tree.old tally.old passes.old (R.log ruler.old))
+        (state tree.new tally.new passes.new (R.log ruler.new))) }
+    ensures own { IfOk result
+        (λ items. kept_at tree.new.tree id ≡
+        kept_with (kept_at tree.old.tree id) ((query, answer.Lent items) ∷ [])) }
 {
     subgrids_are_grids(tree, id);
     items_lie_in_their_tracks(tree, id);
@@ -728,12 +846,25 @@ pub fn lend_columns_at<R: Ruler, L: Ledger>(
     requires readable { AreReadable (bare tree.old.tree) }
     requires fits { Fits (sight_at (bare tree.old.tree) id) (inline_query true reps.now) }
     requires seat { IsSeat (sight_at (bare tree.old.tree) id) reps.now above.now area }
-    ensures value { IfOk result (λ items. lent_items items ≡ answer_of (sight_at (bare tree.old.tree) id) (inline_query true reps.now)) }
+    ensures value { IfOk result
+        (λ items. lent_items items ≡
+        answer_of (sight_at (bare tree.old.tree) id) (inline_query true reps.now)) }
     ensures right { IsRight tree.new.tree }
-    ensures walked { OnOk result (Walked id (inline_query true reps.now) (state tree.old tally.old passes.old (R.log ruler.old)) (state tree.new tally.new passes.new (R.log ruler.new))) }
-    ensures stopped { OnErr result (Stopped id (inline_query true reps.now) (state tree.old tally.old passes.old (R.log ruler.old)) (state tree.new tally.new passes.new (R.log ruler.new))) }
-    ensures found { Found id (inline_query true reps.now) (state tree.old tally.old passes.old (R.log ruler.old)) (state tree.new tally.new passes.new (R.log ruler.new)) }
-    ensures own { IfOk result (λ items. Keeps id (inline_query true reps.now) (state tree.old tally.old passes.old (R.log ruler.old)) (state tree.new tally.new passes.new (R.log ruler.new)) (answer.Lent items)) }
+    ensures walked { OnOk result
+        (Walked id (inline_query true reps.now)
+        (state tree.old tally.old passes.old (R.log ruler.old))
+        (state tree.new tally.new passes.new (R.log ruler.new))) }
+    ensures stopped { OnErr result
+        (Stopped id (inline_query true reps.now)
+        (state tree.old tally.old passes.old (R.log ruler.old))
+        (state tree.new tally.new passes.new (R.log ruler.new))) }
+    ensures found { Found id (inline_query true reps.now)
+        (state tree.old tally.old passes.old (R.log ruler.old))
+        (state tree.new tally.new passes.new (R.log ruler.new)) }
+    ensures own { IfOk result
+        (λ items. Keeps id (inline_query true reps.now)
+        (state tree.old tally.old passes.old (R.log ruler.old))
+        (state tree.new tally.new passes.new (R.log ruler.new)) (answer.Lent items)) }
 {
     if let Some(items) = kept_items(tree, id, reps) {
         return Sequence::from_slice(alloc, items.as_slice());

@@ -41,7 +41,8 @@ subgrid_by subgrid None = false
 subgrid_by subgrid (Some v) = subgrid v
 
 -- the child of an index, and whether it is joined to a node above it, as its parent is or is not
-pub record JoinedChild {A : Type 0} (subgrid : A → Bool) (t : Trees (NodeId × A)) (n : NodeId) (index : ℕ) (felt : Bool) (c : NodeId) (joined : Bool) : Type 0 where
+pub record JoinedChild {A : Type 0} (subgrid : A → Bool) (t : Trees (NodeId × A)) (n : NodeId) (index : ℕ) (felt : Bool) (c : NodeId) (joined : Bool) : Type
+    0 where
   pub is_sub : Bool
   pub child : NextChild subgrid t n index c is_sub
   pub is : joined ≡ (felt && is_sub)

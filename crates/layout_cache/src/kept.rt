@@ -66,8 +66,13 @@ impl<A: Drop> Kept<A> {
         inline: &Given,
         block: &Given,
     ) -> Option<&A>
-        ensures value { option_copied result ≡ answer_to (record { ask = ask; reps = reps.now; inline = inline.now; block = block.now }) self.now }
-        ensures absent { IsTrue (is_none result) ↔ IsAbsent (record { ask = ask; reps = reps.now; inline = inline.now; block = block.now }) self.now }
+        ensures value { option_copied result ≡
+            answer_to
+            (record { ask = ask; reps = reps.now; inline = inline.now; block = block.now })
+            self.now }
+        ensures absent { IsTrue (is_none result) ↔ IsAbsent
+            (record { ask = ask; reps = reps.now; inline = inline.now; block = block.now })
+            self.now }
     {
         match ask {
             Ask::Frames => self.find_from_newest(ask, reps, inline, block),
@@ -83,8 +88,13 @@ impl<A: Drop> Kept<A> {
         inline: &Given,
         block: &Given,
     ) -> Option<&A>
-        ensures value { option_copied result ≡ answer_to (record { ask = ask; reps = reps.now; inline = inline.now; block = block.now }) self.now }
-        ensures absent { IsTrue (is_none result) ↔ IsAbsent (record { ask = ask; reps = reps.now; inline = inline.now; block = block.now }) self.now }
+        ensures value { option_copied result ≡
+            answer_to
+            (record { ask = ask; reps = reps.now; inline = inline.now; block = block.now })
+            self.now }
+        ensures absent { IsTrue (is_none result) ↔ IsAbsent
+            (record { ask = ask; reps = reps.now; inline = inline.now; block = block.now })
+            self.now }
     {
         for (asked, answer) in self.ring.iter() {
             if same_query(asked, ask, reps, inline, block) {
@@ -104,8 +114,13 @@ impl<A: Drop> Kept<A> {
         inline: &Given,
         block: &Given,
     ) -> Option<&A>
-        ensures value { option_copied result ≡ answer_to (record { ask = ask; reps = reps.now; inline = inline.now; block = block.now }) self.now }
-        ensures absent { IsTrue (is_none result) ↔ IsAbsent (record { ask = ask; reps = reps.now; inline = inline.now; block = block.now }) self.now }
+        ensures value { option_copied result ≡
+            answer_to
+            (record { ask = ask; reps = reps.now; inline = inline.now; block = block.now })
+            self.now }
+        ensures absent { IsTrue (is_none result) ↔ IsAbsent
+            (record { ask = ask; reps = reps.now; inline = inline.now; block = block.now })
+            self.now }
     {
         let mut left = self.ring.len();
         while 0 < left {
@@ -125,7 +140,8 @@ impl<A: Drop> Kept<A> {
     pub fn put(&mut self, query: Query, answer: A) -> Result<bool, NoMemory>
         requires { IsAbsent query self.old }
         ensures ok { OnOk result (self.new ≡ last_of 16 (self.old ++ (query, answer) ∷ [])) }
-        ensures all { IfOk result (λ gone. gone ≡ false → self.new ≡ self.old ++ (query, answer) ∷ []) }
+        ensures all { IfOk result
+            (λ gone. gone ≡ false → self.new ≡ self.old ++ (query, answer) ∷ []) }
         ensures err { OnErr result (self.new ≡ self.old) }
     {
         make_room(&mut self.ring)?;
@@ -150,7 +166,8 @@ fn make_room<A: Drop>(ring: &mut HeapCircularBuffer<(Query, A)>) -> Result<(), N
     ensures some { 1 ≤ ring.new.capacity }
     ensures most { ring.new.capacity ≤ 16 }
     ensures within { length ring.new.items ≤ ring.new.capacity }
-    ensures room { OnOk result (ring.new.capacity ≡ 16 ⊎ length ring.new.items < ring.new.capacity) }
+    ensures room { OnOk result
+        (ring.new.capacity ≡ 16 ⊎ length ring.new.items < ring.new.capacity) }
 {
     let room = ring.capacity();
     if ring.len() == room && room < MOST {

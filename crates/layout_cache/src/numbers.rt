@@ -43,7 +43,8 @@ impl NumberSet {
 
     /// Adds a number.
     pub(crate) fn add(&mut self, id: NodeId) -> Result<(), NoMemory>
-        ensures { OnOk result ((n : NodeId) → is_among n self.new ≡ (same id n || is_among n self.old)) }
+        ensures { OnOk result
+            ((n : NodeId) → is_among n self.new ≡ (same id n || is_among n self.old)) }
     {
         self.numbers.insert(id)?;
         Ok(())

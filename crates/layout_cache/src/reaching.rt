@@ -20,7 +20,8 @@ pub fn reach<T: Linked + Drop>(
     touched: &[NodeId],
     grid: bool,
 ) -> Result<Vec<NodeId>, NoMemory>
-    ensures list { IfOk result (λ list. list.items ≡ reached_by T.Linked.subgrid tree.now.tree touched.now grid) }
+    ensures list { IfOk result
+        (λ list. list.items ≡ reached_by T.Linked.subgrid tree.now.tree touched.now grid) }
     ensures once { IfOk result (λ list. (n : NodeId) → occurs n list.items ≤ 1) }
 {
     let marks = Marks::new(alloc, tree, touched, grid)?;
@@ -49,8 +50,10 @@ impl Marks {
         touched: &[NodeId],
         grid: bool,
     ) -> Result<Marks, NoMemory>
-        ensures touched { IfOk result (λ marks. (n : NodeId) → is_among n marks.touched ≡ is_among n touched.now) }
-        ensures above { IfOk result (λ marks. (n : NodeId) → is_among n marks.above ≡ is_above tree.now.tree touched.now n) }
+        ensures touched { IfOk result
+            (λ marks. (n : NodeId) → is_among n marks.touched ≡ is_among n touched.now) }
+        ensures above { IfOk result
+            (λ marks. (n : NodeId) → is_among n marks.above ≡ is_above tree.now.tree touched.now n) }
         ensures grid { IfOk result (λ marks. marks.grid ≡ grid) }
     {
         let mut set = NumberSet::new(alloc);
@@ -89,7 +92,9 @@ fn both(a: bool, b: bool) -> bool
 
 /// Adds a node and all above it.
 fn add_way<T: Drop>(tree: &Arena<T>, id: NodeId, above: &mut NumberSet) -> Result<(), NoMemory>
-    ensures { OnOk result ((n : NodeId) → is_among n above.new ≡ (is_among n (way_up tree.now.tree id) || is_among n above.old)) }
+    ensures { OnOk result
+        ((n : NodeId) →
+        is_among n above.new ≡ (is_among n (way_up tree.now.tree id) || is_among n above.old)) }
 {
     if !tree.is_live(id) {
         return Ok(());
@@ -110,7 +115,8 @@ fn child_at<T: Linked + Drop>(
     felt: bool,
 ) -> Option<(NodeId, bool)>
     ensures none { IfNone result (from_tree index (below_at tree.now.tree id) ≡ leafless) }
-    ensures some { IfSome result (λ child. JoinedChild T.Linked.subgrid tree.now.tree id index felt child.0 child.1) }
+    ensures some { IfSome result
+        (λ child. JoinedChild T.Linked.subgrid tree.now.tree id index felt child.0 child.1) }
 {
     match tree.child(id, index) {
         Some(child) => Some((child, feels_too(tree, child, felt))),
@@ -141,7 +147,12 @@ fn visit<T: Linked + Drop>(
     marks: &Marks,
     found: &mut Vec<NodeId>,
 ) -> Result<(), NoMemory>
-    ensures { OnOk result (found.new.items ≡ found.old.items ++ reached T.Linked.subgrid (λ n. is_among n marks.now.touched) (λ n. is_among n marks.now.above) marks.now.grid felt (below_at tree.now.tree id)) }
+    ensures { OnOk result
+        (found.new.items ≡
+        found.old.items ++
+        reached T.Linked.subgrid (λ n. is_among n marks.now.touched)
+        (λ n. is_among n marks.now.above) marks.now.grid felt
+        (below_at tree.now.tree id)) }
 {
     for index in 0..tree.count(id) {
         let Some((child, joined)) = child_at(tree, id, index, felt) else {

@@ -31,7 +31,8 @@ fn same_track(a: (i64, i64), b: (i64, i64)) -> bool
 #[tactic(auto, using(crate::proofs::Sames::item_laws))]
 /// Whether two lists of pairs of counts are the same.
 pub fn same_counts(a: &[(u32, u32)], b: &[(u32, u32)]) -> bool
-    ensures { result ≡ same_items (λ (x : ℕ × ℕ) (y : ℕ × ℕ). (x.0 == y.0) && (x.1 == y.1)) a.now b.now }
+    ensures { result ≡
+        same_items (λ (x : ℕ × ℕ) (y : ℕ × ℕ). (x.0 == y.0) && (x.1 == y.1)) a.now b.now }
 {
     if a.len() != b.len() {
         return false;
@@ -47,7 +48,8 @@ pub fn same_counts(a: &[(u32, u32)], b: &[(u32, u32)]) -> bool
 #[tactic(auto, using(crate::proofs::Sames::item_laws))]
 /// Whether two lists of tracks are the same.
 fn same_tracks(a: &[(i64, i64)], b: &[(i64, i64)]) -> bool
-    ensures { result ≡ same_items (λ (x : ℤ × ℤ) (y : ℤ × ℤ). int_eq x.0 y.0 && int_eq x.1 y.1) a.now b.now }
+    ensures { result ≡
+        same_items (λ (x : ℤ × ℤ) (y : ℤ × ℤ). int_eq x.0 y.0 && int_eq x.1 y.1) a.now b.now }
 {
     if a.len() != b.len() {
         return false;
@@ -81,7 +83,9 @@ pub fn same_query(
     inline: &Given,
     block: &Given,
 ) -> bool
-    ensures { result ≡ same_query query.now (record { ask = ask; reps = reps.now; inline = inline.now; block = block.now }) }
+    ensures { result ≡
+        same_query query.now
+        (record { ask = ask; reps = reps.now; inline = inline.now; block = block.now }) }
 {
     if ask_number(query.ask) != ask_number(ask) || !same_counts(query.reps.as_slice(), reps) {
         return false;

@@ -65,7 +65,8 @@ cut_next span old now areas i area h e f =
 
 -- ---- what is cut lies in the tracks of the span
 
-cut_fits : (tracks most : ℕ) (span : Span) (area : NamedSpan) → span.end ≡ span.start +ℤ pos tracks → is_area most area ≡ true → spans_overlap span area.1 ≡ true → is_area tracks (area.0, record { start = int_max span.start area.1.start -ℤ span.start; end = int_min span.end area.1.end -ℤ span.start }) ≡ true
+cut_fits : (tracks most : ℕ) (span : Span) (area : NamedSpan) → span.end ≡ span.start +ℤ pos tracks → is_area most area ≡ true → spans_overlap span area.1 ≡ true →
+    is_area tracks (area.0, record { start = int_max span.start area.1.start -ℤ span.start; end = int_min span.end area.1.end -ℤ span.start }) ≡ true
 cut_fits tracks most span area e a h =
     let k : IsCommon span area.1 = is_common span area.1 h in
     and_from _ _ (and_parts (nat_le (length area.0) 58) _ a).0
@@ -73,7 +74,8 @@ cut_fits tracks most span area e a h =
     (and_from _ _ (to_test (int_max span.start area.1.start -ℤ span.start) (int_min span.end area.1.end -ℤ span.start) (omega (arith, ints, k.some)))
     (to_test_le (int_min span.end area.1.end -ℤ span.start) (pos tracks) (omega (arith, ints, k.last, e)))))
 
-cut_area_fits : (tracks most : ℕ) (span : Span) (area : NamedSpan) (b : Bool) → b ≡ spans_overlap span area.1 → span.end ≡ span.start +ℤ pos tracks → is_area most area ≡ true → are_areas tracks (if b then (area.0, record { start = int_max span.start area.1.start -ℤ span.start; end = int_min span.end area.1.end -ℤ span.start }) ∷ [] else []) ≡ true
+cut_area_fits : (tracks most : ℕ) (span : Span) (area : NamedSpan) (b : Bool) → b ≡ spans_overlap span area.1 → span.end ≡ span.start +ℤ pos tracks → is_area most area ≡ true →
+    are_areas tracks (if b then (area.0, record { start = int_max span.start area.1.start -ℤ span.start; end = int_min span.end area.1.end -ℤ span.start }) ∷ [] else []) ≡ true
 cut_area_fits tracks most span area true h e a = and_from _ _ (cut_fits tracks most span area e a (sym h)) refl
 cut_area_fits tracks most span area false h e a = refl
 
@@ -84,6 +86,7 @@ cut_areas_fit tracks most span (a ∷ areas) e h =
     list_all-append (is_area tracks) (cut_area span a) (cut_areas span areas) ∙ and_from _ _ (cut_area_fits tracks most span a (spans_overlap span a.1) refl e parts.0) (cut_areas_fit tracks most span areas e parts.1)
 
 -- all areas of a subgrid lie in its tracks
-pub all_fit : (tracks own most : ℕ) (whole span : Span) (areas taken all : List NamedSpan) → whole.end ≡ whole.start +ℤ pos tracks → span.end ≡ span.start +ℤ pos tracks → are_areas own areas ≡ true → are_areas most taken ≡ true → all ≡ cut_areas whole areas ++ cut_areas span taken → are_areas tracks all ≡ true
+pub all_fit : (tracks own most : ℕ) (whole span : Span) (areas taken all : List NamedSpan) → whole.end ≡ whole.start +ℤ pos tracks → span.end ≡ span.start +ℤ pos tracks → are_areas own areas ≡ true → are_areas most taken ≡ true → all ≡ cut_areas whole areas ++ cut_areas span taken →
+    are_areas tracks all ≡ true
 all_fit tracks own most whole span areas taken all e f g h is =
     ap (λ xs. are_areas tracks xs) is ∙ list_all-append (is_area tracks) (cut_areas whole areas) (cut_areas span taken) ∙ and_from _ _ (cut_areas_fit tracks own whole areas e g) (cut_areas_fit tracks most span taken f h)

@@ -19,7 +19,8 @@ set_again [] i a b = refl
 set_again (x ∷ xs) zero a b = refl
 set_again (x ∷ xs) (suc i) a b = ap (λ ys. x ∷ ys) (set_again xs i a b)
 
-pub named_next : (old now : List (List (List ℕ))) (k i : ℕ) (names : List (List ℕ)) (name : List ℕ) → k < length old → i < length names → name ≡ get_or names i name → now ≡ slice_set old k (get_or old k [] ++ take i names) → slice_set now k (get_or now k [] ++ name ∷ []) ≡ slice_set old k (get_or old k [] ++ take (i + 1) names)
+pub named_next : (old now : List (List (List ℕ))) (k i : ℕ) (names : List (List ℕ)) (name : List ℕ) → k < length old → i < length names → name ≡ get_or names i name → now ≡ slice_set old k (get_or old k [] ++ take i names) →
+    slice_set now k (get_or now k [] ++ name ∷ []) ≡ slice_set old k (get_or old k [] ++ take (i + 1) names)
 named_next old now k i names name g h e f =
     let all : (get_or old k [] ++ take i names) ++ name ∷ [] ≡ get_or old k [] ++ take (i + 1) names = append_assoc (get_or old k []) (take i names) (name ∷ []) ∙ ap (λ n. get_or old k [] ++ (take i names ++ n ∷ [])) e ∙ ap (λ ns. get_or old k [] ++ ns) (sym (take_more names i name h)) in
     ap (λ z. slice_set z k (get_or z k [] ++ name ∷ [])) f
@@ -41,7 +42,8 @@ names_by_areas-more line areas i area h e =
     ∙ ap (λ xs. names_by_areas line xs) (sym (take_more areas i area h))
 
 -- the names of the next area
-pub areas_next : (old now next : List (List (List ℕ))) (areas : List NamedSpan) (i : ℕ) (area : NamedSpan) → i < length areas → area ≡ get_or areas i area → AreLines (λ line. get_or old line [] ++ names_by_areas (pos line) (take i areas)) (length old) now → AreLines (λ line. get_or now line [] ++ area_names (pos line) area) (length now) next → AreLines (λ line. get_or old line [] ++ names_by_areas (pos line) (take (i + 1) areas)) (length old) next
+pub areas_next : (old now next : List (List (List ℕ))) (areas : List NamedSpan) (i : ℕ) (area : NamedSpan) → i < length areas → area ≡ get_or areas i area → AreLines (λ line. get_or old line [] ++ names_by_areas (pos line) (take i areas)) (length old) now →
+    AreLines (λ line. get_or now line [] ++ area_names (pos line) area) (length now) next → AreLines (λ line. get_or old line [] ++ names_by_areas (pos line) (take (i + 1) areas)) (length old) next
 areas_next old now next areas i area h e f g =
     record {
       counted = g.counted ∙ f.counted;

@@ -30,7 +30,8 @@ are_then names more count old now h g =
       named = λ line k. g.named line (omega (arith, k, h.counted)) ∙ ap (λ n. n ++ more line) (h.named line k);
     }
 
-pub own_made : (sets : List (List (List ℕ))) (tracks : ℕ) (areas : List NamedSpan) (old lines : List (List (List ℕ))) → AreLines (λ line. get_or sets line []) (tracks + 1) old → AreLines (λ line. get_or old line [] ++ names_by_areas (pos line) areas) (length old) lines → (let t : Table = record { tracks = tracks; lines = lines; areas = areas; low = neg_ℤ (pos 10000); high = pos 10000 } in t) ≡ own_table sets tracks areas
+pub own_made : (sets : List (List (List ℕ))) (tracks : ℕ) (areas : List NamedSpan) (old lines : List (List (List ℕ))) → AreLines (λ line. get_or sets line []) (tracks + 1) old → AreLines (λ line. get_or old line [] ++ names_by_areas (pos line) areas) (length old) lines →
+    (let t : Table = record { tracks = tracks; lines = lines; areas = areas; low = neg_ℤ (pos 10000); high = pos 10000 } in t) ≡ own_table sets tracks areas
 own_made sets tracks areas old lines h g =
     ap (λ ls. let t : Table = record { tracks = tracks; lines = ls; areas = areas; low = neg_ℤ (pos 10000); high = pos 10000 } in t)
     (lines_made (λ line. get_or sets line [] ++ names_by_areas (pos line) areas) (tracks + 1) lines (are_then (λ line. get_or sets line []) (λ line. names_by_areas (pos line) areas) (tracks + 1) old lines h g))
@@ -39,7 +40,9 @@ own_made sets tracks areas old lines h g =
 abbrev below : Table → Span → List (List (List ℕ)) → ℕ → List NamedSpan → Table
 below parent span sets tracks all = record { tracks = tracks; lines = lines_by (λ line. get_or sets line [] ++ names_by_areas (pos line) all ++ names_at parent (span.start +ℤ pos line)) (tracks + 1) 0; areas = all; low = pos 0; high = pos tracks }
 
-pub subgrid_made : (parent : Table) (span : Span) (sets : List (List (List ℕ))) (areas : List NamedSpan) (tracks : ℕ) (all : List NamedSpan) (lines : List (List (List ℕ))) → span.end ≡ span.start +ℤ pos tracks → all ≡ cut_areas (record { start = pos 0; end = pos tracks }) areas ++ cut_areas span parent.areas → AreLines (λ line. get_or sets line [] ++ names_by_areas (pos line) all ++ names_at parent (span.start +ℤ pos line)) (tracks + 1) lines → (let t : Table = record { tracks = tracks; lines = lines; areas = all; low = pos 0; high = pos tracks } in t) ≡ subgrid_table parent span sets areas
+pub subgrid_made : (parent : Table) (span : Span) (sets : List (List (List ℕ))) (areas : List NamedSpan) (tracks : ℕ) (all : List NamedSpan) (lines : List (List (List ℕ))) → span.end ≡ span.start +ℤ pos tracks →
+    all ≡ cut_areas (record { start = pos 0; end = pos tracks }) areas ++ cut_areas span parent.areas → AreLines (λ line. get_or sets line [] ++ names_by_areas (pos line) all ++ names_at parent (span.start +ℤ pos line)) (tracks + 1) lines →
+    (let t : Table = record { tracks = tracks; lines = lines; areas = all; low = pos 0; high = pos tracks } in t) ≡ subgrid_table parent span sets areas
 subgrid_made parent span sets areas tracks all lines e is h =
     let length_is : span.end -ℤ span.start ≡ pos tracks = omega (arith, ints, e) in
     let count : above_zero (span.end -ℤ span.start) ≡ tracks = ap above_zero length_is in

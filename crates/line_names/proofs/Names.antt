@@ -39,7 +39,8 @@ picked-high true line high more d l f zero h = l
 picked-high true line high more d l f (suc i) h = f i (omega arith)
 picked-high false line high more d l f i h = f i h
 
-picked-ascends : (held : Bool) (line : ℤ) (more : List ℤ) (d : ℤ) → ((k : ℕ) → k < length more → (line +ℤ pos 1) ≤ℤ get_or more k d) → ((i j : ℕ) → i ≤ j → j < length more → get_or more i d ≤ℤ get_or more j d) → (i j : ℕ) → i ≤ j → j < length (picked held line more) → get_or (picked held line more) i d ≤ℤ get_or (picked held line more) j d
+picked-ascends : (held : Bool) (line : ℤ) (more : List ℤ) (d : ℤ) → ((k : ℕ) → k < length more → (line +ℤ pos 1) ≤ℤ get_or more k d) → ((i j : ℕ) → i ≤ j → j < length more → get_or more i d ≤ℤ get_or more j d) → (i j : ℕ) → i ≤ j → j < length (picked held line more) →
+    get_or (picked held line more) i d ≤ℤ get_or (picked held line more) j d
 picked-ascends true line more d f g zero zero h k = omega (arith, ints)
 picked-ascends true line more d f g zero (suc j) h k = omega (arith, ints, f j (omega arith))
 picked-ascends true line more d f g (suc i) zero h k = absurd (omega arith)
@@ -115,9 +116,11 @@ named_step name xs k d h =
     ap (λ ys. named_from name (pos 0) ys) (take_more xs k d h) ∙ named_more name (take k xs) (get_or xs k d) ∙ ap (λ m. marked (holds_name name (get_or xs k d)) (named_from name (pos 0) (take k xs)) (pos m)) n
 
 -- a name of a line more
-pub marked_step : (other : List ℕ) (names : List (List ℕ)) (i : ℕ) (name : List ℕ) (now before : List ℤ) (line : ℤ) → i < length names → name ≡ get_or names i name → now ≡ marked (holds_name other (take i names)) before line → marked (bytes_eq name other) now line ≡ marked (holds_name other (take (i + 1) names)) before line
+pub marked_step : (other : List ℕ) (names : List (List ℕ)) (i : ℕ) (name : List ℕ) (now before : List ℤ) (line : ℤ) → i < length names → name ≡ get_or names i name → now ≡ marked (holds_name other (take i names)) before line →
+    marked (bytes_eq name other) now line ≡ marked (holds_name other (take (i + 1) names)) before line
 marked_step other names i name now before line h e f =
-    ap (λ xs. marked (bytes_eq name other) xs line) f ∙ marked_again (holds_name other (take i names)) (bytes_eq name other) before line ∙ ap (λ n. marked (holds_name other (take i names) || bytes_eq n other) before line) e ∙ ap (λ b. marked b before line) (sym (list_any_more (λ held. bytes_eq held other) names i name h))
+    ap (λ xs. marked (bytes_eq name other) xs line) f ∙ marked_again (holds_name other (take i names)) (bytes_eq name other) before line ∙ ap (λ n. marked (holds_name other (take i names) || bytes_eq n other) before line) e ∙
+    ap (λ b. marked b before line) (sym (list_any_more (λ held. bytes_eq held other) names i name h))
 
 -- a line more
 pub index_step : (name : List ℕ) (lines : List (List (List ℕ))) (k : ℕ) (names : List (List ℕ)) (now : List ℤ) → k < length lines → names ≡ get_or lines k names → now ≡ named_from name (pos 0) (take k lines) → marked (holds_name name names) now (pos k) ≡ named_from name (pos 0) (take (k + 1) lines)

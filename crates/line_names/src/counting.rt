@@ -69,7 +69,8 @@ pub(crate) fn count_up_to(lines: &[i32], limit: i64) -> usize
     requires { AreAscending lines.now }
     ensures within { result ≤ length lines.now }
     ensures before { (i : ℕ) → i < result → get_or lines.now i (pos 0) ≤ℤ limit }
-    ensures after { (i : ℕ) → result ≤ i → i < length lines.now → limit <ℤ get_or lines.now i (pos 0) }
+    ensures after { (i : ℕ) → result ≤ i → i < length lines.now →
+        limit <ℤ get_or lines.now i (pos 0) }
 {
     let mut low = 0;
     let mut high = lines.len();

@@ -22,7 +22,12 @@ fn told_from(line: i32, first: i32) -> i32
 fn common(span: Span, other: Span) -> Span
     requires lines { IsWithinLines span }
     requires overlap { IsTrue (spans_overlap span other) }
-    ensures { result ≡ record { start = int_max span.start other.start -ℤ span.start; end = int_min span.end other.end -ℤ span.start } }
+    ensures { result ≡
+        record {
+          start = int_max span.start other.start -ℤ span.start;
+          end = int_min span.end other.end
+              -ℤ span.start;
+        } }
 {
     Span {
         start: told_from(span.start.max(other.start), span.start),

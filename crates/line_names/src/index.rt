@@ -60,7 +60,8 @@ impl NameIndex {
     /// Takes the lines of a name out.
     fn take(&mut self, alloc: Global, name: &Name) -> Sequence<i32>
         ensures taken { result ≡ lines_in self.old.lines name.now }
-        ensures others { (other : List ℕ) → bytes_eq name.now other ≡ false → lines_in self.new.lines other ≡ lines_in self.old.lines other }
+        ensures others { (other : List ℕ) → bytes_eq name.now other ≡ false →
+            lines_in self.new.lines other ≡ lines_in self.old.lines other }
     {
         match self.lines.remove(name) {
             Some(lines) => lines,
@@ -71,7 +72,10 @@ impl NameIndex {
     #[tactic(auto, using(crate::proofs::Names::found))]
     /// Puts lines under a name.
     fn put(&mut self, name: &Name, lines: Sequence<i32>) -> Result<(), NoMemory>
-        ensures { OnOk result ((other : List ℕ) → lines_in self.new.lines other ≡ (if bytes_eq name.now other then lines else lines_in self.old.lines other)) }
+        ensures { OnOk result
+            ((other : List ℕ) →
+            lines_in self.new.lines other ≡
+            (if bytes_eq name.now other then lines else lines_in self.old.lines other)) }
     {
         self.lines.insert(*name, lines)?;
         Ok(())
@@ -80,7 +84,10 @@ impl NameIndex {
     /// Adds a line to those of a name.
     fn add(&mut self, alloc: Global, name: &Name, line: u32) -> Result<(), NoMemory>
         requires { line < 2 ^ 31 }
-        ensures { OnOk result ((other : List ℕ) → lines_in self.new.lines other ≡ marked (bytes_eq name.now other) (lines_in self.old.lines other) (pos line)) }
+        ensures { OnOk result
+            ((other : List ℕ) →
+            lines_in self.new.lines other ≡
+            marked (bytes_eq name.now other) (lines_in self.old.lines other) (pos line)) }
     {
         let mut lines = self.take(alloc, name);
         note(&mut lines, line)?;
@@ -90,7 +97,10 @@ impl NameIndex {
     /// Adds a line to those of each of these names.
     fn add_all(&mut self, alloc: Global, names: &[Name], line: u32) -> Result<(), NoMemory>
         requires { line < 2 ^ 31 }
-        ensures { OnOk result ((other : List ℕ) → lines_in self.new.lines other ≡ marked (holds_name other names.now) (lines_in self.old.lines other) (pos line)) }
+        ensures { OnOk result
+            ((other : List ℕ) →
+            lines_in self.new.lines other ≡
+            marked (holds_name other names.now) (lines_in self.old.lines other) (pos line)) }
     {
         for name in names {
             self.add(alloc, name, line)?;

@@ -35,7 +35,8 @@ pub(crate) fn own_lines(
 /// Gives a line one name more.
 fn add_name(lines: &mut Sequence<NameSet>, line: usize, name: Name) -> Result<(), NoMemory>
     requires { line < length lines.old }
-    ensures { OnOk result (lines.new ≡ slice_set lines.old line (get_or lines.old line [] ++ name ∷ [])) }
+    ensures { OnOk result
+        (lines.new ≡ slice_set lines.old line (get_or lines.old line [] ++ name ∷ [])) }
 {
     match lines.get_mut(line) {
         Some(names) => names.push(name),
@@ -50,7 +51,8 @@ pub(crate) fn add_names(
     names: &[Name],
 ) -> Result<(), NoMemory>
     requires { line < length lines.old }
-    ensures { OnOk result (lines.new ≡ slice_set lines.old line (get_or lines.old line [] ++ names.now)) }
+    ensures { OnOk result
+        (lines.new ≡ slice_set lines.old line (get_or lines.old line [] ++ names.now)) }
 {
     for name in names {
         add_name(lines, line, *name)?;
@@ -61,7 +63,9 @@ pub(crate) fn add_names(
 /// Gives the two lines of an area the names of its edges (CSS Grid 2, 7.3.2).
 fn add_area(lines: &mut Sequence<NameSet>, area: &(Name, Span)) -> Result<(), NoMemory>
     requires { IsTrue (is_area (length lines.old - 1) area.now) }
-    ensures { OnOk result (AreLines (λ line. get_or lines.old line [] ++ area_names (pos line) area.now) (length lines.old) lines.new) }
+    ensures { OnOk result
+        (AreLines (λ line. get_or lines.old line [] ++ area_names (pos line) area.now)
+        (length lines.old) lines.new) }
 {
     let (name, span) = area;
     add_name(lines, span.start as usize, name.edge(false))?;
@@ -74,7 +78,9 @@ pub(crate) fn add_areas(
     areas: &[(Name, Span)],
 ) -> Result<(), NoMemory>
     requires { IsTrue (are_areas (length lines.old - 1) areas.now) }
-    ensures { OnOk result (AreLines (λ line. get_or lines.old line [] ++ names_by_areas (pos line) areas.now) (length lines.old) lines.new) }
+    ensures { OnOk result
+        (AreLines (λ line. get_or lines.old line [] ++ names_by_areas (pos line) areas.now)
+        (length lines.old) lines.new) }
 {
     for area in areas {
         add_area(lines, area)?;

@@ -209,7 +209,9 @@ fn between(limit: Span, automatic: u32, start: i64, end: i64) -> Spot
 /// The place from a line to what the end stands for.
 fn on_from(table: &LineTable, automatic: u32, start: i64, end: Side) -> Spot
     requires { IsFar start }
-    ensures { result ≡ cut_spot table.now.low table.now.high (both_sides table.now automatic (line start) (seen end.entry)) }
+    ensures { result ≡
+        cut_spot table.now.low table.now.high
+        (both_sides table.now automatic (line start) (seen end.entry)) }
 {
     let limit = table.limit();
     match end {
@@ -228,7 +230,10 @@ fn spanning_to(
     end: Side,
 ) -> Spot
     requires { IsReachable end }
-    ensures { result ≡ cut_spot table.now.low table.now.high (both_sides table.now automatic (spanning count (option_copied name.entry)) (seen end.entry)) }
+    ensures { result ≡
+        cut_spot table.now.low table.now.high
+        (both_sides table.now automatic (spanning count (option_copied name.entry))
+        (seen end.entry)) }
 {
     let limit = table.limit();
     match end {
@@ -241,7 +246,9 @@ fn spanning_to(
 /// The place that what the end stands for makes alone.
 fn open_to(table: &LineTable, automatic: u32, end: Side) -> Spot
     requires { IsReachable end }
-    ensures { result ≡ cut_spot table.now.low table.now.high (both_sides table.now automatic open_side (seen end.entry)) }
+    ensures { result ≡
+        cut_spot table.now.low table.now.high
+        (both_sides table.now automatic open_side (seen end.entry)) }
 {
     let limit = table.limit();
     match end {
@@ -265,7 +272,9 @@ fn free_span(count: u32, name: Option<&Name>) -> u32
 pub(crate) fn place(table: &LineTable, automatic: u32, start: Side, end: Side) -> Spot
     requires start { IsReachable start }
     requires end { IsReachable end }
-    ensures { result ≡ cut_spot table.now.low table.now.high (both_sides table.now automatic (seen start.entry) (seen end.entry)) }
+    ensures { result ≡
+        cut_spot table.now.low table.now.high
+        (both_sides table.now automatic (seen start.entry) (seen end.entry)) }
 {
     match start {
         Side::At(start) => on_from(table, automatic, start, end),

@@ -87,7 +87,11 @@ fn room_and_step(fixed: &[Lu], repeated: &[Lu], gap: Lu, size: Lu) -> Option<(u6
     requires repeated { IsTrue (are_counted repeated.now) }
     requires some { 0 < length repeated.now }
     requires gap { pos 0 ≤ℤ gap }
-    ensures { MatchOption result ((pos 0 <ℤ step_of repeated.now gap) × ((size -ℤ total_with fixed.now repeated.now gap 1) ≤ℤ pos 0)) (λ found. IsRoom (size -ℤ total_with fixed.now repeated.now gap 1) (step_of repeated.now gap) found.0 found.1) }
+    ensures { MatchOption result
+        ((pos 0 <ℤ step_of repeated.now gap) ×
+        ((size -ℤ total_with fixed.now repeated.now gap 1) ≤ℤ pos 0))
+        (λ found. IsRoom (size -ℤ total_with fixed.now repeated.now gap 1)
+        (step_of repeated.now gap) found.0 found.1) }
 {
     let step = step(repeated, gap);
     let once = total_once(fixed, repeated, gap);

@@ -51,7 +51,16 @@ impl LineTable {
         requires lines { length lines ≡ tracks + 1 }
         requires areas { IsTrue (are_areas tracks areas) }
         requires limit { IsLimit limit }
-        ensures { IfOk result (λ table. table ≡ record { tracks = tracks; lines = lines; areas = areas; low = limit.start; high = limit.end }) }
+        ensures { IfOk result
+            (λ table. table ≡
+            record {
+              tracks = tracks;
+              lines = lines;
+              areas = areas;
+              low = limit.start;
+              high =
+                  limit.end;
+            }) }
     {
         let index = NameIndex::of(alloc, lines.as_slice())?;
         Ok(LineTable {
@@ -122,7 +131,10 @@ impl LineTable {
     ) -> Result<Sequence<(Name, Span)>, NoMemory>
         requires few { tracks ≤ 20000 }
         requires lines { IsWithinLines span }
-        ensures { IfOk result (λ all. all ≡ cut_areas (record { start = pos 0; end = pos tracks }) areas.now ++ cut_areas span self.now.areas) }
+        ensures { IfOk result
+            (λ all. all ≡
+            cut_areas (record { start = pos 0; end = pos tracks }) areas.now ++
+            cut_areas span self.now.areas) }
     {
         let mut all = Sequence::new(alloc);
         let whole = Span {
@@ -147,7 +159,10 @@ impl LineTable {
         requires low { neg_ℤ (pos 10000) ≤ℤ span.start }
         requires high { span.start ≤ℤ pos 65536 }
         requires areas { IsTrue (are_areas tracks areas.now) }
-        ensures { IfOk result (AreLines (λ line. get_or sets.now line [] ++ names_by_areas (pos line) areas.now ++ names_at self.now (span.start +ℤ pos line)) (tracks + 1)) }
+        ensures { IfOk result
+            (AreLines
+            (λ line. get_or sets.now line [] ++ names_by_areas (pos line) areas.now ++
+            names_at self.now (span.start +ℤ pos line)) (tracks + 1)) }
     {
         let mut lines = own_lines(alloc, sets, tracks as usize + 1)?;
         add_areas(&mut lines, areas)?;
@@ -160,7 +175,9 @@ impl LineTable {
         requires few { length lines.old ≤ 20001 }
         requires low { neg_ℤ (pos 10000) ≤ℤ start }
         requires high { start ≤ℤ pos 65536 }
-        ensures { OnOk result (AreLines (λ line. get_or lines.old line [] ++ names_at self.now (start +ℤ pos line)) (length lines.old) lines.new) }
+        ensures { OnOk result
+            (AreLines (λ line. get_or lines.old line [] ++ names_at self.now (start +ℤ pos line))
+            (length lines.old) lines.new) }
     {
         for line in 0..lines.len() {
             add_names(lines, line, self.names_after(start, line))?;

@@ -35,7 +35,8 @@ module _ {T : Type 0} where
   abbrev pub Holds : (ℕ → Option (Shown T)) → Option NodeId → Trees (NodeId × T) → Type 0
   Holds slots parent leafless = ⊤
   Holds slots parent (tree x below after) =
-      (slots x.0.slot ≡ Some (record { turn = x.0.turn; value = x.1; parent = parent; children = top_numbers below })) × (Holds slots (Some x.0) below × Holds slots parent after)
+      (slots x.0.slot ≡ Some (record { turn = x.0.turn; value = x.1; parent = parent; children = top_numbers below })) ×
+      (Holds slots (Some x.0) below × Holds slots parent after)
 
   -- how many nodes stand in a slot
   abbrev pub in_slot : ℕ → Trees (NodeId × T) → ℕ
@@ -100,7 +101,8 @@ module _ {T : Type 0} where
   HasRoom (Some s) = vec_len s.children < vec_capacity s.children
 
   -- the slots once these numbers and all below them are taken out, where the levels are at most the fuel
-  abbrev pub swept_from : (List NodeId → List (Option (Slot T)) → List (Option (Slot T))) → Option (Slot T) → ℕ → List (Option (Slot T)) → List (Option (Slot T))
+  abbrev pub swept_from : (List NodeId → List (Option (Slot T)) → List (Option (Slot T))) → Option (Slot T) → ℕ → List (Option (Slot T)) →
+      List (Option (Slot T))
   swept_from sweep None k slots = slots
   swept_from sweep (Some s) k slots = sweep s.children.items (slice_set slots k None)
 

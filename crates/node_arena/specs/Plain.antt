@@ -16,7 +16,10 @@ pub record Nodes (T : Type 0) : Type 0 where
 
 abbrev pub nodes_code : {T : Type 0} → Coded T → Coded (Nodes T)
 nodes_code {T} code =
-    code_by (Trees (NodeId × T) × (ℕ × (ℕ × ℕ))) (coded× (coded_trees (coded× number.the_row.coded code)) (coded× coded_ℕ (coded× coded_ℕ coded_ℕ))) (λ n. (n.tree, (n.made, (n.most_nodes, n.most_children)))) (λ p. record { tree = p.0; made = p.1.0; most_nodes = p.1.1.0; most_children = p.1.1.1 }) (λ _. refl)
+    code_by (Trees (NodeId × T) × (ℕ × (ℕ × ℕ)))
+    (coded× (coded_trees (coded× number.the_row.coded code)) (coded× coded_ℕ (coded× coded_ℕ coded_ℕ)))
+    (λ n. (n.tree, (n.made, (n.most_nodes, n.most_children))))
+    (λ p. record { tree = p.0; made = p.1.0; most_nodes = p.1.1.0; most_children = p.1.1.1 }) (λ _. refl)
 
 module _ {T : Type 0} where
   -- a tree of one node

@@ -157,7 +157,8 @@ impl<T: Drop> Arena<T> {
     pub fn parent(&self, id: NodeId) -> Option<NodeId>
         ensures number { result ≡ parent_at self.now.tree id }
         ensures live { IfSome result (λ parent. IsTrue (is_live self.now parent)) }
-        ensures way { IsTrue (is_live self.now id) → way_up self.now.tree id ≡ id ∷ way_of self.now.tree result }
+        ensures way { IsTrue (is_live self.now id) →
+            way_up self.now.tree id ≡ id ∷ way_of self.now.tree result }
         ensures root { IsTrue (is_live self.now id) → is_none result ≡ is_top self.now.tree id }
     {
         match find(&self.slots, id) {

@@ -78,8 +78,10 @@ pub(crate) fn make_room<T>(slots: &mut Slab<Slot<T>>, parent: NodeId) -> Result<
 
 /// Takes a number out of its parent's children.
 pub(crate) fn unlink<T>(slots: &mut Slab<Slot<T>>, parent: NodeId, id: NodeId)
-    ensures slots { Reshows slots.old.slots slots.new.slots parent.slot (unlisted id (shown slots.old.slots parent.slot)) }
-    ensures room { (k : ℕ) → HasRoom (slice_index_or slots.old.slots k None) → HasRoom (slice_index_or slots.new.slots k None) }
+    ensures slots { Reshows slots.old.slots slots.new.slots parent.slot
+        (unlisted id (shown slots.old.slots parent.slot)) }
+    ensures room { (k : ℕ) → HasRoom (slice_index_or slots.old.slots k None) →
+        HasRoom (slice_index_or slots.new.slots k None) }
 {
     if let Some(slot) = slots.get_mut(parent.slot) {
         drop_number(&mut slot.children, id);
@@ -88,8 +90,10 @@ pub(crate) fn unlink<T>(slots: &mut Slab<Slot<T>>, parent: NodeId, id: NodeId)
 
 /// Gives a node another parent, but does not list it there.
 pub(crate) fn set_parent<T>(slots: &mut Slab<Slot<T>>, id: NodeId, parent: NodeId)
-    ensures slots { Reshows slots.old.slots slots.new.slots id.slot (below_parent parent (shown slots.old.slots id.slot)) }
-    ensures room { (k : ℕ) → HasRoom (slice_index_or slots.old.slots k None) → HasRoom (slice_index_or slots.new.slots k None) }
+    ensures slots { Reshows slots.old.slots slots.new.slots id.slot
+        (below_parent parent (shown slots.old.slots id.slot)) }
+    ensures room { (k : ℕ) → HasRoom (slice_index_or slots.old.slots k None) →
+        HasRoom (slice_index_or slots.new.slots k None) }
 {
     if let Some(slot) = slots.get_mut(id.slot) {
         slot.parent = Some(parent);
@@ -100,7 +104,8 @@ pub(crate) fn set_parent<T>(slots: &mut Slab<Slot<T>>, id: NodeId, parent: NodeI
 pub(crate) fn link<T>(slots: &mut Slab<Slot<T>>, parent: NodeId, index: usize, id: NodeId)
     requires room { HasRoom (slice_index_or slots.old.slots parent.slot None) }
     requires index { IfSome (shown slots.old.slots parent.slot) (λ s. index ≤ length s.children) }
-    ensures { Reshows slots.old.slots slots.new.slots parent.slot (listed index id (shown slots.old.slots parent.slot)) }
+    ensures { Reshows slots.old.slots slots.new.slots parent.slot
+        (listed index id (shown slots.old.slots parent.slot)) }
 {
     if let Some(slot) = slots.get_mut(parent.slot) {
         let _ = slot.children.insert(index, id);

@@ -33,7 +33,8 @@ impl Calls {
     fn next_fails(&mut self) -> bool
         ensures fails { result ≡ fails_next self.old.failing.items self.old.made }
         ensures made { self.new.made ≡ one_more self.old.made }
-        ensures faults { self.new.faults ≡ (if result then one_more self.old.faults else self.old.faults) }
+        ensures faults { self.new.faults ≡
+            (if result then one_more self.old.faults else self.old.faults) }
         ensures failing { self.new.failing ≡ self.old.failing }
         ensures cause { HasCauseOf self.old.faults self.new.faults (result ≡ true) }
     {
@@ -72,7 +73,14 @@ impl MemorySource {
     /// one where one is left and fits, and all that fit once the list has ended. A call whose number is in `failing` fails and
     /// gives nothing. Takes no memory.
     pub fn new(bytes: Vec<u8>, pieces: Vec<usize>, failing: Vec<u64>) -> MemorySource
-        ensures { result ≡ record { left = bytes.items; pieces = pieces.items; failing = failing.items; calls = 0; faults = 0 } }
+        ensures { result ≡
+            record {
+              left = bytes.items;
+              pieces = pieces.items;
+              failing = failing.items;
+              calls = 0;
+              faults = 0;
+            } }
     {
         MemorySource {
             bytes,
@@ -154,7 +162,8 @@ impl MemorySink {
     /// A sink with nothing written and no fault. Each call takes at most `most` bytes, but at least one where there is one. A call
     /// whose number, from 1, is in `failing` fails and takes nothing. Takes no memory.
     pub fn new(alloc: Global, most: usize, failing: Vec<u64>) -> MemorySink
-        ensures { result ≡ record { written = []; most = most; failing = failing.items; calls = 0; faults = 0 } }
+        ensures { result ≡
+            record { written = []; most = most; failing = failing.items; calls = 0; faults = 0 } }
     {
         MemorySink {
             bytes: Vec::new(alloc),

@@ -41,8 +41,10 @@ impl<R: Read> Source for StdSource<R> {
     /// that the system interrupts counts only after 1,000 further tries in a row.
     fn read_piece(&mut self, room: &mut [u8]) -> Result<usize, Failed>
         ensures within { IfOk result (λ n. n ≤ length room.new) }
-        ensures bytes { Reads (R.remaining self.old.reader) (R.remaining self.new.reader) result room.new }
-        ensures end { IfOk result (λ n. 0 < length room.new → IsZeroAtEnd (R.remaining self.old.reader) n) }
+        ensures bytes { Reads (R.remaining self.old.reader) (R.remaining self.new.reader) result
+            room.new }
+        ensures end { IfOk result
+            (λ n. 0 < length room.new → IsZeroAtEnd (R.remaining self.old.reader) n) }
         ensures cause { HasCause self.old.faults self.new.faults result }
         ensures asked { self.new.asked ≡ one_more self.old.asked }
         ensures counted { self.new.faults ≡ counted self.old.faults result }
@@ -100,7 +102,9 @@ impl<W: Write> Sink for StdSink<W> {
         ensures cause { HasCauseOf self.old.faults self.new.faults (result ≡ Err SinkError.Failed) }
         ensures counted { self.new.faults ≡ counted self.old.faults result }
         ensures sure { result ≢ Err SinkError.NoMemory }
-        ensures passed_on { IfOk result (λ n. Appends (W.contents self.old.writer) (W.contents self.new.writer) (take n piece.now)) }
+        ensures passed_on { IfOk result
+            (λ n. Appends (W.contents self.old.writer) (W.contents self.new.writer)
+            (take n piece.now)) }
     {
         match again::write(&mut self.writer, piece) {
             Ok(0) if !piece.is_empty() => Err(self.fail()),

@@ -44,7 +44,8 @@ fn measured(content: &Content, width: Width) -> Lu
 
 /// Logs that a leaf was measured; changes nothing where memory is wanting.
 fn log_measured(events: &mut Vec<Event>, leaf: &Name, width: &Width) -> Result<(), NoMemory>
-    ensures { Logs (Some events.old.items) (Some events.new.items) (Event.Measured leaf.now width.now) result }
+    ensures { Logs (Some events.old.items) (Some events.new.items)
+        (Event.Measured leaf.now width.now) result }
 {
     events.extend_from_slice(&[Event::Measured(*leaf, *width)])?;
     Ok(())

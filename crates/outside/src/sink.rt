@@ -53,7 +53,8 @@ pub trait Sink {
     fn write_piece(&mut self, piece: &[u8]) -> Result<usize, SinkError>
         ensures part { IfOk result (λ n. IsPartOf n piece.now) }
         ensures bytes { Writes (written self.old) (written self.new) result piece.now }
-        ensures cause { HasCauseOf (faults self.old) (faults self.new) (result ≡ Err SinkError.Failed) }
+        ensures cause { HasCauseOf (faults self.old) (faults self.new)
+            (result ≡ Err SinkError.Failed) }
         ensures memory { result ≡ Err SinkError.NoMemory → faults self.new ≡ faults self.old };
 }
 
@@ -64,7 +65,8 @@ pub trait Sink {
 pub fn write_all<K: Sink>(sink: &mut K, bytes: &[u8]) -> Result<(), SinkError>
     ensures ok { OnOk result (Adds (K.written sink.old) (K.written sink.new) bytes.now) }
     ensures err { OnErr result (AddsPrefix (K.written sink.old) (K.written sink.new) bytes.now) }
-    ensures cause { HasCauseOf (K.faults sink.old) (K.faults sink.new) (result ≡ Err SinkError.Failed) }
+    ensures cause { HasCauseOf (K.faults sink.old) (K.faults sink.new)
+        (result ≡ Err SinkError.Failed) }
 {
     let mut at = 0;
     while at < bytes.len() {

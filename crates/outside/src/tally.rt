@@ -34,7 +34,8 @@ impl Tally {
 
     /// Counts one more answer, and notes whether an older one went for it.
     pub fn count_added(&mut self, gone: bool)
-        ensures { self.new ≡ record self.old { added = one_more self.old.added; lost = self.old.lost || gone } }
+        ensures { self.new ≡
+            record self.old { added = one_more self.old.added; lost = self.old.lost || gone } }
     {
         self.added = self.added.saturating_add(1);
         self.lost = self.lost || gone;

@@ -50,7 +50,10 @@ module _ (name : Word) (u : Label → Label) (same : (x : Label) → (u x).name 
   relabel_tree : (doc : Doc) (size : ℤ × ℤ) → tree_of (with_root doc size (relabelled name u (tree_of doc))) ≡ relabelled name u (tree_of doc)
   relabel_tree doc size = by_name (bytes_eq doc.root.name name)
     where
-      by_name : (e : Bool) → tree_of (with_root doc size (cond e (tree (u (record { name = doc.root.name; kind = doc.root.kind; style = doc.root.style })) doc.root.children leafless) (tree (record { name = doc.root.name; kind = doc.root.kind; style = doc.root.style }) (relabelled name u doc.root.children) leafless)))
+      by_name : (e : Bool) →
+          tree_of
+          (with_root doc size
+          (cond e (tree (u (record { name = doc.root.name; kind = doc.root.kind; style = doc.root.style })) doc.root.children leafless) (tree (record { name = doc.root.name; kind = doc.root.kind; style = doc.root.style }) (relabelled name u doc.root.children) leafless)))
           ≡ cond e (tree (u (record { name = doc.root.name; kind = doc.root.kind; style = doc.root.style })) doc.root.children leafless) (tree (record { name = doc.root.name; kind = doc.root.kind; style = doc.root.style }) (relabelled name u doc.root.children) leafless)
       by_name true = refl
       by_name false = refl

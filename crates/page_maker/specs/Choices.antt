@@ -20,7 +20,9 @@ abbrev pub words_with : ℕ → ℕ → ℕ → ℕ → ℕ → Chosen
 words_with a b c d e = (choice.Words (5 + drawn 40 a) (5 + drawn 40 b) (5 + drawn 40 c) (5 + drawn 40 d) (5 + drawn 40 e), e)
 
 unfoldable pub words_from : ℕ → Chosen
-words_from x = words_with (stepped x) (stepped (stepped x)) (stepped (stepped (stepped x))) (stepped (stepped (stepped (stepped x)))) (stepped (stepped (stepped (stepped (stepped x)))))
+words_from x =
+    words_with (stepped x) (stepped (stepped x)) (stepped (stepped (stepped x))) (stepped (stepped (stepped (stepped x))))
+    (stepped (stepped (stepped (stepped (stepped x)))))
 
 -- one of two leaves
 unfoldable pub leaf_from : ℕ → Chosen

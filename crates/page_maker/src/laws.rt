@@ -18,12 +18,14 @@ pub fn made_documents_are_valid()
 #[tactic(auto, using(crate::proofs::Made::size_made))]
 /// A generated document has as many nodes as were asked for.
 pub fn made_documents_are_whole()
-    ensures { (seed nodes : ℕ) → 0 < nodes → nodes ≤ 20000 → size_of (tree_of (made_document seed nodes)) ≡ nodes }
+    ensures { (seed nodes : ℕ) → 0 < nodes → nodes ≤ 20000 →
+        size_of (tree_of (made_document seed nodes)) ≡ nodes }
 {}
 
 /// The edits of a generated document are not refused, and all nodes are there after each.
 pub fn made_edits_are_accepted()
-    ensures { (nodes x : ℕ) (doc : Doc) → 0 < nodes → IsMade nodes doc → StaysMade nodes (edit_from nodes x).0 doc }
+    ensures { (nodes x : ℕ) (doc : Doc) → 0 < nodes → IsMade nodes doc →
+        StaysMade nodes (edit_from nodes x).0 doc }
 {}
 
 #[tactic(auto, using(crate::proofs::Edited::edit_told))]

@@ -52,7 +52,10 @@ fn node_with(alloc: Global, begins: &[u64], i: usize, children: Children) -> Res
 fn children_of(alloc: Global, begins: &[u64], levels: u32, i: usize) -> Result<Children, NoMemory>
     requires there { i < length begins.now }
     requires few { length begins.now ≤ 20000 }
-    ensures { IfOk result (λ children. children ≡ grown (label_at begins.now) (length begins.now) levels (8 * i + 1) (child_count (length begins.now) i)) }
+    ensures { IfOk result
+        (λ children. children ≡
+        grown (label_at begins.now) (length begins.now) levels (8 * i + 1)
+        (child_count (length begins.now) i)) }
 {
     let mut children = Children::new(alloc);
     if levels == 0 {

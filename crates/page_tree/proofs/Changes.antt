@@ -37,7 +37,8 @@ pub plain_edited : (id : NodeId) (name : List ℕ) (f : NodeId × Node → NodeT
 plain_edited id name f g leafless h k = refl
 plain_edited id name f g (tree x below after) h k = at (cases_Bool (same x.0 id)) (plain_edited id name f g below h k.1.0) (plain_edited id name f g after h k.1.1)
   where
-    at : (same x.0 id ≡ true) ⊎ (same x.0 id ≡ false) → plain_trees (arena.edited id f below) ≡ doc.replaced name g (plain_trees below) → plain_trees (arena.edited id f after) ≡ doc.replaced name g (plain_trees after) → plain_trees (arena.edited id f (tree x below after)) ≡ doc.replaced name g (plain_trees (tree x below after))
+    at : (same x.0 id ≡ true) ⊎ (same x.0 id ≡ false) → plain_trees (arena.edited id f below) ≡ doc.replaced name g (plain_trees below) → plain_trees (arena.edited id f after) ≡ doc.replaced name g (plain_trees after) →
+        plain_trees (arena.edited id f (tree x below after)) ≡ doc.replaced name g (plain_trees (tree x below after))
     at (inl e) b a =
         ap plain_trees (edited_here id f x below after e) ∙ plain_joined (f x below) after ∙ ap (λ u. joined u (plain_trees after)) (h x below)
         ∙ sym (cond_yes (bytes_eq x.1.name name) _ _ (sym k.0 ∙ e))
@@ -55,7 +56,8 @@ pub plain_tree_at : (id : NodeId) (name : List ℕ) (t : NodeTrees) → Tells id
 plain_tree_at id name leafless k = refl
 plain_tree_at id name (tree x below after) k = at (cases_Bool (same x.0 id)) (plain_tree_at id name below k.1.0) (plain_tree_at id name after k.1.1)
   where
-    at : (same x.0 id ≡ true) ⊎ (same x.0 id ≡ false) → plain_trees (arena.tree_at id below) ≡ doc.tree_at name (plain_trees below) → plain_trees (arena.tree_at id after) ≡ doc.tree_at name (plain_trees after) → plain_trees (arena.tree_at id (tree x below after)) ≡ doc.tree_at name (plain_trees (tree x below after))
+    at : (same x.0 id ≡ true) ⊎ (same x.0 id ≡ false) → plain_trees (arena.tree_at id below) ≡ doc.tree_at name (plain_trees below) → plain_trees (arena.tree_at id after) ≡ doc.tree_at name (plain_trees after) →
+        plain_trees (arena.tree_at id (tree x below after)) ≡ doc.tree_at name (plain_trees (tree x below after))
     at (inl e) b a = ap plain_trees (cond_yes (same x.0 id) _ _ e) ∙ sym (cond_yes (bytes_eq x.1.name name) _ _ (sym k.0 ∙ e))
     at (inr e) b a =
         ap plain_trees (cond_no (same x.0 id) _ _ e) ∙ plain_joined (arena.tree_at id below) (arena.tree_at id after)
@@ -76,7 +78,8 @@ pub plain_replaced : (id : NodeId) (name : List ℕ) (w : Node) (change : Label 
 plain_replaced id name w change leafless h few k = refl
 plain_replaced id name w change (tree x below after) h few k = at (cases_Bool (same x.0 id)) (plain_replaced id name w change below h.1.0 (omega (arith, few)) k.1.0) (plain_replaced id name w change after h.1.1 (omega (arith, few)) k.1.1)
   where
-    at : (same x.0 id ≡ true) ⊎ (same x.0 id ≡ false) → plain_trees (replaced id w below) ≡ doc.relabelled name change (plain_trees below) → plain_trees (replaced id w after) ≡ doc.relabelled name change (plain_trees after) → plain_trees (replaced id w (tree x below after)) ≡ doc.relabelled name change (plain_trees (tree x below after))
+    at : (same x.0 id ≡ true) ⊎ (same x.0 id ≡ false) → plain_trees (replaced id w below) ≡ doc.relabelled name change (plain_trees below) → plain_trees (replaced id w after) ≡ doc.relabelled name change (plain_trees after) →
+        plain_trees (replaced id w (tree x below after)) ≡ doc.relabelled name change (plain_trees (tree x below after))
     at (inl e) b a =
         (λ i. tree (label_of (cond_yes (same x.0 id) w x.1 e i)) (plain_trees (mapped_none id w below (omega (arith, few, one_yes (same x.0 id) e)) i)) (plain_trees (mapped_none id w after (omega (arith, few, one_yes (same x.0 id) e)) i)))
         ∙ ap (λ l. tree l (plain_trees below) (plain_trees after)) (sym (h.0 e))
@@ -127,5 +130,6 @@ becomes_from id v name change label (tree x below after) d h f = (
 pub label_by : (v : Node) (name : List ℕ) (kind : NodeKind) (declared style : DeclaredMap) → kind ≡ v.kind → declared ≡ style → v.name ≡ name → ◌≡◌ {A = Label} (record { name = v.name; kind = kind_of v.kind; style = style }) (record { name = name; kind = kind_of kind; style = declared })
 label_by v name kind declared style k d n = λ i. record { name = n i; kind = kind_of (sym k i); style = sym d i }
 
-pub content_by : (v : Node) (name : List ℕ) (kind : NodeKind) (plain : Kind) (declared : DeclaredMap) → kind_of kind ≡ plain → declared ≡ v.declared → v.name ≡ name → ◌≡◌ {A = Label} (record { name = v.name; kind = plain; style = v.declared }) (record { name = name; kind = kind_of kind; style = declared })
+pub content_by : (v : Node) (name : List ℕ) (kind : NodeKind) (plain : Kind) (declared : DeclaredMap) → kind_of kind ≡ plain → declared ≡ v.declared → v.name ≡ name →
+    ◌≡◌ {A = Label} (record { name = v.name; kind = plain; style = v.declared }) (record { name = name; kind = kind_of kind; style = declared })
 content_by v name kind plain declared k d n = λ i. record { name = n i; kind = sym k i; style = sym d i }

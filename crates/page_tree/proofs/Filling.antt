@@ -144,7 +144,9 @@ module _ (parent : NodeId) (index : ℕ) (label : Label) (id : NodeId) (t w : No
           at : (bytes_eq x.1.name m ≡ false) × ((holds (plain_trees low) m ≡ false) × (holds (plain_trees after) m ≡ false)) → (same x.0 parent ≡ true) ⊎ (same x.0 parent ≡ false) →
               holds (plain_trees (grafted parent index (tree (id, a.value) leafless leafless) low)) m ≡ false → holds (plain_trees (grafted parent index (tree (id, a.value) leafless leafless) after)) m ≡ false →
               holds (plain_trees (grafted parent index (tree (id, a.value) leafless leafless) (tree x low after))) m ≡ false
-          at p (inl q) b c = ap (λ u. holds (plain_trees u) m) (edited_here parent (graft index (tree (id, a.value) leafless leafless)) x low after q) ∙ or_join (bytes_eq x.1.name m) (holds (plain_trees (put_at index (tree (id, a.value) leafless leafless) low)) m) (holds (plain_trees after) m) p.0 (put_less index low m p.1.0 e) p.1.1
+          at p (inl q) b c =
+              ap (λ u. holds (plain_trees u) m) (edited_here parent (graft index (tree (id, a.value) leafless leafless)) x low after q) ∙
+              or_join (bytes_eq x.1.name m) (holds (plain_trees (put_at index (tree (id, a.value) leafless leafless) low)) m) (holds (plain_trees after) m) p.0 (put_less index low m p.1.0 e) p.1.1
           at p (inr q) b c = ap (λ u. holds (plain_trees u) m) (edited_not parent (graft index (tree (id, a.value) leafless leafless)) x low after q) ∙ or_join (bytes_eq x.1.name m) _ _ p.0 b c
 
 -- ---- one child more

@@ -95,7 +95,9 @@ pub two_added : (a b : Word → Bool) (t : NodeTrees) (one two : List NodeId) �
 two_added a b t one two h k = then_added a b t one two h k
 
 pub three_added : (a b c : Word → Bool) (t : NodeTrees) (one two three : List NodeId) → AddsMarked a t [] one → AddsMarked b t one two → AddsMarked c t two three → AreMarked (λ w. a w || (b w || c w)) t three
-three_added a b c t one two three h k l = each_weaker (λ x. is_among x.0 three ≡ ((a x.1.name || b x.1.name) || c x.1.name)) (λ x. is_among x.0 three ≡ (a x.1.name || (b x.1.name || c x.1.name))) t (λ x e. e ∙ or_again (a x.1.name) (b x.1.name) (c x.1.name)) (then_added (λ w. a w || b w) c t two three (two_added a b t one two h k) l)
+three_added a b c t one two three h k l =
+    each_weaker (λ x. is_among x.0 three ≡ ((a x.1.name || b x.1.name) || c x.1.name)) (λ x. is_among x.0 three ≡ (a x.1.name || (b x.1.name || c x.1.name))) t (λ x e. e ∙ or_again (a x.1.name) (b x.1.name) (c x.1.name))
+    (then_added (λ w. a w || b w) c t two three (two_added a b t one two h k) l)
 
 pub four_added : (a b c d : Word → Bool) (t : NodeTrees) (one two three four : List NodeId) → AddsMarked a t [] one → AddsMarked b t one two → AddsMarked c t two three → AddsMarked d t three four → AreMarked (λ w. a w || (b w || (c w || d w))) t four
 four_added a b c d t one two three four h k l m =
@@ -345,7 +347,8 @@ below_smaller old new root t n i c old_font new_font h = omega (arith, from_size
 pub ruleset falls = (below_smaller)
 
 pub next_numbers : (all : Bool) (old new root : ℤ) (t : NodeTrees) (n : NodeId) (i : ℕ) (c : NodeId) (old_font new_font : ℤ) (found pushed after whole : List NodeId) → IsNextBelow old new root t n i c old_font new_font →
-    pushed ≡ found ++ (if all || not (int_eq old_font new_font) then c ∷ [] else []) → after ≡ pushed ++ numbers_below all old_font new_font root (below_at t c) → found ++ numbers_below all old new root (from_tree i (below_at t n)) ≡ whole → after ++ numbers_below all old new root (from_tree (i + 1) (below_at t n)) ≡ whole
+    pushed ≡ found ++ (if all || not (int_eq old_font new_font) then c ∷ [] else []) → after ≡ pushed ++ numbers_below all old_font new_font root (below_at t c) → found ++ numbers_below all old new root (from_tree i (below_at t n)) ≡ whole →
+    after ++ numbers_below all old new root (from_tree (i + 1) (below_at t n)) ≡ whole
 next_numbers all old new root t n i c old_font new_font found pushed after whole h p a w =
     ap (λ z. z ++ rest) (a ∙ ap (λ z. z ++ low) p) ∙ append_assoc (found ++ own) low rest ∙ append_assoc found own (low ++ rest)
     ∙ sym (ap (λ z. found ++ z) (ap (numbers_below all old new root) h.next ∙ (λ i. (if all || not (int_eq (h.old_is i) (h.new_is i)) then c ∷ [] else []) ++ (numbers_below all (h.old_is i) (h.new_is i) root (below_at t c) ++ rest))))

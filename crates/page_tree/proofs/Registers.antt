@@ -206,7 +206,9 @@ insert_registered find again t parent index id v r live fresh none h = at (part_
         times_new n = times_summed n (grafted parent index (tree (id, v) leafless leafless) t) ∙ graft_summed parent index (tree (id, v) leafless leafless) t p (r.distinct parent) e (λ x. one (same x.0 n)) ∙ ap (λ k. k + (one (same id n) + 0 + 0)) (sym (times_summed n t))
 
         named_new : (name : List ℕ) (n : NodeId) → named name n (grafted parent index (tree (id, v) leafless leafless) t) ≡ named name n t + (one (same id n && bytes_eq v.name name) + 0 + 0)
-        named_new name n = named_summed name n (grafted parent index (tree (id, v) leafless leafless) t) ∙ graft_summed parent index (tree (id, v) leafless leafless) t p (r.distinct parent) e (λ x. one (same x.0 n && bytes_eq x.1.name name)) ∙ ap (λ k. k + (one (same id n && bytes_eq v.name name) + 0 + 0)) (sym (named_summed name n t))
+        named_new name n =
+            named_summed name n (grafted parent index (tree (id, v) leafless leafless) t) ∙ graft_summed parent index (tree (id, v) leafless leafless) t p (r.distinct parent) e (λ x. one (same x.0 n && bytes_eq x.1.name name)) ∙
+            ap (λ k. k + (one (same id n && bytes_eq v.name name) + 0 + 0)) (sym (named_summed name n t))
 
         none_there : times id t ≡ 0
         none_there = none_at (times id t) refl

@@ -56,7 +56,8 @@ some_number name (tree x below after) h = at (cases_Bool (bytes_eq x.1.name name
     own : bytes_eq x.1.name name ≡ true → one (same x.0 x.0 && bytes_eq x.1.name name) ≡ 1
     own e = λ i. one (same_refl x.0 i && e i)
 
-    at : (bytes_eq x.1.name name ≡ true) ⊎ (bytes_eq x.1.name name ≡ false) → (holds (plain_trees below) name ≡ true) ⊎ (holds (plain_trees below) name ≡ false) → (holds (plain_trees below) name ≡ true → IsNamed name below) → (holds (plain_trees after) name ≡ true → IsNamed name after) → IsNamed name (tree x below after)
+    at : (bytes_eq x.1.name name ≡ true) ⊎ (bytes_eq x.1.name name ≡ false) → (holds (plain_trees below) name ≡ true) ⊎ (holds (plain_trees below) name ≡ false) → (holds (plain_trees below) name ≡ true → IsNamed name below) →
+        (holds (plain_trees after) name ≡ true → IsNamed name after) → IsNamed name (tree x below after)
     at (inl e) c f g = record { number = x.0; some = omega (arith, own e) }
     at (inr e) (inl b) f g = let is = f b in record { number = is.number; some = omega (arith, is.some) }
     at (inr e) (inr b) f g = let is = g (rest e b) in record { number = is.number; some = omega (arith, is.some) }

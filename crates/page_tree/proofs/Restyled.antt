@@ -452,7 +452,10 @@ pub next_collected : (em rem : ℤ) (t : NodeTrees) (n : NodeId) (i : ℕ) (c : 
 next_collected em rem t n i c font style found pushed after whole h p a w =
     ap (λ l. l ++ styles_of em rem (from_tree (i + 1) (below_at t n))) (a ∙ ap (λ l. l ++ styles_of font rem (below_at t c)) p ∙ append_assoc found ((c, style) ∷ []) (styles_of font rem (below_at t c)))
     ∙ append_assoc found ((c, style) ∷ styles_of font rem (below_at t c)) (styles_of em rem (from_tree (i + 1) (below_at t n)))
-    ∙ ap (λ l. found ++ l) (sym (ap (styles_of em rem) h.next ∙ (λ j. (c, computed_style (h.font_is j) rem h.value.declared) ∷ styles_of (h.font_is j) rem (below_at t c) ++ styles_of em rem (from_tree (i + 1) (below_at t n))) ∙ ap (λ (y : StyleMap). (c, y) ∷ styles_of font rem (below_at t c) ++ styles_of em rem (from_tree (i + 1) (below_at t n))) h.style_is))
+    ∙ ap (λ l. found ++ l)
+    (sym
+    (ap (styles_of em rem) h.next ∙ (λ j. (c, computed_style (h.font_is j) rem h.value.declared) ∷ styles_of (h.font_is j) rem (below_at t c) ++ styles_of em rem (from_tree (i + 1) (below_at t n))) ∙
+    ap (λ (y : StyleMap). (c, y) ∷ styles_of font rem (below_at t c) ++ styles_of em rem (from_tree (i + 1) (below_at t n))) h.style_is))
     ∙ w
 
 pub all_collected : (em rem : ℤ) (t : NodeTrees) (n : NodeId) (i : ℕ) (found whole : Styles) → from_tree i (below_at t n) ≡ leafless → found ++ styles_of em rem (from_tree i (below_at t n)) ≡ whole → found ≡ whole

@@ -29,15 +29,18 @@ AreStyled parent root (tree x below after) =
 -- each node of a document has its computed style
 abbrev pub IsStyled : NodeTrees → Type 0
 IsStyled leafless = ⊤
-IsStyled (tree x below after) = HasStyle (root_font x.1.declared) (root_font x.1.declared) x.1 × AreStyled (root_font x.1.declared) (root_font x.1.declared) below
+IsStyled (tree x below after) =
+    HasStyle (root_font x.1.declared) (root_font x.1.declared) x.1 × AreStyled (root_font x.1.declared) (root_font x.1.declared) below
 
 -- the node of the number has this font size, where it stands below a node of the font size `parent`
 abbrev pub HasFontBelow : ℤ → ℤ → ℤ → NodeId → NodeTrees → Type 0
 HasFontBelow font parent root n leafless = ⊤
 HasFontBelow font parent root n (tree x below after) =
-    (same x.0 n ≡ true → font_of parent root x.1.declared ≡ font) × (HasFontBelow font (font_of parent root x.1.declared) root n below × HasFontBelow font parent root n after)
+    (same x.0 n ≡ true → font_of parent root x.1.declared ≡ font) ×
+    (HasFontBelow font (font_of parent root x.1.declared) root n below × HasFontBelow font parent root n after)
 
 -- the node of the number has this font size in a document
 abbrev pub HasFont : ℤ → NodeId → NodeTrees → Type 0
 HasFont font n leafless = ⊤
-HasFont font n (tree x below after) = (same x.0 n ≡ true → root_font x.1.declared ≡ font) × HasFontBelow font (root_font x.1.declared) (root_font x.1.declared) n below
+HasFont font n (tree x below after) =
+    (same x.0 n ≡ true → root_font x.1.declared ≡ font) × HasFontBelow font (root_font x.1.declared) (root_font x.1.declared) n below

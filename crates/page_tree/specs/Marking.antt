@@ -53,7 +53,11 @@ pub record MarksBrought (parent : Word) (node : Plain) (t : NodeTrees) (numbers 
   pub each : AreMarked (λ w. bytes_eq w parent || holds (tree_of_node node) w) t numbers
 
 pub record MarksShift (name parent : Word) (plain : Trees Label) (t : NodeTrees) (numbers : List NodeId) : Type 0 where
-  pub each : AreMarked (λ w. bytes_eq w name || (bytes_eq w parent || (is_parent plain name w || gets_other_font (font_in name plain) (font_in parent plain) (root_font_in plain) (tree_at name plain) w))) t numbers
+  pub each : AreMarked
+      (λ w. bytes_eq w name ||
+      (bytes_eq w parent ||
+      (is_parent plain name w || gets_other_font (font_in name plain) (font_in parent plain) (root_font_in plain) (tree_at name plain) w))) t
+      numbers
 
 pub record MarksKind (new : Kind) (name : Word) (plain : Trees Label) (t : NodeTrees) (numbers : List NodeId) : Type 0 where
   pub each : AreMarked (λ w. bytes_eq w name || (is_container new name plain && is_parent plain name w)) t numbers

@@ -24,5 +24,7 @@ pub record AreApart (t : NodeTrees) (name parent : List ℕ) (id to : NodeId) : 
 -- why the place under the new parent is refused: its children and levels are those of what is left
 abbrev pub place_refusal : ℕ → Trees Label → Named → Named → ℕ → Place → Option Fault
 place_refusal version t named parent index at =
-    or_later (nat_lt (child_count parent.name (removed named.name t)) index) 24 at (or_later (passes_levels (removed named.name t) parent (height_of (tree_at named.name t))) 12 named.at
-    (or_later (passes_children version (removed named.name t) parent) 13 named.at (or_later (is_leaf_top (tree_at parent.name (removed named.name t))) 14 parent.at None)))
+    or_later (nat_lt (child_count parent.name (removed named.name t)) index) 24 at
+    (or_later (passes_levels (removed named.name t) parent (height_of (tree_at named.name t))) 12 named.at
+    (or_later (passes_children version (removed named.name t) parent) 13 named.at
+    (or_later (is_leaf_top (tree_at parent.name (removed named.name t))) 14 parent.at None)))

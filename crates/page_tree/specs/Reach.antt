@@ -128,7 +128,8 @@ abbrev pub is_marked_by : List Prop → Word → Trees Label → Word → Bool
 is_marked_by props node t name =
     bytes_eq name node || ((are_felt props && is_parent t node name) || (have_font props && holds (below_at node t) name))
 
--- The nodes that a change of these trees marks: the node that it names, and all that it brings; where subgrids feel it, the parent, of a node that is shifted the old
+-- The nodes that a change of these trees marks: the node that it names, and all that it brings; where subgrids feel it, the parent, of a node that is shifted
+-- the old
 -- and the new one; and the nodes below it whose font size is declared anew, or is another where it is shifted to.
 abbrev pub is_marked : Change → Trees Label → Word → Bool
 is_marked (change.Style node values) t name = is_marked_by (map (λ v. v.0) values) node t name
@@ -155,7 +156,8 @@ is_touched e = touches (forward_of e)
 
 -- ---- what is kept
 
--- A node after a change keeps nothing where its name is touched; and else it stood in the old tree under this name and number, was of this kind, and keeps what it kept
+-- A node after a change keeps nothing where its name is touched; and else it stood in the old tree under this name and number, was of this kind, and keeps what
+-- it kept
 -- there.
 pub record KeepsOn (touched : Bool) (old : NodeTrees) (x : NodeId × Node) : Type 0 where
   pub kept : x.1.kept ≡ (if touched then [] else kept_at old x.0)
@@ -181,7 +183,9 @@ lent =
 
 -- which of `main b s t p` are reached, where these are marked
 abbrev told : List Word → Bool → List Bool
-told marked grid = map (λ n. is_reached (λ x. bytes_eq x.0 n) (λ x. list_any (bytes_eq x.0) marked) (λ x. x.1) grid false lent) (codes "main" ∷ codes "b" ∷ codes "s" ∷ codes "t" ∷ codes "p" ∷ [])
+told marked grid =
+    map (λ n. is_reached (λ x. bytes_eq x.0 n) (λ x. list_any (bytes_eq x.0) marked) (λ x. x.1) grid false lent)
+    (codes "main" ∷ codes "b" ∷ codes "s" ∷ codes "t" ∷ codes "p" ∷ [])
 
 -- `set b grid-column: 1 / 3`
 set_line : told (codes "b" ∷ codes "main" ∷ []) true ≡ true ∷ true ∷ true ∷ true ∷ false ∷ []

@@ -20,7 +20,8 @@ Styles = List (NodeId × StyleMap)
 abbrev pub styles_of : ℤ → ℤ → NodeTrees → Styles
 styles_of parent root leafless = []
 styles_of parent root (tree x below after) =
-    (x.0, computed_style (font_of parent root x.1.declared) root x.1.declared) ∷ styles_of (font_of parent root x.1.declared) root below ++ styles_of parent root after
+    (x.0, computed_style (font_of parent root x.1.declared) root x.1.declared) ∷ styles_of (font_of parent root x.1.declared) root below ++
+    styles_of parent root after
 
 -- the style of a number after these: the first that it has there, else the one that it had
 abbrev pub styled_from : Styles → NodeId → StyleMap → StyleMap

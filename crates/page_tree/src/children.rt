@@ -71,7 +71,9 @@ pub(crate) fn height_below(tree: &Arena<Node>, id: NodeId) -> usize
 
 /// Takes the name of a node out of a map.
 fn take_name(tree: &Arena<Node>, id: NodeId, numbers: &mut BTreeMap<Name, NodeId>)
-    ensures { (v : Node) → value_at tree.now.tree id ≡ Some v → (name : List ℕ) → get (slice_cmp nat_cmp) numbers.new name ≡ (if bytes_eq v.name name then None else get (slice_cmp nat_cmp) numbers.old name) }
+    ensures { (v : Node) → value_at tree.now.tree id ≡ Some v → (name : List ℕ) →
+        get (slice_cmp nat_cmp) numbers.new name ≡
+        (if bytes_eq v.name name then None else get (slice_cmp nat_cmp) numbers.old name) }
 {
     match tree.get(id) {
         Some(node) => {
@@ -84,7 +86,8 @@ fn take_name(tree: &Arena<Node>, id: NodeId, numbers: &mut BTreeMap<Name, NodeId
 #[tactic(auto, using(crate::proofs::Removals::falls))]
 /// Takes the names of all nodes below a node out of a map.
 pub(crate) fn take_names(tree: &Arena<Node>, id: NodeId, numbers: &mut BTreeMap<Name, NodeId>)
-    ensures { Without (below_at tree.now.tree id) (get (slice_cmp nat_cmp) numbers.old) (get (slice_cmp nat_cmp) numbers.new) }
+    ensures { Without (below_at tree.now.tree id) (get (slice_cmp nat_cmp) numbers.old)
+        (get (slice_cmp nat_cmp) numbers.new) }
 {
     for index in 0..tree.count(id) {
         let Some(child) = child_at(tree, id, index) else {

@@ -20,7 +20,8 @@ pub(crate) fn forget_all(ids: &[NodeId], last: &mut LastBoxes)
 
 /// Forgets what may be kept for the number of a node of this name. Takes no memory.
 fn forget_name(page: &Page, node: &Plain, last: &mut LastBoxes)
-    ensures { Forgets (λ id. has_name node.now.name (value_at page.now.nodes.tree id)) last.old last.new }
+    ensures { Forgets (λ id. has_name node.now.name (value_at page.now.nodes.tree id)) last.old
+        last.new }
 {
     if let Some(id) = page.find(&node.name) {
         last.forget(id);
@@ -31,7 +32,8 @@ fn forget_name(page: &Page, node: &Plain, last: &mut LastBoxes)
 /// Forgets what may be kept for the numbers of the nodes of these names: that of a node and of all
 /// below it. Takes no memory.
 pub(crate) fn forget_brought(page: &Page, node: &Plain, last: &mut LastBoxes)
-    ensures { Forgets (λ id. has_name_in (tree_of_node node.now) (value_at page.now.nodes.tree id)) last.old last.new }
+    ensures { Forgets (λ id. has_name_in (tree_of_node node.now) (value_at page.now.nodes.tree id))
+        last.old last.new }
 {
     forget_name(page, node, last);
     let children = node.children.nodes();

@@ -44,5 +44,6 @@ pub fn changes_fit()
 /// Where a valid document accepts an edit, the change that the edit makes fits it, and the change
 /// that takes the edit back fits the edited document.
 pub fn steps_fit()
-    ensures { (e : Edit) (doc made : Doc) → IsSound doc → IsChange e → NamesItsNode e → edited e doc ≡ Ok made → FitsBothWays (step_for doc e) doc made }
+    ensures { (e : Edit) (doc made : Doc) → IsSound doc → IsChange e → NamesItsNode e →
+        edited e doc ≡ Ok made → FitsBothWays (step_for doc e) doc made }
 {}

@@ -167,7 +167,9 @@ impl Page {
     ) -> Result<NodeId, NoMemory>
         requires live { IsSome (part_at self.old.nodes.tree parent) }
         requires new { holds (trees_in self.old) plain.now.name ≡ false }
-        ensures adds { IfOk result (λ id. Adds parent index (label_of plain.now) id self.old.nodes.tree self.new.nodes.tree) }
+        ensures adds { IfOk result
+            (λ id. Adds parent index (label_of plain.now) id self.old.nodes.tree
+            self.new.nodes.tree) }
         ensures around { IsAround self.old self.new }
         ensures err { OnErr result (self.new ≡ self.old) }
     {
@@ -191,7 +193,12 @@ impl Page {
     ) -> Result<(), NoMemory>
         requires { Finds self.old.nodes.tree name.now (Some id) }
         ensures around { OnOk result (IsAround self.old self.new) }
-        ensures changes { OnOk result ((change : Label → Label) → Becomes id change (record { name = name.now; kind = kind_of kind; style = declared }) self.old.nodes.tree → Relabels name.now change self.old.nodes.tree self.new.nodes.tree) }
+        ensures changes { OnOk result
+            ((change : Label → Label) →
+            Becomes id change
+            (record { name = name.now; kind = kind_of kind; style = declared })
+            self.old.nodes.tree →
+            Relabels name.now change self.old.nodes.tree self.new.nodes.tree) }
         ensures err { OnErr result (self.new ≡ self.old) }
     {
         let tree = self.nodes.tree();
@@ -228,7 +235,8 @@ impl Page {
         index: usize,
     ) -> Result<(), NoMemory>
         requires { AreApart self.old.nodes.tree name.now parent.now id to }
-        ensures changes { OnOk result (Shifts name.now parent.now index self.old.nodes.tree self.new.nodes.tree) }
+        ensures changes { OnOk result
+            (Shifts name.now parent.now index self.old.nodes.tree self.new.nodes.tree) }
         ensures around { OnOk result (IsAround self.old self.new) }
         ensures err { OnErr result (self.new ≡ self.old) }
     {
@@ -265,11 +273,25 @@ impl Page {
         ensures document { document_of self.new ≡ document_of self.old }
         ensures bare { bare self.new.nodes.tree ≡ bare self.old.nodes.tree }
         ensures right { IsRight self.new.nodes.tree }
-        ensures laid { OnOk result (Walk (IsAsked (bare self.old.nodes.tree) self.old.width self.old.height) 0 [] (state self.old.nodes tally.old passes.old (R.log ruler.old)) (state self.new.nodes tally.new passes.new (R.log ruler.new))) }
-        ensures cut { OnErr result (IsCutShort (bare self.old.nodes.tree) self.old.width self.old.height (state self.old.nodes tally.old passes.old (R.log ruler.old)) (state self.new.nodes tally.new passes.new (R.log ruler.new))) }
-        ensures paths { OnOk result (IsPathKept (bare self.old.nodes.tree) self.old.width self.old.height (state self.new.nodes tally.new passes.new (R.log ruler.new))) }
-        ensures leaves { OnOk result (AreMeasured (bare self.old.nodes.tree) self.old.width self.old.height (state self.old.nodes tally.old passes.old (R.log ruler.old)) (state self.new.nodes tally.new passes.new (R.log ruler.new))) }
-        ensures quiet { IsAllKept (bare self.old.nodes.tree) self.old.width self.old.height (state self.old.nodes tally.old passes.old (R.log ruler.old)) → state self.new.nodes tally.new passes.new (R.log ruler.new) ≡ state self.old.nodes tally.old passes.old (R.log ruler.old) }
+        ensures laid { OnOk result
+            (Walk (IsAsked (bare self.old.nodes.tree) self.old.width self.old.height) 0 []
+            (state self.old.nodes tally.old passes.old (R.log ruler.old))
+            (state self.new.nodes tally.new passes.new (R.log ruler.new))) }
+        ensures cut { OnErr result
+            (IsCutShort (bare self.old.nodes.tree) self.old.width self.old.height
+            (state self.old.nodes tally.old passes.old (R.log ruler.old))
+            (state self.new.nodes tally.new passes.new (R.log ruler.new))) }
+        ensures paths { OnOk result
+            (IsPathKept (bare self.old.nodes.tree) self.old.width self.old.height
+            (state self.new.nodes tally.new passes.new (R.log ruler.new))) }
+        ensures leaves { OnOk result
+            (AreMeasured (bare self.old.nodes.tree) self.old.width self.old.height
+            (state self.old.nodes tally.old passes.old (R.log ruler.old))
+            (state self.new.nodes tally.new passes.new (R.log ruler.new))) }
+        ensures quiet { IsAllKept (bare self.old.nodes.tree) self.old.width self.old.height
+            (state self.old.nodes tally.old passes.old (R.log ruler.old)) →
+            state self.new.nodes tally.new passes.new (R.log ruler.new) ≡
+            state self.old.nodes tally.old passes.old (R.log ruler.old) }
         ensures last { AreFound (bare self.new.nodes.tree) (kept_at self.new.nodes.tree) last.new }
     {
         let _ = self.stands();
@@ -370,7 +392,8 @@ impl Page {
 pub(crate) fn fill(page: &mut Page, id: NodeId, node: &Plain) -> Result<(), NoMemory>
     requires lone { IsLone id page.old.nodes.tree }
     requires names { AreNamedAnew node.now.children (trees_in page.old) }
-    ensures ok { OnOk result (Fills (λ below. below ≡ node.now.children) id page.old.nodes.tree page.new.nodes.tree) }
+    ensures ok { OnOk result
+        (Fills (λ below. below ≡ node.now.children) id page.old.nodes.tree page.new.nodes.tree) }
     ensures err { OnErr result (Fills (λ below. ⊤) id page.old.nodes.tree page.new.nodes.tree) }
     ensures bare { node.now.children ≡ leafless → IsOk result }
     ensures around { IsAround page.old page.new }

@@ -64,7 +64,9 @@ fn is_full(page: &Page) -> bool
 
 /// Whether one child more under a parent is a node too many.
 fn is_too_many(page: &Page, parent: &Named) -> bool
-    ensures { result ≡ (nat_lt (node_limit page.now.version) (size_of (trees_in page.now) + 1) || passes_children page.now.version (trees_in page.now) parent.now) }
+    ensures { result ≡
+        (nat_lt (node_limit page.now.version) (size_of (trees_in page.now) + 1) ||
+        passes_children page.now.version (trees_in page.now) parent.now) }
 {
     is_full(page) || passes_children(page.version(), count(page, &parent.name))
 }
@@ -105,7 +107,10 @@ pub(crate) fn of_edit(page: &Page, edit: &Edit) -> Option<Fault>
 
 /// Why a new node under a parent, at an index of its children, is refused.
 fn of_insert(page: &Page, parent: &Named, index: u32, at: Place, named: &Named) -> Option<Fault>
-    ensures { (node : Plain) → result ≡ first_refusal (refusals (document_of page.now) (edit.Insert parent.now index at named.now node)) }
+    ensures { (node : Plain) →
+        result ≡
+        first_refusal
+        (refusals (document_of page.now) (edit.Insert parent.now index at named.now node)) }
 {
     let _ = page.stands();
     let leaf = is_leaf_at(page, &parent.name);
@@ -123,14 +128,16 @@ fn of_insert(page: &Page, parent: &Named, index: u32, at: Place, named: &Named) 
 
 /// Why an edit is refused that asks of its node alone that it is there.
 fn of_named(page: &Page, named: &Named) -> Option<Fault>
-    ensures { result ≡ or_later (not (holds (trees_in page.now) named.now.name)) 21 named.now.at None }
+    ensures { result ≡
+        or_later (not (holds (trees_in page.now) named.now.name)) 21 named.now.at None }
 {
     or_later(!has(page, &named.name), UNKNOWN_NAME, named.at, None)
 }
 
 /// Why another content of a node is refused.
 fn of_content(page: &Page, named: &Named) -> Option<Fault>
-    ensures { (kind : Kind) → result ≡ first_refusal (refusals (document_of page.now) (edit.Content named.now kind)) }
+    ensures { (kind : Kind) →
+        result ≡ first_refusal (refusals (document_of page.now) (edit.Content named.now kind)) }
 {
     let _ = page.stands();
     let parent = count(page, &named.name) > 0;
@@ -154,7 +161,8 @@ fn of_removal(page: &Page, named: &Named) -> Option<Fault>
 
 /// Why a move of a node under a parent, at an index of the children that are left, is refused.
 fn of_move(page: &Page, named: &Named, parent: &Named, index: u32, at: Place) -> Option<Fault>
-    ensures { result ≡ first_refusal (refusals (document_of page.now) (edit.Move named.now parent.now index at)) }
+    ensures { result ≡
+        first_refusal (refusals (document_of page.now) (edit.Move named.now parent.now index at)) }
 {
     let _ = page.stands();
     let Some(id) = page.find(&named.name) else {
@@ -178,7 +186,8 @@ fn of_move_to(
 ) -> Option<Fault>
     requires found { Finds page.now.nodes.tree named.now.name (Some id) }
     requires onto { Finds page.now.nodes.tree parent.now.name (Some to) }
-    ensures { result ≡ first_refusal (refusals (document_of page.now) (edit.Move named.now parent.now index at)) }
+    ensures { result ≡
+        first_refusal (refusals (document_of page.now) (edit.Move named.now parent.now index at)) }
 {
     let _ = page.stands();
     let tree = page.tree();
@@ -203,7 +212,8 @@ fn of_place(
     at: Place,
 ) -> Option<Fault>
     requires { AreApart page.now.nodes.tree named.now.name parent.now.name id to }
-    ensures { result ≡ place_refusal page.now.version (trees_in page.now) named.now parent.now index at }
+    ensures { result ≡
+        place_refusal page.now.version (trees_in page.now) named.now parent.now index at }
 {
     let children = count_left(page, id, to, named, parent);
     if children < index as usize {
@@ -241,7 +251,9 @@ fn count_left(page: &Page, id: NodeId, to: NodeId, named: &Named, parent: &Named
 /// Whether a node of the tree that moves would stand on level 65.
 fn is_too_low(page: &Page, id: NodeId, to: NodeId, named: &Named, parent: &Named) -> bool
     requires { AreApart page.now.nodes.tree named.now.name parent.now.name id to }
-    ensures { result ≡ passes_levels (removed named.now.name (trees_in page.now)) parent.now (height_of (tree_at named.now.name (trees_in page.now))) }
+    ensures { result ≡
+        passes_levels (removed named.now.name (trees_in page.now)) parent.now
+        (height_of (tree_at named.now.name (trees_in page.now))) }
 {
     let tree = page.tree();
     let below = height_below(tree, id);

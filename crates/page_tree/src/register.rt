@@ -187,15 +187,30 @@ impl Register {
         requires readable { AreReadable (bare self.old.tree) }
         requires last { AreFound (bare self.old.tree) (kept_at self.old.tree) last.old }
         ensures root { IfOk result (λ root. IsRootFrame (bare self.old.tree) width height root) }
-        ensures value { OnOk result (T.adds told.old told.new (bare_boxes width height (bare self.old.tree))) }
+        ensures value { OnOk result
+            (T.adds told.old told.new (bare_boxes width height (bare self.old.tree))) }
         ensures near { OnOk result (AreNear (bare_boxes width height (bare self.old.tree))) }
         ensures bare { bare self.new.tree ≡ bare self.old.tree }
         ensures right { IsRight self.new.tree }
-        ensures laid { OnOk result (Walk (IsAsked (bare self.old.tree) width height) 0 [] (state self.old tally.old passes.old (R.log ruler.old)) (state self.new tally.new passes.new (R.log ruler.new))) }
-        ensures cut { OnErr result (IsCutShort (bare self.old.tree) width height (state self.old tally.old passes.old (R.log ruler.old)) (state self.new tally.new passes.new (R.log ruler.new))) }
-        ensures paths { OnOk result (IsPathKept (bare self.old.tree) width height (state self.new tally.new passes.new (R.log ruler.new))) }
-        ensures leaves { OnOk result (AreMeasured (bare self.old.tree) width height (state self.old tally.old passes.old (R.log ruler.old)) (state self.new tally.new passes.new (R.log ruler.new))) }
-        ensures quiet { IsAllKept (bare self.old.tree) width height (state self.old tally.old passes.old (R.log ruler.old)) → state self.new tally.new passes.new (R.log ruler.new) ≡ state self.old tally.old passes.old (R.log ruler.old) }
+        ensures laid { OnOk result
+            (Walk (IsAsked (bare self.old.tree) width height) 0 []
+            (state self.old tally.old passes.old (R.log ruler.old))
+            (state self.new tally.new passes.new (R.log ruler.new))) }
+        ensures cut { OnErr result
+            (IsCutShort (bare self.old.tree) width height
+            (state self.old tally.old passes.old (R.log ruler.old))
+            (state self.new tally.new passes.new (R.log ruler.new))) }
+        ensures paths { OnOk result
+            (IsPathKept (bare self.old.tree) width height
+            (state self.new tally.new passes.new (R.log ruler.new))) }
+        ensures leaves { OnOk result
+            (AreMeasured (bare self.old.tree) width height
+            (state self.old tally.old passes.old (R.log ruler.old))
+            (state self.new tally.new passes.new (R.log ruler.new))) }
+        ensures quiet { IsAllKept (bare self.old.tree) width height
+            (state self.old tally.old passes.old (R.log ruler.old)) →
+            state self.new tally.new passes.new (R.log ruler.new) ≡
+            state self.old tally.old passes.old (R.log ruler.old) }
         ensures last { AreFound (bare self.new.tree) (kept_at self.new.tree) last.new }
     {
         walk_boxes(

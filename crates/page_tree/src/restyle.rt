@@ -49,8 +49,11 @@ fn child_at(
     em: Lu,
     rem: Lu,
 ) -> Result<Option<Child>, NoMemory>
-    ensures none { IfOk result (λ child. IfNone child (from_tree index (below_at tree.now.tree id) ≡ leafless)) }
-    ensures some { IfOk result (λ child. IfSome child (λ c. IsNextStyled em rem tree.now.tree id index c.id c.font c.style)) }
+    ensures none { IfOk result
+        (λ child. IfNone child (from_tree index (below_at tree.now.tree id) ≡ leafless)) }
+    ensures some { IfOk result
+        (λ child. IfSome child
+        (λ c. IsNextStyled em rem tree.now.tree id index c.id c.font c.style)) }
 {
     match tree.child(id, index) {
         Some(child) => match tree.get(child) {

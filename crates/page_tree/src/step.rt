@@ -71,7 +71,10 @@ impl Page {
     /// The properties of a node as they are set now.
     fn values_back(&self, name: &Name, props: &[Prop]) -> Result<Change, NoMemory>
         requires { IsThere name.now (document_of self.now) }
-        ensures { IfOk result (λ made. made ≡ change.Style name.now (values_in (node_at name.now (document_of self.now)).style props.now)) }
+        ensures { IfOk result
+            (λ made. made ≡
+            change.Style name.now
+            (values_in (node_at name.now (document_of self.now)).style props.now)) }
     {
         let _ = self.stands();
         let node = node_of(self.tree(), self.known(name));
@@ -82,7 +85,8 @@ impl Page {
     /// The kind of a node as it is now.
     fn kind_back(&self, name: &Name) -> Result<Change, NoMemory>
         requires { IsThere name.now (document_of self.now) }
-        ensures { IfOk result (λ made. made ≡ change.Kind name.now (node_at name.now (document_of self.now)).kind) }
+        ensures { IfOk result
+            (λ made. made ≡ change.Kind name.now (node_at name.now (document_of self.now)).kind) }
     {
         let _ = self.stands();
         let node = node_of(self.tree(), self.known(name));
@@ -93,7 +97,10 @@ impl Page {
     /// A node with all below it, brought where it stands now.
     fn bring_back(&self, name: &Name) -> Result<Change, NoMemory>
         requires { IsBelowRoot name.now (document_of self.now) }
-        ensures { IfOk result (λ made. made ≡ bring_back (position_of name.now (document_of self.now)) (node_at name.now (document_of self.now))) }
+        ensures { IfOk result
+            (λ made. made ≡
+            bring_back (position_of name.now (document_of self.now))
+            (node_at name.now (document_of self.now))) }
     {
         let _ = self.stands();
         let (parent, index) = self.position(name)?;

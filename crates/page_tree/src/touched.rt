@@ -70,21 +70,24 @@ fn is_font_property(property: Prop) -> bool
 
 /// Whether one of these properties is felt by subgrids.
 fn any_is_felt(values: &[(Prop, Option<DeclaredValue>)]) -> bool
-    ensures { result ≡ list_any (λ (v : Prop × Option DeclaredValue). is_felt_property v.0) values.now }
+    ensures { result ≡
+        list_any (λ (v : Prop × Option DeclaredValue). is_felt_property v.0) values.now }
 {
     values.iter().any(|value| is_felt_property(value.0))
 }
 
 /// Whether `font-size` is one of these properties.
 fn any_is_font(values: &[(Prop, Option<DeclaredValue>)]) -> bool
-    ensures { result ≡ list_any (λ (v : Prop × Option DeclaredValue). is_font_property v.0) values.now }
+    ensures { result ≡
+        list_any (λ (v : Prop × Option DeclaredValue). is_font_property v.0) values.now }
 {
     values.iter().any(|value| is_font_property(value.0))
 }
 
 /// Adds the number of the node of a name, if there is one.
 fn add_named(page: &Page, name: &Name, found: &mut Sequence<NodeId>) -> Result<(), NoMemory>
-    ensures { OnOk result (AddsMarked (λ w. bytes_eq w name.now) page.now.nodes.tree found.old found.new) }
+    ensures { OnOk result
+        (AddsMarked (λ w. bytes_eq w name.now) page.now.nodes.tree found.old found.new) }
 {
     match page.find(name) {
         Some(id) => {
@@ -97,7 +100,9 @@ fn add_named(page: &Page, name: &Name, found: &mut Sequence<NodeId>) -> Result<(
 
 /// Adds the number of the parent of the node of a name, if there is one.
 fn add_parent(page: &Page, name: &Name, found: &mut Sequence<NodeId>) -> Result<(), NoMemory>
-    ensures { OnOk result (AddsMarked (λ w. is_parent (trees_in page.now) name.now w) page.now.nodes.tree found.old found.new) }
+    ensures { OnOk result
+        (AddsMarked (λ w. is_parent (trees_in page.now) name.now w) page.now.nodes.tree found.old
+        found.new) }
 {
     let _ = page.stands();
     let tree = page.tree();
@@ -120,7 +125,9 @@ fn add_felt_parent(
     name: &Name,
     found: &mut Sequence<NodeId>,
 ) -> Result<(), NoMemory>
-    ensures { OnOk result (AddsMarked (λ w. felt && is_parent (trees_in page.now) name.now w) page.now.nodes.tree found.old found.new) }
+    ensures { OnOk result
+        (AddsMarked (λ w. felt && is_parent (trees_in page.now) name.now w) page.now.nodes.tree
+        found.old found.new) }
 {
     if felt {
         add_parent(page, name, found)
@@ -147,7 +154,9 @@ fn child_at(
     rem: Lu,
 ) -> Option<Below>
     ensures none { IfNone result (from_tree index (below_at tree.now.tree id) ≡ leafless) }
-    ensures some { IfSome result (λ child. IsNextBelow before after rem tree.now.tree id index child.id child.before child.after) }
+    ensures some { IfSome result
+        (λ child. IsNextBelow before after rem tree.now.tree id index child.id child.before
+        child.after) }
 {
     match tree.child(id, index) {
         Some(child) => match tree.get(child) {
@@ -174,7 +183,8 @@ fn add_if(
     id: NodeId,
     found: &mut Sequence<NodeId>,
 ) -> Result<(), NoMemory>
-    ensures { OnOk result (found.new ≡ found.old ++ (if all || not (int_eq before after) then id ∷ [] else [])) }
+    ensures { OnOk result
+        (found.new ≡ found.old ++ (if all || not (int_eq before after) then id ∷ [] else [])) }
 {
     if all || before.units() != after.units() {
         found.push(id)?;
@@ -195,7 +205,8 @@ fn add_below(
     rem: Lu,
     found: &mut Sequence<NodeId>,
 ) -> Result<(), NoMemory>
-    ensures { OnOk result (found.new ≡ found.old ++ numbers_below all before after rem (below_at tree.now.tree id)) }
+    ensures { OnOk result
+        (found.new ≡ found.old ++ numbers_below all before after rem (below_at tree.now.tree id)) }
 {
     for index in 0..tree.count(id) {
         let Some(child) = child_at(tree, id, index, before, after, rem) else {
@@ -209,7 +220,9 @@ fn add_below(
 
 /// Adds the numbers of all nodes below the node of a name.
 fn add_below_named(page: &Page, name: &Name, found: &mut Sequence<NodeId>) -> Result<(), NoMemory>
-    ensures { OnOk result (AddsMarked (λ w. holds (named.below_at name.now (trees_in page.now)) w) page.now.nodes.tree found.old found.new) }
+    ensures { OnOk result
+        (AddsMarked (λ w. holds (named.below_at name.now (trees_in page.now)) w) page.now.nodes.tree
+        found.old found.new) }
 {
     let _ = page.stands();
     let tree = page.tree();
@@ -230,7 +243,9 @@ fn add_all_below(
     name: &Name,
     found: &mut Sequence<NodeId>,
 ) -> Result<(), NoMemory>
-    ensures { OnOk result (AddsMarked (λ w. font && holds (named.below_at name.now (trees_in page.now)) w) page.now.nodes.tree found.old found.new) }
+    ensures { OnOk result
+        (AddsMarked (λ w. font && holds (named.below_at name.now (trees_in page.now)) w)
+        page.now.nodes.tree found.old found.new) }
 {
     if font {
         add_below_named(page, name, found)
@@ -254,7 +269,8 @@ fn font_of_name(page: &Page, name: &Name) -> Lu
 
 /// The font size that the values of a node give below one of this font size.
 fn declared_font(tree: &Arena<Node>, id: NodeId, above: Lu, rem: Lu) -> Lu
-    ensures { (v : Node) → value_at tree.now.tree id ≡ Some v → result ≡ font_of above rem v.declared }
+    ensures { (v : Node) → value_at tree.now.tree id ≡ Some v →
+        result ≡ font_of above rem v.declared }
 {
     match tree.get(id) {
         Some(node) => node.declared.font(above, rem),
@@ -270,7 +286,11 @@ fn add_other_fonts(
     parent: &Name,
     found: &mut Sequence<NodeId>,
 ) -> Result<(), NoMemory>
-    ensures { OnOk result (AddsMarked (λ w. gets_other_font (font_in name.now (trees_in page.now)) (font_in parent.now (trees_in page.now)) (root_font_in (trees_in page.now)) (tree_at name.now (trees_in page.now)) w) page.now.nodes.tree found.old found.new) }
+    ensures { OnOk result
+        (AddsMarked
+        (λ w. gets_other_font (font_in name.now (trees_in page.now))
+        (font_in parent.now (trees_in page.now)) (root_font_in (trees_in page.now))
+        (tree_at name.now (trees_in page.now)) w) page.now.nodes.tree found.old found.new) }
 {
     let _ = page.stands();
     let tree = page.tree();
@@ -291,7 +311,12 @@ fn add_other_fonts(
 /// of them or is not.
 fn by_props(page: &Page, felt: bool, font: bool, name: &Name) -> Result<Touched, NoMemory>
     ensures felt { IfOk result (λ touched. touched.felt ≡ felt) }
-    ensures numbers { IfOk result (λ touched. IsMarking (λ w. bytes_eq w name.now || ((felt && is_parent (trees_in page.now) name.now w) || (font && holds (named.below_at name.now (trees_in page.now)) w))) page.now.nodes.tree touched.numbers) }
+    ensures numbers { IfOk result
+        (λ touched. IsMarking
+        (λ w. bytes_eq w name.now ||
+        ((felt && is_parent (trees_in page.now) name.now w) ||
+        (font && holds (named.below_at name.now (trees_in page.now)) w)))
+        page.now.nodes.tree touched.numbers) }
 {
     let mut numbers = Sequence::new(page.alloc());
     add_named(page, name, &mut numbers)?;
@@ -306,8 +331,13 @@ fn by_values(
     name: &Name,
     values: &Sequence<(Prop, Option<DeclaredValue>)>,
 ) -> Result<Touched, NoMemory>
-    ensures felt { IfOk result (λ touched. touched.felt ≡ are_felt (map (λ (v : Prop × Option DeclaredValue). v.0) values.now)) }
-    ensures numbers { IfOk result (λ touched. IsMarking (is_marked_by (map (λ (v : Prop × Option DeclaredValue). v.0) values.now) name.now (trees_in page.now)) page.now.nodes.tree touched.numbers) }
+    ensures felt { IfOk result
+        (λ touched. touched.felt ≡
+        are_felt (map (λ (v : Prop × Option DeclaredValue). v.0) values.now)) }
+    ensures numbers { IfOk result
+        (λ touched. IsMarking
+        (is_marked_by (map (λ (v : Prop × Option DeclaredValue). v.0) values.now) name.now
+        (trees_in page.now)) page.now.nodes.tree touched.numbers) }
 {
     let slice = values.as_slice();
     let felt = any_is_felt(slice);
@@ -318,7 +348,8 @@ fn by_values(
 /// What nodes that are new under a parent mark: of those that are there, the parent alone.
 fn by_bringing(page: &Page, parent: &Name) -> Result<Touched, NoMemory>
     ensures felt { IfOk result (λ touched. touched.felt ≡ true) }
-    ensures numbers { IfOk result (λ touched. IsMarking (λ w. bytes_eq w parent.now) page.now.nodes.tree touched.numbers) }
+    ensures numbers { IfOk result
+        (λ touched. IsMarking (λ w. bytes_eq w parent.now) page.now.nodes.tree touched.numbers) }
 {
     let mut numbers = Sequence::new(page.alloc());
     add_named(page, parent, &mut numbers)?;
@@ -331,7 +362,10 @@ fn by_bringing(page: &Page, parent: &Name) -> Result<Touched, NoMemory>
 /// What a node that goes, or gets another kind, marks.
 fn by_node(page: &Page, felt: bool, name: &Name) -> Result<Touched, NoMemory>
     ensures felt { IfOk result (λ touched. touched.felt ≡ felt) }
-    ensures numbers { IfOk result (λ touched. IsMarking (λ w. bytes_eq w name.now || (felt && is_parent (trees_in page.now) name.now w)) page.now.nodes.tree touched.numbers) }
+    ensures numbers { IfOk result
+        (λ touched. IsMarking
+        (λ w. bytes_eq w name.now || (felt && is_parent (trees_in page.now) name.now w))
+        page.now.nodes.tree touched.numbers) }
 {
     let mut numbers = Sequence::new(page.alloc());
     add_named(page, name, &mut numbers)?;
@@ -342,7 +376,9 @@ fn by_node(page: &Page, felt: bool, name: &Name) -> Result<Touched, NoMemory>
 /// What a node marks that is shifted under a parent.
 fn by_shift(page: &Page, name: &Name, parent: &Name) -> Result<Touched, NoMemory>
     ensures felt { IfOk result (λ touched. touched.felt ≡ true) }
-    ensures numbers { IfOk result (λ touched. MarksShift name.now parent.now (trees_in page.now) page.now.nodes.tree touched.numbers) }
+    ensures numbers { IfOk result
+        (λ touched. MarksShift name.now parent.now (trees_in page.now) page.now.nodes.tree
+        touched.numbers) }
 {
     let mut numbers = Sequence::new(page.alloc());
     add_named(page, name, &mut numbers)?;
@@ -373,8 +409,11 @@ fn is_container(page: &Page, kind: &Kind, name: &Name) -> bool
 
 /// What another kind of a node marks.
 fn by_kind(page: &Page, name: &Name, kind: &Kind) -> Result<Touched, NoMemory>
-    ensures felt { IfOk result (λ touched. touched.felt ≡ is_container kind.now name.now (trees_in page.now)) }
-    ensures numbers { IfOk result (λ touched. MarksKind kind.now name.now (trees_in page.now) page.now.nodes.tree touched.numbers) }
+    ensures felt { IfOk result
+        (λ touched. touched.felt ≡ is_container kind.now name.now (trees_in page.now)) }
+    ensures numbers { IfOk result
+        (λ touched. MarksKind kind.now name.now (trees_in page.now) page.now.nodes.tree
+        touched.numbers) }
 {
     let felt = is_container(page, kind, name);
     by_node(page, felt, name)
@@ -384,7 +423,8 @@ fn by_kind(page: &Page, name: &Name, kind: &Kind) -> Result<Touched, NoMemory>
 pub(crate) fn marks_of(page: &Page, change: &Change) -> Result<Touched, NoMemory>
     requires { Fits change.now (document_of page.now) }
     ensures felt { IfOk result (λ touched. touched.felt ≡ is_felt change.now (trees_in page.now)) }
-    ensures numbers { IfOk result (λ touched. MarksChange change.now (trees_in page.now) page.now.nodes.tree touched.numbers) }
+    ensures numbers { IfOk result
+        (λ touched. MarksChange change.now (trees_in page.now) page.now.nodes.tree touched.numbers) }
 {
     let _ = page.stands();
     match change {
@@ -400,7 +440,8 @@ pub(crate) fn marks_of(page: &Page, change: &Change) -> Result<Touched, NoMemory
 /// No node.
 fn unmarked(page: &Page) -> Result<Touched, NoMemory>
     ensures felt { IfOk result (λ touched. touched.felt ≡ false) }
-    ensures numbers { IfOk result (λ touched. IsMarking (λ w. false) page.now.nodes.tree touched.numbers) }
+    ensures numbers { IfOk result
+        (λ touched. IsMarking (λ w. false) page.now.nodes.tree touched.numbers) }
 {
     let numbers = Sequence::new(page.alloc());
     Ok(Touched {

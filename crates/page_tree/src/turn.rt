@@ -51,7 +51,8 @@ impl Page {
     pub fn turn(&mut self, change: &Change, last: &mut LastBoxes) -> Result<(), NoMemory>
         requires fits { Fits change.now (document_of self.old) }
         requires last { AreFound (bare self.old.nodes.tree) (kept_at self.old.nodes.tree) last.old }
-        ensures document { OnOk result (document_of self.new ≡ turned change.now (document_of self.old)) }
+        ensures document { OnOk result
+            (document_of self.new ≡ turned change.now (document_of self.old)) }
         ensures kept { OnOk result (LeavesOthers change.now self.old self.new) }
         ensures err { OnErr result (IsUndone change.now self.old self.new) }
         ensures right { IsRight self.old.nodes.tree → IsRight self.new.nodes.tree }
@@ -81,7 +82,8 @@ impl Page {
     /// feel the change, what they keep longer. Takes no memory.
     fn let_reached_go(&mut self, reached: &Reached)
         ensures document { document_of self.new ≡ document_of self.old }
-        ensures nodes { self.new.nodes ≡ all_left reached.now.felt reached.now.nodes self.old.nodes }
+        ensures nodes { self.new.nodes ≡
+            all_left reached.now.felt reached.now.nodes self.old.nodes }
     {
         let nodes = reached.nodes.as_slice();
         self.let_go(nodes);
@@ -93,8 +95,10 @@ impl Page {
     /// What a change reaches.
     fn reached(&self, change: &Change) -> Result<Reached, NoMemory>
         requires { Fits change.now (document_of self.now) }
-        ensures nodes { IfOk result (λ reached. IsReach change.now (trees_in self.now) self.now.nodes.tree reached.nodes) }
-        ensures felt { IfOk result (λ reached. reached.felt ≡ is_felt change.now (trees_in self.now)) }
+        ensures nodes { IfOk result
+            (λ reached. IsReach change.now (trees_in self.now) self.now.nodes.tree reached.nodes) }
+        ensures felt { IfOk result
+            (λ reached. reached.felt ≡ is_felt change.now (trees_in self.now)) }
     {
         let marked = marks_of(self, change)?;
         let tree = self.tree();
@@ -110,7 +114,8 @@ impl Page {
     /// The document after a change, with what the nodes keep, which may no longer be right.
     fn change(&mut self, change: &Change) -> Result<(), NoMemory>
         requires { Fits change.now (document_of self.old) }
-        ensures changes { OnOk result (IsChanged change.now self.old.nodes.tree self.new.nodes.tree) }
+        ensures changes { OnOk result
+            (IsChanged change.now self.old.nodes.tree self.new.nodes.tree) }
         ensures around { OnOk result (IsTurnedAround change.now self.old self.new) }
         ensures err { OnErr result (IsUndone change.now self.old self.new) }
     {
@@ -151,7 +156,8 @@ impl Page {
         values: &[(Prop, Option<DeclaredValue>)],
     ) -> Result<(), NoMemory>
         requires { Fits (change.Style name.now values.now) (document_of self.old) }
-        ensures changes { OnOk result (Relabels name.now (with_style values.now) self.old.nodes.tree self.new.nodes.tree) }
+        ensures changes { OnOk result
+            (Relabels name.now (with_style values.now) self.old.nodes.tree self.new.nodes.tree) }
         ensures around { OnOk result (IsAround self.old self.new) }
         ensures err { OnErr result (self.new ≡ self.old) }
     {
@@ -166,7 +172,8 @@ impl Page {
     /// The node has this kind. It takes all its memory first.
     fn replace_kind(&mut self, name: &Name, kind: &Kind) -> Result<(), NoMemory>
         requires { Fits (change.Kind name.now kind.now) (document_of self.old) }
-        ensures changes { OnOk result (Relabels name.now (with_kind kind.now) self.old.nodes.tree self.new.nodes.tree) }
+        ensures changes { OnOk result
+            (Relabels name.now (with_kind kind.now) self.old.nodes.tree self.new.nodes.tree) }
         ensures around { OnOk result (IsAround self.old self.new) }
         ensures err { OnErr result (self.new ≡ self.old) }
     {
@@ -193,9 +200,12 @@ impl Page {
     /// taken out again.
     fn bring(&mut self, parent: &Name, index: u32, node: &Plain) -> Result<(), NoMemory>
         requires { Fits (change.Bring parent.now index node.now) (document_of self.old) }
-        ensures changes { OnOk result (Brings parent.now index (tree_of_node node.now) self.old.nodes.tree self.new.nodes.tree) }
+        ensures changes { OnOk result
+            (Brings parent.now index (tree_of_node node.now) self.old.nodes.tree
+            self.new.nodes.tree) }
         ensures around { IsAround self.old self.new }
-        ensures err { OnErr result (IsUndone (change.Bring parent.now index node.now) self.old self.new) }
+        ensures err { OnErr result
+            (IsUndone (change.Bring parent.now index node.now) self.old self.new) }
     {
         let _ = self.stands();
         let upper = self.known(parent);
@@ -214,7 +224,8 @@ impl Page {
     /// it. It takes all its memory first.
     fn shift(&mut self, name: &Name, parent: &Name, index: u32) -> Result<(), NoMemory>
         requires { Fits (change.Shift name.now parent.now index) (document_of self.old) }
-        ensures changes { OnOk result (Shifts name.now parent.now index self.old.nodes.tree self.new.nodes.tree) }
+        ensures changes { OnOk result
+            (Shifts name.now parent.now index self.old.nodes.tree self.new.nodes.tree) }
         ensures around { OnOk result (IsAround self.old self.new) }
         ensures err { OnErr result (self.new ≡ self.old) }
     {

@@ -128,7 +128,8 @@ after_meets v a held (e ∷ es) (f ∷ out) s m cover = (
   after_meets v a (held ++ option_to_list s.0) es out s.2 m.1 (λ x h. cover x (free-append x held (option_to_list s.0) h).0),
 )
 
-step_first : (held : List Area) (e : Entry) (area : Option Area) (es out : List Entry) → IsFreeOf held area → Steps (held ++ option_to_list area) es out → FirstMeets e.wish e.area es → Covers held (option_to_list e.area) → Covers held (areas_of es) → FirstMeets (with_area e area).wish (with_area e area).area out
+step_first : (held : List Area) (e : Entry) (area : Option Area) (es out : List Entry) → IsFreeOf held area → Steps (held ++ option_to_list area) es out → FirstMeets e.wish e.area es → Covers held (option_to_list e.area) → Covers held (areas_of es) →
+    FirstMeets (with_area e area).wish (with_area e area).area out
 step_first held e None es out free s m own cover = go e.wish e.area m own
   where
     go : (v : Wish) (area : Option Area) → FirstMeets v area es → Covers held (option_to_list area) → FirstMeets v area out

@@ -80,7 +80,8 @@ above_least (negsuc n) = omega (arith, ints)
 pub free_column_free : (placed : List Area) (k : ℕ) (rows : Span) (from : ℤ) → is_free (record { columns = to_end (free_column placed k rows from) k; rows = rows }) placed ≡ true
 free_column_free placed k rows from = go (either_free (λ c. record { columns = to_end c k; rows = rows }) placed (above_zero (far_column placed from -ℤ from)) from)
   where
-    go : (is_free (record { columns = to_end (free_column placed k rows from) k; rows = rows }) placed ≡ true) ⊎ (free_column placed k rows from ≡ from +ℤ pos (above_zero (far_column placed from -ℤ from))) → is_free (record { columns = to_end (free_column placed k rows from) k; rows = rows }) placed ≡ true
+    go : (is_free (record { columns = to_end (free_column placed k rows from) k; rows = rows }) placed ≡ true) ⊎ (free_column placed k rows from ≡ from +ℤ pos (above_zero (far_column placed from -ℤ from))) →
+        is_free (record { columns = to_end (free_column placed k rows from) k; rows = rows }) placed ≡ true
     go (inl h) = h
     go (inr h) = past_columns placed from (to_end (free_column placed k rows from) k) rows (omega (arith, ints, h, above_least (far_column placed from -ℤ from)))
 
@@ -88,7 +89,8 @@ free_column_free placed k rows from = go (either_free (λ c. record { columns = 
 pub free_row_free : (placed : List Area) (columns : Span) (l : ℕ) (from : ℤ) → is_free (record { columns = columns; rows = to_end (free_row placed columns l from) l }) placed ≡ true
 free_row_free placed columns l from = go (either_free (λ r. record { columns = columns; rows = to_end r l }) placed (above_zero (far_row placed from -ℤ from)) from)
   where
-    go : (is_free (record { columns = columns; rows = to_end (free_row placed columns l from) l }) placed ≡ true) ⊎ (free_row placed columns l from ≡ from +ℤ pos (above_zero (far_row placed from -ℤ from))) → is_free (record { columns = columns; rows = to_end (free_row placed columns l from) l }) placed ≡ true
+    go : (is_free (record { columns = columns; rows = to_end (free_row placed columns l from) l }) placed ≡ true) ⊎ (free_row placed columns l from ≡ from +ℤ pos (above_zero (far_row placed from -ℤ from))) →
+        is_free (record { columns = columns; rows = to_end (free_row placed columns l from) l }) placed ≡ true
     go (inl h) = h
     go (inr h) = past_rows placed from columns (to_end (free_row placed columns l from) l) (omega (arith, ints, h, above_least (far_row placed from -ℤ from)))
 
@@ -109,7 +111,8 @@ position_free placed columns k l (suc n) from least h e =
         → is_free (area_at (if int_le (c +ℤ pos k) columns.end then record { column = c; row = from.row } else free_position placed columns k l n (record { column = columns.start; row = from.row +ℤ pos 1 })) k l) placed ≡ true
     go c f e later = by (int_le (c +ℤ pos k) columns.end) refl f
       where
-        by : (t : Bool) → int_le (c +ℤ pos k) columns.end ≡ t → (is_free (at c) placed ≡ true) ⊎ (c ≡ from.column +ℤ pos count) → is_free (area_at (if t then record { column = c; row = from.row } else free_position placed columns k l n (record { column = columns.start; row = from.row +ℤ pos 1 })) k l) placed ≡ true
+        by : (t : Bool) → int_le (c +ℤ pos k) columns.end ≡ t → (is_free (at c) placed ≡ true) ⊎ (c ≡ from.column +ℤ pos count) →
+            is_free (area_at (if t then record { column = c; row = from.row } else free_position placed columns k l n (record { column = columns.start; row = from.row +ℤ pos 1 })) k l) placed ≡ true
         by false g s = later
         by true g (inl s) = s
         by true g (inr s) = absurd (omega (arith, ints, s, above_least (columns.end -ℤ pos k +ℤ pos 1 -ℤ from.column)))

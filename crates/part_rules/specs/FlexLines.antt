@@ -116,7 +116,8 @@ violation p size = if is_free p then limited_main p.item size -ℤ size else pos
 -- All items are frozen where the changes sum to 0; where the sum is above 0 those that were raised, and else those that were
 -- lowered. A frozen item stays as it is.
 abbrev pub freezes : ℤ → ℤ → Bool
-freezes sum change = (int_le (pos 0) sum && int_le sum (pos 0)) || ((int_lt (pos 0) sum && int_lt (pos 0) change) || (int_lt sum (pos 0) && int_lt change (pos 0)))
+freezes sum change =
+    (int_le (pos 0) sum && int_le sum (pos 0)) || ((int_lt (pos 0) sum && int_lt (pos 0) change) || (int_lt sum (pos 0) && int_lt change (pos 0)))
 
 -- the item after its size was tried; a size that it is frozen at is limited as each box size is (CSS Flexbox 1, 9.7, step 4;
 -- the range is an own rule)
@@ -168,7 +169,9 @@ cross_rest cross gap sizes = clamp (int_max (pos 0) (cross -ℤ gaps gap (length
 
 -- lines that share what a known cross size leaves (CSS Flexbox 1, 9.4, step 9)
 abbrev pub stretched_lines : Option ℤ → ℤ → Bool → List ℤ → List ℤ
-stretched_lines (Some cross) gap true sizes = zipped (λ size share. clamp (size +ℤ share)) sizes (shares (cross_rest cross gap sizes) (map (λ (size : ℤ). let none : Option ℤ = None in none) sizes))
+stretched_lines (Some cross) gap true sizes =
+    zipped (λ size share. clamp (size +ℤ share)) sizes
+    (shares (cross_rest cross gap sizes) (map (λ (size : ℤ). let none : Option ℤ = None in none) sizes))
 stretched_lines cross gap stretch sizes = sizes
 
 -- The cross sizes of the lines. With wrapping and `align-content` `normal` or `stretch` the positive rest of a known cross size
@@ -190,13 +193,24 @@ abbrev item : ℤ → ℤ → Option ℤ → ℕ → ℕ → FlexItem
 item base min max grow shrink = record { base = base; min = min; max = max; margins = pos 0; inner = pos 0; grow = grow; shrink = shrink }
 
 -- 6400 by two equal factors: 3200 each; the first is lowered to 1920 and frozen. Then 4480 are left for the second.
-one_limit : line_sizes (pos 6400) (pos 0) (item (pos 0) (pos 0) (Some (pos 1920)) 1000 1000 ∷ item (pos 0) (pos 0) None 1000 1000 ∷ []) ≡ pos 1920 ∷ pos 4480 ∷ []
+one_limit : line_sizes (pos 6400) (pos 0) (item (pos 0) (pos 0) (Some (pos 1920)) 1000 1000 ∷ item (pos 0) (pos 0) None 1000 1000 ∷ []) ≡
+    pos 1920 ∷ pos 4480 ∷ []
 unfolding resolved clamp floor_div handed_by_level
 one_limit = refl
 
 -- The first has the greatest size already, and margins that take it back. Of 200 each gets 100: the first is lowered by 100 and
 -- the second raised by 50, so the first is frozen, and the second takes all. The range alone lowers no size.
-past_the_range : line_sizes (pos 200) (pos 0) (record { base = pos 1073741824; min = pos 0; max = Some (pos 1073741824); margins = negsuc 1073741823; inner = pos 0; grow = 1000; shrink = 1000 } ∷ item (pos 0) (pos 150) None 1000 1000 ∷ []) ≡ pos 1073741824 ∷ pos 200 ∷ []
+past_the_range : line_sizes (pos 200) (pos 0)
+    (record {
+      base = pos 1073741824;
+      min = pos 0;
+      max = Some (pos 1073741824);
+      margins = negsuc 1073741823;
+      inner = pos 0;
+      grow = 1000;
+      shrink
+          = 1000;
+    } ∷ item (pos 0) (pos 150) None 1000 1000 ∷ []) ≡ pos 1073741824 ∷ pos 200 ∷ []
 unfolding resolved clamp floor_div handed_by_level
 past_the_range = refl
 
@@ -206,7 +220,9 @@ unfolding resolved clamp floor_div handed_by_level
 quarter = refl
 
 -- 300 by three: 100 each; 50 less for the first and 50 more for the second sum to 0, so all are frozen.
-limits_even_out : line_sizes (pos 300) (pos 0) (item (pos 0) (pos 0) (Some (pos 50)) 1000 1000 ∷ item (pos 0) (pos 150) None 1000 1000 ∷ item (pos 0) (pos 0) None 1000 1000 ∷ []) ≡ pos 50 ∷ pos 150 ∷ pos 100 ∷ []
+limits_even_out : line_sizes (pos 300) (pos 0)
+    (item (pos 0) (pos 0) (Some (pos 50)) 1000 1000 ∷ item (pos 0) (pos 150) None 1000 1000 ∷ item (pos 0) (pos 0) None 1000 1000 ∷ []) ≡
+    pos 50 ∷ pos 150 ∷ pos 100 ∷ []
 unfolding resolved clamp floor_div handed_by_level
 limits_even_out = refl
 
@@ -226,12 +242,16 @@ unfolding resolved clamp floor_div handed_by_level
 shrinks_half = refl
 
 -- Borders and paddings do not shrink: the weights are 60 - 20 and 60 - 40, so 30 are taken as 20 and 10.
-inner_kept : line_sizes (pos 90) (pos 0) (record { base = pos 60; min = pos 0; max = None; margins = pos 0; inner = pos 20; grow = 0; shrink = 1000 } ∷ record { base = pos 60; min = pos 0; max = None; margins = pos 0; inner = pos 40; grow = 0; shrink = 1000 } ∷ []) ≡ pos 40 ∷ pos 50 ∷ []
+inner_kept : line_sizes (pos 90) (pos 0)
+    (record { base = pos 60; min = pos 0; max = None; margins = pos 0; inner = pos 20; grow = 0; shrink = 1000 } ∷
+    record { base = pos 60; min = pos 0; max = None; margins = pos 0; inner = pos 40; grow = 0; shrink = 1000 } ∷ []) ≡ pos 40 ∷ pos 50 ∷ []
 unfolding resolved clamp floor_div handed_by_level
 inner_kept = refl
 
 -- Margins of 30 and a gap of 5 go off 100: 65 for two items, by the weights 1 and 3; floor(65 / 4) = 16 and 49.
-margins_and_gap : line_sizes (pos 100) (pos 5) (record { base = pos 0; min = pos 0; max = None; margins = pos 30; inner = pos 0; grow = 1000; shrink = 1000 } ∷ item (pos 0) (pos 0) None 3000 1000 ∷ []) ≡ pos 16 ∷ pos 49 ∷ []
+margins_and_gap : line_sizes (pos 100) (pos 5)
+    (record { base = pos 0; min = pos 0; max = None; margins = pos 30; inner = pos 0; grow = 1000; shrink = 1000 } ∷
+    item (pos 0) (pos 0) None 3000 1000 ∷ []) ≡ pos 16 ∷ pos 49 ∷ []
 unfolding resolved clamp floor_div handed_by_level
 margins_and_gap = refl
 
@@ -241,7 +261,8 @@ unfolding resolved clamp floor_div handed_by_level
 no_factor = refl
 
 -- 40 + 10 + 40 = 90 fits 100, and 140 does not.
-two_lines : line_ranges (pos 100) (pos 10) true (item (pos 40) (pos 0) None 0 1000 ∷ item (pos 40) (pos 0) None 0 1000 ∷ item (pos 40) (pos 0) None 0 1000 ∷ []) ≡ (0, 2) ∷ (2, 3) ∷ []
+two_lines : line_ranges (pos 100) (pos 10) true
+    (item (pos 40) (pos 0) None 0 1000 ∷ item (pos 40) (pos 0) None 0 1000 ∷ item (pos 40) (pos 0) None 0 1000 ∷ []) ≡ (0, 2) ∷ (2, 3) ∷ []
 two_lines = refl
 
 -- The first item of a line joins it also where it passes the main size alone.

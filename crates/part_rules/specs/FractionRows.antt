@@ -27,6 +27,7 @@ unfolding left_flexible clamp
 limited_leftover = refl
 
 -- By the factor 6670.205 the first track would pass 2^30. The second would have 807,005, less than its base size, which it keeps.
-limited_part : bases (expanded (record { space = pos 807005952; weight = 1000 }) (flexible (pos 0) 6670205 ∷ flexible (pos 60980734) 1 ∷ [])) ≡ pos 1073741824 ∷ pos 60980734 ∷ []
+limited_part : bases (expanded (record { space = pos 807005952; weight = 1000 }) (flexible (pos 0) 6670205 ∷ flexible (pos 60980734) 1 ∷ [])) ≡
+    pos 1073741824 ∷ pos 60980734 ∷ []
 unfolding clamp floor_div
 limited_part = refl

@@ -108,7 +108,9 @@ three_fr : found (flexible (pos 0) 1000 ∷ flexible (pos 0) 1000 ∷ flexible (
 unfolding left_flexible clamp
 three_fr = refl
 
-three_fr_sizes : bases (expanded (record { space = pos 6400; weight = 3000 }) (flexible (pos 0) 1000 ∷ flexible (pos 0) 1000 ∷ flexible (pos 0) 1000 ∷ [])) ≡ pos 2133 ∷ pos 2133 ∷ pos 2134 ∷ []
+three_fr_sizes : bases
+    (expanded (record { space = pos 6400; weight = 3000 }) (flexible (pos 0) 1000 ∷ flexible (pos 0) 1000 ∷ flexible (pos 0) 1000 ∷ [])) ≡
+    pos 2133 ∷ pos 2133 ∷ pos 2134 ∷ []
 unfolding clamp floor_div
 three_fr_sizes = refl
 
@@ -117,7 +119,8 @@ below_base : found (flexible (pos 5120) 1000 ∷ flexible (pos 0) 1000 ∷ []) (
 unfolding left_flexible clamp
 below_base = refl
 
-below_base_sizes : bases (expanded (record { space = pos 1280; weight = 1000 }) (flexible (pos 5120) 1000 ∷ flexible (pos 0) 1000 ∷ [])) ≡ pos 5120 ∷ pos 1280 ∷ []
+below_base_sizes : bases (expanded (record { space = pos 1280; weight = 1000 }) (flexible (pos 5120) 1000 ∷ flexible (pos 0) 1000 ∷ [])) ≡
+    pos 5120 ∷ pos 1280 ∷ []
 unfolding clamp floor_div
 below_base_sizes = refl
 
@@ -131,7 +134,8 @@ unfolding clamp floor_div
 half_fr_size = refl
 
 -- Two starts: 900 over 3000 gives 300 each, below 500 alone; then 400 over 2000 gives 200 each, below 250; then 150 over 1000.
-two_starts : found (flexible (pos 500) 1000 ∷ flexible (pos 250) 1000 ∷ flexible (pos 0) 1000 ∷ []) (pos 0) (pos 900) ≡ record { space = pos 150; weight = 1000 }
+two_starts : found (flexible (pos 500) 1000 ∷ flexible (pos 250) 1000 ∷ flexible (pos 0) 1000 ∷ []) (pos 0) (pos 900) ≡
+    record { space = pos 150; weight = 1000 }
 unfolding left_flexible clamp
 two_starts = refl
 
@@ -155,6 +159,8 @@ unfolding left_flexible clamp
 no_tracks = refl
 
 -- 100 over 1000 by the factors 500, 0 and 300: 50, 0 and floor(80) - 50 = 30; the track of base size 40 keeps it, since 30 is less.
-some_take : bases (expanded (record { space = pos 100; weight = 1000 }) (flexible (pos 0) 500 ∷ flexible (pos 40) 300 ∷ flexible (pos 0) 0 ∷ flexible (pos 7) 300 ∷ [])) ≡ pos 50 ∷ pos 40 ∷ pos 0 ∷ pos 30 ∷ []
+some_take : bases
+    (expanded (record { space = pos 100; weight = 1000 })
+    (flexible (pos 0) 500 ∷ flexible (pos 40) 300 ∷ flexible (pos 0) 0 ∷ flexible (pos 7) 300 ∷ [])) ≡ pos 50 ∷ pos 40 ∷ pos 0 ∷ pos 30 ∷ []
 unfolding clamp floor_div
 some_take = refl

@@ -52,11 +52,20 @@ lines_by names (suc more) line = names line ∷ lines_by names more (line + 1)
 -- The lines of a grid that is no subgrid in this axis: the sets of its template and the names by its areas. The limit is the lines
 -- -10,000 to 10,000 (own rule).
 abbrev pub own_table : List (List (List ℕ)) → ℕ → List NamedSpan → Table
-own_table sets tracks areas = record { tracks = tracks; lines = lines_by (λ line. get_or sets line [] ++ names_by_areas (pos line) areas) (tracks + 1) 0; areas = areas; low = neg_ℤ (pos 10000); high = pos 10000 }
+own_table sets tracks areas = record {
+  tracks = tracks;
+  lines = lines_by (λ line. get_or sets line [] ++ names_by_areas (pos line) areas) (tracks + 1) 0;
+  areas = areas;
+  low =
+      neg_ℤ (pos 10000);
+  high = pos 10000;
+}
 
 -- an area cut to a span and told from its start, if it has a track in common with it
 abbrev pub cut_area : Span → NamedSpan → List NamedSpan
-cut_area span a = if spans_overlap span a.1 then (a.0, record { start = int_max span.start a.1.start -ℤ span.start; end = int_min span.end a.1.end -ℤ span.start }) ∷ [] else []
+cut_area span a =
+    if spans_overlap span a.1 then
+    (a.0, record { start = int_max span.start a.1.start -ℤ span.start; end = int_min span.end a.1.end -ℤ span.start }) ∷ [] else []
 
 -- all these areas, cut to a span
 abbrev pub cut_areas : Span → List NamedSpan → List NamedSpan
@@ -72,7 +81,15 @@ subgrid_table parent span sets areas =
     let tracks = above_zero (span.end -ℤ span.start) in
     let own = cut_areas (record { start = pos 0; end = pos tracks }) areas in
     let all = own ++ cut_areas span parent.areas in
-    record { tracks = tracks; lines = lines_by (λ line. get_or sets line [] ++ names_by_areas (pos line) all ++ names_at parent (span.start +ℤ pos line)) (tracks + 1) 0; areas = all; low = pos 0; high = pos tracks }
+    record {
+      tracks = tracks;
+      lines = lines_by
+          (λ line. get_or sets line [] ++ names_by_areas (pos line) all ++ names_at parent (span.start +ℤ pos line)) (tracks + 1) 0;
+      areas =
+          all;
+      low = pos 0;
+      high = pos tracks;
+    }
 
 -- ---- one line value (CSS Grid 2, 8.3)
 
@@ -281,13 +298,17 @@ subgrid_span : resolved cut_parent (Reach 7 None) Auto 1 ≡ Free 2
 subgrid_span = refl
 
 -- Its lines have its own sets, of which a fourth is spare, and the names of the parent's lines 1 and 2, `a` and `a`.
-inherited : named_lines (subgrid_table repeated (record { start = pos 1; end = pos 3 }) ([] ∷ [] ∷ (a_name ∷ []) ∷ (a_name ∷ []) ∷ []) []) a_name ≡ pos 0 ∷ pos 1 ∷ pos 2 ∷ []
+inherited : named_lines (subgrid_table repeated (record { start = pos 1; end = pos 3 }) ([] ∷ [] ∷ (a_name ∷ []) ∷ (a_name ∷ []) ∷ []) []) a_name
+    ≡ pos 0 ∷ pos 1 ∷ pos 2 ∷ []
 inherited = refl
 
 -- Lines of the parent past its explicit ones have no names, and an own area wholly past the span gives none.
-past_parent : named_lines (subgrid_table repeated (record { start = pos 3; end = pos 5 }) [] ((b_name, record { start = pos 2; end = pos 4 }) ∷ [])) (codes "b-start") ≡ []
+past_parent : named_lines
+    (subgrid_table repeated (record { start = pos 3; end = pos 5 }) [] ((b_name, record { start = pos 2; end = pos 4 }) ∷ []))
+    (codes "b-start") ≡ []
 past_parent = refl
 
 -- An own area that reaches past the span ends at its last line.
-own_cut : named_lines (subgrid_table repeated (record { start = pos 0; end = pos 2 }) [] ((b_name, record { start = pos 1; end = pos 4 }) ∷ [])) (codes "b-end") ≡ pos 2 ∷ []
+own_cut : named_lines (subgrid_table repeated (record { start = pos 0; end = pos 2 }) [] ((b_name, record { start = pos 1; end = pos 4 }) ∷ []))
+    (codes "b-end") ≡ pos 2 ∷ []
 own_cut = refl

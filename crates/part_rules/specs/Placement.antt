@@ -57,7 +57,9 @@ pub record Position : Type 0 where
 abbrev pub free_position : List Area → Span → ℕ → ℕ → ℕ → Position → Position
 free_position placed columns k l zero from = from
 free_position placed columns k l (suc more) from =
-    let c = first_free (λ c. record { columns = to_end c k; rows = to_end from.row l }) placed (above_zero (columns.end -ℤ pos k +ℤ pos 1 -ℤ from.column)) from.column in
+    let c =
+    first_free (λ c. record { columns = to_end c k; rows = to_end from.row l }) placed
+    (above_zero (columns.end -ℤ pos k +ℤ pos 1 -ℤ from.column)) from.column in
     if int_le (c +ℤ pos k) columns.end
     then record { column = c; row = from.row }
     else free_position placed columns k l more (record { column = columns.start; row = from.row +ℤ pos 1 })
@@ -94,7 +96,9 @@ with_area e (Some a) = record e { area = Some a }
 -- where the search in a definite row begins: in dense mode at column 0 (own rule: it could also be the first column of the grid); in sparse
 -- mode also not before the end of an item that this step placed with the same row start (own rule: it could also be an item that shares a row)
 abbrev pub row_search_start : Bool → List Area → Span → ℤ
-row_search_start dense mine rows = if dense then pos 0 else greatest_with (pos 0) (map (λ (a : Area). a.columns.end) (filter (λ (a : Area). int_eq a.rows.start rows.start) mine))
+row_search_start dense mine rows =
+    if dense then pos 0 else greatest_with (pos 0)
+    (map (λ (a : Area). a.columns.end) (filter (λ (a : Area). int_eq a.rows.start rows.start) mine))
 
 -- the area of an item with a definite row (CSS Grid 2, 8.5, step 2)
 abbrev pub row_area : Bool → List Area → List Area → Spot → Spot → Option Area
@@ -139,7 +143,8 @@ columns_for explicit entries =
 
 -- the first of the rows so far
 abbrev pub first_row : ℕ → List Entry → ℤ
-first_row explicit entries = (range_of explicit (flat_map (λ (e : Entry). definite_span e.wish.row) entries ++ map (λ (a : Area). a.rows) (areas_of entries))).start
+first_row explicit entries =
+    (range_of explicit (flat_map (λ (e : Entry). definite_span e.wish.row) entries ++ map (λ (a : Area). a.rows) (areas_of entries))).start
 
 -- where the items that are left are placed: in these columns, in the rows from the first on, and in dense mode or not
 pub record Field : Type 0 where
@@ -162,7 +167,8 @@ area_at p k l = record { columns = to_end p.column k; rows = to_end p.row l }
 
 -- the area of an item that is left (CSS Grid 2, 8.5, step 4)
 abbrev pub next_area : Field → List Area → Position → Spot → Spot → Option Area
-next_area f placed cursor (At columns) (Free l) = Some (record { columns = columns; rows = to_end (free_row placed columns l (column_search_start f cursor columns)) l })
+next_area f placed cursor (At columns) (Free l) =
+    Some (record { columns = columns; rows = to_end (free_row placed columns l (column_search_start f cursor columns)) l })
 next_area f placed cursor (Free k) (Free l) =
     let from = free_search_start f cursor in
     Some (area_at (free_position placed f.columns k l (rows_to_search placed from.row) from) k l)
@@ -284,28 +290,33 @@ abbrev dense : ℕ → ℕ → Shape
 dense columns rows = record { columns = columns; column_flow = false; dense = true; rows = rows }
 
 -- Three columns; spans of 2, 2 and 1. The second does not fit beside the first, and in sparse mode the third follows it.
-third_follows : placed (free 2 1 ∷ free 2 1 ∷ free 1 1 ∷ []) (sparse 3 0) ≡ cells (pos 0) (pos 2) (pos 0) (pos 1) ∷ cells (pos 0) (pos 2) (pos 1) (pos 2) ∷ cells (pos 2) (pos 3) (pos 1) (pos 2) ∷ []
+third_follows : placed (free 2 1 ∷ free 2 1 ∷ free 1 1 ∷ []) (sparse 3 0) ≡
+    cells (pos 0) (pos 2) (pos 0) (pos 1) ∷ cells (pos 0) (pos 2) (pos 1) (pos 2) ∷ cells (pos 2) (pos 3) (pos 1) (pos 2) ∷ []
 unfolding placed_by_rows
 third_follows = refl
 
 -- In dense mode it fills the hole beside the first.
-third_fills : placed (free 2 1 ∷ free 2 1 ∷ free 1 1 ∷ []) (dense 3 0) ≡ cells (pos 0) (pos 2) (pos 0) (pos 1) ∷ cells (pos 0) (pos 2) (pos 1) (pos 2) ∷ cells (pos 2) (pos 3) (pos 0) (pos 1) ∷ []
+third_fills : placed (free 2 1 ∷ free 2 1 ∷ free 1 1 ∷ []) (dense 3 0) ≡
+    cells (pos 0) (pos 2) (pos 0) (pos 1) ∷ cells (pos 0) (pos 2) (pos 1) (pos 2) ∷ cells (pos 2) (pos 3) (pos 0) (pos 1) ∷ []
 unfolding placed_by_rows
 third_fills = refl
 
 -- Columns 0 to 2, 1 to 2, a free span of 2, and 2 to 3, of two explicit ones. The second is free in row 1; the third begins at column 1
 -- there, is free at 2, which passes the last column 3, and so stands in row 2; there the fourth follows.
 mixed : placed (in_column (pos 0) (pos 2) 1 ∷ in_column (pos 1) (pos 2) 1 ∷ free 2 1 ∷ in_column (pos 2) (pos 3) 1 ∷ []) (sparse 2 0)
-    ≡ cells (pos 0) (pos 2) (pos 0) (pos 1) ∷ cells (pos 1) (pos 2) (pos 1) (pos 2) ∷ cells (pos 0) (pos 2) (pos 2) (pos 3) ∷ cells (pos 2) (pos 3) (pos 2) (pos 3) ∷ []
+    ≡ cells (pos 0) (pos 2) (pos 0) (pos 1) ∷ cells (pos 1) (pos 2) (pos 1) (pos 2) ∷ cells (pos 0) (pos 2) (pos 2) (pos 3) ∷
+    cells (pos 2) (pos 3) (pos 2) (pos 3) ∷ []
 unfolding placed_by_rows
 mixed = refl
 
 -- Column 1 and then column 0: the column goes back, so the second stands in the next row; in dense mode in the first.
-goes_back : placed (in_column (pos 1) (pos 2) 1 ∷ in_column (pos 0) (pos 1) 1 ∷ []) (sparse 2 0) ≡ cells (pos 1) (pos 2) (pos 0) (pos 1) ∷ cells (pos 0) (pos 1) (pos 1) (pos 2) ∷ []
+goes_back : placed (in_column (pos 1) (pos 2) 1 ∷ in_column (pos 0) (pos 1) 1 ∷ []) (sparse 2 0) ≡
+    cells (pos 1) (pos 2) (pos 0) (pos 1) ∷ cells (pos 0) (pos 1) (pos 1) (pos 2) ∷ []
 unfolding placed_by_rows
 goes_back = refl
 
-goes_back_dense : placed (in_column (pos 1) (pos 2) 1 ∷ in_column (pos 0) (pos 1) 1 ∷ []) (dense 2 0) ≡ cells (pos 1) (pos 2) (pos 0) (pos 1) ∷ cells (pos 0) (pos 1) (pos 0) (pos 1) ∷ []
+goes_back_dense : placed (in_column (pos 1) (pos 2) 1 ∷ in_column (pos 0) (pos 1) 1 ∷ []) (dense 2 0) ≡
+    cells (pos 1) (pos 2) (pos 0) (pos 1) ∷ cells (pos 0) (pos 1) (pos 0) (pos 1) ∷ []
 unfolding placed_by_rows
 goes_back_dense = refl
 
@@ -321,32 +332,38 @@ unfolding placed_by_rows
 row_dense = refl
 
 -- Rows 0 to 2 and then 1 to 2 have not the same start: the second is searched from column 0 on, where the first stands in its way.
-other_start : placed (in_row 1 (pos 0) (pos 2) ∷ in_row 1 (pos 1) (pos 2) ∷ []) (sparse 0 0) ≡ cells (pos 0) (pos 1) (pos 0) (pos 2) ∷ cells (pos 1) (pos 2) (pos 1) (pos 2) ∷ []
+other_start : placed (in_row 1 (pos 0) (pos 2) ∷ in_row 1 (pos 1) (pos 2) ∷ []) (sparse 0 0) ≡
+    cells (pos 0) (pos 1) (pos 0) (pos 2) ∷ cells (pos 1) (pos 2) (pos 1) (pos 2) ∷ []
 unfolding placed_by_rows
 other_start = refl
 
 -- Without explicit columns the greatest span of 2 makes two columns.
-grown_columns : placed (free 1 1 ∷ free 1 1 ∷ free 2 1 ∷ []) (sparse 0 0) ≡ cells (pos 0) (pos 1) (pos 0) (pos 1) ∷ cells (pos 1) (pos 2) (pos 0) (pos 1) ∷ cells (pos 0) (pos 2) (pos 1) (pos 2) ∷ []
+grown_columns : placed (free 1 1 ∷ free 1 1 ∷ free 2 1 ∷ []) (sparse 0 0) ≡
+    cells (pos 0) (pos 1) (pos 0) (pos 1) ∷ cells (pos 1) (pos 2) (pos 0) (pos 1) ∷ cells (pos 0) (pos 2) (pos 1) (pos 2) ∷ []
 unfolding placed_by_rows
 grown_columns = refl
 
 -- A column before the explicit ones: the columns begin at -2, and so does the cursor.
-before_first : placed (in_column (neg_ℤ (pos 2)) (neg_ℤ (pos 1)) 1 ∷ free 1 1 ∷ []) (sparse 1 1) ≡ cells (neg_ℤ (pos 2)) (neg_ℤ (pos 1)) (pos 0) (pos 1) ∷ cells (neg_ℤ (pos 1)) (pos 0) (pos 0) (pos 1) ∷ []
+before_first : placed (in_column (neg_ℤ (pos 2)) (neg_ℤ (pos 1)) 1 ∷ free 1 1 ∷ []) (sparse 1 1) ≡
+    cells (neg_ℤ (pos 2)) (neg_ℤ (pos 1)) (pos 0) (pos 1) ∷ cells (neg_ℤ (pos 1)) (pos 0) (pos 0) (pos 1) ∷ []
 unfolding placed_by_rows
 before_first = refl
 
 -- A definite area in row -1: the rows begin there, and so does the cursor.
-before_first_row : placed (at (pos 0) (pos 1) (negsuc 0) (pos 0) ∷ free 1 1 ∷ []) (sparse 2 0) ≡ cells (pos 0) (pos 1) (negsuc 0) (pos 0) ∷ cells (pos 1) (pos 2) (negsuc 0) (pos 0) ∷ []
+before_first_row : placed (at (pos 0) (pos 1) (negsuc 0) (pos 0) ∷ free 1 1 ∷ []) (sparse 2 0) ≡
+    cells (pos 0) (pos 1) (negsuc 0) (pos 0) ∷ cells (pos 1) (pos 2) (negsuc 0) (pos 0) ∷ []
 unfolding placed_by_rows
 before_first_row = refl
 
 -- Flow `column` with two explicit rows: down first.
-down_first : placed (free 1 1 ∷ free 1 1 ∷ free 1 1 ∷ []) (record { columns = 0; column_flow = true; dense = false; rows = 2 }) ≡ cells (pos 0) (pos 1) (pos 0) (pos 1) ∷ cells (pos 0) (pos 1) (pos 1) (pos 2) ∷ cells (pos 1) (pos 2) (pos 0) (pos 1) ∷ []
+down_first : placed (free 1 1 ∷ free 1 1 ∷ free 1 1 ∷ []) (record { columns = 0; column_flow = true; dense = false; rows = 2 }) ≡
+    cells (pos 0) (pos 1) (pos 0) (pos 1) ∷ cells (pos 0) (pos 1) (pos 1) (pos 2) ∷ cells (pos 1) (pos 2) (pos 0) (pos 1) ∷ []
 unfolding placed_by_rows
 down_first = refl
 
 -- Two definite areas may overlap.
-both_definite : placed (at (pos 0) (pos 2) (pos 0) (pos 2) ∷ at (pos 1) (pos 3) (pos 1) (pos 3) ∷ []) (sparse 0 0) ≡ cells (pos 0) (pos 2) (pos 0) (pos 2) ∷ cells (pos 1) (pos 3) (pos 1) (pos 3) ∷ []
+both_definite : placed (at (pos 0) (pos 2) (pos 0) (pos 2) ∷ at (pos 1) (pos 3) (pos 1) (pos 3) ∷ []) (sparse 0 0) ≡
+    cells (pos 0) (pos 2) (pos 0) (pos 2) ∷ cells (pos 1) (pos 3) (pos 1) (pos 3) ∷ []
 unfolding placed_by_rows
 both_definite = refl
 

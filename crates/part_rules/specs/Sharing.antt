@@ -191,7 +191,8 @@ unfolding handed_by_level
 most_units = refl
 
 -- The rounds are worked too: 7 units, rooms 1, 4 and without end, are 1, 1, 1 and 0, 1, 1 and 0, 1, 1.
-by_rounds : shared_rows (pos 7) (roomy (Some (pos 1)) ∷ roomy (Some (pos 4)) ∷ roomy None ∷ []) ≡ record { room = Some (pos 1); got = pos 1 } ∷ record { room = Some (pos 4); got = pos 3 } ∷ record { room = None; got = pos 3 } ∷ []
+by_rounds : shared_rows (pos 7) (roomy (Some (pos 1)) ∷ roomy (Some (pos 4)) ∷ roomy None ∷ []) ≡
+    record { room = Some (pos 1); got = pos 1 } ∷ record { room = Some (pos 4); got = pos 3 } ∷ record { room = None; got = pos 3 } ∷ []
 unfolding rounds
 by_rounds = refl
 

@@ -172,7 +172,8 @@ content_based gap ts i size margins = int_max (pos 0) (at_most (option_map (λ s
 -- the minimum contribution, which is known or goes by the automatic minimum (CSS Grid 2, 12.5)
 abbrev pub minimum_by : ℤ → List Track → Item → Floor → ℤ
 minimum_by gap ts i (Known x) = x
-minimum_by gap ts i (Content size margins inner) = clamp (margins +ℤ int_max inner (if is_content_based ts i then content_based gap ts i size margins else pos 0))
+minimum_by gap ts i (Content size margins inner) =
+    clamp (margins +ℤ int_max inner (if is_content_based ts i then content_based gap ts i size margins else pos 0))
 
 -- The minimum contribution (CSS Grid 2, 12.5).
 abbrev pub minimum : ℤ → List Track → Item → ℤ
@@ -185,7 +186,8 @@ capped_most m = if is_some (fit_argument m) then fit_argument m else fixed_most 
 -- A contribution limited by the max functions of the spanned tracks where all are fixed, and at least the minimum contribution
 -- (CSS Grid 2, 12.5). The gutters are not counted here (they could be, as for the automatic minimum).
 abbrev pub limited : ℤ → (Item → ℤ) → List Track → Item → ℤ
-limited gap contribution ts i = int_max (minimum gap ts i) (at_most (sum_of_known (map (λ (t : Track). capped_most t.rule.most) (spanned i ts))) (contribution i))
+limited gap contribution ts i =
+    int_max (minimum gap ts i) (at_most (sum_of_known (map (λ (t : Track). capped_most t.rule.most) (spanned i ts))) (contribution i))
 
 -- the min-content contribution
 abbrev pub low : Item → ℤ
@@ -474,7 +476,8 @@ argument_of t = fit_argument t.rule.most
 
 -- the step for growth limits by min-content contributions
 abbrev pub low_limit_step : Bool → LimitStep
-low_limit_step crossing = record { crossing = crossing; affected = in_group crossing has_intrinsic_most; rises = is_without_limit; end = without_end; asks = low }
+low_limit_step crossing = record
+    { crossing = crossing; affected = in_group crossing has_intrinsic_most; rises = is_without_limit; end = without_end; asks = low }
 
 -- the step for growth limits by max-content contributions
 abbrev pub high_limit_step : Bool → LimitStep
@@ -633,7 +636,8 @@ greatest_fraction (f ∷ rest) = greater f (greatest_fraction rest)
 abbrev pub fraction_for : {axis : ℕ} → Space axis → ℤ → List Item → List Track → Fraction
 fraction_for (Definite a) gap items ts = definite_fraction gap a ts
 fraction_for MinContent gap items ts = no_fraction
-fraction_for MaxContent gap items ts = greatest_fraction (map base_fraction (filter flexible ts) ++ map (item_fraction gap ts) (filter (crosses_flexible ts) items))
+fraction_for MaxContent gap items ts =
+    greatest_fraction (map base_fraction (filter flexible ts) ++ map (item_fraction gap ts) (filter (crosses_flexible ts) items))
 
 -- a track with the base size that a fraction gave it
 abbrev pub with_base : Track → FrRow → Track

@@ -88,7 +88,9 @@ extra_before (l ∷ outer) line = clamp ((if int_eq line (pos 0) then l.before e
 -- The extra margin after an item that ends at this line.
 abbrev pub extra_after : List Level → ℤ → ℤ
 extra_after [] line = pos 0
-extra_after (l ∷ outer) line = clamp ((if int_eq line (l.span.end -ℤ l.span.start) then l.after else half_before (gap_difference l)) +ℤ extra_after outer (l.span.start +ℤ line))
+extra_after (l ∷ outer) line =
+    clamp
+    ((if int_eq line (l.span.end -ℤ l.span.start) then l.after else half_before (gap_difference l)) +ℤ extra_after outer (l.span.start +ℤ line))
 
 -- ---- worked rows, in units
 
@@ -99,23 +101,27 @@ abbrev view : List (ℤ × ℤ) → ℤ → View 0
 view edges gap = record { edges = edges; gap = gap }
 
 -- Two tracks of 6400 with a gutter of 640, seen with a gutter of 1280: half of 640 off the first end and onto the second start.
-half_gaps : view_of (view ((pos 0, pos 6400) ∷ (pos 7040, pos 13440) ∷ []) (pos 640)) (span (pos 0) (pos 2)) (pos 1280) (pos 0) (pos 0) ≡ view ((pos 0, pos 6080) ∷ (pos 7360, pos 13440) ∷ []) (pos 1280)
+half_gaps : view_of (view ((pos 0, pos 6400) ∷ (pos 7040, pos 13440) ∷ []) (pos 640)) (span (pos 0) (pos 2)) (pos 1280) (pos 0) (pos 0) ≡
+    view ((pos 0, pos 6080) ∷ (pos 7360, pos 13440) ∷ []) (pos 1280)
 unfolding clamp floor_div
 half_gaps = refl
 
 -- A gutter of 3 seen as one of 10: 3 before the gutter and 4 after it. Margin, border and padding of 5 move the origin, and 5 and 2
 -- go off the area of 33.
-odd_half : view_of (view ((pos 0, pos 10) ∷ (pos 13, pos 20) ∷ (pos 23, pos 33) ∷ []) (pos 3)) (span (pos 0) (pos 3)) (pos 10) (pos 5) (pos 2) ≡ view ((pos 0, pos 2) ∷ (pos 12, pos 12) ∷ (pos 22, pos 26) ∷ []) (pos 10)
+odd_half : view_of (view ((pos 0, pos 10) ∷ (pos 13, pos 20) ∷ (pos 23, pos 33) ∷ []) (pos 3)) (span (pos 0) (pos 3)) (pos 10) (pos 5) (pos 2) ≡
+    view ((pos 0, pos 2) ∷ (pos 12, pos 12) ∷ (pos 22, pos 26) ∷ []) (pos 10)
 unfolding clamp floor_div
 odd_half = refl
 
 -- A gutter of 10 seen as one of 3: floor(-7 / 2) = -4, so the end moves out by 4 and the start back by 3.
-narrower_gap : view_of (view ((pos 100, pos 110) ∷ (pos 120, pos 140) ∷ []) (pos 10)) (span (pos 0) (pos 2)) (pos 3) (pos 0) (pos 0) ≡ view ((pos 0, pos 14) ∷ (pos 17, pos 40) ∷ []) (pos 3)
+narrower_gap : view_of (view ((pos 100, pos 110) ∷ (pos 120, pos 140) ∷ []) (pos 10)) (span (pos 0) (pos 2)) (pos 3) (pos 0) (pos 0) ≡
+    view ((pos 0, pos 14) ∷ (pos 17, pos 40) ∷ []) (pos 3)
 unfolding clamp floor_div
 narrower_gap = refl
 
 -- One track of a view, counted from its first one, has the content box alone.
-one_track : view_of (view ((pos 0, pos 10) ∷ (pos 20, pos 50) ∷ []) (pos 10)) (span (pos 1) (pos 2)) (pos 4) (pos 3) (pos 7) ≡ view ((pos 0, pos 20) ∷ []) (pos 4)
+one_track : view_of (view ((pos 0, pos 10) ∷ (pos 20, pos 50) ∷ []) (pos 10)) (span (pos 1) (pos 2)) (pos 4) (pos 3) (pos 7) ≡
+    view ((pos 0, pos 20) ∷ []) (pos 4)
 unfolding clamp floor_div
 one_track = refl
 
@@ -125,7 +131,8 @@ unfolding clamp floor_div
 no_content = refl
 
 abbrev level : ℤ → ℤ → ℤ → ℤ → ℤ → ℤ → Level
-level start end gap outer_gap before after = record { span = record { start = start; end = end }; gap = gap; outer_gap = outer_gap; before = before; after = after }
+level start end gap outer_gap before after = record
+    { span = record { start = start; end = end }; gap = gap; outer_gap = outer_gap; before = before; after = after }
 
 -- The inner line of such a subgrid: 320 on each side of the gutter.
 inner_before : extra_before (level (pos 0) (pos 2) (pos 1280) (pos 640) (pos 0) (pos 0) ∷ []) (pos 1) ≡ pos 320
@@ -146,12 +153,14 @@ unfolding clamp floor_div
 odd_after = refl
 
 -- Line 1 of the inner subgrid is line 2 of the outer one, which is its end: 5 as half of 10, and 7 of the outer edge.
-nested_after : extra_after (level (pos 1) (pos 3) (pos 10) (pos 0) (pos 1) (pos 2) ∷ level (pos 0) (pos 2) (pos 0) (pos 0) (pos 4) (pos 7) ∷ []) (pos 1) ≡ pos 12
+nested_after : extra_after (level (pos 1) (pos 3) (pos 10) (pos 0) (pos 1) (pos 2) ∷ level (pos 0) (pos 2) (pos 0) (pos 0) (pos 4) (pos 7) ∷ [])
+    (pos 1) ≡ pos 12
 unfolding clamp floor_div
 nested_after = refl
 
 -- At the edge of both: 1 and 4.
-nested_before : extra_before (level (pos 0) (pos 1) (pos 10) (pos 0) (pos 1) (pos 2) ∷ level (pos 3) (pos 5) (pos 0) (pos 0) (pos 4) (pos 7) ∷ []) (pos 0) ≡ pos 5
+nested_before : extra_before (level (pos 0) (pos 1) (pos 10) (pos 0) (pos 1) (pos 2) ∷ level (pos 3) (pos 5) (pos 0) (pos 0) (pos 4) (pos 7) ∷ [])
+    (pos 0) ≡ pos 5
 unfolding clamp floor_div
 nested_before = refl
 
@@ -159,6 +168,8 @@ no_subgrid : extra_before [] (pos 3) ≡ pos 0
 no_subgrid = refl
 
 -- Each level is limited: 2^30 and 2^30 are 2^30.
-limited_margin : extra_before (level (pos 0) (pos 1) (pos 0) (pos 0) (pos 1073741824) (pos 0) ∷ level (pos 0) (pos 1) (pos 0) (pos 0) (pos 1073741824) (pos 0) ∷ []) (pos 0) ≡ pos 1073741824
+limited_margin : extra_before
+    (level (pos 0) (pos 1) (pos 0) (pos 0) (pos 1073741824) (pos 0) ∷ level (pos 0) (pos 1) (pos 0) (pos 0) (pos 1073741824) (pos 0) ∷ [])
+    (pos 0) ≡ pos 1073741824
 unfolding clamp floor_div
 limited_margin = refl

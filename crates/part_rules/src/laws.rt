@@ -23,7 +23,8 @@ use lunit::Lu;
 #[tactic(auto, using(crate::proofs::Sharing::sums_up, crate::proofs::Sharing::is_shared))]
 /// Nothing is lost where a space is handed out, and it is handed out as far as there is room.
 pub fn shares_are_the_space(space: Lu, rows: &[Share])
-    ensures sum { sum_of (map (λ (s : Share). s.got) (shared_rows space rows.now)) +ℤ left_over space rows.now ≡ space }
+    ensures sum { sum_of (map (λ (s : Share). s.got) (shared_rows space rows.now)) +ℤ left_over
+        space rows.now ≡ space }
     ensures used { IsShared space rows.now }
 {}
 
@@ -64,22 +65,30 @@ pub fn lines_are_fewest(space: Lu, width: Lu, words: &[Lu])
 /// below its base size.
 pub fn fractions_cover_bases(rows: &[FrRow], gutters: Lu, space: Lu)
     requires { IsTrue (are_bases rows.now) }
-    ensures none_short { list_any (falls_short (leftover (space -ℤ gutters) (left_flexible (length rows.now) (space -ℤ gutters) rows.now)) (weight_of (left_flexible (length rows.now) (space -ℤ gutters) rows.now))) (left_flexible (length rows.now) (space -ℤ gutters) rows.now) ≡ false }
+    ensures none_short { list_any
+        (falls_short
+        (leftover (space -ℤ gutters)
+        (left_flexible (length rows.now) (space -ℤ gutters) rows.now))
+        (weight_of (left_flexible (length rows.now) (space -ℤ gutters) rows.now)))
+        (left_flexible (length rows.now) (space -ℤ gutters) rows.now) ≡ false }
     ensures none_below { NoneBelow rows.now (expanded (found rows.now gutters space) rows.now) }
 {}
 
 #[tactic(auto, using(crate::proofs::Frozen::all_frozen))]
 /// All items of a flex line are frozen after as many turns as it has items, however the space was shared before.
 pub fn all_items_are_frozen(grow: bool, main: i64, gap: i64, initial: i64, items: &[FlexItem])
-    ensures { list_all (λ (p : Piece). is_some p.frozen) (resolved (length items.now) grow main gap initial (map (begin grow) items.now)) ≡ true }
+    ensures { list_all (λ (p : Piece). is_some p.frozen)
+        (resolved (length items.now) grow main gap initial (map (begin grow) items.now)) ≡ true }
 {}
 
 #[tactic(auto, using(crate::proofs::Placed::row_area_free, crate::proofs::Placed::next_area_free))]
 /// The area that an item without a definite place gets overlaps none that is placed before: in a definite row, and for
 /// the items that are left.
 pub fn free_items_overlap_nothing()
-    ensures in_rows { (dense : Bool) (placed mine : List Area) (column row : Spot) → IsFreeOf placed (row_area dense placed mine column row) }
-    ensures left { (field : Field) (placed : List Area) (cursor : Position) (column row : Spot) → IsFreeOf placed (next_area field placed cursor column row) }
+    ensures in_rows { (dense : Bool) (placed mine : List Area) (column row : Spot) →
+        IsFreeOf placed (row_area dense placed mine column row) }
+    ensures left { (field : Field) (placed : List Area) (cursor : Position) (column row : Spot) →
+        IsFreeOf placed (next_area field placed cursor column row) }
 {}
 
 #[tactic(auto, using(crate::proofs::Apart::no_overlap))]
@@ -93,20 +102,30 @@ pub fn areas_are_apart(items: &[Wish], shape: Shape)
 /// definite columns, and a position by rows and then by columns. Such a position is within the columns where an item of its
 /// width can be.
 pub fn free_items_take_the_least_place()
-    ensures column { (held : List Area) (k : ℕ) (rows : Span) (from x : ℤ) → from ≤ℤ x → x <ℤ free_column held k rows from → is_free (record { columns = to_end x k; rows = rows }) held ≡ false }
-    ensures row { (held : List Area) (columns : Span) (l : ℕ) (from x : ℤ) → from ≤ℤ x → x <ℤ free_row held columns l from → is_free (record { columns = columns; rows = to_end x l }) held ≡ false }
-    ensures position { (held : List Area) (columns : Span) (k l : ℕ) (from : Position) → IsLeast held columns k l from (free_position held columns k l (rows_to_search held from.row) from) }
-    ensures inside { (held : List Area) (columns : Span) (k l : ℕ) (from : Position) → columns.start ≤ℤ from.column → (columns.start +ℤ pos k) ≤ℤ columns.end → IsInside columns k (free_position held columns k l (rows_to_search held from.row) from) }
+    ensures column { (held : List Area) (k : ℕ) (rows : Span) (from x : ℤ) → from ≤ℤ x →
+        x <ℤ free_column held k rows from →
+        is_free (record { columns = to_end x k; rows = rows }) held ≡ false }
+    ensures row { (held : List Area) (columns : Span) (l : ℕ) (from x : ℤ) → from ≤ℤ x →
+        x <ℤ free_row held columns l from →
+        is_free (record { columns = columns; rows = to_end x l }) held ≡ false }
+    ensures position { (held : List Area) (columns : Span) (k l : ℕ) (from : Position) →
+        IsLeast held columns k l from
+        (free_position held columns k l (rows_to_search held from.row) from) }
+    ensures inside { (held : List Area) (columns : Span) (k l : ℕ) (from : Position) →
+        columns.start ≤ℤ from.column → (columns.start +ℤ pos k) ≤ℤ columns.end →
+        IsInside columns k (free_position held columns k l (rows_to_search held from.row) from) }
 {}
 
 #[tactic(auto, using(crate::proofs::Repeats::by_division))]
 /// One division gives as many repetitions as are counted.
 pub fn division_counts_repetitions(fixed: &[Lu], repeated: &[Lu], gap: Lu, space: RepeatSpace)
-    ensures { repetitions_by_division fixed.now repeated.now gap space ≡ repetitions fixed.now repeated.now gap space }
+    ensures { repetitions_by_division fixed.now repeated.now gap space ≡
+        repetitions fixed.now repeated.now gap space }
 {}
 
 #[tactic(auto, using(crate::proofs::Groups::none_fitted))]
 /// A group of spanning items that no item is in changes no size of tracks that are settled, so it may be passed over.
 pub fn empty_groups_change_nothing<const AXIS: u8>(fit: Fit<AXIS>)
-    ensures { (crossing : Bool) (ts : List Track) → AreSettled ts → group_fitted fit.entry.space fit.entry.gap crossing [] ts ≡ map unmarked ts }
+    ensures { (crossing : Bool) (ts : List Track) → AreSettled ts →
+        group_fitted fit.entry.space fit.entry.gap crossing [] ts ≡ map unmarked ts }
 {}

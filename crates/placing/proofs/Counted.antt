@@ -116,7 +116,8 @@ pub some_counted : (x : ℤ) (fs : List TrackFn) (ls ms : List ℤ) → ls ≡ m
 some_counted x fs ls ms e f h = omega (arith, ap length e, ap length f, length_map (counted_track x) fs)
 
 -- the number that is counted is the one by division
-pub counts_are : (x gap g : ℤ) (fs rs : List TrackFn) (ls ms las mas : List ℤ) (space : RepeatSpace) → las ≡ ls → ls ≡ map (counted_track x) fs → mas ≡ ms → ms ≡ map (counted_track x) rs → gap ≡ g → repetitions las mas gap space ≡ repetitions_by_division (map (counted_track x) fs) (map (counted_track x) rs) g space
+pub counts_are : (x gap g : ℤ) (fs rs : List TrackFn) (ls ms las mas : List ℤ) (space : RepeatSpace) → las ≡ ls → ls ≡ map (counted_track x) fs → mas ≡ ms → ms ≡ map (counted_track x) rs → gap ≡ g →
+    repetitions las mas gap space ≡ repetitions_by_division (map (counted_track x) fs) (map (counted_track x) rs) g space
 counts_are x gap g fs rs ls ms las mas space a e b f h =
     ap (λ (xs : List ℤ). repetitions xs mas gap space) (a ∙ e)
     ∙ ap (λ (xs : List ℤ). repetitions (map (counted_track x) fs) xs gap space) (b ∙ f)

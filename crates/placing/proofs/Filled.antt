@@ -148,4 +148,5 @@ span_some true (template.Tracks l) = omega arith
 span_some false t = omega arith
 
 pub filled : (t : Table) (start end : LineValue) (is_grid : Bool) (f : Template) → IsLine start → IsLine end → IsLimitOf t → IsFilled (resolved t start end (automatic_span is_grid f))
-filled t start end is_grid f s e h = cut_filled t (both_sides t (automatic_span is_grid f) (side t false start) (side t true end)) h (both_some t (automatic_span is_grid f) (side t false start) (side t true end) (span_some is_grid f) (side_counts t false start s.some) (side_counts t true end e.some))
+filled t start end is_grid f s e h =
+    cut_filled t (both_sides t (automatic_span is_grid f) (side t false start) (side t true end)) h (both_some t (automatic_span is_grid f) (side t false start) (side t true end) (span_some is_grid f) (side_counts t false start s.some) (side_counts t true end e.some))

@@ -105,7 +105,9 @@ numbers_less most n [] h = tt
 numbers_less most n (x ∷ rest) h = (omega arith, numbers_less most (n + 1) rest (omega arith))
 
 pub numbers_below : (orders : List ℤ) → All (λ n. n < length orders) (numbers_in_order orders)
-numbers_below orders = all_each (λ n. n < length orders) (numbers_in_order orders) (each_map (λ (e : ℕ × ℤ). e.0) (λ n. n < length orders) (in_order (λ (x : ℤ). x) orders) (each_sorted (λ (e : ℕ × ℤ). e.1) (λ (e : ℕ × ℤ). e.0 < length orders) (numbered_from 0 orders) (numbers_less (length orders) 0 orders (omega arith))))
+numbers_below orders =
+    all_each (λ n. n < length orders) (numbers_in_order orders)
+    (each_map (λ (e : ℕ × ℤ). e.0) (λ n. n < length orders) (in_order (λ (x : ℤ). x) orders) (each_sorted (λ (e : ℕ × ℤ). e.1) (λ (e : ℕ × ℤ). e.0 < length orders) (numbered_from 0 orders) (numbers_less (length orders) 0 orders (omega arith))))
 
 put_length : {A : Type 0} (key : A → ℤ) (x : A) (ys : List A) → length (put_before key x ys) ≡ suc (length ys)
 put_length key x [] = refl

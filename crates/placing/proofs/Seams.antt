@@ -74,7 +74,8 @@ repeat_full all now names count left more h inv =
     ∙ ap (λ (r : List Names). take 10001 (seamed r more)) inv
 
 -- the three parts joined one after another
-pub names_joined : (before repeated after first second third : List Names) (count : ℕ) → first ≡ seamed [] before → ((more : List Names) → take 10001 (seamed second more) ≡ take 10001 (seamed (seamed first (repeated_names count repeated)) more)) → third ≡ seamed second after → take 10001 third ≡ names_by before repeated count after
+pub names_joined : (before repeated after first second third : List Names) (count : ℕ) → first ≡ seamed [] before → ((more : List Names) → take 10001 (seamed second more) ≡ take 10001 (seamed (seamed first (repeated_names count repeated)) more)) → third ≡ seamed second after →
+    take 10001 third ≡ names_by before repeated count after
 names_joined before repeated after first second third count e f g =
     ap (take 10001) g
     ∙ f after

@@ -128,7 +128,8 @@ any_set p (suc n) (x ∷ xs) (suc i) v q h e =
 lt_or_le : (start j : ℕ) → nat_lt start (j + 1) ≡ nat_le start j
 lt_or_le start j = grind (arith, nat_tests)
 
-pub mark_raised : (marks next slice : List ℕ) (start end reach : ℕ) → start < length marks → next ≡ slice_set marks start reach → reach ≡ max (get_or slice start 0) end → slice ≡ marks → (j : ℕ) → list_any (nat_lt j) (take (j + 1) next) ≡ (list_any (nat_lt j) (take (j + 1) marks) || is_on j start end)
+pub mark_raised : (marks next slice : List ℕ) (start end reach : ℕ) → start < length marks → next ≡ slice_set marks start reach → reach ≡ max (get_or slice start 0) end → slice ≡ marks → (j : ℕ) →
+    list_any (nat_lt j) (take (j + 1) next) ≡ (list_any (nat_lt j) (take (j + 1) marks) || is_on j start end)
 mark_raised marks next slice start end reach h e f g j =
     let zero_is : reach ≡ max (get_or marks start 0) end = f ∙ ap (λ (xs : List ℕ). max (get_or xs start 0) end) g in
     ap (λ (xs : List ℕ). list_any (nat_lt j) (take (j + 1) xs)) e
@@ -176,7 +177,8 @@ on_area s f j start end a e =
     ∙ ap (λ (n : ℕ). is_on j (above_zero (s.start -ℤ f)) n) e
     ∙ on_covers s f j
 
-pub more_marked : (first : ℤ) (areas : List Span) (i count : ℕ) (d : Span) (marks next : List ℕ) → i < length areas → length next ≡ length marks → ((j : ℕ) → j < length marks → list_any (nat_lt j) (take (j + 1) next) ≡ (list_any (nat_lt j) (take (j + 1) marks) || covers (first +ℤ pos j) (get_or areas i d))) → AreMarked first (take i areas) count marks → AreMarked first (take (i + 1) areas) count next
+pub more_marked : (first : ℤ) (areas : List Span) (i count : ℕ) (d : Span) (marks next : List ℕ) → i < length areas → length next ≡ length marks →
+    ((j : ℕ) → j < length marks → list_any (nat_lt j) (take (j + 1) next) ≡ (list_any (nat_lt j) (take (j + 1) marks) || covers (first +ℤ pos j) (get_or areas i d))) → AreMarked first (take i areas) count marks → AreMarked first (take (i + 1) areas) count next
 more_marked first areas i count d marks next h len more m = record {
   counted = len ∙ m.counted;
   told = λ at k.
@@ -204,7 +206,8 @@ reached_covered first areas count n marks flags m e f =
     let same : n ≡ count = e ∙ m.counted in
     same_flags (is_reached marks) (is_covered first areas) count flags m.told (subst (λ (k : ℕ). AreFlags (is_reached marks) k flags) same f)
 
-pub left_collapsed : (first : ℤ) (areas : List Span) (from to count n : ℕ) (covered flags : List Bool) → AreFlags (is_covered first areas) count covered → n ≡ length covered → AreFlags (is_left from to first covered) n flags → AreFlags (λ at. is_collapsed (Some (from, to)) areas (first +ℤ pos at)) count flags
+pub left_collapsed : (first : ℤ) (areas : List Span) (from to count n : ℕ) (covered flags : List Bool) → AreFlags (is_covered first areas) count covered → n ≡ length covered → AreFlags (is_left from to first covered) n flags →
+    AreFlags (λ at. is_collapsed (Some (from, to)) areas (first +ℤ pos at)) count flags
 left_collapsed first areas from to count n covered flags c e f =
     let same : n ≡ count = e ∙ c.counted in
     same_flags (is_left from to first covered) (λ at. is_collapsed (Some (from, to)) areas (first +ℤ pos at)) count flags
@@ -262,7 +265,8 @@ append_one : (xs ys : List Rule) (r : Rule) → (xs ++ r ∷ []) ++ ys ≡ xs ++
 append_one [] ys r = refl
 append_one (x ∷ xs) ys r = ap (λ (zs : List Rule). x ∷ zs) (append_one xs ys r)
 
-pub rules_next : (base : Option ℤ) (sizes autos : List TrackFn) (first : ℤ) (i : ℕ) (flags : List Bool) (rule : Rule) (made more all : List Rule) → i < length flags → rule ≡ rule_of base (unwrap_or (size_at sizes autos (first +ℤ pos i)) auto_track) (get_or flags i false) → more ≡ made ++ rule ∷ [] → made ++ rules_by base sizes autos (first +ℤ pos i) (drop i flags) ≡ all → more ++ rules_by base sizes autos (first +ℤ pos (i + 1)) (drop (i + 1) flags) ≡ all
+pub rules_next : (base : Option ℤ) (sizes autos : List TrackFn) (first : ℤ) (i : ℕ) (flags : List Bool) (rule : Rule) (made more all : List Rule) → i < length flags → rule ≡ rule_of base (unwrap_or (size_at sizes autos (first +ℤ pos i)) auto_track) (get_or flags i false) →
+    more ≡ made ++ rule ∷ [] → made ++ rules_by base sizes autos (first +ℤ pos i) (drop i flags) ≡ all → more ++ rules_by base sizes autos (first +ℤ pos (i + 1)) (drop (i + 1) flags) ≡ all
 rules_next base sizes autos first i flags rule made more all h r m inv =
     let next : first +ℤ pos (i + 1) ≡ first +ℤ pos i +ℤ pos 1 = omega (arith, ints) in
     let rest : List Rule = rules_by base sizes autos (first +ℤ pos i +ℤ pos 1) (drop (i + 1) flags) in
@@ -274,7 +278,8 @@ rules_next base sizes autos first i flags rule made more all h r m inv =
     ∙ inv
 
 -- the rules by flags are those by coordinates
-pub rules_are : (base : Option ℤ) (sizes autos all : List TrackFn) (flag : ℤ → Bool) (first : ℤ) (count : ℕ) (flags : List Bool) → AreFlags (λ at. flag (first +ℤ pos at)) count flags → ((z : ℤ) → unwrap_or (size_at sizes autos z) auto_track ≡ unwrap_or (size_at sizes all z) auto_track) → rules_by base sizes autos first flags ≡ map (λ at. rule_of base (unwrap_or (size_at sizes all at) auto_track) (flag at)) (coordinates count first)
+pub rules_are : (base : Option ℤ) (sizes autos all : List TrackFn) (flag : ℤ → Bool) (first : ℤ) (count : ℕ) (flags : List Bool) → AreFlags (λ at. flag (first +ℤ pos at)) count flags →
+    ((z : ℤ) → unwrap_or (size_at sizes autos z) auto_track ≡ unwrap_or (size_at sizes all z) auto_track) → rules_by base sizes autos first flags ≡ map (λ at. rule_of base (unwrap_or (size_at sizes all at) auto_track) (flag at)) (coordinates count first)
 rules_are base sizes autos all flag first zero [] f same = refl
 rules_are base sizes autos all flag first zero (b ∷ flags) f same = absurd (omega (arith, f.counted))
 rules_are base sizes autos all flag first (suc n) [] f same = absurd (omega (arith, f.counted))
@@ -288,7 +293,9 @@ pub few_tracks : (n : ℕ) (s : Span) → n ≡ above_zero (s.end -ℤ s.start) 
 few_tracks n s e h = let few : above_zero (s.end -ℤ s.start) ≤ 1073741824 = above_le (s.end -ℤ s.start) 1073741824 (omega (arith, ints, h.low, h.high)) in omega (arith, e, few)
 
 -- the rules that are made are those of the tracks
-pub rules_made : (base : Option ℤ) (g : GridAxis) (w : Written) (areas : List Span) (tracks : Span) (sizes autos : List TrackFn) (fit : Option (ℕ × ℕ)) (count : ℕ) (flags : List Bool) → sizes ≡ w.sizes → fit ≡ w.fit → count ≡ above_zero (tracks.end -ℤ tracks.start) → AreFlags (λ at. is_collapsed fit areas (tracks.start +ℤ pos at)) count flags → ((ss : List TrackFn) (z : ℤ) → unwrap_or (size_at ss autos z) auto_track ≡ unwrap_or (size_at ss g.autos z) auto_track) → rules_by base sizes autos tracks.start flags ≡ axis_rules base g w areas (tracks_of tracks)
+pub rules_made : (base : Option ℤ) (g : GridAxis) (w : Written) (areas : List Span) (tracks : Span) (sizes autos : List TrackFn) (fit : Option (ℕ × ℕ)) (count : ℕ) (flags : List Bool) → sizes ≡ w.sizes → fit ≡ w.fit → count ≡ above_zero (tracks.end -ℤ tracks.start) →
+    AreFlags (λ at. is_collapsed fit areas (tracks.start +ℤ pos at)) count flags → ((ss : List TrackFn) (z : ℤ) → unwrap_or (size_at ss autos z) auto_track ≡ unwrap_or (size_at ss g.autos z) auto_track) →
+    rules_by base sizes autos tracks.start flags ≡ axis_rules base g w areas (tracks_of tracks)
 rules_made base g w areas tracks sizes autos fit count flags s f c flagged same =
     rules_are base sizes autos g.autos (is_collapsed fit areas) tracks.start count flags flagged (same sizes)
     ∙ ap (λ (xs : List TrackFn). map (λ at. rule_of base (unwrap_or (size_at xs g.autos at) auto_track) (is_collapsed fit areas at)) (coordinates count tracks.start)) s

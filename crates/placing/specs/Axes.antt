@@ -1,4 +1,5 @@
--- The values of one axis of two: those of the columns and the inline axis, which is axis 0, or of the rows and the block axis, which is axis 1 (CSS Grid 2, section 3).
+-- The values of one axis of two: those of the columns and the inline axis, which is axis 0, or of the rows and the block axis, which is axis 1 (CSS Grid 2,
+-- section 3).
 use Rattle.std.specs.Prelude.{ℕ, ◌==◌, Option, Some, None, if◌then◌else◌}
 use Rattle.style_types.specs.declared.track.Template.{Template}
 use Rattle.style_types.specs.declared.track.Template.TheVariants as template

@@ -1,4 +1,5 @@
--- The values of a node as far as the calls on it depend on them: ranges of lengths and numbers, and lengths of lists. Every value that a text reads as is one of
+-- The values of a node as far as the calls on it depend on them: ranges of lengths and numbers, and lengths of lists. Every value that a text reads as is one
+-- of
 -- these (own rule).
 use Rattle.std.specs.Prelude.{◌≤◌, ◌<◌, nat_le, ℤ, pos, neg_ℤ, ◌≤ℤ◌, int_le, Bool, true, ◌&&◌, IsTrue, List, length, Option, Some, None}
 use Rattle.std.specs.List.{list_all}

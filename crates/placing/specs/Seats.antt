@@ -73,6 +73,7 @@ HasGrid b n None = (sight_at b n).chain ≡ []
 HasGrid b n (Some parent) = IsSubgridOf b n parent
 
 -- The context in the seat is the one by the chain.
-pub context_by_seat : (g : GridStyle) (chain : List Link) (p : Pair) (outer : List Pair) → rules.context_by g chain (p ∷ outer) ≡ context_in (seat_of chain outer) g p
+pub context_by_seat : (g : GridStyle) (chain : List Link) (p : Pair) (outer : List Pair) →
+    rules.context_by g chain (p ∷ outer) ≡ context_in (seat_of chain outer) g p
 context_by_seat g [] p outer = refl
 context_by_seat g (link ∷ chain) p outer = refl

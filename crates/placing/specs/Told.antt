@@ -88,18 +88,24 @@ inline_told align columns span x shares sizes =
 -- the child in these columns
 abbrev pub wide_told : Kid → Area → GridBase → View 0 → Align → Wide
 wide_told k a base columns align =
-    let inline : ℤ × Given = inline_told align columns (from_first base.placed.columns a.columns) k.label (shares_columns k) (inline_of_entry base.pairs (entry_with k a)) in
+    let inline : ℤ ×
+    Given = inline_told align columns (from_first base.placed.columns a.columns) k.label (shares_columns k)
+    (inline_of_entry base.pairs (entry_with k a)) in
     record { entry = entry_with k a; box = inline.0; inline = inline.1; down = k.answers.down (pairs_for k base.pairs) inline.1 }
 
 -- These are the inline sizes of the child of this index, and its items along the columns.
 pub record TellsColumns (s : Seen) (kid : NodeId → Kid) (base : GridBase) (k : ℕ) (low_high : ℤ × ℤ) (made : List Item) : Type 0 where
   pub sizes : (c : NodeId) (a : Area) → slice_get base.placed.areas k ≡ Some (c, a) → low_high ≡ inline_of_entry base.pairs (entry_with (kid c) a)
-  pub items : (c : NodeId) (a : Area) → slice_get base.placed.areas k ≡ Some (c, a) → made ≡ column_items_of (context_at s base.pairs).columns base.pairs (entry_with (kid c) a) (inline_of_entry base.pairs (entry_with (kid c) a))
+  pub items : (c : NodeId) (a : Area) → slice_get base.placed.areas k ≡ Some (c, a) →
+      made ≡
+      column_items_of (context_at s base.pairs).columns base.pairs (entry_with (kid c) a) (inline_of_entry base.pairs (entry_with (kid c) a))
 
 -- This is the child of this index in these columns, and its items along the rows.
-pub record TellsRows (s : Seen) (kid : NodeId → Kid) (base : GridBase) (columns : View 0) (align : Align) (k : ℕ) (wide : WideChild) (made : List Item) : Type 0 where
+pub record TellsRows (s : Seen) (kid : NodeId → Kid) (base : GridBase) (columns : View 0) (align : Align) (k : ℕ) (wide : WideChild) (made : List Item) : Type
+    0 where
   pub child : (c : NodeId) (a : Area) → slice_get base.placed.areas k ≡ Some (c, a) → wide ≡ child_of (wide_told (kid c) a base columns align)
-  pub items : (c : NodeId) (a : Area) → slice_get base.placed.areas k ≡ Some (c, a) → made ≡ row_items_of (context_at s base.pairs).rows (entry_with (kid c) a) (wide_told (kid c) a base columns align).down
+  pub items : (c : NodeId) (a : Area) → slice_get base.placed.areas k ≡ Some (c, a) →
+      made ≡ row_items_of (context_at s base.pairs).rows (entry_with (kid c) a) (wide_told (kid c) a base columns align).down
 
 -- ---- the rows by what was told
 
@@ -107,7 +113,16 @@ pub record TellsRows (s : Seen) (kid : NodeId → Kid) (base : GridBase) (column
 unfoldable pub row_axis : Seen → GridBase → List Item → TrackAxis
 row_axis s base items =
     let x = s.label in
-    record { border_box = x.content.border_box; grid = x.grid.rows; content = x.content.block; written = written x.grid.rows.template (own_pair x given.None).1; spans = map (λ (e : NodeId × Area). e.1.rows) base.placed.areas; tracks = base.placed.rows; items = items }
+    record {
+      border_box = x.content.border_box;
+      grid = x.grid.rows;
+      content = x.content.block;
+      written = written x.grid.rows.template
+          (own_pair x given.None).1;
+      spans = map (λ (e : NodeId × Area). e.1.rows) base.placed.areas;
+      tracks = base.placed.rows;
+      items = items;
+    }
 
 -- The rows lie so in a content box that is as great as these items make it: their total under a max-content space (CSS Grid 2, 5.2).
 pub record AreRowsFor (s : Seen) (base : GridBase) (items : List Item) (r : RowsAt) : Type 0 where
@@ -123,12 +138,16 @@ pub record IsFrameIn (s : Seen) (base : GridBase) (columns : View 0) (rows : Vie
 -- This is the frame of the child of this index, where the grid aligns its children as its values say.
 pub record TellsFrame (s : Seen) (kid : NodeId → Kid) (base : GridBase) (columns : View 0) (rows : View 1) (k : ℕ) (f : Frame) : Type 0 where
   pub child : (c : NodeId) (a : Area) → slice_get base.placed.areas k ≡ Some (c, a) → f.child ≡ c
-  pub frame : (c : NodeId) (a : Area) → slice_get base.placed.areas k ≡ Some (c, a) → IsFrameIn s base columns rows (wide_told (kid c) a base columns s.label.content.inline.items) (record { rect = f.rect; inline = f.inline; block = f.block })
+  pub frame : (c : NodeId) (a : Area) → slice_get base.placed.areas k ≡ Some (c, a) →
+      IsFrameIn s base columns rows (wide_told (kid c) a base columns s.label.content.inline.items)
+      (record { rect = f.rect; inline = f.inline; block = f.block })
 
 -- One frame for each child, in document order: each child that counts has its own.
-pub record AreFrames (s : Seen) (kid : NodeId → Kid) (base : GridBase) (columns : View 0) (rows : View 1) (Counts : ℕ → Type 0) (frames : List Frame) : Type 0 where
+pub record AreFrames (s : Seen) (kid : NodeId → Kid) (base : GridBase) (columns : View 0) (rows : View 1) (Counts : ℕ → Type 0) (frames : List Frame) : Type
+    0 where
   pub counted : length frames ≡ length (turns base.placed.numbers)
-  pub each : (i k : ℕ) (m : ℤ) (f : Frame) → slice_get (turns base.placed.numbers) i ≡ Some (k, m) → slice_get frames i ≡ Some f → Counts k → TellsFrame s kid base columns rows k f
+  pub each : (i k : ℕ) (m : ℤ) (f : Frame) → slice_get (turns base.placed.numbers) i ≡ Some (k, m) → slice_get frames i ≡ Some f → Counts k →
+      TellsFrame s kid base columns rows k f
 
 -- ---- which of it lasts
 
@@ -250,7 +269,8 @@ pub record IsPastOf (turn : NodeId → ℕ) (w : KeptWide) (p : PastWide) : Type
   pub base : p.rows.base ≡ w.wide.parts.base
   pub again : p.rows.stale ≡ p.columns.stale
   pub laid : p.rows.rows ≡ w.wide.rows
-  pub fresh : (k : ℕ) → k < length w.wide.parts.base.placed.areas → is_listed k p.columns.stale ≡ false → is_fresh turn w.wide.parts.base.placed.areas w.turns k ≡ true
+  pub fresh : (k : ℕ) → k < length w.wide.parts.base.placed.areas → is_listed k p.columns.stale ≡ false →
+      is_fresh turn w.wide.parts.base.placed.areas w.turns k ≡ true
   pub within : All (λ k. k < length w.wide.parts.base.placed.areas) p.columns.stale
 
 -- those children count that are marked

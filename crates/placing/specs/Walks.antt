@@ -166,8 +166,10 @@ pub record Stopped (n : NodeId) (q : Query) (old new : State) : Type 0 where
 
 -- What follows from a walk of the child of this index, to which a question of its parent leads, after one of the parent.
 pub record IsStep (b : BareTrees) (n : NodeId) (index : ℕ) (c : NodeId) : Type 0 where
-  pub below : (q r : Query) (more : ℕ) (old mid new : State) → Contains (uses_at b n q) (index, r) → bare_in mid ≡ b → WalkedBelow n q more old mid → Walked c r mid new → WalkedBelow n q more old new
-  pub stops : (q r : Query) (more : ℕ) (old mid new : State) → Contains (uses_at b n q) (index, r) → bare_in mid ≡ b → WalkedBelow n q more old mid → Stopped c r mid new → Stopped n q old new
+  pub below : (q r : Query) (more : ℕ) (old mid new : State) → Contains (uses_at b n q) (index, r) → bare_in mid ≡ b →
+      WalkedBelow n q more old mid → Walked c r mid new → WalkedBelow n q more old new
+  pub stops : (q r : Query) (more : ℕ) (old mid new : State) → Contains (uses_at b n q) (index, r) → bare_in mid ≡ b →
+      WalkedBelow n q more old mid → Stopped c r mid new → Stopped n q old new
 
 -- the same of every child of a tree
 abbrev pub StepsDown : BareTrees → Type 0

@@ -177,7 +177,9 @@ fn space_within(inner: Lu, size: &Option<Lu>, least: &Option<Lu>, most: &Option<
 fn space_of<const AXIS: u8>(style: &Style) -> RepeatSpace
     requires edges { IsGridAxis (grid_axis AXIS (grid_of style.now)) }
     requires sizes { IsContentAxis (content_axis AXIS (content_of style.now)) }
-    ensures value { result ≡ space_of (content_of style.now).border_box (grid_axis AXIS (grid_of style.now)) (content_axis AXIS (content_of style.now)) }
+    ensures value { result ≡
+        space_of (content_of style.now).border_box (grid_axis AXIS (grid_of style.now))
+        (content_axis AXIS (content_of style.now)) }
     ensures low { pos 0 ≤ℤ size_of_space result }
 {
     let border_box = is_border_box(style);
@@ -282,7 +284,11 @@ fn repeat_count(
     requires gap { IsSize gap }
     requires some { 0 < length repeated.now }
     requires low { pos 0 ≤ℤ size_of_space space }
-    ensures { IfOk result (λ count. count ≡ repetitions_by_division (map (counted_track (size_of_space space)) tracks.now) (map (counted_track (size_of_space space)) repeated.now) (gap_by (Some (size_of_space space)) (pos 0) gap) space) }
+    ensures { IfOk result
+        (λ count. count ≡
+        repetitions_by_division (map (counted_track (size_of_space space)) tracks.now)
+        (map (counted_track (size_of_space space)) repeated.now)
+        (gap_by (Some (size_of_space space)) (pos 0) gap) space) }
 {
     let size = size_of_space(&space);
     let fixed = counted_tracks(alloc, &size, tracks)?;
@@ -301,7 +307,9 @@ fn list_count<const AXIS: u8>(
     requires gap { IsSize (grid_axis AXIS (grid_of style.now)).gap }
     requires list { IsTrackList list.now }
     requires low { pos 0 ≤ℤ size_of_space space }
-    ensures { IfOk result (λ count. count ≡ list_count (grid_axis AXIS (grid_of style.now)) list.now.sizes list.now.repeat space) }
+    ensures { IfOk result
+        (λ count. count ≡
+        list_count (grid_axis AXIS (grid_of style.now)) list.now.sizes list.now.repeat space) }
 {
     match &list.repeat {
         Some(repeat) => repeat_count(
@@ -324,7 +332,10 @@ fn template_count<const AXIS: u8>(
 ) -> Result<u32, NoMemory>
     requires grid { IsGridAxis (grid_axis AXIS (grid_of style.now)) }
     requires low { pos 0 ≤ℤ size_of_space space }
-    ensures { IfOk result (λ count. count ≡ template_count (grid_axis AXIS (grid_of style.now)) (grid_axis AXIS (grid_of style.now)).template space) }
+    ensures { IfOk result
+        (λ count. count ≡
+        template_count (grid_axis AXIS (grid_of style.now))
+        (grid_axis AXIS (grid_of style.now)).template space) }
 {
     match track_list::<AXIS>(style) {
         Some(list) => list_count::<AXIS>(alloc, style, list, space),

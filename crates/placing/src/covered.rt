@@ -58,7 +58,9 @@ pub(crate) fn line_after(first: i32, tracks: usize) -> i32
 /// Marks how far the area reaches that begins at a track or before it.
 fn mark(marks: &mut Sequence<usize>, start: usize, end: usize)
     ensures counted { length marks.new ≡ length marks.old }
-    ensures told { (at : ℕ) → at < length marks.old → list_any (nat_lt at) (take (at + 1) marks.new) ≡ (list_any (nat_lt at) (take (at + 1) marks.old) || is_on at start end) }
+    ensures told { (at : ℕ) → at < length marks.old →
+        list_any (nat_lt at) (take (at + 1) marks.new) ≡
+        (list_any (nat_lt at) (take (at + 1) marks.old) || is_on at start end) }
 {
     if start < marks.len() {
         let reach = marks.as_slice()[start].max(end);
@@ -108,7 +110,9 @@ fn end_after(first: i32, area: &Span) -> usize
 /// Marks how far an area reaches, told from a first track.
 fn mark_area(marks: &mut Sequence<usize>, first: i32, area: &Span)
     ensures counted { length marks.new ≡ length marks.old }
-    ensures told { (at : ℕ) → at < length marks.old → list_any (nat_lt at) (take (at + 1) marks.new) ≡ (list_any (nat_lt at) (take (at + 1) marks.old) || covers (first +ℤ pos at) area.now) }
+    ensures told { (at : ℕ) → at < length marks.old →
+        list_any (nat_lt at) (take (at + 1) marks.new) ≡
+        (list_any (nat_lt at) (take (at + 1) marks.old) || covers (first +ℤ pos at) area.now) }
 {
     let start = start_after(first, area);
     let end = end_after(first, area);

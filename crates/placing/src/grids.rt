@@ -133,7 +133,8 @@ fn with_level(alloc: Global, level: Level, levels: &[Level]) -> Result<Sequence<
 /// How many tracks the template of a grid has along an axis, in which its automatic repeat stands so often.
 fn written_tracks<const AXIS: u8>(style: &Style, count: u32) -> u32
     requires { IsGridStyle (grid_of style.now) }
-    ensures value { result ≡ length (written (grid_axis AXIS (grid_of style.now)).template count).sizes }
+    ensures value { result ≡
+        length (written (grid_axis AXIS (grid_of style.now)).template count).sizes }
     ensures few { result ≤ 10000 }
 {
     TrackSizes::of::<AXIS>(style, count).len() as u32
@@ -146,7 +147,8 @@ fn own_axis<const AXIS: u8>(
     count: u32,
 ) -> Result<AxisContext, NoMemory>
     requires { IsGridStyle (grid_of style.now) }
-    ensures { IfOk result (λ made. axis_context_of made ≡ own_along AXIS (grid_of style.now) count) }
+    ensures { IfOk result
+        (λ made. axis_context_of made ≡ own_along AXIS (grid_of style.now) count) }
 {
     let names = lines::<AXIS>(alloc, style, count)?;
     let tracks = written_tracks::<AXIS>(style, count).max(cells::<AXIS>(style));
@@ -168,7 +170,9 @@ fn shared_axis<const AXIS: u8>(
 ) -> Result<AxisContext, NoMemory>
     requires style { IsGridStyle (grid_of style.now) }
     requires span { IsWithin parent.now.table.low parent.now.table.high span }
-    ensures { IfOk result (λ made. axis_context_of made ≡ shared_along AXIS (axis_context_of parent.now) span (grid_of style.now)) }
+    ensures { IfOk result
+        (λ made. axis_context_of made ≡
+        shared_along AXIS (axis_context_of parent.now) span (grid_of style.now)) }
 {
     let sets = subgrid_sets::<AXIS>(style);
     let named = named::<AXIS>(alloc, style)?;
@@ -193,7 +197,9 @@ fn axis_under<const AXIS: u8>(
 ) -> Result<AxisContext, NoMemory>
     requires style { IsGridStyle (grid_of style.now) }
     requires span { IsWithin parent.now.table.low parent.now.table.high span }
-    ensures { IfOk result (λ made. axis_context_of made ≡ along_under AXIS (axis_context_of parent.now) span (grid_of style.now) count) }
+    ensures { IfOk result
+        (λ made. axis_context_of made ≡
+        along_under AXIS (axis_context_of parent.now) span (grid_of style.now) count) }
 {
     if is_subgrid::<AXIS>(style) {
         shared_axis::<AXIS>(alloc, parent, span, style)
@@ -223,7 +229,9 @@ fn lower_context(
 ) -> Result<Context, NoMemory>
     requires style { IsGridStyle (grid_of style.now) }
     requires area { IsInside (context_of parent.now) area }
-    ensures { IfOk result (λ made. context_of made ≡ lower_context (context_of parent.now) area (grid_of style.now) counts) }
+    ensures { IfOk result
+        (λ made. context_of made ≡
+        lower_context (context_of parent.now) area (grid_of style.now) counts) }
 {
     Ok(Context {
         columns: axis_under::<0>(alloc, &parent.columns, area.columns, style, counts.0)?,
@@ -243,8 +251,11 @@ pub fn context_in(
 ) -> Result<Context, NoMemory>
     requires style { IsGridStyle (grid_of style.now) }
     requires area { IsInsideOf above.now area }
-    ensures value { IfOk result (λ made. context_of made ≡ context_in (seat_by above.now area) (grid_of style.now) counts) }
-    ensures seat { (s : Seen) (outer : List Pair) → s.label.grid ≡ grid_of style.now → IsSeat s outer above.now area → IfOk result (λ made. context_of made ≡ context_at s (outer ++ counts ∷ [])) }
+    ensures value { IfOk result
+        (λ made. context_of made ≡ context_in (seat_by above.now area) (grid_of style.now) counts) }
+    ensures seat { (s : Seen) (outer : List Pair) → s.label.grid ≡ grid_of style.now →
+        IsSeat s outer above.now area →
+        IfOk result (λ made. context_of made ≡ context_at s (outer ++ counts ∷ [])) }
 {
     match above {
         Above::Nothing => top_context(alloc, style, counts),

@@ -56,10 +56,18 @@ pub fn entry(tree: &Arena<Node>, id: NodeId, placed: &Placed, index: usize) -> C
     ensures live { IsLive (bare tree.now.tree) result.child }
     ensures child { child_at (bare tree.now.tree) id result.number ≡ Some result.child }
     ensures told { slice_get placed.now.areas index ≡ Some (result.child, result.area) }
-    ensures next { drop index (entries_at (bare tree.now.tree) id placed.now) ≡ entry_by (bare tree.now.tree) result ∷ drop (index + 1) (entries_at (bare tree.now.tree) id placed.now) }
-    ensures inside { (c : rules.Context) → IsPlaced (bare tree.now.tree) id c placed.now → IsInside c result.area }
-    ensures seat { (c : Context) (reps : List Pair) → context_of c ≡ context_at (sight_at (bare tree.now.tree) id) reps → IsPlaced (bare tree.now.tree) id (context_of c) placed.now → has_chain (sight_at (bare tree.now.tree) result.child).chain ≡ true → IsSeat (sight_at (bare tree.now.tree) result.child) reps (above.Grid c) result.area }
-    ensures alone { has_chain (sight_at (bare tree.now.tree) result.child).chain ≡ false → IsSeat (sight_at (bare tree.now.tree) result.child) [] above.Nothing result.area }
+    ensures next { drop index (entries_at (bare tree.now.tree) id placed.now) ≡
+        entry_by (bare tree.now.tree) result ∷
+        drop (index + 1) (entries_at (bare tree.now.tree) id placed.now) }
+    ensures inside { (c : rules.Context) → IsPlaced (bare tree.now.tree) id c placed.now →
+        IsInside c result.area }
+    ensures seat { (c : Context) (reps : List Pair) →
+        context_of c ≡ context_at (sight_at (bare tree.now.tree) id) reps →
+        IsPlaced (bare tree.now.tree) id (context_of c) placed.now →
+        has_chain (sight_at (bare tree.now.tree) result.child).chain ≡ true →
+        IsSeat (sight_at (bare tree.now.tree) result.child) reps (above.Grid c) result.area }
+    ensures alone { has_chain (sight_at (bare tree.now.tree) result.child).chain ≡ false →
+        IsSeat (sight_at (bare tree.now.tree) result.child) [] above.Nothing result.area }
 {
     root(tree);
     let number = placed.numbers.as_slice()[index];

@@ -38,8 +38,11 @@ pub fn find<'a>(tree: &'a Arena<Node>, id: NodeId, query: &Query) -> Option<&'a 
     requires live { IsLive (bare tree.now.tree) id }
     requires right { IsRight tree.now.tree }
     ensures kept { option_copied result ≡ answer_to query.now (kept_at tree.now.tree id) }
-    ensures value { IfSome (option_copied result) (λ answer. plain_answer answer ≡ answer_of (sight_at (bare tree.now.tree) id) query.now) }
-    ensures children { IfSome (option_copied result) (λ answer. IsOfNode (sight_at (bare tree.now.tree) id) (children_at (bare tree.now.tree) id) query.now answer) }
+    ensures value { IfSome (option_copied result)
+        (λ answer. plain_answer answer ≡ answer_of (sight_at (bare tree.now.tree) id) query.now) }
+    ensures children { IfSome (option_copied result)
+        (λ answer. IsOfNode (sight_at (bare tree.now.tree) id) (children_at (bare tree.now.tree) id)
+        query.now answer) }
     ensures absent { IfNone result (IsAbsent query.now (kept_at tree.now.tree id)) }
     ensures start { (s : State) → s.arena ≡ tree.now → WalkedBelow id query.now 0 s s }
     ensures found { (s : State) → s.arena ≡ tree.now → Walked id query.now s s }
@@ -59,12 +62,25 @@ pub fn find_by<'a>(
 ) -> Option<&'a Answer>
     requires live { IsLive (bare tree.now.tree) id }
     requires right { IsRight tree.now.tree }
-    ensures kept { option_copied result ≡ answer_to (record { ask = ask; reps = reps.now; inline = inline.now; block = block.now }) (kept_at tree.now.tree id) }
-    ensures value { IfSome (option_copied result) (λ answer. plain_answer answer ≡ answer_of (sight_at (bare tree.now.tree) id) (record { ask = ask; reps = reps.now; inline = inline.now; block = block.now })) }
-    ensures children { IfSome (option_copied result) (λ answer. IsOfNode (sight_at (bare tree.now.tree) id) (children_at (bare tree.now.tree) id) (record { ask = ask; reps = reps.now; inline = inline.now; block = block.now }) answer) }
-    ensures absent { IfNone result (IsAbsent (record { ask = ask; reps = reps.now; inline = inline.now; block = block.now }) (kept_at tree.now.tree id)) }
-    ensures start { (s : State) → s.arena ≡ tree.now → WalkedBelow id (record { ask = ask; reps = reps.now; inline = inline.now; block = block.now }) 0 s s }
-    ensures found { (s : State) → s.arena ≡ tree.now → Walked id (record { ask = ask; reps = reps.now; inline = inline.now; block = block.now }) s s }
+    ensures kept { option_copied result ≡
+        answer_to (record { ask = ask; reps = reps.now; inline = inline.now; block = block.now })
+        (kept_at tree.now.tree id) }
+    ensures value { IfSome (option_copied result)
+        (λ answer. plain_answer answer ≡
+        answer_of (sight_at (bare tree.now.tree) id)
+        (record { ask = ask; reps = reps.now; inline = inline.now; block = block.now })) }
+    ensures children { IfSome (option_copied result)
+        (λ answer. IsOfNode (sight_at (bare tree.now.tree) id) (children_at (bare tree.now.tree) id)
+        (record { ask = ask; reps = reps.now; inline = inline.now; block = block.now }) answer) }
+    ensures absent { IfNone result
+        (IsAbsent (record { ask = ask; reps = reps.now; inline = inline.now; block = block.now })
+        (kept_at tree.now.tree id)) }
+    ensures start { (s : State) → s.arena ≡ tree.now →
+        WalkedBelow id
+        (record { ask = ask; reps = reps.now; inline = inline.now; block = block.now }) 0 s s }
+    ensures found { (s : State) → s.arena ≡ tree.now →
+        Walked id (record { ask = ask; reps = reps.now; inline = inline.now; block = block.now }) s
+        s }
 {
     node_at(tree, id).kept.find_by(ask, reps, inline, block)
 }
@@ -75,7 +91,9 @@ fn keep(tree: &mut Arena<Node>, id: NodeId, query: Query, answer: Answer) -> Res
     requires live { IsLive (bare tree.old.tree) id }
     requires absent { IsAbsent query (kept_at tree.old.tree id) }
     ensures ok { OnOk result (Keeps tree.old tree.new id query answer) }
-    ensures all { IfOk result (λ gone. gone ≡ false → kept_at tree.new.tree id ≡ kept_at tree.old.tree id ++ (query, answer) ∷ []) }
+    ensures all { IfOk result
+        (λ gone. gone ≡ false →
+        kept_at tree.new.tree id ≡ kept_at tree.old.tree id ++ (query, answer) ∷ []) }
     ensures err { OnErr result (tree.new ≡ tree.old) }
 {
     let node = tree.get_mut(id).unwrap();
@@ -97,14 +115,22 @@ pub fn put(
     requires absent { IsAbsent query (kept_at tree.old.tree id) }
     requires fits { Fits (sight_at (bare tree.old.tree) id) query }
     requires value { plain_answer answer ≡ answer_of (sight_at (bare tree.old.tree) id) query }
-    requires children { IsOfNode (sight_at (bare tree.old.tree) id) (children_at (bare tree.old.tree) id) query answer }
+    requires children { IsOfNode (sight_at (bare tree.old.tree) id)
+        (children_at (bare tree.old.tree) id) query answer }
     requires quiet { events_at (bare tree.old.tree) id query ≡ [] }
     ensures right { IsRight tree.new.tree }
     ensures same { bare tree.new.tree ≡ bare tree.old.tree }
-    ensures own { OnOk result (kept_at tree.new.tree id ≡ kept_with (kept_at tree.old.tree id) ((query, answer) ∷ [])) }
-    ensures joins { OnOk result ((old : State) (more passes : ℕ) (log : Option (List Event)) → more ≤ 4 → WalkedBelow id query more old (state tree.old tally.old passes log) → Walked id query old (state tree.new tally.new passes log)) }
+    ensures own { OnOk result
+        (kept_at tree.new.tree id ≡ kept_with (kept_at tree.old.tree id) ((query, answer) ∷ [])) }
+    ensures joins { OnOk result
+        ((old : State) (more passes : ℕ) (log : Option (List Event)) → more ≤ 4 →
+        WalkedBelow id query more old (state tree.old tally.old passes log) →
+        Walked id query old (state tree.new tally.new passes log)) }
     ensures err { OnErr result ((tree.new ≡ tree.old) × (tally.new ≡ tally.old)) }
-    ensures stopped { OnErr result ((old : State) (more passes : ℕ) (log : Option (List Event)) → WalkedBelow id query more old (state tree.old tally.old passes log) → Stopped id query old (state tree.new tally.new passes log)) }
+    ensures stopped { OnErr result
+        ((old : State) (more passes : ℕ) (log : Option (List Event)) →
+        WalkedBelow id query more old (state tree.old tally.old passes log) →
+        Stopped id query old (state tree.new tally.new passes log)) }
 {
     let gone = keep(tree, id, query, answer)?;
     tally.count_added(gone);
@@ -121,7 +147,8 @@ pub fn find_base<'a>(
     requires right { IsRight tree.now.tree }
     ensures kept { option_copied result ≡ base_with pairs.now (bases_at tree.now.tree id) }
     ensures pairs { IfSome (option_copied result) (λ base. base.pairs ≡ pairs.now) }
-    ensures holds { IfSome (option_copied result) (HoldsPlaces (sight_at (bare tree.now.tree) id) (children_at (bare tree.now.tree) id)) }
+    ensures holds { IfSome (option_copied result)
+        (HoldsPlaces (sight_at (bare tree.now.tree) id) (children_at (bare tree.now.tree) id)) }
 {
     node_at(tree, id).past.bases.find(pairs)
 }
@@ -131,13 +158,18 @@ pub fn find_base<'a>(
 pub fn keep_base(tree: &mut Arena<Node>, id: NodeId, base: SharedBase)
     requires live { IsLive (bare tree.old.tree) id }
     requires right { IsRight tree.old.tree }
-    requires holds { HoldsPlaces (sight_at (bare tree.old.tree) id) (children_at (bare tree.old.tree) id) base }
+    requires holds { HoldsPlaces (sight_at (bare tree.old.tree) id)
+        (children_at (bare tree.old.tree) id) base }
     ensures right { IsRight tree.new.tree }
     ensures same { bare tree.new.tree ≡ bare tree.old.tree }
     ensures kept { (m : NodeId) → kept_at tree.new.tree m ≡ kept_at tree.old.tree m }
     ensures own { bases_at tree.new.tree id ≡ base ∷ take 1 (bases_at tree.old.tree id) }
-    ensures below { (q : Query) (more passes : ℕ) (tally : Told) (log : Option (List Event)) (new : State) → WalkedBelow id q more (state tree.new tally passes log) new → WalkedBelow id q more (state tree.old tally passes log) new }
-    ensures stopped { (q : Query) (passes : ℕ) (tally : Told) (log : Option (List Event)) (new : State) → Stopped id q (state tree.new tally passes log) new → Stopped id q (state tree.old tally passes log) new }
+    ensures below { (q : Query) (more passes : ℕ) (tally : Told) (log : Option (List Event))
+        (new : State) → WalkedBelow id q more (state tree.new tally passes log) new →
+        WalkedBelow id q more (state tree.old tally passes log) new }
+    ensures stopped { (q : Query) (passes : ℕ) (tally : Told) (log : Option (List Event))
+        (new : State) → Stopped id q (state tree.new tally passes log) new →
+        Stopped id q (state tree.old tally passes log) new }
 {
     let node = tree.get_mut(id).unwrap();
     node.past.bases.put(base);
@@ -173,8 +205,12 @@ fn measure_widths<R: Ruler>(
 ) -> Result<(Lu, Lu), NoMemory>
     requires { IsMeasurable content.now }
     ensures value { IfOk result (λ sizes. sizes ≡ (narrowest content.now, widest content.now)) }
-    ensures counts { OnOk result (Counts tally.old tally.new (R.log ruler.old) (R.log ruler.new) (Measured name.now Narrowest ∷ Measured name.now Widest ∷ [])) }
-    ensures some { OnErr result (CountsSome tally.old tally.new (R.log ruler.old) (R.log ruler.new) (Measured name.now Narrowest ∷ Measured name.now Widest ∷ [])) }
+    ensures counts { OnOk result
+        (Counts tally.old tally.new (R.log ruler.old) (R.log ruler.new)
+        (Measured name.now Narrowest ∷ Measured name.now Widest ∷ [])) }
+    ensures some { OnErr result
+        (CountsSome tally.old tally.new (R.log ruler.old) (R.log ruler.new)
+        (Measured name.now Narrowest ∷ Measured name.now Widest ∷ [])) }
 {
     let low = ruler.measure(name, content, Width::Narrowest)?;
     tally.count_measured();
@@ -193,8 +229,12 @@ fn measure_height<R: Ruler>(
 ) -> Result<Lu, NoMemory>
     requires { IsMeasurable content.now }
     ensures value { IfOk result (λ height. height ≡ height_at content.now width) }
-    ensures counts { OnOk result (Counts tally.old tally.new (R.log ruler.old) (R.log ruler.new) (Measured name.now (At width) ∷ [])) }
-    ensures some { OnErr result (CountsSome tally.old tally.new (R.log ruler.old) (R.log ruler.new) (Measured name.now (At width) ∷ [])) }
+    ensures counts { OnOk result
+        (Counts tally.old tally.new (R.log ruler.old) (R.log ruler.new)
+        (Measured name.now (At width) ∷ [])) }
+    ensures some { OnErr result
+        (CountsSome tally.old tally.new (R.log ruler.old) (R.log ruler.new)
+        (Measured name.now (At width) ∷ [])) }
 {
     let height = ruler.measure(name, content, Width::At(width))?;
     tally.count_measured();
@@ -227,11 +267,20 @@ pub fn leaf_sizes<R: Ruler>(
     requires ask { query.ask ≡ ask.Inline }
     requires absent { IsAbsent query (kept_at tree.old.tree id) }
     requires fits { Fits (sight_at (bare tree.old.tree) id) query }
-    ensures value { IfOk result (λ sizes. inline_sizes sizes ≡ answer_of (sight_at (bare tree.old.tree) id) query) }
+    ensures value { IfOk result
+        (λ sizes. inline_sizes sizes ≡ answer_of (sight_at (bare tree.old.tree) id) query) }
     ensures right { IsRight tree.new.tree }
-    ensures walked { OnOk result ((passes : ℕ) → Walked id query (state tree.old tally.old passes (R.log ruler.old)) (state tree.new tally.new passes (R.log ruler.new))) }
-    ensures stopped { OnErr result ((passes : ℕ) → Stopped id query (state tree.old tally.old passes (R.log ruler.old)) (state tree.new tally.new passes (R.log ruler.new))) }
-    ensures own { IfOk result (λ sizes. kept_at tree.new.tree id ≡ kept_with (kept_at tree.old.tree id) ((query, answer.Sizes sizes.0 sizes.1) ∷ [])) }
+    ensures walked { OnOk result
+        ((passes : ℕ) →
+        Walked id query (state tree.old tally.old passes (R.log ruler.old))
+        (state tree.new tally.new passes (R.log ruler.new))) }
+    ensures stopped { OnErr result
+        ((passes : ℕ) →
+        Stopped id query (state tree.old tally.old passes (R.log ruler.old))
+        (state tree.new tally.new passes (R.log ruler.new))) }
+    ensures own { IfOk result
+        (λ sizes. kept_at tree.new.tree id ≡
+        kept_with (kept_at tree.old.tree id) ((query, answer.Sizes sizes.0 sizes.1) ∷ [])) }
 {
     let leaf = node_at(tree, id);
     let NodeKind::Leaf(content) = &leaf.kind else {
@@ -260,11 +309,20 @@ pub fn leaf_height<R: Ruler>(
     requires ask { query.ask ≡ ask.Block }
     requires absent { IsAbsent query (kept_at tree.old.tree id) }
     requires fits { Fits (sight_at (bare tree.old.tree) id) query }
-    ensures value { IfOk result (λ size. block_size size ≡ answer_of (sight_at (bare tree.old.tree) id) query) }
+    ensures value { IfOk result
+        (λ size. block_size size ≡ answer_of (sight_at (bare tree.old.tree) id) query) }
     ensures right { IsRight tree.new.tree }
-    ensures walked { OnOk result ((passes : ℕ) → Walked id query (state tree.old tally.old passes (R.log ruler.old)) (state tree.new tally.new passes (R.log ruler.new))) }
-    ensures stopped { OnErr result ((passes : ℕ) → Stopped id query (state tree.old tally.old passes (R.log ruler.old)) (state tree.new tally.new passes (R.log ruler.new))) }
-    ensures own { IfOk result (λ size. kept_at tree.new.tree id ≡ kept_with (kept_at tree.old.tree id) ((query, answer.Block size) ∷ [])) }
+    ensures walked { OnOk result
+        ((passes : ℕ) →
+        Walked id query (state tree.old tally.old passes (R.log ruler.old))
+        (state tree.new tally.new passes (R.log ruler.new))) }
+    ensures stopped { OnErr result
+        ((passes : ℕ) →
+        Stopped id query (state tree.old tally.old passes (R.log ruler.old))
+        (state tree.new tally.new passes (R.log ruler.new))) }
+    ensures own { IfOk result
+        (λ size. kept_at tree.new.tree id ≡
+        kept_with (kept_at tree.old.tree id) ((query, answer.Block size) ∷ [])) }
 {
     let leaf = node_at(tree, id);
     let NodeKind::Leaf(content) = &leaf.kind else {

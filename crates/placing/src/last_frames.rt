@@ -27,7 +27,9 @@ fn fresh_children(
 ) -> Result<Sequence<bool>, NoMemory>
     requires { AreTurns (turn_at tree.now.tree) areas.now turns.now }
     ensures counted { IfOk result (λ fresh. length fresh ≡ length areas.now) }
-    ensures fresh { IfOk result (λ fresh. (k : ℕ) → slice_get fresh k ≡ Some true → is_fresh (turn_at tree.now.tree) areas.now turns.now k ≡ true) }
+    ensures fresh { IfOk result
+        (λ fresh. (k : ℕ) → slice_get fresh k ≡ Some true →
+        is_fresh (turn_at tree.now.tree) areas.now turns.now k ≡ true) }
 {
     let mut fresh = Vec::with_capacity(alloc, areas.len())?;
     for index in 0..areas.len() {
@@ -41,7 +43,8 @@ fn fresh_children(
 /// Takes what a node keeps of the frames that it gave its children.
 fn lose_frames(tree: &mut Arena<Node>, id: NodeId) -> Option<SharedLast>
     requires { IsLive (bare tree.old.tree) id }
-    ensures lost { ChangesPast tree.old tree.new id (record (past_at tree.old.tree id) { frames = None }) }
+    ensures lost { ChangesPast tree.old tree.new id
+        (record (past_at tree.old.tree id) { frames = None }) }
     ensures kept { result ≡ (past_at tree.old.tree id).frames }
 {
     let node = tree.get_mut(id).unwrap();
@@ -51,7 +54,8 @@ fn lose_frames(tree: &mut Arena<Node>, id: NodeId) -> Option<SharedLast>
 /// Keeps the frames of the children of a node in place of what it kept of that.
 fn gain_frames(tree: &mut Arena<Node>, id: NodeId, kept: SharedLast)
     requires { IsLive (bare tree.old.tree) id }
-    ensures { ChangesPast tree.old tree.new id (record (past_at tree.old.tree id) { frames = Some kept }) }
+    ensures { ChangesPast tree.old tree.new id
+        (record (past_at tree.old.tree id) { frames = Some kept }) }
 {
     let node = tree.get_mut(id).unwrap();
     node.past.frames = Some(kept);
@@ -65,9 +69,23 @@ fn frames_of(
     kept: KeptFrames,
 ) -> Result<Option<PastFrames>, NoMemory>
     requires { AreTurns (turn_at tree.now.tree) kept.base.placed.areas kept.turns }
-    ensures parts { IfOk result (λ past. IfSome past (λ p. p ≡ record { base = kept.base; columns = kept.columns; rows = kept.rows; frames = kept.frames; fresh = p.fresh })) }
-    ensures counted { IfOk result (λ past. IfSome past (λ p. length p.fresh ≡ length kept.base.placed.areas)) }
-    ensures fresh { IfOk result (λ past. IfSome past (λ p. (k : ℕ) → slice_get p.fresh k ≡ Some true → is_fresh (turn_at tree.now.tree) kept.base.placed.areas kept.turns k ≡ true)) }
+    ensures parts { IfOk result
+        (λ past. IfSome past
+        (λ p. p ≡
+        record {
+          base = kept.base;
+          columns = kept.columns;
+          rows = kept.rows;
+          frames =
+              kept.frames;
+          fresh = p.fresh;
+        })) }
+    ensures counted { IfOk result
+        (λ past. IfSome past (λ p. length p.fresh ≡ length kept.base.placed.areas)) }
+    ensures fresh { IfOk result
+        (λ past. IfSome past
+        (λ p. (k : ℕ) → slice_get p.fresh k ≡ Some true →
+        is_fresh (turn_at tree.now.tree) kept.base.placed.areas kept.turns k ≡ true)) }
 {
     let KeptFrames {
         base,
@@ -125,8 +143,10 @@ pub fn keep_frames(
 ) -> Result<(), NoMemory>
     requires live { IsLive (bare tree.old.tree) id }
     requires right { IsRight tree.old.tree }
-    requires places { HoldsPlaces (sight_at (bare tree.old.tree) id) (children_at (bare tree.old.tree) id) base }
-    requires frames { AreFrames (sight_at (bare tree.old.tree) id) (kid_at (bare tree.old.tree)) base columns rows Each frames }
+    requires places { HoldsPlaces (sight_at (bare tree.old.tree) id)
+        (children_at (bare tree.old.tree) id) base }
+    requires frames { AreFrames (sight_at (bare tree.old.tree) id) (kid_at (bare tree.old.tree))
+        base columns rows Each frames }
     ensures right { IsRight tree.new.tree }
     ensures alike { IsAlike tree.old tree.new }
 {

@@ -78,7 +78,8 @@ fn sorted_numbers(
 ) -> Result<Sequence<usize>, NoMemory>
     requires list { children.now ≡ children_at (bare tree.now.tree) id }
     requires count { length children.now ≡ length (kids_at (bare tree.now.tree) id) }
-    ensures { IfOk result (λ numbers. numbers ≡ numbers_in_order (orders_at (bare tree.now.tree) id)) }
+    ensures { IfOk result
+        (λ numbers. numbers ≡ numbers_in_order (orders_at (bare tree.now.tree) id)) }
 {
     if are_ascending(tree, id, children, i32::MIN) {
         return numbers_as_they_come(alloc, children.len());
@@ -91,9 +92,12 @@ fn sorted_numbers(
 /// wanting.
 pub fn ordered(alloc: Global, tree: &Arena<Node>, id: NodeId) -> Result<Sequence<usize>, NoMemory>
     requires { IsLive (bare tree.now.tree) id }
-    ensures value { IfOk result (λ numbers. numbers ≡ numbers_in_order (orders_at (bare tree.now.tree) id)) }
-    ensures count { IfOk result (λ numbers. length numbers ≡ length (kids_at (bare tree.now.tree) id)) }
-    ensures within { IfOk result (λ numbers. All (λ n. n < length (kids_at (bare tree.now.tree) id)) numbers) }
+    ensures value { IfOk result
+        (λ numbers. numbers ≡ numbers_in_order (orders_at (bare tree.now.tree) id)) }
+    ensures count { IfOk result
+        (λ numbers. length numbers ≡ length (kids_at (bare tree.now.tree) id)) }
+    ensures within { IfOk result
+        (λ numbers. All (λ n. n < length (kids_at (bare tree.now.tree) id)) numbers) }
 {
     let numbers = sorted_numbers(alloc, tree, id, children(tree, id))?;
     Ok(numbers)
@@ -197,8 +201,10 @@ fn cut_areas(
     requires count { length areas.now ≡ length numbers.now }
     requires columns { IsLimit limits.columns }
     requires rows { IsLimit limits.rows }
-    ensures children { IfOk result (λ cut. map (child_at (bare tree.now.tree) id) numbers.now ≡ map child_in cut) }
-    ensures areas { IfOk result (λ cut. map (λ (e : NodeId × Area). e.1) cut ≡ map (cut_to limits) areas.now) }
+    ensures children { IfOk result
+        (λ cut. map (child_at (bare tree.now.tree) id) numbers.now ≡ map child_in cut) }
+    ensures areas { IfOk result
+        (λ cut. map (λ (e : NodeId × Area). e.1) cut ≡ map (cut_to limits) areas.now) }
 {
     let mut cut = Vec::with_capacity(alloc, numbers.len())?;
     for index in 0..numbers.len() {
@@ -228,7 +234,8 @@ fn with_span(range: Span, span: Span) -> Span
 /// The least range that has so many explicit tracks and all areas along an axis (CSS Grid 2, 7.5).
 fn range(axis: u8, explicit: u32, areas: &[(NodeId, Area)]) -> Span
     requires { explicit ≤ 65536 }
-    ensures { result ≡ range_of explicit (map (λ (e : NodeId × Area). span_along axis e.1) areas.now) }
+    ensures { result ≡
+        range_of explicit (map (λ (e : NodeId × Area). span_along axis e.1) areas.now) }
 {
     let mut range = Span {
         start: 0,
@@ -257,7 +264,10 @@ fn placed(
     requires few { length numbers.now ≤ 65536 }
     requires columns { IsLimitOf context.now.columns.table }
     requires rows { IsLimitOf context.now.rows.table }
-    ensures value { IfOk result (λ areas. areas.items ≡ areas_by (context_of context.now) (sight_at (bare tree.now.tree) id).label.grid (siblings_at (bare tree.now.tree) id) numbers.now) }
+    ensures value { IfOk result
+        (λ areas. areas.items ≡
+        areas_by (context_of context.now) (sight_at (bare tree.now.tree) id).label.grid
+        (siblings_at (bare tree.now.tree) id) numbers.now) }
     ensures full { IfOk result (λ areas. AreFull areas.items) }
     ensures count { IfOk result (λ areas. length areas.items ≡ length numbers.now) }
 {
@@ -281,7 +291,8 @@ pub fn areas_in(
 ) -> Result<Placed, NoMemory>
     requires live { IsLive (bare tree.now.tree) id }
     requires readable { AreReadable (bare tree.now.tree) }
-    ensures { IfOk result (λ placed. IsPlaced (bare tree.now.tree) id (context_of context.now) placed) }
+    ensures { IfOk result
+        (λ placed. IsPlaced (bare tree.now.tree) id (context_of context.now) placed) }
 {
     let limits = limits(context);
     let children = children(tree, id);

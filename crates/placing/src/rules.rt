@@ -202,7 +202,9 @@ fn size_of(sizes: &TrackSizes, autos: &[TrackFn], at: i32) -> TrackFn
 #[tactic(auto, using(crate::proofs::Tracks::one_auto))]
 /// The automatic sizes of a style, as far as they are set: without them each is `auto`.
 fn autos_of<const AXIS: u8>(style: &Style) -> &[TrackFn]
-    ensures { (sizes : List TrackFn) (at : ℤ) → unwrap_or (size_at sizes result.now at) auto_track ≡ unwrap_or (size_at sizes (grid_axis AXIS (grid_of style.now)).autos at) auto_track }
+    ensures { (sizes : List TrackFn) (at : ℤ) →
+        unwrap_or (size_at sizes result.now at) auto_track ≡
+        unwrap_or (size_at sizes (grid_axis AXIS (grid_of style.now)).autos at) auto_track }
 {
     match autos::<AXIS>(style) {
         Some(autos) => autos,
@@ -256,7 +258,9 @@ fn rule_after(
     requires low { neg_ℤ (pos 1073741824) ≤ℤ first }
     requires first { first ≤ℤ pos 536870912 }
     requires few { tracks ≤ 1073741824 }
-    ensures { result ≡ rule_of base.now (unwrap_or (size_at sizes.now autos.now (first +ℤ pos tracks)) auto_track) collapsed }
+    ensures { result ≡
+        rule_of base.now (unwrap_or (size_at sizes.now autos.now (first +ℤ pos tracks)) auto_track)
+        collapsed }
 {
     let size = size_of(sizes, autos, line_after(first, tracks));
     rule_of(base, &size, collapsed)
@@ -274,7 +278,8 @@ fn rules_of(
     requires few { length collapsed.now ≤ 1073741824 }
     requires low { neg_ℤ (pos 1073741824) ≤ℤ first }
     requires high { first ≤ℤ pos 536870912 }
-    ensures { IfOk result (λ rules. rules ≡ rules_by base.now sizes.now autos.now first collapsed.now) }
+    ensures { IfOk result
+        (λ rules. rules ≡ rules_by base.now sizes.now autos.now first collapsed.now) }
 {
     let mut rules = Vec::with_capacity(alloc, collapsed.len())?;
     for at in 0..collapsed.len() {
@@ -296,7 +301,11 @@ pub fn axis_rules<const AXIS: u8>(
 ) -> Result<Sequence<Rule>, NoMemory>
     requires template { IsTemplate (grid_axis AXIS (grid_of style.now)).template }
     requires near { IsNear tracks }
-    ensures { IfOk result (λ rules. rules ≡ axis_rules base (grid_axis AXIS (grid_of style.now)) (written (grid_axis AXIS (grid_of style.now)).template count) areas.now (tracks_of tracks)) }
+    ensures { IfOk result
+        (λ rules. rules ≡
+        axis_rules base (grid_axis AXIS (grid_of style.now))
+        (written (grid_axis AXIS (grid_of style.now)).template count) areas.now
+        (tracks_of tracks)) }
 {
     let first = first_line(&tracks);
     let number = track_count(&tracks);

@@ -61,7 +61,8 @@ pub fn seat(
     requires live { IsLive (bare tree.now.tree) id }
     requires readable { AreReadable (bare tree.now.tree) }
     requires outer { length outer.now ≡ length (sight_at (bare tree.now.tree) id).chain }
-    ensures { IfOk result (λ seat. IsSeat (sight_at (bare tree.now.tree) id) outer.now seat.0 seat.1) }
+    ensures { IfOk result
+        (λ seat. IsSeat (sight_at (bare tree.now.tree) id) outer.now seat.0 seat.1) }
 {
     match grid_above(tree, id) {
         None => Ok((Above::Nothing, NO_AREA)),
@@ -87,7 +88,8 @@ pub fn context(
     requires live { IsLive (bare tree.now.tree) id }
     requires readable { AreReadable (bare tree.now.tree) }
     requires reps { length reps.now ≡ length (sight_at (bare tree.now.tree) id).chain + 1 }
-    ensures { IfOk result (λ made. context_of made ≡ context_at (sight_at (bare tree.now.tree) id) reps.now) }
+    ensures { IfOk result
+        (λ made. context_of made ≡ context_at (sight_at (bare tree.now.tree) id) reps.now) }
 {
     match reps.split_last() {
         Some((counts, outer)) => {
@@ -108,7 +110,9 @@ pub fn areas(
     requires live { IsLive (bare tree.now.tree) id }
     requires readable { AreReadable (bare tree.now.tree) }
     requires reps { length reps.now ≡ length (sight_at (bare tree.now.tree) id).chain + 1 }
-    ensures { IfOk result (λ placed. IsPlaced (bare tree.now.tree) id (context_at (sight_at (bare tree.now.tree) id) reps.now) placed) }
+    ensures { IfOk result
+        (λ placed. IsPlaced (bare tree.now.tree) id
+        (context_at (sight_at (bare tree.now.tree) id) reps.now) placed) }
 {
     let context = context(alloc, tree, id, reps)?;
     areas_in(alloc, tree, id, &context)

@@ -41,7 +41,8 @@ pub fn node_at(tree: &Arena<Node>, id: NodeId) -> &Node
     ensures name { result.now.name ≡ (sight_at (bare tree.now.tree) id).label.name }
     ensures kind { result.now.kind ≡ (sight_at (bare tree.now.tree) id).label.kind }
     ensures grid { grid_of result.now.style ≡ (sight_at (bare tree.now.tree) id).label.grid }
-    ensures content { content_of result.now.style ≡ (sight_at (bare tree.now.tree) id).label.content }
+    ensures content { content_of result.now.style ≡
+        (sight_at (bare tree.now.tree) id).label.content }
     ensures kept { result.now.kept ≡ kept_at tree.now.tree id }
     ensures past { result.now.past ≡ past_at tree.now.tree id }
 {

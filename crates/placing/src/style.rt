@@ -178,7 +178,8 @@ pub fn subgrid_sets<const AXIS: u8>(style: &Style) -> &[NameSet]
 
 /// The sizes of the tracks outside the template; `None` where they are not set, and are the one size `auto` (CSS Grid 2, section 7.6).
 pub fn autos<const AXIS: u8>(style: &Style) -> Option<&[TrackFn]>
-    ensures { unwrap_or (option_copied result) (auto_track ∷ []) ≡ (grid_axis AXIS (grid_of style.now)).autos }
+    ensures { unwrap_or (option_copied result) (auto_track ∷ []) ≡
+        (grid_axis AXIS (grid_of style.now)).autos }
 {
     if AXIS == 0 {
         sizes_of(style, Prop::GridAutoColumns)
@@ -189,7 +190,8 @@ pub fn autos<const AXIS: u8>(style: &Style) -> Option<&[TrackFn]>
 
 /// The line value of its start as an item; `None` where it is not set, and is `auto` (CSS Grid 2, section 8.3).
 pub fn start_line<const AXIS: u8>(style: &Style) -> Option<&LineValue>
-    ensures { unwrap_or (option_copied result) line.Auto ≡ (grid_axis AXIS (grid_of style.now)).start_line }
+    ensures { unwrap_or (option_copied result) line.Auto ≡
+        (grid_axis AXIS (grid_of style.now)).start_line }
 {
     if AXIS == 0 {
         line_of(style, Prop::GridColumnStart)
@@ -200,7 +202,8 @@ pub fn start_line<const AXIS: u8>(style: &Style) -> Option<&LineValue>
 
 /// The line value of its end as an item; `None` where it is not set, and is `auto` (CSS Grid 2, section 8.3).
 pub fn end_line<const AXIS: u8>(style: &Style) -> Option<&LineValue>
-    ensures { unwrap_or (option_copied result) line.Auto ≡ (grid_axis AXIS (grid_of style.now)).end_line }
+    ensures { unwrap_or (option_copied result) line.Auto ≡
+        (grid_axis AXIS (grid_of style.now)).end_line }
 {
     if AXIS == 0 {
         line_of(style, Prop::GridColumnEnd)

@@ -45,7 +45,8 @@ pub(crate) fn turns_of(
     tree: &Arena<Node>,
     areas: &[(NodeId, Area)],
 ) -> Result<Sequence<u64>, NoMemory>
-    ensures { IfOk result (λ turns. turns ≡ map (λ (e : NodeId × Area). turn_at tree.now.tree e.0) areas.now) }
+    ensures { IfOk result
+        (λ turns. turns ≡ map (λ (e : NodeId × Area). turn_at tree.now.tree e.0) areas.now) }
 {
     let mut turns = Vec::with_capacity(alloc, areas.len())?;
     for (child, _) in areas {
@@ -62,7 +63,9 @@ fn stale_children(
     turns: &[u64],
 ) -> Result<Sequence<usize>, NoMemory>
     requires { AreTurns (turn_at tree.now.tree) areas.now turns.now }
-    ensures fresh { IfOk result (λ stale. (k : ℕ) → k < length areas.now → is_listed k stale ≡ false → is_fresh (turn_at tree.now.tree) areas.now turns.now k ≡ true) }
+    ensures fresh { IfOk result
+        (λ stale. (k : ℕ) → k < length areas.now → is_listed k stale ≡ false →
+        is_fresh (turn_at tree.now.tree) areas.now turns.now k ≡ true) }
     ensures within { IfOk result (All (λ k. k < length areas.now)) }
 {
     let mut stale = Sequence::new(alloc);
@@ -79,7 +82,8 @@ fn stale_children(
 /// Takes what a node keeps of what its children told for its columns.
 fn lose_columns(tree: &mut Arena<Node>, id: NodeId) -> Option<SharedColumns>
     requires { IsLive (bare tree.old.tree) id }
-    ensures lost { ChangesPast tree.old tree.new id (record (past_at tree.old.tree id) { columns = None }) }
+    ensures lost { ChangesPast tree.old tree.new id
+        (record (past_at tree.old.tree id) { columns = None }) }
     ensures kept { result ≡ (past_at tree.old.tree id).columns }
 {
     let node = tree.get_mut(id).unwrap();
@@ -89,7 +93,8 @@ fn lose_columns(tree: &mut Arena<Node>, id: NodeId) -> Option<SharedColumns>
 /// Keeps what the children of a node told for its columns in place of what it kept of that.
 fn gain_columns(tree: &mut Arena<Node>, id: NodeId, kept: SharedColumns)
     requires { IsLive (bare tree.old.tree) id }
-    ensures { ChangesPast tree.old tree.new id (record (past_at tree.old.tree id) { columns = Some kept }) }
+    ensures { ChangesPast tree.old tree.new id
+        (record (past_at tree.old.tree id) { columns = Some kept }) }
 {
     let node = tree.get_mut(id).unwrap();
     node.past.columns = Some(kept);
@@ -98,7 +103,8 @@ fn gain_columns(tree: &mut Arena<Node>, id: NodeId, kept: SharedColumns)
 /// Takes what a node keeps of what its children told for its rows.
 fn lose_wide(tree: &mut Arena<Node>, id: NodeId) -> Option<SharedTold>
     requires { IsLive (bare tree.old.tree) id }
-    ensures lost { ChangesPast tree.old tree.new id (record (past_at tree.old.tree id) { wide = None }) }
+    ensures lost { ChangesPast tree.old tree.new id
+        (record (past_at tree.old.tree id) { wide = None }) }
     ensures kept { result ≡ (past_at tree.old.tree id).wide }
 {
     let node = tree.get_mut(id).unwrap();
@@ -108,7 +114,8 @@ fn lose_wide(tree: &mut Arena<Node>, id: NodeId) -> Option<SharedTold>
 /// Keeps what the children of a node told for its rows in place of what it kept of that.
 fn gain_wide(tree: &mut Arena<Node>, id: NodeId, kept: SharedTold)
     requires { IsLive (bare tree.old.tree) id }
-    ensures { ChangesPast tree.old tree.new id (record (past_at tree.old.tree id) { wide = Some kept }) }
+    ensures { ChangesPast tree.old tree.new id
+        (record (past_at tree.old.tree id) { wide = Some kept }) }
 {
     let node = tree.get_mut(id).unwrap();
     node.past.wide = Some(kept);
@@ -149,8 +156,10 @@ pub fn keep_columns(
 ) -> Result<(), NoMemory>
     requires live { IsLive (bare tree.old.tree) id }
     requires right { IsRight tree.old.tree }
-    requires places { HoldsPlaces (sight_at (bare tree.old.tree) id) (children_at (bare tree.old.tree) id) told.parts.base }
-    requires told { AreColumns (sight_at (bare tree.old.tree) id) (kid_at (bare tree.old.tree)) Each told }
+    requires places { HoldsPlaces (sight_at (bare tree.old.tree) id)
+        (children_at (bare tree.old.tree) id) told.parts.base }
+    requires told { AreColumns (sight_at (bare tree.old.tree) id) (kid_at (bare tree.old.tree)) Each
+        told }
     ensures right { IsRight tree.new.tree }
     ensures alike { IsAlike tree.old tree.new }
 {
@@ -245,10 +254,21 @@ pub fn keep_wide(
 ) -> Result<(), NoMemory>
     requires live { IsLive (bare tree.old.tree) id }
     requires right { IsRight tree.old.tree }
-    requires places { HoldsPlaces (sight_at (bare tree.old.tree) id) (children_at (bare tree.old.tree) id) wide.parts.base }
-    requires columns { AreColumns (sight_at (bare tree.old.tree) id) (kid_at (bare tree.old.tree)) Each (record { parts = wide.parts; ends = column_ends }) }
-    requires rows { AreRows (sight_at (bare tree.old.tree) id) (kid_at (bare tree.old.tree)) wide.parts.base Each (record { columns = wide.columns; align = align; children = wide.children; items = wide.items; ends = row_ends }) }
-    requires laid { IfSome wide.rows (AreRowsFor (sight_at (bare tree.old.tree) id) wide.parts.base wide.items) }
+    requires places { HoldsPlaces (sight_at (bare tree.old.tree) id)
+        (children_at (bare tree.old.tree) id) wide.parts.base }
+    requires columns { AreColumns (sight_at (bare tree.old.tree) id) (kid_at (bare tree.old.tree))
+        Each (record { parts = wide.parts; ends = column_ends }) }
+    requires rows { AreRows (sight_at (bare tree.old.tree) id) (kid_at (bare tree.old.tree))
+        wide.parts.base Each
+        (record {
+          columns = wide.columns;
+          align = align;
+          children = wide.children;
+          items = wide.items;
+          ends = row_ends;
+        }) }
+    requires laid { IfSome wide.rows
+        (AreRowsFor (sight_at (bare tree.old.tree) id) wide.parts.base wide.items) }
     ensures right { IsRight tree.new.tree }
     ensures alike { IsAlike tree.old tree.new }
 {
@@ -269,7 +289,8 @@ pub fn keep_wide(
 /// Where the items of the child of this index begin among those of all.
 fn start_of(ends: &[usize], index: usize) -> usize
     requires { index < length ends.now }
-    ensures { (parts : List (List Item)) → ends.now ≡ ends_from 0 parts → result ≡ length (joined (take index parts)) }
+    ensures { (parts : List (List Item)) → ends.now ≡ ends_from 0 parts →
+        result ≡ length (joined (take index parts)) }
 {
     if index == 0 { 0 } else { ends[index - 1] }
 }
@@ -278,7 +299,8 @@ fn start_of(ends: &[usize], index: usize) -> usize
 fn write_items(items: &mut Sequence<Item>, start: usize, own: &[Item]) -> bool
     requires within { start + length own.now ≤ length items.old }
     requires room { start + length own.now < 2 ^ 64 }
-    ensures items { items.new ≡ take start items.old ++ own.now ++ drop (start + length own.now) items.old }
+    ensures items { items.new ≡
+        take start items.old ++ own.now ++ drop (start + length own.now) items.old }
     ensures same { result ≡ false → items.new ≡ items.old }
 {
     let mut other = false;
@@ -300,7 +322,8 @@ fn splice_items(
     own: &[Item],
 ) -> Result<(), NoMemory>
     requires { (start ≤ end) × (end ≤ length items.old) }
-    ensures items { OnOk result (items.new ≡ take start items.old ++ own.now ++ drop end items.old) }
+    ensures items { OnOk result
+        (items.new ≡ take start items.old ++ own.now ++ drop end items.old) }
     ensures room { OnOk result (length items.new < 2 ^ 64) }
 {
     let mut all = Vec::new(alloc);
@@ -314,7 +337,8 @@ fn splice_items(
 /// From an index on each end lies so much further: it is no more below that of the first than `less`.
 fn move_ends(ends: &mut Sequence<usize>, index: usize, less: usize, more: usize)
     requires { AreMovable (drop index ends.old) less more }
-    ensures { ends.new ≡ take index ends.old ++ map (λ (end : ℕ). end - less + more) (drop index ends.old) }
+    ensures { ends.new ≡
+        take index ends.old ++ map (λ (end : ℕ). end - less + more) (drop index ends.old) }
 {
     for at in index..ends.len() {
         if let Some(end) = ends.get(at) {
@@ -335,8 +359,12 @@ pub fn put_items(
 ) -> Result<bool, NoMemory>
     requires parts { HasParts items.old ends.old }
     requires index { index < length ends.old }
-    ensures items { OnOk result ((parts : List (List Item)) → items.old ≡ joined parts → ends.old ≡ ends_from 0 parts → items.new ≡ joined (slice_set parts index own.now)) }
-    ensures ends { OnOk result ((parts : List (List Item)) → items.old ≡ joined parts → ends.old ≡ ends_from 0 parts → ends.new ≡ ends_from 0 (slice_set parts index own.now)) }
+    ensures items { OnOk result
+        ((parts : List (List Item)) → items.old ≡ joined parts → ends.old ≡ ends_from 0 parts →
+        items.new ≡ joined (slice_set parts index own.now)) }
+    ensures ends { OnOk result
+        ((parts : List (List Item)) → items.old ≡ joined parts → ends.old ≡ ends_from 0 parts →
+        ends.new ≡ ends_from 0 (slice_set parts index own.now)) }
     ensures same { IfOk result (λ other. other ≡ false → items.new ≡ items.old) }
 {
     let start = start_of(ends.as_slice(), index);

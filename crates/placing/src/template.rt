@@ -76,7 +76,10 @@ fn join_repeated(
     names: &[NameSet],
     count: u32,
 ) -> Result<(), NoMemory>
-    ensures { OnOk result ((more : List Names) → take 10001 (seamed lines.new more) ≡ take 10001 (seamed (seamed lines.old (repeated_names count names.now)) more)) }
+    ensures { OnOk result
+        ((more : List Names) →
+        take 10001 (seamed lines.new more) ≡
+        take 10001 (seamed (seamed lines.old (repeated_names count names.now)) more)) }
 {
     let mut left = count;
     while left > 0 {
@@ -155,7 +158,8 @@ pub fn lines<const AXIS: u8>(
     style: &Style,
     count: u32,
 ) -> Result<Sequence<NameSet>, NoMemory>
-    ensures { IfOk result (λ lines. lines ≡ (written (grid_axis AXIS (grid_of style.now)).template count).names) }
+    ensures { IfOk result
+        (λ lines. lines ≡ (written (grid_axis AXIS (grid_of style.now)).template count).names) }
 {
     match track_list::<AXIS>(style) {
         Some(list) => listed_lines(alloc, list, count),

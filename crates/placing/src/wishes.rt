@@ -45,7 +45,8 @@ pub(crate) fn is_grid(kind: &NodeKind) -> bool
 /// more than a track.
 fn automatic_span<const AXIS: u8>(kind: &NodeKind, style: &Style) -> u32
     requires { IsGridStyle (grid_of style.now) }
-    ensures { result ≡ automatic_span (is_grid_kind kind.now) (grid_axis AXIS (grid_of style.now)).template }
+    ensures { result ≡
+        automatic_span (is_grid_kind kind.now) (grid_axis AXIS (grid_of style.now)).template }
 {
     let sets = subgrid_sets::<AXIS>(style).len();
     if sets <= 2 {
@@ -104,7 +105,11 @@ fn told_at_end<const AXIS: u8>(style: &Style) -> Told
 /// is read where it counts alone.
 fn open_span<const AXIS: u8>(kind: &NodeKind, style: &Style) -> Option<u32>
     requires { IsGridStyle (grid_of style.now) }
-    ensures { IfSome result (λ tracks. IsOpen (grid_axis AXIS (grid_of style.now)).start_line (grid_axis AXIS (grid_of style.now)).end_line (automatic_span (is_grid_kind kind.now) (grid_axis AXIS (grid_of style.now)).template) tracks) }
+    ensures { IfSome result
+        (λ tracks. IsOpen (grid_axis AXIS (grid_of style.now)).start_line
+        (grid_axis AXIS (grid_of style.now)).end_line
+        (automatic_span (is_grid_kind kind.now) (grid_axis AXIS (grid_of style.now)).template)
+        tracks) }
 {
     match told_at_start::<AXIS>(style) {
         Told::Nothing => match told_at_end::<AXIS>(style) {
@@ -158,7 +163,8 @@ fn spot<const AXIS: u8>(table: &LineTable, kind: &NodeKind, style: &Style) -> Sp
 /// Where a child is to stand.
 fn wish(context: &Context, node: &Node) -> Wish
     requires { IsGridStyle (grid_of node.now.style) }
-    ensures value { result ≡ wish_of (context_of context.now) (sibling_of (label_of_bare (bare_of node.now))) }
+    ensures value { result ≡
+        wish_of (context_of context.now) (sibling_of (label_of_bare (bare_of node.now))) }
     ensures column { IsLimitOf context.now.columns.table → IsFilled result.column }
     ensures row { IsLimitOf context.now.rows.table → IsFilled result.row }
 {
@@ -178,7 +184,8 @@ fn wish_at(
     requires readable { AreReadable (bare tree.now.tree) }
     requires list { children.now ≡ children_at (bare tree.now.tree) id }
     requires number { number < length children.now }
-    ensures value { result ≡ wish_by (context_of context.now) (siblings_at (bare tree.now.tree) id) number }
+    ensures value { result ≡
+        wish_by (context_of context.now) (siblings_at (bare tree.now.tree) id) number }
     ensures column { IsLimitOf context.now.columns.table → IsFilled result.column }
     ensures row { IsLimitOf context.now.rows.table → IsFilled result.row }
 {
@@ -200,7 +207,9 @@ pub(crate) fn wishes(
     requires numbers { All (λ n. n < length children.now) numbers.now }
     requires columns { IsLimitOf context.now.columns.table }
     requires rows { IsLimitOf context.now.rows.table }
-    ensures value { IfOk result (λ wishes. wishes.items ≡ map (wish_by (context_of context.now) (siblings_at (bare tree.now.tree) id)) numbers.now) }
+    ensures value { IfOk result
+        (λ wishes. wishes.items ≡
+        map (wish_by (context_of context.now) (siblings_at (bare tree.now.tree) id)) numbers.now) }
     ensures filled { IfOk result (λ wishes. AreFilled wishes.items) }
 {
     let mut wishes = Vec::with_capacity(alloc, numbers.len())?;

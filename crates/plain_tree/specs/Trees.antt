@@ -81,7 +81,8 @@ module _ {A : Type 0} (c : Coded A) where
   inj_trees leafless leafless e = refl
   inj_trees leafless (tree x b a) e = absurd (subst IsCons (sym e) tt)
   inj_trees (tree x b a) leafless e = absurd (subst IsCons e tt)
-  inj_trees (tree x b a) (tree y d f) e = λ i. tree (c.inj x y (ap left e) i) (inj_trees b d (ap (λ g. left (right g)) e) i) (inj_trees a f (ap (λ g. right (right g)) e) i)
+  inj_trees (tree x b a) (tree y d f) e =
+      λ i. tree (c.inj x y (ap left e) i) (inj_trees b d (ap (λ g. left (right g)) e) i) (inj_trees a f (ap (λ g. right (right g)) e) i)
 
   abbrev pub coded_trees : Coded (Trees A)
   coded_trees = record { code = code_trees; inj = inj_trees }

@@ -94,7 +94,8 @@ module _ {A : Type 0} where
             (λ h. omega (arith, is, a (omega (arith, l, no, h.none))))
 
 -- the moved node, its old parent and its new one are touched
-module _ (touched : NodeId → Bool) (gone p : NodeId) (i : ℕ) (t : NodeTrees) (d : IsDistinct t) (itself : touched gone ≡ true) (old : (k : NodeId) (j : ℕ) → child_at t k j ≡ Some gone → touched k ≡ true) (upper : touched p ≡ true) (there : 1 ≤ times p (removed gone t)) (r : Part Node) (whole : part_at t gone ≡ Some r) where
+module _ (touched : NodeId → Bool) (gone p : NodeId) (i : ℕ) (t : NodeTrees) (d : IsDistinct t) (itself : touched gone ≡ true) (old : (k : NodeId) (j : ℕ) → child_at t k j ≡ Some gone → touched k ≡ true) (upper : touched p ≡ true) (there : 1 ≤ times p (removed gone t)) (r : Part Node)
+    (whole : part_at t gone ≡ Some r) where
   abbrev rest : NodeTrees
   rest = removed gone t
 

@@ -47,7 +47,8 @@ module _ {A : Type 0} (subgrid : A → Bool) (touched above : NodeId → Bool) (
       (λ h. omega (arith, part_times after p q (sym (part_after x below after p h) ∙ e)))
 
   -- below a marked node the search goes on where the edit is felt
-  pub marked_visits : (t : Trees (NodeId × A)) (felt : Bool) (p c : NodeId) (q : Part A) → IsUpwards above t → part_at t p ≡ Some q → above p ≡ true → (grid && touched p) ≡ true → is_among c (reached subgrid touched above grid true q.1) ≡ true → is_among c (reached subgrid touched above grid felt t) ≡ true
+  pub marked_visits : (t : Trees (NodeId × A)) (felt : Bool) (p c : NodeId) (q : Part A) → IsUpwards above t → part_at t p ≡ Some q → above p ≡ true → (grid && touched p) ≡ true → is_among c (reached subgrid touched above grid true q.1) ≡ true →
+      is_among c (reached subgrid touched above grid felt t) ≡ true
   marked_visits leafless felt p c q u e a m h = absurd cc
   marked_visits (tree x below after) felt p c q u e a m h =
       by_place x below p

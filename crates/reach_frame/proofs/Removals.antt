@@ -109,7 +109,8 @@ pub removed_tops : (gone : NodeId) (t : NodeTrees) → ((j : ℕ) → number_of 
 removed_tops gone leafless h = (refl, refl)
 removed_tops gone (tree x below after) h = at (same x.0 gone) refl (removed_tops gone after (λ j e. h (suc j) e))
   where
-    at : (c : Bool) → same x.0 gone ≡ c → (top_numbers (removed gone after) ≡ top_numbers after) × (faces (removed gone after) ≡ faces after) → (top_numbers (removed gone (tree x below after)) ≡ top_numbers (tree x below after)) × (faces (removed gone (tree x below after)) ≡ faces (tree x below after))
+    at : (c : Bool) → same x.0 gone ≡ c → (top_numbers (removed gone after) ≡ top_numbers after) × (faces (removed gone after) ≡ faces after) →
+        (top_numbers (removed gone (tree x below after)) ≡ top_numbers (tree x below after)) × (faces (removed gone (tree x below after)) ≡ faces (tree x below after))
     at true e a = absurd (h 0 (ap Some (same_is x.0 gone e)))
     at false e a = (
       ap top_numbers (edited_not gone nothing x below after e) ∙ ap (λ l. x.0 ∷ l) a.0,

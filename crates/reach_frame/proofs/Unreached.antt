@@ -135,7 +135,8 @@ module _ (t : NodeTrees) (d : IsDistinct t) (ts : List NodeId) (grid : Bool) whe
       way k l (Some q) f m = within_way t n k q f (d k) (omega (arith, l, ap (λ o. times k (below_of o)) f))
 
 -- ---- after a change
-module _ (t u : NodeTrees) (dt : IsDistinct t) (du : IsDistinct u) (root : NodeId) (tops_t : top_numbers t ≡ root ∷ []) (tops_u : top_numbers u ≡ root ∷ []) (low_t : height_of t ≤ 64) (low_u : height_of u ≤ 64) (ts : List NodeId) (grid : Bool) (local : IsLocal (λ n. is_among n ts) grid (bare t) (bare u)) where
+module _ (t u : NodeTrees) (dt : IsDistinct t) (du : IsDistinct u) (root : NodeId) (tops_t : top_numbers t ≡ root ∷ []) (tops_u : top_numbers u ≡ root ∷ []) (low_t : height_of t ≤ 64) (low_u : height_of u ≤ 64) (ts : List NodeId) (grid : Bool)
+    (local : IsLocal (λ n. is_among n ts) grid (bare t) (bare u)) where
   pub same_sight : (n : NodeId) → IsSome (part_at t n) → IsSome (part_at u n) → is_among n (reached_by node_sub t ts grid) ≡ false → (sight_at (bare u) n ≡ sight_at (bare t) n) × (children_at (bare u) n ≡ children_at (bare t) n)
   same_sight n old new e =
       let calm = not_found t dt ts grid n old e in

@@ -30,7 +30,8 @@ pub record ShowsSame (b u : BareTrees) (n : NodeId) : Type 0 where
   pub children : children_at u n ≡ children_at b n
   pub siblings : siblings_of (sight_at u n).below ≡ siblings_of (sight_at b n).below
 
--- From the tree b comes u: a node that is not touched has the same label; one that is not touched, or any where no chain is concerned, shows the same. Such a node
+-- From the tree b comes u: a node that is not touched has the same label; one that is not touched, or any where no chain is concerned, shows the same. Such a
+-- node
 -- stays under its parent, or both go.
 pub record IsLocal (touched : NodeId → Bool) (grid : Bool) (b u : BareTrees) : Type 0 where
   pub own : (n : NodeId) → IsLive u n → touched n ≡ false → (sight_at u n).label ≡ (sight_at b n).label
@@ -40,4 +41,5 @@ pub record IsLocal (touched : NodeId → Bool) (grid : Bool) (b u : BareTrees) :
 -- a subgrid below a marked node, such that it and all nodes between are subgrids: so many of them
 abbrev pub IsFelt : (NodeId → Bool) → BareTrees → ℕ → NodeId → Type 0
 IsFelt mark b zero n = ⊥
-IsFelt mark b (suc k) n = (p : NodeId) × ((i : ℕ) × ((child_at b p i ≡ Some n) × ((is_sub (sight_at b n).label ≡ true) × ((mark p ≡ true) ⊎ IsFelt mark b k p))))
+IsFelt mark b (suc k) n =
+    (p : NodeId) × ((i : ℕ) × ((child_at b p i ≡ Some n) × ((is_sub (sight_at b n).label ≡ true) × ((mark p ≡ true) ⊎ IsFelt mark b k p))))

@@ -7,7 +7,8 @@ abbrev pub has_mark : {A : Type 0} → (A → Bool) → Trees A → Bool
 has_mark mark leafless = false
 has_mark mark (tree x below after) = mark x || (has_mark mark below || has_mark mark after)
 
--- One of these nodes for which `is` holds is reached: it is marked or stands above a marked node; or, where `grid` says that subgrids feel a change, it stands below
+-- One of these nodes for which `is` holds is reached: it is marked or stands above a marked node; or, where `grid` says that subgrids feel a change, it stands
+-- below
 -- a marked node and is, with all nodes between, a subgrid. `felt` says this of the nodes above.
 abbrev pub is_reached : {A : Type 0} → (A → Bool) → (A → Bool) → (A → Bool) → Bool → Bool → Trees A → Bool
 is_reached is mark subgrid grid felt leafless = false

@@ -44,7 +44,8 @@ fn place_after(count: u64, level: u64, rows: &[Share]) -> usize
 /// How far the units fill the rows. The level rises by what each row that takes more would get of what is left; where some of
 /// them become full, there is something left for a further turn.
 fn find_filling(units: u64, rows: &[Share]) -> Filling
-    ensures same { handed units rows.now ≡ record { rows = filled_rows result.level result.higher rows.now; left = result.left } }
+    ensures same { handed units rows.now ≡
+        record { rows = filled_rows result.level result.higher rows.now; left = result.left } }
     ensures within { result.higher ≤ length rows.now }
     ensures level { result.level ≤ units }
     ensures higher { 0 < result.higher → result.level < units }

@@ -84,5 +84,6 @@ not_reached = refl
 other_leaf : is_reached third (codes "p08") (Begin 3 ∷ []) ≡ false
 other_leaf = refl
 
-its_widths : widths_of text (Begin 0 ∷ Measured text Narrowest ∷ Measured (codes "p08") Widest ∷ Measured text (At (pos 64)) ∷ []) ≡ Narrowest ∷ At (pos 64) ∷ []
+its_widths : widths_of text (Begin 0 ∷ Measured text Narrowest ∷ Measured (codes "p08") Widest ∷ Measured text (At (pos 64)) ∷ []) ≡
+    Narrowest ∷ At (pos 64) ∷ []
 its_widths = refl

@@ -272,7 +272,8 @@ places_taken {V = V} es fs i d t l =
       stays = λ j n m. place_read fs j d (omega (arith, m, after)) ∙ ap (λ (x : Prop × V). place_of x.0) (t.stays j n (omega (arith, m, after, t.shorter))) ∙ sym (place_read es j d (omega (arith, m, after, t.shorter)));
     }
 
-pub marked_after_take : {V : Type 0} → (marks now : List ℕ) (es fs : Entries V) (p : Prop) (i : ℕ) (d : Prop × V) → IsMarked marks (places_of es) → position_from (is_entry_of p) 0 es ≡ Some i → IsTaken es fs i d → now ≡ slice_set (slice_set marks (place_of (get_or es (length es - 1) d).0) (i + 1)) (place_of p) 0 → IsMarked now (places_of fs)
+pub marked_after_take : {V : Type 0} → (marks now : List ℕ) (es fs : Entries V) (p : Prop) (i : ℕ) (d : Prop × V) → IsMarked marks (places_of es) → position_from (is_entry_of p) 0 es ≡ Some i → IsTaken es fs i d →
+    now ≡ slice_set (slice_set marks (place_of (get_or es (length es - 1) d).0) (i + 1)) (place_of p) 0 → IsMarked now (places_of fs)
 marked_after_take marks now es fs p i d h found t e =
     let m = mark_is marks es p i h found in
     let at = h.shown (place_of p) i m in
@@ -298,7 +299,8 @@ values_same {V = V} marks now es fs q d j k h hn e kl same =
     ∙ ap (λ (x : Prop × V). Some x.1) same
     ∙ sym ((found q es k (place_in_both marks es fs q d j k h at.1 jl kl same)).value d)
 
-value_after_take : {V : Type 0} → (marks now : List ℕ) (es fs : Entries V) (p : Prop) (i : ℕ) (d : Prop × V) → IsMarked marks (places_of es) → IsMarked now (places_of fs) → IsTaken es fs i d → now ≡ slice_set (slice_set marks (place_of (get_or es (length es - 1) d).0) (i + 1)) (place_of p) 0 → (q : Prop) → value_in q fs ≡ cond (place_of p == place_of q) None (value_in q es)
+value_after_take : {V : Type 0} → (marks now : List ℕ) (es fs : Entries V) (p : Prop) (i : ℕ) (d : Prop × V) → IsMarked marks (places_of es) → IsMarked now (places_of fs) → IsTaken es fs i d →
+    now ≡ slice_set (slice_set marks (place_of (get_or es (length es - 1) d).0) (i + 1)) (place_of p) 0 → (q : Prop) → value_in q fs ≡ cond (place_of p == place_of q) None (value_in q es)
 value_after_take {V = V} marks now es fs p i d h hn t e q = by (cases_eq (place_of q) (place_of p)) where
   z : ℕ
   z = place_of (get_or es (length es - 1) d).0
@@ -336,7 +338,8 @@ value_after_take {V = V} marks now es fs p i d h hn t e q = by (cases_eq (place_
   by (inr n) = other n (get_or now (place_of q) 0) refl
       ∙ sym (ap (λ b. cond b None (value_in q es)) (test_other (place_of p) (place_of q) (λ s. n (sym s))))
 
-pub map_after_take : {V : Type 0} → (marks now : List ℕ) (es fs : Entries V) (p : Prop) (i : ℕ) (d : Prop × V) → IsMarked marks (places_of es) → position_from (is_entry_of p) 0 es ≡ Some i → IsTaken es fs i d → now ≡ slice_set (slice_set marks (place_of (get_or es (length es - 1) d).0) (i + 1)) (place_of p) 0 → map_of fs ≡ map.remove (map_of es) p
+pub map_after_take : {V : Type 0} → (marks now : List ℕ) (es fs : Entries V) (p : Prop) (i : ℕ) (d : Prop × V) → IsMarked marks (places_of es) → position_from (is_entry_of p) 0 es ≡ Some i → IsTaken es fs i d →
+    now ≡ slice_set (slice_set marks (place_of (get_or es (length es - 1) d).0) (i + 1)) (place_of p) 0 → map_of fs ≡ map.remove (map_of es) p
 map_after_take marks now es fs p i d h at t e = map.same_map prop_cmp_total prop_cmp-IsAntisymmetric (map_of fs) (map.remove (map_of es) p) (λ q.
     get_is fs q ∙ value_after_take marks now es fs p i d h (marked_after_take marks now es fs p i d h at t e) t e q
     ∙ sym (map.get-remove prop_cmp_total (map_of es) p q ∙ at_place p q None (map.get (map_of es) q) ∙ ap (cond (place_of p == place_of q) None) (get_is es q)))

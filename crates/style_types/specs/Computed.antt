@@ -156,6 +156,10 @@ fit_track : TrackFn
 fit_track = track_of breadth.Auto breadth.MaxContent (Some (breadth.Length (pos 0)))
 
 tracks_in_order : computed_tracks (pos 640) (pos 1024) (em_track ∷ fit_track ∷ []) (unit.Em (pos 2000000) ∷ unit.Px ∷ unit.Rem (pos 500000) ∷ [])
-    ≡ (track_of (breadth.Length (pos 1280)) (breadth.Length (pos 64)) None ∷ track_of breadth.Auto breadth.MaxContent (Some (breadth.Length (pos 512))) ∷ [], [])
+    ≡ (
+      track_of (breadth.Length (pos 1280)) (breadth.Length (pos 64)) None ∷
+          track_of breadth.Auto breadth.MaxContent (Some (breadth.Length (pos 512))) ∷ [],
+      [],
+    )
 unfolding em_track fit_track relative
 tracks_in_order = refl

@@ -87,7 +87,8 @@ impl<'a> Units<'a> {
         rem: Lu,
         tracks: &[TrackFn],
     ) -> Result<Sequence<TrackFn>, NoMemory>
-        ensures { IfOk result (λ made. (made, self.new) ≡ computed_tracks em rem tracks.now self.old) }
+        ensures { IfOk result
+            (λ made. (made, self.new) ≡ computed_tracks em rem tracks.now self.old) }
     {
         let mut made = Sequence::new(alloc);
         for track in tracks {
@@ -103,7 +104,8 @@ impl<'a> Units<'a> {
         rem: Lu,
         repeat: &Option<Repeat>,
     ) -> Result<Option<Repeat>, NoMemory>
-        ensures { IfOk result (λ made. (made, self.new) ≡ computed_repeat em rem repeat.now self.old) }
+        ensures { IfOk result
+            (λ made. (made, self.new) ≡ computed_repeat em rem repeat.now self.old) }
     {
         match repeat {
             Some(repeat) => Ok(Some(Repeat {

@@ -12,7 +12,8 @@ use lunit::Lu;
 #[tactic(auto, using(crate::proofs::Computing::computing))]
 /// A property has a computed value exactly where it is declared, and this is the computed value of the declared one.
 pub fn computed_values(declared: &Declared, em: Lu, rem: Lu, p: Prop)
-    ensures { map.get (computed_style em rem declared.now) p ≡ option_map (computed_value em rem) (map.get declared.now p) }
+    ensures { map.get (computed_style em rem declared.now) p ≡
+        option_map (computed_value em rem) (map.get declared.now p) }
 {}
 
 #[tactic(auto, using(crate::proofs::Computing::computing))]
@@ -20,5 +21,6 @@ pub fn computed_values(declared: &Declared, em: Lu, rem: Lu, p: Prop)
 pub fn px_alone_stay(declared: &Declared, em: Lu, rem: Lu, p: Prop)
     requires { is_px_alone declared.now ≡ true }
     ensures style { computed_style em rem declared.now ≡ plain_style declared.now }
-    ensures values { map.get (plain_style declared.now) p ≡ option_map (λ d. d.value) (map.get declared.now p) }
+    ensures values { map.get (plain_style declared.now) p ≡
+        option_map (λ d. d.value) (map.get declared.now p) }
 {}

@@ -103,8 +103,12 @@ fn add<T: Drop>(
 ) -> Result<(), NoMemory>
     requires marked { IsMarked marks.old (places_of entries.old.items) }
     requires absent { position_from (is_entry_of p) 0 entries.old.items ≡ None }
-    ensures ok { OnOk result (map.from_entries {R = prop_cmp} entries.new.items ≡ map.insert (map.from_entries {R = prop_cmp} entries.old.items) p held) }
-    ensures err { OnErr result (map.from_entries {R = prop_cmp} entries.new.items ≡ map.from_entries {R = prop_cmp} entries.old.items) }
+    ensures ok { OnOk result
+        (map.from_entries {R = prop_cmp} entries.new.items ≡
+        map.insert (map.from_entries {R = prop_cmp} entries.old.items) p held) }
+    ensures err { OnErr result
+        (map.from_entries {R = prop_cmp} entries.new.items ≡
+        map.from_entries {R = prop_cmp} entries.old.items) }
     ensures marked { IsMarked marks.new (places_of entries.new.items) }
 {
     let last = mark_at(entries.len());
@@ -122,7 +126,8 @@ fn take_out<T: Drop>(
 )
     requires marked { IsMarked marks.old (places_of entries.old.items) }
     requires found { position_from (is_entry_of p) 0 entries.old.items ≡ Some place }
-    ensures taken { map.from_entries {R = prop_cmp} entries.new.items ≡ map.remove (map.from_entries {R = prop_cmp} entries.old.items) p }
+    ensures taken { map.from_entries {R = prop_cmp} entries.new.items ≡
+        map.remove (map.from_entries {R = prop_cmp} entries.old.items) p }
     ensures marked { IsMarked marks.new (places_of entries.new.items) }
 {
     let last = entries[entries.len() - 1].0;

@@ -11,7 +11,9 @@ lim a b z = int_max a (int_min b z)
 
 -- Two limits one after the other are one pair of limits.
 nested : (l m a b y : ℤ) → l ≤ℤ m → a ≤ℤ b → lim (lim l m a) (lim l m b) y ≡ lim l m (lim a b y)
-nested l m a b y h k = omega (arith, ints, int_max_is l (int_min m a), int_min_is m a, int_max_is l (int_min m b), int_min_is m b, int_max_is (lim l m a) (int_min (lim l m b) y), int_min_is (lim l m b) y, int_max_is a (int_min b y), int_min_is b y, int_max_is l (int_min m (lim a b y)), int_min_is m (lim a b y))
+nested l m a b y h k =
+    omega
+    (arith, ints, int_max_is l (int_min m a), int_min_is m a, int_max_is l (int_min m b), int_min_is m b, int_max_is (lim l m a) (int_min (lim l m b) y), int_min_is (lim l m b) y, int_max_is a (int_min b y), int_min_is b y, int_max_is l (int_min m (lim a b y)), int_min_is m (lim a b y))
 
 moved : (s z : ℤ) → lim (s -ℤ top) (s +ℤ top) (s +ℤ z) ≡ s +ℤ lim bottom top z
 moved s z = omega (arith, ints, int_max_is (s -ℤ top) (int_min (s +ℤ top) (s +ℤ z)), int_min_is (s +ℤ top) (s +ℤ z), int_max_is bottom (int_min top z), int_min_is top z)

@@ -76,7 +76,8 @@ fn whole(levels: Limited) -> Lu
 
 /// What a level itself gives before an item that starts at one of its lines.
 fn own_before(level: Level, line: Wide) -> Wide
-    ensures value { result ≡ if int_eq line (pos 0) then level.before else half_after (gap_difference level) }
+    ensures value { result ≡
+        if int_eq line (pos 0) then level.before else half_after (gap_difference level) }
     ensures range { IsDifference result }
 {
     if line == units(0) {
@@ -95,7 +96,9 @@ fn tracks_of(span: Span) -> Wide
 
 /// What a level itself gives after an item that ends at one of its lines.
 fn own_after(level: Level, line: Wide) -> Wide
-    ensures value { result ≡ if int_eq line (level.span.end -ℤ level.span.start) then level.after else half_before (gap_difference level) }
+    ensures value { result ≡
+        if int_eq line (level.span.end -ℤ level.span.start) then level.after else half_before
+        (gap_difference level) }
     ensures range { IsDifference result }
 {
     if line == tracks_of(level.span) {

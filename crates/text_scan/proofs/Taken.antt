@@ -11,7 +11,8 @@ use Rattle.text_scan.proofs.Due.{LineIsDue}
 after_due : (ended : Bool) (s : Stream) (rest : List ℕ) → is_line_due ended s.held ≡ true → rest ≡ after_first is_line_feed s.held → record { number = s.number + 1; fed = s.fed; held = rest } ≡ after_next ended s
 after_due ended s rest due e = (λ i. record { number = s.number + 1; fed = s.fed; held = e i }) ∙ sym (cond-true (is_line_due ended s.held) _ _ due)
 
-pub took : (ended : Bool) (number fed start end : ℕ) (items held : List ℕ) → held ≡ drop start items → LineIsDue ended held end → record { number = number + 1; fed = fed; held = drop (min (start + end + 1) (length items)) items } ≡ after_next ended (record { number = number; fed = fed; held = drop start items })
+pub took : (ended : Bool) (number fed start end : ℕ) (items held : List ℕ) → held ≡ drop start items → LineIsDue ended held end →
+    record { number = number + 1; fed = fed; held = drop (min (start + end + 1) (length items)) items } ≡ after_next ended (record { number = number; fed = fed; held = drop start items })
 took ended number fed start end items held e d =
     let line = subst (λ (xs : List ℕ). LineIsDue ended xs end) e d in
     after_due ended (record { number = number; fed = fed; held = drop start items }) _ line.due (drop_min (start + end + 1) items ∙ ap (λ (n : ℕ). drop n items) (omega (arith, line.at_feed)) ∙ sym (drop-drop (position_or_len is_line_feed (drop start items) + 1) start items))

@@ -40,7 +40,9 @@ whole_lines (byte ∷ bytes) = if has_line_feed (byte ∷ bytes) then byte ∷ w
 
 -- Fault 1, `bad-byte`: at the first byte that is not from 32 to 126.
 abbrev pub bad_byte : ℕ → List ℕ → Option Fault
-bad_byte number bytes = option_map (λ index. record { number = 1; place = record { line = number; column = index + 1 } }) (position (λ byte. not (is_printable byte)) bytes)
+bad_byte number bytes =
+    option_map (λ index. record { number = 1; place = record { line = number; column = index + 1 } })
+    (position (λ byte. not (is_printable byte)) bytes)
 
 -- Fault 2, `line-too-long`: at column 65,537 of a line of more than 65,536 bytes.
 abbrev pub too_long : ℕ → List ℕ → Option Fault
@@ -100,5 +102,6 @@ good_line = refl
 delete_byte : line_fault 3 (97 ∷ 127 ∷ 9 ∷ []) ≡ a_fault 1 3 2
 delete_byte = refl
 
-carriage_return : lines_of (97 ∷ 13 ∷ 10 ∷ 98 ∷ []) ≡ record { number = 1; bytes = 97 ∷ 13 ∷ []; fault = a_fault 1 1 2 } ∷ record { number = 2; bytes = 98 ∷ []; fault = None } ∷ []
+carriage_return : lines_of (97 ∷ 13 ∷ 10 ∷ 98 ∷ []) ≡
+    record { number = 1; bytes = 97 ∷ 13 ∷ []; fault = a_fault 1 1 2 } ∷ record { number = 2; bytes = 98 ∷ []; fault = None } ∷ []
 carriage_return = refl

@@ -68,8 +68,10 @@ impl Lines {
         ensures ok { OnOk result (self.new ≡ fed_with piece.now self.old) }
         ensures err { OnErr result (self.new ≡ self.old) }
         // The lines ahead are then those of the piece and of what comes after it.
-        ensures ahead { (more : List ℕ) → OnOk result (lines_ahead self.new more ≡ lines_ahead self.old (piece.now ++ more)) }
-        ensures reads { (fed : List ℕ) (taken : List Line) → HasRead fed taken self.old → OnOk result (HasRead (fed ++ piece.now) taken self.new) }
+        ensures ahead { (more : List ℕ) →
+            OnOk result (lines_ahead self.new more ≡ lines_ahead self.old (piece.now ++ more)) }
+        ensures reads { (fed : List ℕ) (taken : List Line) → HasRead fed taken self.old →
+            OnOk result (HasRead (fed ++ piece.now) taken self.new) }
     {
         self.compact();
         self.held.extend_from_slice(piece)?;
@@ -96,11 +98,16 @@ impl Lines {
         ensures ok { OnOk result (self.new ≡ after_next ended self.old) }
         ensures err { OnErr result (self.new ≡ self.old) }
         // A line that is given, and then the lines ahead, are the lines that were ahead.
-        ensures ahead { (more : List ℕ) → (ended ≡ true → more ≡ []) → IfOk result (λ found. option_to_list found ++ lines_ahead self.new more ≡ lines_ahead self.old more) }
-        ensures reads { (fed : List ℕ) (taken : List Line) → HasRead fed taken self.old → IfOk result (λ found. Takes ended fed taken found self.new) }
+        ensures ahead { (more : List ℕ) → (ended ≡ true → more ≡ []) →
+            IfOk result
+            (λ found. option_to_list found ++ lines_ahead self.new more ≡
+            lines_ahead self.old more) }
+        ensures reads { (fed : List ℕ) (taken : List Line) → HasRead fed taken self.old →
+            IfOk result (λ found. Takes ended fed taken found self.new) }
         ensures drained { ended ≡ true → result ≡ Ok None → self.new.held ≡ [] }
         // So a loop that takes lines until none is due ends.
-        ensures falls { IfOk result (λ found. OnSome found (length self.new.held < length self.old.held)) }
+        ensures falls { IfOk result
+            (λ found. OnSome found (length self.new.held < length self.old.held)) }
     {
         self.take_due(ended)
     }

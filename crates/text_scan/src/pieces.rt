@@ -25,7 +25,9 @@ pub fn read_lines(alloc: Global, pieces: &[Sequence<u8>]) -> Result<Sequence<Lin
 
 /// Takes all lines that are due.
 fn take_lines(lines: &mut Lines, ended: bool, taken: &mut Sequence<Line>) -> Result<(), NoMemory>
-    ensures ahead { (more : List ℕ) → (ended ≡ true → more ≡ []) → OnOk result (taken.new ++ lines_ahead lines.new more ≡ taken.old ++ lines_ahead lines.old more) }
+    ensures ahead { (more : List ℕ) → (ended ≡ true → more ≡ []) →
+        OnOk result
+        (taken.new ++ lines_ahead lines.new more ≡ taken.old ++ lines_ahead lines.old more) }
     ensures drained { ended ≡ true → OnOk result (lines.new.held ≡ []) }
     ensures fed { OnOk result (lines.new.fed ≡ lines.old.fed) }
 {

@@ -197,7 +197,8 @@ definite_rest fit a items ts g c limited e u =
     let limits : a ≡ sum_of (map limit_of ts) +ℤ all_gutters fit.gap ts = e ∙ sym (full_sums fit.gap (sum_of (map limit_of ts)) (all_gutters fit.gap ts) (sum_of (map limit_of ts) +ℤ all_gutters fit.gap ts) ts refl refl refl) in
     rest_of (record fit { space = Definite a }) items ts c (grown_full fit.gap a ts g limited limits u) (stretched_none fit.gap a ts limited (omega (arith, ints, e)))
 
-sizes_by : {axis : ℕ} (fit : Fit axis) (rules : List Rule) (first : ℤ) (items : List Item) → AreUntouched fit.gap items (singles fit rules first items) → rest_given fit items (contents fit rules first items) ≡ map full (contents fit rules first items) → track_sizes rules first items fit ≡ ends (singles fit rules first items)
+sizes_by : {axis : ℕ} (fit : Fit axis) (rules : List Rule) (first : ℤ) (items : List Item) → AreUntouched fit.gap items (singles fit rules first items) → rest_given fit items (contents fit rules first items) ≡ map full (contents fit rules first items) →
+    track_sizes rules first items fit ≡ ends (singles fit rules first items)
 unfolding sized rest_given
 sizes_by fit rules first items u r = ap bases r ∙ sizes_full fit rules first items u
 
@@ -221,7 +222,8 @@ sizes_last {axis} rules first items fit sizes g h s e t d u =
     sizes_by again rules first items untouched (definite_rest fit t items (contents again rules first items) g steady_again (limited_content {axis = axis} (Definite t) gap items start steady_again) sum u) ∙ sym made
 
 -- The same by the tracks as they were initialised.
-pub started_last : {axis : ℕ} (rules : List Rule) (first at : ℤ) (items : List Item) (fit : Fit axis) (rows : List Track) (sizes : List ℤ) → pos 0 ≤ℤ fit.gap → HaveFixed rules → rows ≡ initialised at rules → at ≡ first → AreToLast fit items rows → sizes ≡ sizes_from fit items rows → DoLast rules first items fit sizes
+pub started_last : {axis : ℕ} (rules : List Rule) (first at : ℤ) (items : List Item) (fit : Fit axis) (rows : List Track) (sizes : List ℤ) → pos 0 ≤ℤ fit.gap → HaveFixed rules → rows ≡ initialised at rules → at ≡ first → AreToLast fit items rows → sizes ≡ sizes_from fit items rows →
+    DoLast rules first items fit sizes
 started_last rules first at items fit rows sizes g h r a s e =
     sizes_last rules first items fit sizes g h (subst (AreToLast fit items) (r ∙ ap (λ (z : ℤ). initialised z rules) a) s) (e ∙ started_sizes rules first at items fit rows r a)
 

@@ -44,7 +44,8 @@ pub record IsBest {A : Type 0} (test : A → Bool) (f : A → Fraction) (start :
 pub no_best : {A : Type 0} (test : A → Bool) (f : A → Fraction) (start best : Fraction) (xs : List A) (at : ℕ) → 0 < best.weight → pos 0 ≤ℤ best.space → best ≡ start → length xs ≤ at → IsBest test f start xs at best
 no_best {A = A} test f start best xs at w p e h = record { same = e ∙ sym (ap (λ (ys : List A). greatest_over start (map f (filter test ys))) (drop_of_length-le xs h)); weight = w; space = p }
 
-pub more_best : {A : Type 0} (test : A → Bool) (f : A → Fraction) (start best now given : Fraction) (xs : List A) (at next : ℕ) (x : A) → IsBest test f start xs at best → at ≡ next + 1 → next < length xs → x ≡ get_or xs next x → test x ≡ true → given ≡ f x → now ≡ greater given best → 0 < now.weight → pos 0 ≤ℤ now.space
+pub more_best : {A : Type 0} (test : A → Bool) (f : A → Fraction) (start best now given : Fraction) (xs : List A) (at next : ℕ) (x : A) → IsBest test f start xs at best → at ≡ next + 1 → next < length xs → x ≡ get_or xs next x → test x ≡ true → given ≡ f x → now ≡ greater given best →
+    0 < now.weight → pos 0 ≤ℤ now.space
     → IsBest test f start xs next now
 more_best {A = A} test f start best now given xs at next x so d h e t v n w p =
     let rest : List A = drop (next + 1) xs in

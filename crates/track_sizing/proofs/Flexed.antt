@@ -111,7 +111,9 @@ flexed_none fit items ts now rs e l n v = v ∙ go (is_max_content fit.space) n
 
     go : (b : Bool) → (if b then other_total fit.min fit.max (sum_of (map (λ (r : FrRow). r.base) rs) +ℤ all_gutters fit.gap ts) else None) ≡ None
         → zipped with_base ts rs ≡ (if b then expanded_within fit.min fit.max fit.gap ts (expanded_by (fraction_for fit.space fit.gap items ts) ts) else expanded_by (fraction_for fit.space fit.gap items ts) ts)
-    go true n = ap (zipped with_base ts) e ∙ sym (within_none fit.min fit.max fit.gap (sum_of (map (λ (r : FrRow). r.base) rs) +ℤ all_gutters fit.gap ts) ts (expanded_by (fraction_for fit.space fit.gap items ts) ts) (ap (λ (xs : List FrRow). total fit.gap (zipped with_base ts xs)) (sym e) ∙ total_based fit.gap ts rs l) n)
+    go true n =
+        ap (zipped with_base ts) e ∙
+        sym (within_none fit.min fit.max fit.gap (sum_of (map (λ (r : FrRow). r.base) rs) +ℤ all_gutters fit.gap ts) ts (expanded_by (fraction_for fit.space fit.gap items ts) ts) (ap (λ (xs : List FrRow). total fit.gap (zipped with_base ts xs)) (sym e) ∙ total_based fit.gap ts rs l) n)
     go false n = ap (zipped with_base ts) e
 
 pub flexed_some : {axis : ℕ} (fit : Fit axis) (items : List Item) (ts now : List Track) (rs again : List FrRow) (space : ℤ) → rs ≡ expanded (fraction_for fit.space fit.gap items ts) (map fr_row ts) → length rs ≡ length ts → space_again fit ts rs ≡ Some space

@@ -80,7 +80,8 @@ pub base_set : (s : BaseStep) (gap first : ℤ) (ts : List Track) (i : Item) →
 base_set s gap first ts i h =
     let space : ℤ = needed base_of gap (s.asks ts i) ts i in
     set_chosen first (list_any (affected_by s.affected i) ts) (map plan (base_incurred_by s i space ts)) ts
-    (set_planned first (base_incurred_by s i space ts) (going_chosen first s.crossing (by_factors s.affected i space ts) (in_turns (base_rooms s i ts) space ts) (going_factors first s.affected i space ts (going_of first ts h)) (going_turns first (base_rooms s i ts) space ts (going_of first ts h)))) h
+    (set_planned first (base_incurred_by s i space ts)
+    (going_chosen first s.crossing (by_factors s.affected i space ts) (in_turns (base_rooms s i ts) space ts) (going_factors first s.affected i space ts (going_of first ts h)) (going_turns first (base_rooms s i ts) space ts (going_of first ts h)))) h
 
 pub limit_set : (s : LimitStep) (gap first : ℤ) (ts : List Track) (i : Item) → AreSet first ts → AreSet first (limit_planned_by s gap ts i)
 limit_set s gap first ts i h =

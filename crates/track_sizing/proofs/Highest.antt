@@ -185,7 +185,8 @@ one_alone gap first t items s h = go (flexible t) refl items h
     go true f (i ∷ rest) h = sym (ap (greatest_over no_fraction) (all_crossed gap first t (i ∷ rest) s h f) ∙ highest_found t.base (factor_of t.rule.most) i rest)
     go false f items h = no_factor t.rule.most (fr_row t) items f refl ∙ sym (ap (greatest_over no_fraction) (none_crossed gap first t items s h f))
 
-pub alone_greatest : (gap first : ℤ) (ts : List Track) (all : List FrRow) (r : FrRow) (items : List Item) (now : Fraction) → now ≡ greatest_alone r items → AreSet first ts → AreIn first (length ts) items → all ≡ map fr_row ts → length all ≡ 1 → r ≡ get_or all 0 r → now ≡ greatest_over no_fraction (item_fractions gap ts items)
+pub alone_greatest : (gap first : ℤ) (ts : List Track) (all : List FrRow) (r : FrRow) (items : List Item) (now : Fraction) → now ≡ greatest_alone r items → AreSet first ts → AreIn first (length ts) items → all ≡ map fr_row ts → length all ≡ 1 → r ≡ get_or all 0 r →
+    now ≡ greatest_over no_fraction (item_fractions gap ts items)
 alone_greatest gap first [] all r items now v s h a n e = absurd (omega (arith, ap length a))
 alone_greatest gap first (t ∷ []) all r items now v s h a n e =
     let own : r ≡ fr_row t = e ∙ ap (λ (xs : List FrRow). get_or xs 0 r) a in

@@ -25,7 +25,8 @@ pub record AreStarted (first : ℤ) (rules : List Rule) (i : ℕ) (at : ℤ) (ro
 pub none_started : (first at : ℤ) (rules : List Rule) (rows : List Track) → rows ≡ [] → at ≡ first → HaveFixed rules → AreStarted first rules 0 at rows
 none_started first at rules rows e d h = record { same = ap (λ (xs : List Track). xs ++ initialised at rules) e ∙ ap (λ (z : ℤ). initialised z rules) d; at_is = omega (arith, ints); fixed = h }
 
-pub more_started : (first at next : ℤ) (rules : List Rule) (i : ℕ) (rows now : List Track) (r : Rule) (t : Track) → AreStarted first rules i at rows → i < length rules → r ≡ get_or rules i r → t ≡ initial at (counted_rule r) → now ≡ rows ++ t ∷ [] → next ≡ at +ℤ pos 1 → AreStarted first rules (i + 1) next now
+pub more_started : (first at next : ℤ) (rules : List Rule) (i : ℕ) (rows now : List Track) (r : Rule) (t : Track) → AreStarted first rules i at rows → i < length rules → r ≡ get_or rules i r → t ≡ initial at (counted_rule r) → now ≡ rows ++ t ∷ [] → next ≡ at +ℤ pos 1 →
+    AreStarted first rules (i + 1) next now
 more_started first at next rules i rows now r t so h e v n a =
     let rest : drop i rules ≡ r ∷ drop (i + 1) rules = drop_item rules i r h e in
     record {

@@ -49,7 +49,8 @@ passed_kept test first n items i kept x so h e t =
       left = (subst (AreIn first n) rest so.left).1;
     }
 
-pub kept_step : (test : Item → Bool) (first : ℤ) (n : ℕ) (items : List Item) (i : ℕ) (kept now : List Item) (x : Item) (b : Bool) → AreKept test first n items i kept → i < length items → x ≡ get_or items i x → b ≡ test x → now ≡ (if b then kept ++ x ∷ [] else kept) → AreKept test first n items (i + 1) now
+pub kept_step : (test : Item → Bool) (first : ℤ) (n : ℕ) (items : List Item) (i : ℕ) (kept now : List Item) (x : Item) (b : Bool) → AreKept test first n items i kept → i < length items → x ≡ get_or items i x → b ≡ test x → now ≡ (if b then kept ++ x ∷ [] else kept) →
+    AreKept test first n items (i + 1) now
 kept_step test first n items i kept now x true so h e t v = more_kept test first n items i kept now x so h e (sym t) v
 kept_step test first n items i kept now x false so h e t v = subst (λ (xs : List Item). AreKept test first n items (i + 1) xs) (sym v) (passed_kept test first n items i kept x so h e (sym t))
 

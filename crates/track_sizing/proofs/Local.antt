@@ -152,7 +152,8 @@ total_in i a (t ∷ ts) others n m = omega (arith, own_weight i a t n.0, total_i
 no_part : (space : ℤ) (whole before w : ℕ) (t : Track) → w ≡ 0 → incur t (part space whole (before + w) -ℤ part space whole before) ≡ t
 no_part space whole before w t e = ap (incur t) (let z : part space whole (before + w) -ℤ part space whole before ≡ pos 0 = omega (arith, ints, ap (part space whole) (let n : before + w ≡ before = omega arith in n)) in z) ∙ no_share t
 
-parts_none : (i : Item) (a : Track → Bool) (space : ℤ) (whole before : ℕ) (ts others : List Track) → NoneSpanned i ts → zipped incur (ts ++ others) (apportioned_after before space whole (weights a i (ts ++ others))) ≡ ts ++ zipped incur others (apportioned_after before space whole (weights a i others))
+parts_none : (i : Item) (a : Track → Bool) (space : ℤ) (whole before : ℕ) (ts others : List Track) → NoneSpanned i ts →
+    zipped incur (ts ++ others) (apportioned_after before space whole (weights a i (ts ++ others))) ≡ ts ++ zipped incur others (apportioned_after before space whole (weights a i others))
 parts_none i a space whole before [] others n = refl
 parts_none i a space whole before (t ∷ ts) others n =
     ap (λ (x : Track). x ∷ zipped incur (ts ++ others) (apportioned_after (before + crossing_weight a i t) space whole (weights a i (ts ++ others)))) (no_part space whole before (crossing_weight a i t) t (no_weight i a t n.0))
@@ -230,12 +231,16 @@ same_asks definite gap asks.Low ts i = refl
 same_asks definite gap asks.LimitedHigh ts i = same_limited gap i.high ts i
 same_asks definite gap asks.High ts i = refl
 
-last_one : (i : Item) (a : Affected) (receives : Kind) (c : Bool) → IsSame i (only (if c then (λ t. (affected_by (affected_of a) i t && kind_of receives t) && is_none (fit_argument t.rule.most)) else affected_by (affected_of a) i) without_end) (room_of (if c then rooms.Open a receives else rooms.All a))
+last_one : (i : Item) (a : Affected) (receives : Kind) (c : Bool) →
+    IsSame i (only (if c then (λ t. (affected_by (affected_of a) i t && kind_of receives t) && is_none (fit_argument t.rule.most)) else affected_by (affected_of a) i) without_end) (room_of (if c then rooms.Open a receives else rooms.All a))
 last_one i a receives true = only_same i (λ t. (affected_by (affected_of a) i t && kind_of receives t) && is_none (fit_argument t.rule.most)) (open_of a receives) without_end (open_test i a receives)
 last_one i a receives false = only_same i (affected_by (affected_of a) i) (affected_of a) without_end (affected_test i (affected_of a))
 
-last_same : (i : Item) (a : Affected) (receives : Kind) (b c : Bool) → b ≡ c → IsSame i (only (if b then (λ t. (affected_by (affected_of a) i t && kind_of receives t) && is_none (fit_argument t.rule.most)) else affected_by (affected_of a) i) without_end) (room_of (if c then rooms.Open a receives else rooms.All a))
-last_same i a receives b c e = subst (λ (d : Bool). IsSame i (only (if d then (λ t. (affected_by (affected_of a) i t && kind_of receives t) && is_none (fit_argument t.rule.most)) else affected_by (affected_of a) i) without_end) (room_of (if c then rooms.Open a receives else rooms.All a))) (sym e) (last_one i a receives c)
+last_same : (i : Item) (a : Affected) (receives : Kind) (b c : Bool) → b ≡ c →
+    IsSame i (only (if b then (λ t. (affected_by (affected_of a) i t && kind_of receives t) && is_none (fit_argument t.rule.most)) else affected_by (affected_of a) i) without_end) (room_of (if c then rooms.Open a receives else rooms.All a))
+last_same i a receives b c e =
+    subst (λ (d : Bool). IsSame i (only (if d then (λ t. (affected_by (affected_of a) i t && kind_of receives t) && is_none (fit_argument t.rule.most)) else affected_by (affected_of a) i) without_end) (room_of (if c then rooms.Open a receives else rooms.All a))) (sym e)
+    (last_one i a receives c)
 
 base_same : (i : Item) (a : Affected) (receives : Kind) (definite : Bool) (gap : ℤ) (k : Asks) (before mine behind : List Track) → IsAround i before mine behind
     → AreSame i (base_rooms (base_step_of a receives definite gap k) i (before ++ (mine ++ behind))) (base_rooms_of a receives mine)

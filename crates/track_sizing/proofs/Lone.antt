@@ -71,12 +71,14 @@ none_flexible i first (x ∷ xs) zero t h s l e f =
 none_flexible i first (x ∷ xs) (suc place) t h s l e f =
     (elsewhere i x (is_not i.span.start x.at (λ d. omega (arith, ints, d, h.0.0, s))), none_flexible i (first +ℤ pos 1) xs place t h.1 (omega (arith, ints, s)) (omega arith) e f)
 
-pub flexible_stays : {axis : ℕ} (space : Space axis) (gap first : ℤ) (all : List Track) (i : Item) (ts : List Track) (ss : List Single) (place : ℕ) (t : Track) → length ss ≡ length ts → AreSet first ts → i.span.start ≡ first +ℤ pos place → place < length ts → t ≡ get_or ts place t → flexible t ≡ true
+pub flexible_stays : {axis : ℕ} (space : Space axis) (gap first : ℤ) (all : List Track) (i : Item) (ts : List Track) (ss : List Single) (place : ℕ) (t : Track) → length ss ≡ length ts → AreSet first ts → i.span.start ≡ first +ℤ pos place → place < length ts → t ≡ get_or ts place t →
+    flexible t ≡ true
     → ss ≡ zipped (single_by space gap all i) ts ss
 flexible_stays space gap first all i ts ss place t n h s l e f = stays space gap all i ts ss n (none_flexible i first ts place t h s l e f)
 
 -- its track is not flexible
-pub counts : {axis : ℕ} (space : Space axis) (gap first : ℤ) (all : List Track) (i : Item) (ts : List Track) (ss : List Single) (place : ℕ) (t : Track) (s now : Single) → length ss ≡ length ts → AreSet first ts → int_eq i.span.end (i.span.start +ℤ pos 1) ≡ true → i.span.start ≡ first +ℤ pos place → place < length ts
+pub counts : {axis : ℕ} (space : Space axis) (gap first : ℤ) (all : List Track) (i : Item) (ts : List Track) (ss : List Single) (place : ℕ) (t : Track) (s now : Single) → length ss ≡ length ts → AreSet first ts → int_eq i.span.end (i.span.start +ℤ pos 1) ≡ true →
+    i.span.start ≡ first +ℤ pos place → place < length ts
     → t ≡ get_or ts place t → flexible t ≡ false → s ≡ get_or ss place s → now ≡ single_more space gap all i t s → set ss place now ≡ zipped (single_by space gap all i) ts ss
 counts space gap first all i [] ss place t s now n h one at l e f d v = absurd (omega arith)
 counts space gap first all i (x ∷ xs) [] place t s now n h one at l e f d v = absurd (omega arith)
@@ -107,7 +109,8 @@ map_more space gap all i rest (t ∷ ts) = ap (λ (ss : List Single). single_by 
 pub none_counted : {axis : ℕ} (space : Space axis) (gap : ℤ) (ts : List Track) (items : List Item) (at : ℕ) (ss : List Single) → ss ≡ map single_none ts → length items ≤ at → ss ≡ map (single_of space gap ts (drop at items)) ts
 none_counted space gap ts items at ss e h = e ∙ map_none space gap ts ts ∙ ap (λ (xs : List Item). map (single_of space gap ts xs) ts) (sym (drop_of_length-le items h))
 
-pub one_counted : {axis : ℕ} (space : Space axis) (gap : ℤ) (ts : List Track) (items : List Item) (at next : ℕ) (i : Item) (ss now : List Single) → ss ≡ map (single_of space gap ts (drop at items)) ts → at ≡ next + 1 → next < length items → i ≡ get_or items next i → now ≡ zipped (single_by space gap ts i) ts ss
+pub one_counted : {axis : ℕ} (space : Space axis) (gap : ℤ) (ts : List Track) (items : List Item) (at next : ℕ) (i : Item) (ss now : List Single) → ss ≡ map (single_of space gap ts (drop at items)) ts → at ≡ next + 1 → next < length items → i ≡ get_or items next i →
+    now ≡ zipped (single_by space gap ts i) ts ss
     → now ≡ map (single_of space gap ts (drop next items)) ts
 one_counted space gap ts items at next i ss now so d h e v =
     v ∙ ap (zipped (single_by space gap ts i) ts) (so ∙ ap (λ (k : ℕ). map (single_of space gap ts (drop k items)) ts) d)

@@ -78,10 +78,12 @@ noted_at a i first ts ss at n set l s e =
     let rest : length (drop at ss) ≡ length (drop at ts) = same_drop at ss ts l in
     ap (λ (xs : List Track). noted_for a xs ss i) (sym (split_at at n ts))
     ∙ ap (λ (xs : List Share). noted_for a (take at ts ++ (take n (drop at ts) ++ drop n (drop at ts))) xs i) (sym (split_at at n ss))
-    ∙ noted_around a i (take at ss) (take n (drop at ss)) (drop n (drop at ss)) (take at ts) (take n (drop at ts)) (drop n (drop at ts)) (same_take at ss ts l) (same_take n (drop at ss) (drop at ts) rest) (same_drop n (drop at ss) (drop at ts) rest) (around i first ts at n (placed_of first ts set) s e)
+    ∙ noted_around a i (take at ss) (take n (drop at ss)) (drop n (drop at ss)) (take at ts) (take n (drop at ts)) (drop n (drop at ts)) (same_take at ss ts l) (same_take n (drop at ss) (drop at ts) rest) (same_drop n (drop at ss) (drop at ts) rest)
+    (around i first ts at n (placed_of first ts set) s e)
 
 -- the rows whose middle part was changed
-pub joined_notes : (f : Share → Track → Share) (ss : List Share) (ts : List Track) (at n : ℕ) (front left own back now : List Share) (rest mine : List Track) → front ≡ take at ss → left ≡ drop at ss → own ≡ take n left → back ≡ drop n left → rest ≡ drop at ts → mine ≡ take n rest → now ≡ zipped f own mine
+pub joined_notes : (f : Share → Track → Share) (ss : List Share) (ts : List Track) (at n : ℕ) (front left own back now : List Share) (rest mine : List Track) → front ≡ take at ss → left ≡ drop at ss → own ≡ take n left → back ≡ drop n left → rest ≡ drop at ts → mine ≡ take n rest →
+    now ≡ zipped f own mine
     → front ++ (now ++ back) ≡ take at ss ++ (zipped f (take n (drop at ss)) (take n (drop at ts)) ++ drop n (drop at ss))
 joined_notes f ss ts at n front left own back now rest mine e l o b r m v =
     ap (λ (xs : List Share). xs ++ (now ++ back)) e

@@ -41,4 +41,5 @@ total_of_sizes rules gap sizes = sum_of sizes +ℤ gap *ℤ pos (length (filter 
 
 -- Where the total is a length, the tracks have the same sizes for a definite space of the total (CSS Grid 2, 12.3).
 abbrev pub DoLast : {axis : ℕ} → List Rule → ℤ → List Item → Fit axis → List ℤ → Type 0
-DoLast rules first items fit sizes = (t : ℤ) → t ≡ total_of_sizes rules fit.gap sizes → t ≤ℤ top → track_sizes rules first items (record fit { space = Definite t }) ≡ sizes
+DoLast rules first items fit sizes =
+    (t : ℤ) → t ≡ total_of_sizes rules fit.gap sizes → t ≤ℤ top → track_sizes rules first items (record fit { space = Definite t }) ≡ sizes

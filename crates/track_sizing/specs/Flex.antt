@@ -56,4 +56,5 @@ other_total min most total = let bounded = at_least min (at_most most total) in 
 
 -- the space for which flexible tracks are expanded again
 abbrev pub space_again : {axis : ℕ} → Fit axis → List Track → List FrRow → Option ℤ
-space_again fit ts done = if is_max_content fit.space then other_total fit.min fit.max (sum_of (map (λ (r : FrRow). r.base) done) +ℤ all_gutters fit.gap ts) else None
+space_again fit ts done =
+    if is_max_content fit.space then other_total fit.min fit.max (sum_of (map (λ (r : FrRow). r.base) done) +ℤ all_gutters fit.gap ts) else None

@@ -45,7 +45,8 @@ capped_of mine = sum_of_known (map (λ (t : Track). capped_most t.rule.most) min
 
 -- the automatic minimum, where it is content-based
 abbrev pub content_based_of : ℤ → List Track → Item → ℤ → ℤ → ℤ
-content_based_of gap mine i size margins = int_max (pos 0) (at_most (option_map (λ s. s -ℤ margins) (option_map (λ s. s +ℤ inner_gutters gap i) (fixed_of mine))) size)
+content_based_of gap mine i size margins =
+    int_max (pos 0) (at_most (option_map (λ s. s -ℤ margins) (option_map (λ s. s +ℤ inner_gutters gap i) (fixed_of mine))) size)
 
 -- the automatic minimum
 abbrev pub automatic_of : ℤ → List Track → Item → ℤ → ℤ → ℤ
@@ -120,7 +121,8 @@ last_of a receives mine = if list_any (open_of a receives) mine then rooms.Open 
 
 -- the turns of base sizes
 abbrev pub base_rooms_of : Affected → Kind → List Track → List (Track → Option ℤ)
-base_rooms_of a receives mine = room_of (rooms.ToLimit a) ∷ room_of (rooms.Others a) ∷ room_of (rooms.ToArgument a receives) ∷ room_of (last_of a receives mine) ∷ []
+base_rooms_of a receives mine =
+    room_of (rooms.ToLimit a) ∷ room_of (rooms.Others a) ∷ room_of (rooms.ToArgument a receives) ∷ room_of (last_of a receives mine) ∷ []
 
 -- the turns of growth limits
 abbrev pub limit_rooms_of : Affected → Bool → List (Track → Option ℤ)

@@ -41,7 +41,8 @@ asks_in definite gap asks.High = λ ts. high
 
 -- a step on base sizes
 abbrev pub base_step_of : Affected → Kind → Bool → ℤ → Asks → BaseStep
-base_step_of a receives definite gap asks = record { crossing = a.crossing; affected = affected_of a; receives = kind_of receives; asks = asks_in definite gap asks }
+base_step_of a receives definite gap asks = record
+    { crossing = a.crossing; affected = affected_of a; receives = kind_of receives; asks = asks_in definite gap asks }
 
 -- a step on growth limits
 abbrev pub limit_step_in : Affected → Bool → LimitStep

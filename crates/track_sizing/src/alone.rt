@@ -147,7 +147,8 @@ fn add_item<const AXIS: u8>(
     requires length { length singles.old ≡ length rows.now }
     requires set { AreSet first rows.now }
     requires item { IsIn first (length rows.now) item.now }
-    ensures singles { singles.new ≡ zipped (single_by space.now gap rows.now item.now) rows.now singles.old }
+    ensures singles { singles.new ≡
+        zipped (single_by space.now gap rows.now item.now) rows.now singles.old }
     ensures quiet { result ≡ true → IsQuiet gap item.now }
 {
     if !is_single(item) {
@@ -277,7 +278,8 @@ fn add_plain_item<const AXIS: u8>(
     requires item { IsIn first (length rows.now) item.now }
     requires plain { list_any is_special rows.now ≡ false }
     requires definite { definite ≡ is_definite _space.now }
-    ensures singles { singles.new ≡ zipped (single_by _space.now gap rows.now item.now) rows.now singles.old }
+    ensures singles { singles.new ≡
+        zipped (single_by _space.now gap rows.now item.now) rows.now singles.old }
     ensures quiet { result ≡ true → IsQuiet gap item.now }
 {
     if !is_single(item) {

@@ -79,7 +79,8 @@ fn crossing_items(
     requires few { length rows.now < 2 ^ 32 }
     requires set { AreSet first rows.now }
     requires items { AreIn first (length rows.now) items.now }
-    ensures value { IfOk result (λ group. group.items ≡ filter (crosses_flexible rows.now) items.now) }
+    ensures value { IfOk result
+        (λ group. group.items ≡ filter (crosses_flexible rows.now) items.now) }
     ensures items { IfOk result (λ group. AreIn first (length rows.now) group.items) }
 {
     let mut group = Vec::new(alloc);
@@ -130,7 +131,8 @@ fn fit_run<const AXIS: u8>(
     requires set { AreSet first rows.old }
     requires items { AreIn first (length rows.old) items.now }
     requires run { AreOf (pos span) items.now }
-    ensures rows { OnOk result (rows.new ≡ some_fitted space.now gap (of_span rows.old items.now span) rows.old) }
+    ensures rows { OnOk result
+        (rows.new ≡ some_fitted space.now gap (of_span rows.old items.now span) rows.old) }
     ensures set { OnOk result (AreSet first rows.new) }
 {
     if items.len() == 0 {
@@ -170,7 +172,8 @@ fn fit_spans<const AXIS: u8>(
     requires length { length takers.old ≡ length rows.old }
     requires set { AreSet first rows.old }
     requires items { AreIn first (length rows.old) items.now }
-    ensures rows { OnOk result (rows.new ≡ spans_fitted space.now gap items.now (length rows.old) 2 rows.old) }
+    ensures rows { OnOk result
+        (rows.new ≡ spans_fitted space.now gap items.now (length rows.old) 2 rows.old) }
     ensures set { OnOk result (AreSet first rows.new) }
 {
     if rows.len() < 2 {
@@ -211,7 +214,9 @@ fn fit_crossing<const AXIS: u8>(
     requires start { AreSet first start.now }
     requires set { AreSet first rows.old }
     requires items { AreIn first (length rows.old) items.now }
-    ensures rows { OnOk result (rows.new ≡ group_fitted space.now gap true (filter (crosses_flexible start.now) items.now) rows.old) }
+    ensures rows { OnOk result
+        (rows.new ≡
+        group_fitted space.now gap true (filter (crosses_flexible start.now) items.now) rows.old) }
     ensures set { OnOk result (AreSet first rows.new) }
 {
     let affected = Affected {
@@ -245,9 +250,14 @@ fn size_groups<const AXIS: u8>(
     requires set { AreSet first rows.old }
     requires items { AreIn first (length rows.old) items.now }
     requires quiet { quiet ≡ true → AreQuietItems gap items.now }
-    ensures rows { OnOk result (rows.new ≡ map close_limit (group_fitted space.now gap true (filter (crosses_flexible rows.old) items.now) (spans_fitted space.now gap items.now (length rows.old) 2 rows.old))) }
+    ensures rows { OnOk result
+        (rows.new ≡
+        map close_limit
+        (group_fitted space.now gap true (filter (crosses_flexible rows.old) items.now)
+        (spans_fitted space.now gap items.now (length rows.old) 2 rows.old))) }
     ensures set { OnOk result (AreSet first rows.new) }
-    ensures untouched { IfOk result (λ untouched. untouched ≡ true → AreUntouched gap items.now rows.old) }
+    ensures untouched { IfOk result
+        (λ untouched. untouched ≡ true → AreUntouched gap items.now rows.old) }
 {
     if quiet && are_calm(rows) {
         return Ok(true);
@@ -278,7 +288,9 @@ pub fn size_content<const AXIS: u8>(
     requires items { AreIn first (length rows.old) items.now }
     ensures rows { OnOk result (rows.new ≡ content_sized space.now gap items.now rows.old) }
     ensures set { OnOk result (AreSet first rows.new) }
-    ensures untouched { IfOk result (λ untouched. untouched ≡ true → AreUntouched gap items.now (fit_alone space.now gap items.now rows.old)) }
+    ensures untouched { IfOk result
+        (λ untouched. untouched ≡ true →
+        AreUntouched gap items.now (fit_alone space.now gap items.now rows.old)) }
 {
     let quiet = fit_alone(alloc, space, gap, first, items, rows)?;
     size_groups(alloc, space, gap, first, items, quiet, rows, takers)

@@ -52,7 +52,10 @@ fn plan_base_at(
     requires set { AreSet first rows.old }
     requires item { IsIn first (length rows.old) item.now }
     requires lengths { HaveLengths rows.old }
-    ensures rows { rows.new ≡ base_planned_by (base_step_of step.now.affected step.now.receives definite gap step.now.asks) gap rows.old item.now }
+    ensures rows { rows.new ≡
+        base_planned_by
+        (base_step_of step.now.affected step.now.receives definite gap step.now.asks) gap
+        rows.old item.now }
     ensures set { AreSet first rows.new }
     ensures lengths { HaveLengths rows.new }
 {
@@ -82,7 +85,10 @@ fn plan_bases(
     requires length { length takers.old ≡ length rows.old }
     requires set { AreSet first rows.old }
     requires items { AreIn first (length rows.old) items.now }
-    ensures rows { rows.new ≡ base_planned_by_all (base_step_of step.now.affected step.now.receives definite gap step.now.asks) gap items.now rows.old }
+    ensures rows { rows.new ≡
+        base_planned_by_all
+        (base_step_of step.now.affected step.now.receives definite gap step.now.asks) gap
+        items.now rows.old }
     ensures set { AreSet first rows.new }
 {
     if !some_affected(&step.affected, rows) {
@@ -137,7 +143,10 @@ pub fn distribute_bases(
     requires length { length takers.old ≡ length rows.old }
     requires set { AreSet first rows.old }
     requires items { AreIn first (length rows.old) items.now }
-    ensures rows { rows.new ≡ base_distributed (base_step_of step.now.affected step.now.receives definite gap step.now.asks) gap items.now rows.old }
+    ensures rows { rows.new ≡
+        base_distributed
+        (base_step_of step.now.affected step.now.receives definite gap step.now.asks) gap
+        items.now rows.old }
     ensures set { AreSet first rows.new }
 {
     plan_bases(step, definite, gap, first, items, rows, takers);
@@ -161,7 +170,8 @@ fn plan_limit_at(
     requires set { AreSet first rows.old }
     requires item { IsIn first (length rows.old) item.now }
     requires lengths { HaveLengths rows.old }
-    ensures rows { rows.new ≡ limit_planned_by (limit_step_in affected.now second) gap rows.old item.now }
+    ensures rows { rows.new ≡
+        limit_planned_by (limit_step_in affected.now second) gap rows.old item.now }
     ensures set { AreSet first rows.new }
     ensures lengths { HaveLengths rows.new }
 {
@@ -191,7 +201,8 @@ fn plan_limits(
     requires length { length takers.old ≡ length rows.old }
     requires set { AreSet first rows.old }
     requires items { AreIn first (length rows.old) items.now }
-    ensures rows { rows.new ≡ limit_planned_by_all (limit_step_in affected.now second) gap items.now rows.old }
+    ensures rows { rows.new ≡
+        limit_planned_by_all (limit_step_in affected.now second) gap items.now rows.old }
     ensures set { AreSet first rows.new }
 {
     if !some_affected(affected, rows) {

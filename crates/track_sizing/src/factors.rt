@@ -57,7 +57,8 @@ fn incur_parts(affected: &Affected, space: Lu, total: u64, rows: &mut [Row])
     requires quiet { AreQuiet rows.old }
     requires total { total ≡ total_of (map (weight_of affected.now) rows.old) }
     requires flexible { 0 < total }
-    ensures { rows.new ≡ zipped incur rows.old (apportioned_whole space (map (weight_of affected.now) rows.old)) }
+    ensures { rows.new ≡
+        zipped incur rows.old (apportioned_whole space (map (weight_of affected.now) rows.old)) }
 {
     let mut sum = 0;
     let mut lower = Wide::of(0);

@@ -51,7 +51,8 @@ fn fit_last_bases(
     requires length { length takers.old ≡ length rows.old }
     requires set { AreSet first rows.old }
     requires items { AreIn first (length rows.old) items.now }
-    ensures rows { rows.new ≡ each_distributed (last_steps_of definite max gap crossing) gap items.now rows.old }
+    ensures rows { rows.new ≡
+        each_distributed (last_steps_of definite max gap crossing) gap items.now rows.old }
     ensures set { AreSet first rows.new }
 {
     let limited = BaseStep {
@@ -93,7 +94,8 @@ fn fit_bases(
     requires length { length takers.old ≡ length rows.old }
     requires set { AreSet first rows.old }
     requires items { AreIn first (length rows.old) items.now }
-    ensures rows { rows.new ≡ each_distributed (base_steps_of definite max gap crossing) gap items.now rows.old }
+    ensures rows { rows.new ≡
+        each_distributed (base_steps_of definite max gap crossing) gap items.now rows.old }
     ensures set { AreSet first rows.new }
 {
     let minimum = BaseStep {

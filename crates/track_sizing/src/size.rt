@@ -142,7 +142,8 @@ fn lasting_from<const AXIS: u8>(
     requires set { AreSet first rows.old }
     requires items { AreIn first (length rows.old) items.now }
     ensures sizes { IfOk result (λ made. made.sizes.items ≡ sizes_from fit.now items.now rows.old) }
-    ensures lasting { IfOk result (λ made. made.lasting ≡ true → AreToLast fit.now items.now rows.old) }
+    ensures lasting { IfOk result
+        (λ made. made.lasting ≡ true → AreToLast fit.now items.now rows.old) }
 {
     let mut takers = takers_for(alloc, rows)?;
     let untouched = size_content(alloc, &fit.space, fit.gap, first, items, rows, &mut takers)?;
@@ -172,7 +173,8 @@ pub fn size_axis<const AXIS: u8, L: Ledger>(
     requires gap { pos 0 ≤ℤ fit.now.gap }
     requires space { IsKnownSpace fit.now.space }
     requires items { AreIn first (length rules.now) items.now }
-    ensures sizes { IfOk result (λ sizes. sizes.items ≡ track_sizes rules.now first items.now fit.now) }
+    ensures sizes { IfOk result
+        (λ sizes. sizes.items ≡ track_sizes rules.now first items.now fit.now) }
     ensures step { passes.new ≡ passes.old + 1 }
 {
     passes.tick();
@@ -197,9 +199,11 @@ pub fn size_axis_lasting<const AXIS: u8, L: Ledger>(
     requires gap { pos 0 ≤ℤ fit.now.gap }
     requires space { IsKnownSpace fit.now.space }
     requires items { AreIn first (length rules.now) items.now }
-    ensures sizes { IfOk result (λ made. made.sizes.items ≡ track_sizes rules.now first items.now fit.now) }
+    ensures sizes { IfOk result
+        (λ made. made.sizes.items ≡ track_sizes rules.now first items.now fit.now) }
     ensures step { passes.new ≡ passes.old + 1 }
-    ensures lasting { IfOk result (λ made. made.lasting ≡ true → DoLast rules.now first items.now fit.now made.sizes.items) }
+    ensures lasting { IfOk result
+        (λ made. made.lasting ≡ true → DoLast rules.now first items.now fit.now made.sizes.items) }
 {
     passes.tick();
     let first = Wide::of(i128::from(first));

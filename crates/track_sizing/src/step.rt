@@ -119,7 +119,9 @@ pub fn plan_base(
     requires length { length takers.old ≡ length rows.old }
     requires quiet { AreQuiet rows.old }
     requires ready { AreReady rows.old }
-    ensures { rows.new ≡ base_planned_of step.now.affected step.now.receives definite gap step.now.asks item.now rows.old }
+    ensures { rows.new ≡
+        base_planned_of step.now.affected step.now.receives definite gap step.now.asks item.now
+        rows.old }
 {
     if !some_affected(&step.affected, rows) {
         return;

@@ -42,7 +42,8 @@ pub fn hand_out_to(rooms: &Rooms, space: Lu, rows: &mut [Row], takers: &mut [Sha
     requires length { length takers.old ≡ length rows.old }
     requires some { pos 0 ≤ℤ space }
     requires below { AreBelow (top -ℤ space) rows.old }
-    ensures rows { rows.new ≡ zipped incur rows.old (shares space (map (room_of rooms.now) rows.old)) }
+    ensures rows { rows.new ≡
+        zipped incur rows.old (shares space (map (room_of rooms.now) rows.old)) }
     ensures left { result ≡ unshared space (map (room_of rooms.now) rows.old) }
     ensures some { pos 0 ≤ℤ result }
     ensures below { AreBelow (top -ℤ result) rows.new }

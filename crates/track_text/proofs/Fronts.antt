@@ -29,7 +29,8 @@ pub at_fit : (relative : Bool) (word : Word) (words : List Word) → bytes_eq wo
 unfolding front
 at_fit relative word words h e = rw (h, e) (taken 3 words (fit_after relative words))
 
-pub at_breadth : (relative : Bool) (word : Word) (words : List Word) (read : Option Side) → bytes_eq word (codes "minmax") ≡ false → bytes_eq word (codes "fit-content") ≡ false → breadth_of relative word ≡ read → front (track_first relative) (word ∷ words) ≡ option_map (λ b. (track_alone b, words)) read
+pub at_breadth : (relative : Bool) (word : Word) (words : List Word) (read : Option Side) → bytes_eq word (codes "minmax") ≡ false → bytes_eq word (codes "fit-content") ≡ false → breadth_of relative word ≡ read →
+    front (track_first relative) (word ∷ words) ≡ option_map (λ b. (track_alone b, words)) read
 unfolding front
 at_breadth relative word words None h e r = rw (h, e, r) refl
 at_breadth relative word words (Some b) h e r = rw (h, e, r) refl

@@ -35,7 +35,8 @@ left_after x word words count None = refl
 left_after x word words count (Some read) = ap (λ (ws : List Word). Some (x ∷ read.0, ws)) (ap (λ (n : ℕ). drop n (word ∷ words)) (add-one (count + read.1)) ∙ sym (drop-drop read.1 count words))
 
 -- one form after another, up to the word that closes
-by_form : {A : Type 0} (close : Word) (form : Form A) (word : Word) (words : List Word) (read : Option (A × ℕ)) → option_map (past (word ∷ words)) (bind read (λ read. option_map (with_first_taken read.0) (up_to close form read.1 words))) ≡ bind (option_map (past words) read) (λ read. option_map (onto read.0) (rest_up_to close form read.1))
+by_form : {A : Type 0} (close : Word) (form : Form A) (word : Word) (words : List Word) (read : Option (A × ℕ)) →
+    option_map (past (word ∷ words)) (bind read (λ read. option_map (with_first_taken read.0) (up_to close form read.1 words))) ≡ bind (option_map (past words) read) (λ read. option_map (onto read.0) (rest_up_to close form read.1))
 unfolding rest_up_to front
 by_form close form word words None = refl
 by_form close form word words (Some read) = ap (λ (y : Option (List _ × ℕ)). option_map (past (word ∷ words)) (option_map (with_first_taken read.0) y)) (up_to_behind close form read.1 words) ∙ left_after read.0 word words read.1 (up_to close form 0 (drop read.1 words))

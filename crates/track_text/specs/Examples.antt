@@ -291,7 +291,8 @@ automatic_without_a_track = refl
 relative_in_version_1 : read (codes "1em") ≡ None
 relative_in_version_1 = refl
 
-relative_stand_as_0 : relative (codes "2em minmax(.5rem, 3px)") ≡ list (length (pos 0) ∷ sides (breadth.Length (pos 0)) (breadth.Length (pos 192)) ∷ []) ([] ∷ [] ∷ [] ∷ [])
+relative_stand_as_0 : relative (codes "2em minmax(.5rem, 3px)") ≡
+    list (length (pos 0) ∷ sides (breadth.Length (pos 0)) (breadth.Length (pos 192)) ∷ []) ([] ∷ [] ∷ [] ∷ [])
 relative_stand_as_0 = refl
 
 -- a breadth alone stands on both sides, and has two units
@@ -300,7 +301,9 @@ units_in_order : units_of (codes "2em minmax(.5rem, 3px) 10% fit-content(-1em) 0
 units_in_order = refl
 
 units_of_a_repeat_last : units_of (codes "repeat(2, 1em) repeat(auto-fill, minmax(1px, 2em)) 3rem")
-    ≡ Some (unit.Em (pos 1000000) ∷ unit.Em (pos 1000000) ∷ unit.Em (pos 1000000) ∷ unit.Em (pos 1000000) ∷ unit.Rem (pos 3000000) ∷ unit.Rem (pos 3000000) ∷ unit.Px ∷ unit.Em (pos 2000000) ∷ [])
+    ≡ Some
+    (unit.Em (pos 1000000) ∷ unit.Em (pos 1000000) ∷ unit.Em (pos 1000000) ∷ unit.Em (pos 1000000) ∷ unit.Rem (pos 3000000) ∷
+    unit.Rem (pos 3000000) ∷ unit.Px ∷ unit.Em (pos 2000000) ∷ [])
 units_of_a_repeat_last = refl
 
 zero_em : units_of (codes "0em") ≡ Some (unit.Em (pos 0) ∷ unit.Em (pos 0) ∷ [])

@@ -33,7 +33,8 @@ abbrev pub or_bad : {A : Type 0} → Place → Option A → Result A Fault
 or_bad at (Some value) = Ok value
 or_bad at None = Err (fault_at 9 at)
 
--- the template that the words of a value are in a version of the language, with the units of its lengths, or its fault: 11 where the value holds a word that is unsupported in it,
+-- the template that the words of a value are in a version of the language, with the units of its lengths, or its fault: 11 where the value holds a word that is
+-- unsupported in it,
 -- and else 9 where it has none of the forms (own rule)
 abbrev pub reading_of : ℕ → Place → List Word → Result ReadTemplate Fault
 reading_of version at words = if is_unsupported (is_relative version) words then Err (fault_at 11 at) else or_bad at (template_of (is_relative version) words)

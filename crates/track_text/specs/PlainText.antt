@@ -82,10 +82,18 @@ pub record IsPlain (relative : Bool) (spell : Side → Word) (list : ReadList) :
 
 -- ---- examples, which hold by computation
 
-example : plain_text (λ b. codes "1px") (record { sizes = record { least = side.Auto; most = side.Auto; fit = None } ∷ []; names = (codes "a" ∷ codes "b" ∷ []) ∷ [] ∷ []; repeat = None })
+example : plain_text (λ b. codes "1px")
+    (record
+    { sizes = record { least = side.Auto; most = side.Auto; fit = None } ∷ []; names = (codes "a" ∷ codes "b" ∷ []) ∷ [] ∷ []; repeat = None })
     ≡ codes "[a b] minmax(1px, 1px) []"
 example = refl
 
-fitted_example : plain_text (λ b. codes "5%") (record { sizes = record { least = side.Auto; most = side.MaxContent; fit = Some (side.Percent 5000) } ∷ []; names = [] ∷ (codes "c" ∷ []) ∷ []; repeat = None })
+fitted_example : plain_text (λ b. codes "5%")
+    (record {
+      sizes = record { least = side.Auto; most = side.MaxContent; fit = Some (side.Percent 5000) } ∷ [];
+      names = [] ∷ (codes "c" ∷ []) ∷
+          [];
+      repeat = None;
+    })
     ≡ codes "[] fit-content(5%) [c]"
 fitted_example = refl

@@ -24,7 +24,9 @@ functions = codes "calc" ∷ codes "min" ∷ codes "max" ∷ codes "clamp" ∷ [
 
 -- the units of lengths that are not supported; in version 2 `em` and `rem` are
 abbrev pub other_units : List Word
-other_units = codes "ex" ∷ codes "ch" ∷ codes "vw" ∷ codes "vh" ∷ codes "vmin" ∷ codes "vmax" ∷ codes "cm" ∷ codes "mm" ∷ codes "in" ∷ codes "pt" ∷ codes "pc" ∷ []
+other_units =
+    codes "ex" ∷ codes "ch" ∷ codes "vw" ∷ codes "vh" ∷ codes "vmin" ∷ codes "vmax" ∷ codes "cm" ∷ codes "mm" ∷ codes "in" ∷ codes "pt" ∷
+    codes "pc" ∷ []
 
 abbrev pub units : Bool → List Word
 units true = other_units
@@ -39,7 +41,8 @@ is_measured relative word = list_any (has_unit word) (units relative)
 
 -- a word that no property has, before these words
 abbrev pub is_unsupported_before : Bool → Word → List Word → Bool
-is_unsupported_before relative word words = is_one_of wide_keywords word || (is_measured relative word || (is_one_of functions word && begins_with (codes "(") words))
+is_unsupported_before relative word words =
+    is_one_of wide_keywords word || (is_measured relative word || (is_one_of functions word && begins_with (codes "(") words))
 
 -- among the words is one that no property has
 abbrev pub some_unsupported : Bool → List Word → Bool

@@ -15,5 +15,6 @@ use text_scan::Place;
 /// A track list without repeats, written as its sets and sizes with one space between, reads back as the list with its
 /// units, whatever words are chosen for its sides of those that stand for them in the version.
 pub fn plain_text_reads_back(at: Place, version: u8)
-    ensures { (spell : Side → Word) (list : ReadList) → IsPlain (is_relative version) spell list → reading_of version at (words_of (plain_text spell list)) ≡ Ok (tracks_value list) }
+    ensures { (spell : Side → Word) (list : ReadList) → IsPlain (is_relative version) spell list →
+        reading_of version at (words_of (plain_text spell list)) ≡ Ok (tracks_value list) }
 {}

@@ -30,7 +30,9 @@ struct Around<'a> {
 
 /// The first automatic repeat among the parts; `None` exactly where there is none.
 fn first_repeat(parts: &[Part]) -> Option<Around<'_>>
-    ensures { MatchOption result (list_all is_written parts.now ≡ true) (λ s. (list_all is_written s.front.now ≡ true) × (parts.now ≡ s.front.now ++ Automatic s.filling s.body.now ∷ s.back.now)) }
+    ensures { MatchOption result (list_all is_written parts.now ≡ true)
+        (λ s. (list_all is_written s.front.now ≡ true) ×
+        (parts.now ≡ s.front.now ++ Automatic s.filling s.body.now ∷ s.back.now)) }
 {
     let mut at = 0;
     while at < parts.len() {
@@ -112,7 +114,9 @@ fn plain_list(alloc: Global, parts: &[Part]) -> Result<ReadList, Stop>
 
 /// Whether each track may stand beside an automatic repeat.
 fn is_fixed_around(around: &Around) -> bool
-    ensures { result ≡ (list_all part_is_fixed around.now.front.now && (all_fixed around.now.body.now && list_all part_is_fixed around.now.back.now)) }
+    ensures { result ≡
+        (list_all part_is_fixed around.now.front.now &&
+        (all_fixed around.now.body.now && list_all part_is_fixed around.now.back.now)) }
 {
     parts_are_fixed(around.front) && entries_are_fixed(around.body) && parts_are_fixed(around.back)
 }
@@ -136,7 +140,9 @@ fn joined<T: Drop>(front: Sequence<T>, back: Sequence<T>) -> Result<Sequence<T>,
 #[tactic(auto, using(crate::proofs::TrackLists::around))]
 /// The list of parts around an automatic repeat.
 fn automatic_list(alloc: Global, around: &Around) -> Result<ReadList, Stop>
-    ensures { Gives result (automatic_list (entries_of around.now.front.now) around.now.filling around.now.body.now (entries_of around.now.back.now)) }
+    ensures { Gives result
+        (automatic_list (entries_of around.now.front.now) around.now.filling around.now.body.now
+        (entries_of around.now.back.now)) }
 {
     if !is_fixed_around(around) {
         return Err(Stop::Bad);

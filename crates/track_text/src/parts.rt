@@ -78,7 +78,8 @@ fn entries_up_to<'a>(
     relative: bool,
     words: Words<'a>,
 ) -> Result<(Sequence<Entry>, Words<'a>), Stop>
-    ensures { Gives result (option_map joined_read (rest_up_to (codes ")") (entry_first relative) words.entry)) }
+    ensures { Gives result
+        (option_map joined_read (rest_up_to (codes ")") (entry_first relative) words.entry)) }
 {
     let mut entries = Sequence::new(alloc);
     let mut words = words;

@@ -24,7 +24,9 @@ pub const UNSUPPORTED: u8 = 11;
 
 /// Whether the word, before these and perhaps after `subgrid`, is one that no template has.
 fn is_unsupported_at(relative: bool, after_subgrid: bool, word: &[u8], words: &Words) -> bool
-    ensures { result ≡ (is_unsupported_before relative word.now words.now || (is_masonry word.now || (after_subgrid && is_one_of automatic_counts word.now))) }
+    ensures { result ≡
+        (is_unsupported_before relative word.now words.now ||
+        (is_masonry word.now || (after_subgrid && is_one_of automatic_counts word.now))) }
 {
     if is_unsupported_before(relative, word, words) || word == b"masonry".as_slice() {
         return true;

@@ -125,7 +125,8 @@ fn add_times(
 ) -> Result<(), NoMemory>
     requires { length held.old ≤ 20001 }
     ensures few { OnOk result (length held.new ≤ 20001) }
-    ensures sets { OnOk result (take 20001 held.new ≡ take 20001 (held.old ++ times count sets.now)) }
+    ensures sets { OnOk result
+        (take 20001 held.new ≡ take 20001 (held.old ++ times count sets.now)) }
 {
     let mut left = count;
     while left > 0 && held.len() < MOST_SETS {

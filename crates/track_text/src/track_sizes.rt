@@ -77,7 +77,8 @@ fn minmax(least: Side, most: Side) -> Option<Track>
 
 /// The two sides after `minmax`, and the words after them.
 fn minmax_after(relative: bool, words: Words) -> Option<(Track, Words)>
-    ensures { result ≡ option_map (λ track. (track, drop 5 words.entry)) (minmax_after relative words.entry) }
+    ensures { result ≡
+        option_map (λ track. (track, drop 5 words.entry)) (minmax_after relative words.entry) }
 {
     let (opening, words) = words.first()?;
     let (least, words) = words.first()?;
@@ -104,7 +105,8 @@ fn fit_to(breadth: Side) -> Track
 
 /// The argument after `fit-content`, and the words after it.
 fn fit_after(relative: bool, words: Words) -> Option<(Track, Words)>
-    ensures { result ≡ option_map (λ track. (track, drop 3 words.entry)) (fit_after relative words.entry) }
+    ensures { result ≡
+        option_map (λ track. (track, drop 3 words.entry)) (fit_after relative words.entry) }
 {
     let (opening, words) = words.first()?;
     let (argument, words) = words.first()?;

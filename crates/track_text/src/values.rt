@@ -10,7 +10,8 @@ use style_types::Unit;
 
 /// The part of a word before the unit; `None` exactly where it does not end so.
 pub fn before<'a>(unit: &[u8], word: &'a [u8]) -> Option<&'a [u8]>
-    ensures { option_copied result ≡ (if ends_in unit.now word.now then Some (before unit.now word.now) else None) }
+    ensures { option_copied result ≡
+        (if ends_in unit.now word.now then Some (before unit.now word.now) else None) }
 {
     word.strip_suffix(unit)
 }

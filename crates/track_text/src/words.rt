@@ -35,7 +35,8 @@ impl<'a> Words<'a> {
 
     /// The first word, and the words after it; `None` exactly where no word is left.
     pub fn first(self) -> Option<(&'a [u8], Words<'a>)>
-        ensures { MatchOption result (self.entry ≡ []) (λ found. self.entry ≡ found.0.now ∷ found.1) }
+        ensures { MatchOption result (self.entry ≡ [])
+            (λ found. self.entry ≡ found.0.now ∷ found.1) }
     {
         let Words { bytes, tokens } = self;
         match tokens.split_first() {

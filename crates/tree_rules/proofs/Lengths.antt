@@ -128,7 +128,9 @@ slices xs (r ∷ rest) = slice_range xs r.0 r.1 ++ slices xs rest
 
 length_mains : (main gap : ℤ) (items : List FlexItem) (ranges : List (ℕ × ℕ)) → length (main_sizes main gap items ranges) ≡ length (slices items ranges)
 length_mains main gap items [] = refl
-length_mains main gap items (r ∷ rest) = length-append (line_sizes main gap (slice_range items r.0 r.1)) (main_sizes main gap items rest) ∙ ap (λ (n : ℕ). n + length (main_sizes main gap items rest)) (length_line main gap (slice_range items r.0 r.1)) ∙ ap (λ (n : ℕ). length (slice_range items r.0 r.1) + n) (length_mains main gap items rest) ∙ sym (length-append (slice_range items r.0 r.1) (slices items rest))
+length_mains main gap items (r ∷ rest) =
+    length-append (line_sizes main gap (slice_range items r.0 r.1)) (main_sizes main gap items rest) ∙ ap (λ (n : ℕ). n + length (main_sizes main gap items rest)) (length_line main gap (slice_range items r.0 r.1)) ∙
+    ap (λ (n : ℕ). length (slice_range items r.0 r.1) + n) (length_mains main gap items rest) ∙ sym (length-append (slice_range items r.0 r.1) (slices items rest))
 
 filled_all_from : {A : Type 0} (fits : List A → Bool) (rest line : List A) → joined (filled_from fits line rest) ≡ line ++ rest
 filled_all_from fits [] line = refl

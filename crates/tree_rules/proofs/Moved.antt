@@ -44,7 +44,8 @@ one_moves f fs at by own rest =
     let below = f.down.boxes f.frame.block (rect.x, rect.y) in
     let x : (by.0 +ℤ at.0) +ℤ f.frame.rect.x ≡ by.0 +ℤ (at.0 +ℤ f.frame.rect.x) = +ℤ_assoc by.0 at.0 f.frame.rect.x in
     let y : (by.1 +ℤ at.1) +ℤ f.frame.rect.y ≡ by.1 +ℤ (at.1 +ℤ f.frame.rect.y) = +ℤ_assoc by.1 at.1 f.frame.rect.y in
-    let placed : boxes_at (moved_at by at) (f ∷ fs) ≡ (f.name, here) ∷ f.down.boxes f.frame.block (here.x, here.y) ++ boxes_at (moved_at by at) fs = λ i. (f.name, record { x = x i; y = y i; width = f.frame.rect.width; height = f.frame.rect.height }) ∷ f.down.boxes f.frame.block (x i, y i) ++ boxes_at (moved_at by at) fs in
+    let placed : boxes_at (moved_at by at) (f ∷ fs) ≡
+    (f.name, here) ∷ f.down.boxes f.frame.block (here.x, here.y) ++ boxes_at (moved_at by at) fs = λ i. (f.name, record { x = x i; y = y i; width = f.frame.rect.width; height = f.frame.rect.height }) ∷ f.down.boxes f.frame.block (x i, y i) ++ boxes_at (moved_at by at) fs in
     let moved : f.down.boxes f.frame.block (here.x, here.y) ++ boxes_at (moved_at by at) fs ≡ moved_boxes by below ++ moved_boxes by (boxes_at at fs) = λ i. own f.frame.block (rect.x, rect.y) by i ++ rest i in
     placed ∙ ap (λ l. (f.name, here) ∷ l) (moved ∙ sym (moved_joined by below (boxes_at at fs)))
 
@@ -73,7 +74,8 @@ kind_moves kind.Grid x chain kids all pairs g =
 kind_moves kind.Flex x chain kids all pairs g =
     let f = flex_by x kids in
     let width = given_size g in
-    one_of_two x.content.column (column_down f width) (row_down f width) (down_moves (column_block f (column_settled f width)) [] (column_framed f width (column_settled f width)) kids (column_frames x kids width) all) (down_moves (row_block f (row_lines f width) (row_settled f (row_lines f width))) [] (row_framed f width (row_lines f width) (row_settled f (row_lines f width))) kids (row_frames x kids width) all)
+    one_of_two x.content.column (column_down f width) (row_down f width) (down_moves (column_block f (column_settled f width)) [] (column_framed f width (column_settled f width)) kids (column_frames x kids width) all)
+    (down_moves (row_block f (row_lines f width) (row_settled f (row_lines f width))) [] (row_framed f width (row_lines f width) (row_settled f (row_lines f width))) kids (row_frames x kids width) all)
 kind_moves (kind.Leaf content) x chain kids all pairs g = λ height at by. refl
 
 kids_move : (above : Above) (n : ℕ) (t : Trees Label) → AllMove (kids_of above n t)

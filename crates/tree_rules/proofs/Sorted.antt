@@ -49,8 +49,10 @@ module _ {A : Type 0} (key : A → ℤ) (x y : A) (other : key x ≢ key y) wher
   swap_at : (z : A) (rest : List A) (a b : Bool) → int_le (key x) (key z) ≡ a → int_le (key y) (key z) ≡ b → put_before key x (put_before key y rest) ≡ put_before key y (put_before key x rest)
       → put_before key x (put_before key y (z ∷ rest)) ≡ put_before key y (put_before key x (z ∷ rest))
   swap_at z rest true true p q lower = ap (put_before key x) (put_here key y z rest q) ∙ swap_front z rest (int_le (key x) (key y)) refl p q ∙ ap (put_before key y) (sym (put_here key x z rest p))
-  swap_at z rest true false p q lower = ap (put_before key x) (put_later key y z rest q) ∙ put_here key x z (put_before key y rest) p ∙ ap (λ l. x ∷ l) (sym (put_later key y z rest q)) ∙ sym (put_later key y x (z ∷ rest) (not_under (key x) (key y) (key z) p q)) ∙ ap (put_before key y) (sym (put_here key x z rest p))
-  swap_at z rest false true p q lower = ap (put_before key x) (put_here key y z rest q) ∙ put_later key x y (z ∷ rest) (not_under (key y) (key x) (key z) q p) ∙ ap (λ l. y ∷ l) (put_later key x z rest p) ∙ sym (put_here key y z (put_before key x rest) q) ∙ ap (put_before key y) (sym (put_later key x z rest p))
+  swap_at z rest true false p q lower =
+      ap (put_before key x) (put_later key y z rest q) ∙ put_here key x z (put_before key y rest) p ∙ ap (λ l. x ∷ l) (sym (put_later key y z rest q)) ∙ sym (put_later key y x (z ∷ rest) (not_under (key x) (key y) (key z) p q)) ∙ ap (put_before key y) (sym (put_here key x z rest p))
+  swap_at z rest false true p q lower =
+      ap (put_before key x) (put_here key y z rest q) ∙ put_later key x y (z ∷ rest) (not_under (key y) (key x) (key z) q p) ∙ ap (λ l. y ∷ l) (put_later key x z rest p) ∙ sym (put_here key y z (put_before key x rest) q) ∙ ap (put_before key y) (sym (put_later key x z rest p))
   swap_at z rest false false p q lower = ap (put_before key x) (put_later key y z rest q) ∙ put_later key x z (put_before key y rest) p ∙ ap (λ l. z ∷ l) lower ∙ sym (put_later key y z (put_before key x rest) q) ∙ ap (put_before key y) (sym (put_later key x z rest p))
 
   swap : (rest : List A) → put_before key x (put_before key y rest) ≡ put_before key y (put_before key x rest)
@@ -140,7 +142,8 @@ EachTwo R (x ∷ xs) (y ∷ ys) = R x y × EachTwo R xs ys
 module _ {A B : Type 0} (R : A → B → Type 0) (k : A → ℤ) (j : B → ℤ) (same : (a : A) (b : B) → R a b → k a ≡ j b) where
   put_alike_at : (x z : A) (y w : B) (xs : List A) (ys : List B) (c : Bool) → int_le (k x) (k z) ≡ c → R x y → R z w → EachTwo R xs ys → EachTwo R (put_before k x xs) (put_before j y ys) → EachTwo R (put_before k x (z ∷ xs)) (put_before j y (w ∷ ys))
   put_alike_at x z y w xs ys true h r s t lower = subst (λ l. EachTwo R l (put_before j y (w ∷ ys))) (sym (put_here k x z xs h)) (subst (EachTwo R (x ∷ z ∷ xs)) (sym (put_here j y w ys (ap (λ b. int_le b (j w)) (sym (same x y r)) ∙ ap (int_le (k x)) (sym (same z w s)) ∙ h))) (r, (s, t)))
-  put_alike_at x z y w xs ys false h r s t lower = subst (λ l. EachTwo R l (put_before j y (w ∷ ys))) (sym (put_later k x z xs h)) (subst (EachTwo R (z ∷ put_before k x xs)) (sym (put_later j y w ys (ap (λ b. int_le b (j w)) (sym (same x y r)) ∙ ap (int_le (k x)) (sym (same z w s)) ∙ h))) (s, lower))
+  put_alike_at x z y w xs ys false h r s t lower =
+      subst (λ l. EachTwo R l (put_before j y (w ∷ ys))) (sym (put_later k x z xs h)) (subst (EachTwo R (z ∷ put_before k x xs)) (sym (put_later j y w ys (ap (λ b. int_le b (j w)) (sym (same x y r)) ∙ ap (int_le (k x)) (sym (same z w s)) ∙ h))) (s, lower))
 
   put_alike : (x : A) (y : B) (xs : List A) (ys : List B) → R x y → EachTwo R xs ys → EachTwo R (put_before k x xs) (put_before j y ys)
   put_alike x y [] [] r t = (r, tt)

@@ -180,7 +180,8 @@ module _ {A : Type 0} (key : A → ℤ) where
   rises_by [] h = tt
   rises_by (y ∷ []) h = (tt, tt)
   rises_by (y ∷ z ∷ ys) h =
-      let rest : Rises (z ∷ ys) = rises_by (z ∷ ys) (λ k d l. subst (λ m. by (slice_index_or (y ∷ z ∷ ys) m d) (slice_index_or (y ∷ z ∷ ys) (suc k) d) ≡ false) (add-one (k + 1)) (subst (λ n. by (slice_index_or (y ∷ z ∷ ys) (k + 1 + 1) d) (slice_index_or (y ∷ z ∷ ys) n d) ≡ false) (add-one k) (h (k + 1) d (omega arith)))) in
+      let rest : Rises (z ∷ ys) = rises_by (z ∷ ys)
+      (λ k d l. subst (λ m. by (slice_index_or (y ∷ z ∷ ys) m d) (slice_index_or (y ∷ z ∷ ys) (suc k) d) ≡ false) (add-one (k + 1)) (subst (λ n. by (slice_index_or (y ∷ z ∷ ys) (k + 1 + 1) d) (slice_index_or (y ∷ z ∷ ys) n d) ≡ false) (add-one k) (h (k + 1) d (omega arith)))) in
       let first : key y ≤ℤ key z = not_below (key z) (key y) (h 0 y (omega arith)) in
       ((first, from_lower (key y) (key z) ys first rest.0), rest)
 

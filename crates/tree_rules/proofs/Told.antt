@@ -160,7 +160,8 @@ grid_frames x chain kids outer width columns axis height =
     let entries_are : EachTwo IsEntry ordered g.entries = each_zipped IsEntry entry_of (λ e a. record { number = refl; kid = refl }) ordered g.placed.areas (length_areas g.context x.grid siblings ∙ length_map (λ (k : Kid). sibling_of k.label) kids ∙ sym (length_in_order order kids)) in
     let wides_are : EachTwo IsWide g.entries wides = each_zipped IsWide (wide_of g columns) (wide_is g columns) g.entries g.inlines (length_map (inline_of_entry g.pairs) g.entries) in
     let placed_are : EachTwo IsPlaced wides (map (grid_child g columns rows) wides) = each_mapped IsPlaced (grid_child g columns rows) (placed_is g columns rows) wides in
-    let frames_are : EachTwo (λ (n : Entry) (f : ℕ × Framed). (w : Wide) × IsWide n w × IsPlaced w f) g.entries (map (grid_child g columns rows) wides) = each_through IsWide IsPlaced (λ (n : Entry) (f : ℕ × Framed). (w : Wide) × IsWide n w × IsPlaced w f) (λ n w f a b. (w, a, b)) g.entries wides (map (grid_child g columns rows) wides) wides_are placed_are in
+    let frames_are : EachTwo (λ (n : Entry) (f : ℕ × Framed). (w : Wide) × IsWide n w × IsPlaced w f) g.entries (map (grid_child g columns rows) wides) = each_through IsWide IsPlaced (λ (n : Entry) (f : ℕ × Framed). (w : Wide) × IsWide n w × IsPlaced w f) (λ n w f a b. (w, a, b))
+    g.entries wides (map (grid_child g columns rows) wides) wides_are placed_are in
     back order kids (map (grid_child g columns rows) wides) (each_through IsEntry (λ (n : Entry) (f : ℕ × Framed). (w : Wide) × IsWide n w × IsPlaced w f) IsNumbered (λ e n f a b. wide_numbered e n b.0 f a b.1 b.2) ordered g.entries (map (grid_child g columns rows) wides) entries_are frames_are)
 
 -- ---- flex containers
@@ -233,14 +234,16 @@ length_autos column (s ∷ rest) = omega (arith, length_autos column rest)
 line_is : (column : Bool) (container : Label) (main cross gap : ℤ) (l : LineAt) (line : List Sitting) → EachTwo IsSat line (line_framed column container main cross gap l line)
 line_is column container main cross gap l line = along_is line _ column container cross l _ gap 0 (pos 0) (length_margins _ (joined (map (λ (s : Sitting). auto_margins (main_grid column s.settled.member.kid.label)) line)) ∙ length_autos column line)
 
-lines_are : (sizes : List ℤ) (ranges : List (ℕ × ℕ)) (column : Bool) (container : Label) (main cross gap between : ℤ) (moved : ℕ → ℤ) (k : ℕ) (at : ℤ) (all : List Sitting) → length sizes ≡ length ranges → EachTwo IsSat (slices all ranges) (lines_framed column container main cross gap between moved k at sizes ranges all)
+lines_are : (sizes : List ℤ) (ranges : List (ℕ × ℕ)) (column : Bool) (container : Label) (main cross gap between : ℤ) (moved : ℕ → ℤ) (k : ℕ) (at : ℤ) (all : List Sitting) → length sizes ≡ length ranges →
+    EachTwo IsSat (slices all ranges) (lines_framed column container main cross gap between moved k at sizes ranges all)
 lines_are [] [] column container main cross gap between moved k at all h = tt
 lines_are [] (r ∷ ranges) column container main cross gap between moved k at all h = absurd (omega arith)
 lines_are (z ∷ sizes) [] column container main cross gap between moved k at all h = tt
 lines_are (z ∷ sizes) (r ∷ ranges) column container main cross gap between moved k at all h =
     let l : LineAt = record { at = at +ℤ moved k; size = z } in
     let line = slice_range all r.0 r.1 in
-    each_joined IsSat line (slices all ranges) (line_framed column container main cross gap l line) (lines_framed column container main cross gap between moved (k + 1) (at +ℤ z +ℤ between) sizes ranges all) (line_is column container main cross gap l line) (lines_are sizes ranges column container main cross gap between moved (k + 1) (at +ℤ z +ℤ between) all (omega arith))
+    each_joined IsSat line (slices all ranges) (line_framed column container main cross gap l line) (lines_framed column container main cross gap between moved (k + 1) (at +ℤ z +ℤ between) sizes ranges all) (line_is column container main cross gap l line)
+    (lines_are sizes ranges column container main cross gap between moved (k + 1) (at +ℤ z +ℤ between) all (omega arith))
 
 -- from a child to its frame
 down_through : (column : Bool) (kid : Kid) (m : Member) (s : Settled) (t : Sitting) (d : Down) → m.kid ≡ kid → IsSettled column m s → t.settled ≡ s → (d ≡ t.settled.down) ⊎ ((g : Given) × (d ≡ t.settled.member.kid.answers.down [] g)) → (g : Given) × (d ≡ kid.answers.down [] g)
@@ -289,9 +292,13 @@ flex_frames column x kids main cross gap items settled few are =
     let all_sat : EachTwo IsSat all found = subst (λ l. EachTwo IsSat l found) (slices_all all main gap x.content.wrap items (length_zipped (sitting_of column (Some cross)) settled lines.mains mains_few ∙ sym few)) sat in
     let sitting : EachTwo (IsSitting column) settled all = each_zipped (IsSitting column) (sitting_of column (Some cross)) (sitting_is column (Some cross)) settled lines.mains mains_few in
     let members : EachTwo IsMember (in_order order kids) f.members = each_mapped IsMember member_of (λ e. record { number = refl; kid = refl }) (in_order order kids) in
-    let second : EachTwo (λ (s : Settled) (r : ℕ × Framed). (t : Sitting) × IsSitting column s t × IsSat t r) settled found = each_through (IsSitting column) IsSat (λ (s : Settled) (r : ℕ × Framed). (t : Sitting) × IsSitting column s t × IsSat t r) (λ s t r p q. (t, p, q)) settled all found sitting all_sat in
-    let third : EachTwo (λ (m : Member) (r : ℕ × Framed). (s : Settled) × IsSettled column m s × ((t : Sitting) × IsSitting column s t × IsSat t r)) f.members found = each_through (IsSettled column) (λ (s : Settled) (r : ℕ × Framed). (t : Sitting) × IsSitting column s t × IsSat t r) (λ (m : Member) (r : ℕ × Framed). (s : Settled) × IsSettled column m s × ((t : Sitting) × IsSitting column s t × IsSat t r)) (λ m s r p q. (s, p, q)) f.members settled found are second in
-    back order kids found (each_through IsMember (λ (m : Member) (r : ℕ × Framed). (s : Settled) × IsSettled column m s × ((t : Sitting) × IsSitting column s t × IsSat t r)) IsNumbered (λ e m r p q. sat_numbered column e m q.0 q.2.0 r p q.1 q.2.1 q.2.2) (in_order order kids) f.members found members third)
+    let second : EachTwo (λ (s : Settled) (r : ℕ × Framed). (t : Sitting) × IsSitting column s t × IsSat t r) settled found = each_through (IsSitting column) IsSat (λ (s : Settled) (r : ℕ × Framed). (t : Sitting) × IsSitting column s t × IsSat t r) (λ s t r p q. (t, p, q)) settled all
+    found sitting all_sat in
+    let third : EachTwo (λ (m : Member) (r : ℕ × Framed). (s : Settled) × IsSettled column m s × ((t : Sitting) × IsSitting column s t × IsSat t r)) f.members found = each_through (IsSettled column) (λ (s : Settled) (r : ℕ × Framed). (t : Sitting) × IsSitting column s t × IsSat t r)
+    (λ (m : Member) (r : ℕ × Framed). (s : Settled) × IsSettled column m s × ((t : Sitting) × IsSitting column s t × IsSat t r)) (λ m s r p q. (s, p, q)) f.members settled found are second in
+    back order kids found
+    (each_through IsMember (λ (m : Member) (r : ℕ × Framed). (s : Settled) × IsSettled column m s × ((t : Sitting) × IsSitting column s t × IsSat t r)) IsNumbered (λ e m r p q. sat_numbered column e m q.0 q.2.0 r p q.1 q.2.1 q.2.2) (in_order order kids) f.members found members
+    third)
 
 row_settled_is : (m : Member) (box : ℤ) → IsSettled false m (settled_at m box)
 row_settled_is m box = record { member = refl; box = λ e. absurd (true≢false (sym e)); inline = (settled_at m box).inline; down = refl }
@@ -306,14 +313,16 @@ row_frames x kids width height =
     let gap = gap_by (Some width) (pos 0) x.grid.columns.gap in
     let lines = row_lines f width in
     let few : length lines.mains ≡ length f.members = length_main_sizes width gap x.content.wrap items ∙ length_map (λ (m : Member). flex_item false (Some width) m.kid.label m.inline) f.members in
-    flex_frames false x kids width (given_size height) gap items (row_settled f lines) (length_map (λ (m : Member). flex_item false (Some width) m.kid.label m.inline) f.members ∙ sym (length_zipped settled_at f.members lines.mains few)) (each_zipped (IsSettled false) settled_at row_settled_is f.members lines.mains few)
+    flex_frames false x kids width (given_size height) gap items (row_settled f lines) (length_map (λ (m : Member). flex_item false (Some width) m.kid.label m.inline) f.members ∙ sym (length_zipped settled_at f.members lines.mains few))
+    (each_zipped (IsSettled false) settled_at row_settled_is f.members lines.mains few)
 
 pub column_frames : (x : Label) (kids : List Kid) (width : ℤ) (height : Given) → EachTwo IsFrameOf kids (column_framed (flex_by x kids) width (column_settled (flex_by x kids) width) height)
 column_frames x kids width height =
     let f = flex_by x kids in
     let main = given_size height in
     let settled = column_settled f width in
-    flex_frames true x kids main width (gap_by (Some main) (pos 0) x.grid.rows.gap) (map (column_item (Some main)) settled) settled (length_map (column_item (Some main)) settled) (each_mapped (IsSettled true) (λ (m : Member). settled_at m (column_box x width m)) (column_settled_is x width) f.members)
+    flex_frames true x kids main width (gap_by (Some main) (pos 0) x.grid.rows.gap) (map (column_item (Some main)) settled) settled (length_map (column_item (Some main)) settled)
+    (each_mapped (IsSettled true) (λ (m : Member). settled_at m (column_box x width m)) (column_settled_is x width) f.members)
 
 -- ---- any node
 
@@ -334,7 +343,8 @@ kind_tells kind.Grid x chain kids t bare all pairs g =
 kind_tells kind.Flex x chain kids t bare all pairs g =
     let f = flex_by x kids in
     let width = given_size g in
-    down_if x.content.column (column_down f width) (row_down f width) t (down_tells (column_block f (column_settled f width)) [] (column_framed f width (column_settled f width)) kids t (column_frames x kids width) all) (down_tells (row_block f (row_lines f width) (row_settled f (row_lines f width))) [] (row_framed f width (row_lines f width) (row_settled f (row_lines f width))) kids t (row_frames x kids width) all)
+    down_if x.content.column (column_down f width) (row_down f width) t (down_tells (column_block f (column_settled f width)) [] (column_framed f width (column_settled f width)) kids t (column_frames x kids width) all)
+    (down_tells (row_block f (row_lines f width) (row_settled f (row_lines f width))) [] (row_framed f width (row_lines f width) (row_settled f (row_lines f width))) kids t (row_frames x kids width) all)
 kind_tells (kind.Leaf content) x chain kids leafless bare all pairs g = λ height at. tt
 kind_tells (kind.Leaf content) x chain kids (tree y below after) bare all pairs g = absurd bare
 

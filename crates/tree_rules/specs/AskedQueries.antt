@@ -123,7 +123,9 @@ all_of (x ∷ rest) = x ++ all_of rest
 
 -- From the frames of a node those of its children that are containers.
 abbrev pub passes_on : Label → List Link → List Kid → Query → List ToChild
-passes_on x chain kids q = all_of (zipped (passed_to (pairs_below x.kind x chain kids q)) (numbered_from 0 kids) (((step x chain kids).down q.reps q.inline).frames q.block))
+passes_on x chain kids q =
+    all_of
+    (zipped (passed_to (pairs_below x.kind x chain kids q)) (numbered_from 0 kids) (((step x chain kids).down q.reps q.inline).frames q.block))
 
 -- and only from frames
 abbrev pub passes_from : Ask → Label → List Link → List Kid → Query → List ToChild
@@ -202,12 +204,14 @@ the_path = refl
 
 -- Of the leaves it asks their inline sizes, and their heights in columns of 100 and 190.
 all_asked : asked (px 300) (px 200) two_columns two_leaves
-    ≡ (main, inline_query false []) ∷ (main, at_width (px 300)) ∷ (main, frames_of_main) ∷ (name_a, inline_query false []) ∷ (name_a, at_width (px 100)) ∷ (name_b, inline_query false []) ∷ (name_b, at_width (px 190)) ∷ []
+    ≡ (main, inline_query false []) ∷ (main, at_width (px 300)) ∷ (main, frames_of_main) ∷ (name_a, inline_query false []) ∷
+    (name_a, at_width (px 100)) ∷ (name_b, inline_query false []) ∷ (name_b, at_width (px 190)) ∷ []
 unfolding clamp floor_div sized group_fitted spans_fitted handed_by_level left_flexible placed_by_rows
 all_asked = refl
 
 -- The question for the inline sizes asks for no height.
-inline_uses : uses two_columns [] (kids_of (above_of two_columns [] two_leaves) 0 two_leaves) (inline_query false []) ≡ (0, inline_query false []) ∷ (1, inline_query false []) ∷ []
+inline_uses : uses two_columns [] (kids_of (above_of two_columns [] two_leaves) 0 two_leaves) (inline_query false []) ≡
+    (0, inline_query false []) ∷ (1, inline_query false []) ∷ []
 unfolding clamp floor_div sized group_fitted spans_fitted handed_by_level left_flexible placed_by_rows
 inline_uses = refl
 

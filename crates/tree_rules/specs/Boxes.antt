@@ -37,7 +37,8 @@ root_of x below = kid_of x [] (kids_of (above_of x [] below) 0 below)
 abbrev pub root_width : ℤ → Kid → ℤ
 root_width width r =
     let x = r.label in
-    inline_used (bounds_of (Some width) x.content.border_box x.grid.columns x.content.inline) (is_stretched root_justify x.grid.columns x.content.inline) (margins x.grid.columns) width (r.answers.inline [])
+    inline_used (bounds_of (Some width) x.content.border_box x.grid.columns x.content.inline)
+    (is_stretched root_justify x.grid.columns x.content.inline) (margins x.grid.columns) width (r.answers.inline [])
 
 -- the block size of the border box of the root in a viewport of this height
 abbrev pub root_height : ℤ → Kid → Down → ℤ
@@ -59,7 +60,12 @@ root_framed width height r =
     let w = root_width width r in
     let d = r.answers.down [] (root_inline r w) in
     let h = root_height height r d in
-    record { name = x.name; frame = record { rect = record { x = aligned_at root_justify x.grid.columns (pos 0) width w; y = aligned_at root_align x.grid.rows (pos 0) height h; width = w; height = h }; inline = root_inline r w; block = root_block r h }; down = d }
+    record {
+      name = x.name;
+      frame = record
+          { rect = record { x = aligned_at root_justify x.grid.columns (pos 0) width w; y = aligned_at root_align x.grid.rows (pos 0) height h; width = w; height = h }; inline = root_inline r w; block = root_block r h };
+      down = d;
+    }
 
 -- The boxes of a tree in a viewport of this width and height, in document order.
 abbrev pub boxes : ℤ → ℤ → Label → Trees Label → List Box
@@ -106,21 +112,40 @@ unfolding clamp
 stretched_root = refl
 
 -- Its own alignments count for nothing.
-own_alignment : boxes (pos 100) (pos 50) (leaf plain_grid (record plain_content { inline = record plain_content_axis { own = record { mode = align_mode.End; safe = None } }; block = record plain_content_axis { own = record { mode = align_mode.Stretch; safe = None } } })) leafless ≡ at (pos 0) (pos 0) (pos 100) (pos 20)
+own_alignment : boxes (pos 100) (pos 50)
+    (leaf plain_grid
+    (record plain_content {
+      inline = record plain_content_axis { own = record { mode = align_mode.End; safe = None } };
+      block = record plain_content_axis
+          { own = record { mode = align_mode.Stretch; safe = None } };
+    })) leafless ≡ at (pos 0) (pos 0) (pos 100) (pos 20)
 unfolding clamp
 own_alignment = refl
 
 -- With an `auto` margin at the left it is fit to its content, and the margin takes the rest.
-auto_margin : boxes (pos 100) (pos 50) (leaf (record plain_grid { columns = record plain_axis { margin_start = None } }) plain_content) leafless ≡ at (pos 60) (pos 0) (pos 40) (pos 20)
+auto_margin : boxes (pos 100) (pos 50) (leaf (record plain_grid { columns = record plain_axis { margin_start = None } }) plain_content) leafless ≡
+    at (pos 60) (pos 0) (pos 40) (pos 20)
 unfolding clamp
 auto_margin = refl
 
 -- Percentages are of the viewport: half of 100, and the minimum of 90% of 50.
-of_viewport : boxes (pos 100) (pos 50) (leaf plain_grid (record plain_content { inline = record plain_content_axis { size = size.Percent 50000 }; block = record plain_content_axis { least = size.Percent 90000 } })) leafless ≡ at (pos 0) (pos 0) (pos 50) (pos 45)
+of_viewport : boxes (pos 100) (pos 50)
+    (leaf plain_grid
+    (record plain_content {
+      inline = record plain_content_axis { size = size.Percent 50000 };
+      block = record plain_content_axis
+          { least = size.Percent 90000 };
+    })) leafless ≡ at (pos 0) (pos 0) (pos 50) (pos 45)
 unfolding clamp floor_div
 of_viewport = refl
 
 -- Margins of 7 and 5 and a border of 3: 100 less 7 and 5, from 7 on; the height is 20 and 3.
-with_margins : boxes (pos 100) (pos 50) (leaf (record plain_grid { columns = record plain_axis { margin_start = Some (pos 7); margin_end = Some (pos 5) }; rows = record plain_axis { border_start = pos 3 } }) plain_content) leafless ≡ at (pos 7) (pos 0) (pos 88) (pos 23)
+with_margins : boxes (pos 100) (pos 50)
+    (leaf
+    (record plain_grid {
+      columns = record plain_axis { margin_start = Some (pos 7); margin_end = Some (pos 5) };
+      rows = record plain_axis
+          { border_start = pos 3 };
+    }) plain_content) leafless ≡ at (pos 7) (pos 0) (pos 88) (pos 23)
 unfolding clamp
 with_margins = refl

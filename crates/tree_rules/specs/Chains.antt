@@ -87,12 +87,16 @@ grid_with name g = record { name = name; kind = kind.Grid; grid = g; content = p
 abbrev above_s : Above
 above_s = above_of (grid_with (codes "g") plain_grid) [] (tree (grid_with (codes "s") sub_columns) leafless leafless)
 
-one_link : chain_of above_s 0 (grid_with (codes "s") sub_columns) ≡ record { name = codes "g"; grid = plain_grid; children = record { name = codes "s"; is_grid = true; grid = sub_columns } ∷ []; way = 0 } ∷ []
+one_link : chain_of above_s 0 (grid_with (codes "s") sub_columns) ≡
+    record { name = codes "g"; grid = plain_grid; children = record { name = codes "s"; is_grid = true; grid = sub_columns } ∷ []; way = 0 } ∷ []
 one_link = refl
 
 -- A subgrid of the subgrid has two links, the nearest first.
-two_links : chain_of (above_of (grid_with (codes "s") sub_columns) (chain_of above_s 0 (grid_with (codes "s") sub_columns)) leafless) 3 (grid_with (codes "t") sub_columns)
-    ≡ record { name = codes "s"; grid = sub_columns; children = []; way = 3 } ∷ record { name = codes "g"; grid = plain_grid; children = record { name = codes "s"; is_grid = true; grid = sub_columns } ∷ []; way = 0 } ∷ []
+two_links : chain_of (above_of (grid_with (codes "s") sub_columns) (chain_of above_s 0 (grid_with (codes "s") sub_columns)) leafless) 3
+    (grid_with (codes "t") sub_columns)
+    ≡ record { name = codes "s"; grid = sub_columns; children = []; way = 3 } ∷
+    record { name = codes "g"; grid = plain_grid; children = record { name = codes "s"; is_grid = true; grid = sub_columns } ∷ []; way = 0 } ∷
+    []
 two_links = refl
 
 -- A grid in it with tracks of its own sees nothing above it.
@@ -100,7 +104,8 @@ no_subgrid : chain_of (above_of (grid_with (codes "s") sub_columns) (link_to abo
 no_subgrid = refl
 
 -- `subgrid` in a flex container is `none`.
-in_flex : chain_of (above_of (record { name = codes "f"; kind = kind.Flex; grid = plain_grid; content = plain_content }) [] leafless) 0 (grid_with (codes "t") sub_columns) ≡ []
+in_flex : chain_of (above_of (record { name = codes "f"; kind = kind.Flex; grid = plain_grid; content = plain_content }) [] leafless) 0
+    (grid_with (codes "t") sub_columns) ≡ []
 in_flex = refl
 
 -- A flex container is no subgrid, whatever its template.

@@ -83,7 +83,13 @@ level_of g span gap outer_gap = record { span = span; gap = gap; outer_gap = out
 abbrev pub shared_context : AxisContext → Span → GridAxis → List NamedSpan → AxisContext
 shared_context parent span g named =
     let gap = gap_by None parent.gap g.gap in
-    record { subgrid = true; table = subgrid_table parent.table span (subgrid_sets g.template) named; gap = gap; levels = level_of g span gap parent.gap ∷ parent.levels }
+    record {
+      subgrid = true;
+      table = subgrid_table parent.table span (subgrid_sets g.template) named;
+      gap = gap;
+      levels = level_of g span gap
+          parent.gap ∷ parent.levels;
+    }
 
 -- under a parent: only with the template `subgrid` does it have the parent's tracks
 abbrev pub context_under : AxisContext → Span → GridAxis → ℕ → List NamedSpan → ℕ → AxisContext
@@ -127,7 +133,12 @@ placed_children c g children =
     let ordered = in_order (λ (s : Sibling). s.grid.order) children in
     let wishes = map (λ (e : ℕ × Sibling). wish_of c e.1) ordered in
     let areas = map (cut_area c) (placed wishes (shape_of c g)) in
-    record { areas = zipped with_area ordered areas; columns = range_of c.columns.table.tracks (map (λ (a : Area). a.columns) areas); rows = range_of c.rows.table.tracks (map (λ (a : Area). a.rows) areas) }
+    record {
+      areas = zipped with_area ordered areas;
+      columns = range_of c.columns.table.tracks (map (λ (a : Area). a.columns) areas);
+      rows = range_of
+          c.rows.table.tracks (map (λ (a : Area). a.rows) areas);
+    }
 
 -- the area of the child of this number
 abbrev pub area_of : Placed → ℕ → Area
@@ -147,11 +158,19 @@ outer_pairs (p ∷ outer) = outer
 
 -- the context of a grid that is no subgrid
 abbrev pub top_context : GridStyle → Pair → Context
-top_context g p = record { columns = own_context g.columns (column_cells g.areas) (named_columns g.areas) p.0; rows = own_context g.rows (row_cells g.areas) (named_rows g.areas) p.1 }
+top_context g p = record {
+  columns = own_context g.columns (column_cells g.areas) (named_columns g.areas) p.0;
+  rows = own_context g.rows (row_cells g.areas)
+      (named_rows g.areas) p.1;
+}
 
 -- the context of a grid in this area of its parent
 abbrev pub lower_context : Context → Area → GridStyle → Pair → Context
-lower_context parent a g p = record { columns = context_under parent.columns a.columns g.columns (column_cells g.areas) (named_columns g.areas) p.0; rows = context_under parent.rows a.rows g.rows (row_cells g.areas) (named_rows g.areas) p.1 }
+lower_context parent a g p = record {
+  columns = context_under parent.columns a.columns g.columns (column_cells g.areas) (named_columns g.areas) p.0;
+  rows = context_under
+      parent.rows a.rows g.rows (row_cells g.areas) (named_rows g.areas) p.1;
+}
 
 -- The context of a grid with these links upwards, by the counts of the repetitions of it and the grids above it, its own first.
 abbrev pub context_by : GridStyle → List Link → List Pair → Context
@@ -171,7 +190,13 @@ child g = record { name = []; is_grid = false; grid = g }
 
 -- three columns of 100 with a gap of 8, an area `a` over the last two of four cells and both rows
 abbrev upper : GridStyle
-upper = record plain_grid { columns = record plain_axis { template = template.Tracks (record { sizes = px_track 100 ∷ px_track 100 ∷ px_track 100 ∷ []; names = (z_name ∷ []) ∷ [] ∷ [] ∷ [] ∷ []; repeat = None }); gap = size.Length (pos 8) }; areas = Some (record { columns = 4; rows = 2; named = (a_name, record { columns = from_line (pos 2) (pos 4); rows = from_line (pos 0) (pos 2) }) ∷ [] }) }
+upper =
+    record plain_grid {
+      columns = record plain_axis
+          { template = template.Tracks (record { sizes = px_track 100 ∷ px_track 100 ∷ px_track 100 ∷ []; names = (z_name ∷ []) ∷ [] ∷ [] ∷ [] ∷ []; repeat = None }); gap = size.Length (pos 8) };
+      areas = Some
+          (record { columns = 4; rows = 2; named = (a_name, record { columns = from_line (pos 2) (pos 4); rows = from_line (pos 0) (pos 2) }) ∷ [] });
+    }
 
 abbrev upper_context : Context
 upper_context = top_context upper (1, 1)
@@ -185,13 +210,18 @@ explicit_rows = refl
 
 -- An item at the area `a`, and one that is free: it stands in the first cell. An item before it in order is told before it.
 in_area : (placed_children upper_context upper (child plain_grid ∷ child (record plain_grid { columns = record plain_axis { start_line = line.Named a_name; end_line = line.Named a_name }; rows = record plain_axis { start_line = line.Named a_name; end_line = line.Named a_name }; order = negsuc 0 }) ∷ [])).areas
-    ≡ (1, record { columns = from_line (pos 2) (pos 4); rows = from_line (pos 0) (pos 2) }) ∷ (0, record { columns = from_line (pos 0) (pos 1); rows = from_line (pos 0) (pos 1) }) ∷ []
+    ≡ (1, record { columns = from_line (pos 2) (pos 4); rows = from_line (pos 0) (pos 2) }) ∷
+    (0, record { columns = from_line (pos 0) (pos 1); rows = from_line (pos 0) (pos 1) }) ∷ []
 unfolding placed_by_rows
 in_area = refl
 
 -- A subgrid over the lines 2 to 4 with the name `z` on its first line, a gap of 3 in place of 8, and margins of 1.
 abbrev lower : GridStyle
-lower = record plain_grid { columns = record plain_axis { template = template.Subgrid ((z_name ∷ []) ∷ []); gap = size.Length (pos 3); margin_start = Some (pos 1); margin_end = Some (pos 1) } }
+lower =
+    record plain_grid {
+      columns = record plain_axis
+          { template = template.Subgrid ((z_name ∷ []) ∷ []); gap = size.Length (pos 3); margin_start = Some (pos 1); margin_end = Some (pos 1) };
+    }
 
 abbrev lower_context_by : Context
 lower_context_by = lower_context upper_context (record { columns = from_line (pos 2) (pos 4); rows = from_line (pos 0) (pos 1) }) lower (1, 1)
@@ -219,6 +249,7 @@ spans_one : automatic_span false (template.Subgrid ([] ∷ [] ∷ [] ∷ [])) �
 spans_one = refl
 
 -- Line -7 of four tracks lies at -2, so an item of one column from there on makes the columns begin at -2.
-range_reaches_out : (placed_children upper_context upper (child (record plain_grid { columns = record plain_axis { start_line = line.Line (negsuc 6) None } }) ∷ [])).columns ≡ from_line (negsuc 1) (pos 4)
+range_reaches_out : (placed_children upper_context upper (child (record plain_grid { columns = record plain_axis { start_line = line.Line (negsuc 6) None } }) ∷ [])).columns
+    ≡ from_line (negsuc 1) (pos 4)
 unfolding placed_by_rows
 range_reaches_out = refl

@@ -139,7 +139,8 @@ safe_end : edges_in (record { mode = align_mode.End; safe = Some true }) (pos 30
 safe_end = refl
 
 -- An item of 30 with margins of 4 and 6 in an area of 100 from 50: 60 are free, half of which lies before it.
-item_in_middle : aligned_at (by align_mode.Center) (record plain_axis { margin_start = Some (pos 4); margin_end = Some (pos 6) }) (pos 50) (pos 100) (pos 30) ≡ pos 84
+item_in_middle : aligned_at (by align_mode.Center) (record plain_axis { margin_start = Some (pos 4); margin_end = Some (pos 6) }) (pos 50)
+    (pos 100) (pos 30) ≡ pos 84
 unfolding floor_div
 item_in_middle = refl
 
@@ -157,6 +158,8 @@ unfolding clamp
 least_subgrid = refl
 
 -- Two tracks of 40 with a gap of 20, seen by a subgrid with a gap of 10% of its 100: the gap is 10, and each track is 5 longer at the gutter.
-percentage_gap : view_in {axis = 0} (record { edges = (pos 0, pos 40) ∷ (pos 60, pos 100) ∷ []; gap = pos 20 }) (record { start = pos 0; end = pos 2 }) (record plain_axis { gap = size.Percent 10000 }) ≡ record { edges = (pos 0, pos 45) ∷ (pos 55, pos 100) ∷ []; gap = pos 10 }
+percentage_gap : view_in {axis = 0} (record { edges = (pos 0, pos 40) ∷ (pos 60, pos 100) ∷ []; gap = pos 20 })
+    (record { start = pos 0; end = pos 2 }) (record plain_axis { gap = size.Percent 10000 }) ≡
+    record { edges = (pos 0, pos 45) ∷ (pos 55, pos 100) ∷ []; gap = pos 10 }
 unfolding clamp floor_div
 percentage_gap = refl

@@ -61,7 +61,8 @@ boxes_of width height x below =
 root_of_20px : font_with first_font first_font (value.Size (size.Length (px 20))) (unit.Px ∷ []) ≡ px 20
 root_of_20px = refl
 
-its_columns : (computed_tracks (px 20) (px 20) (fixed 0 ∷ fixed 0 ∷ []) (unit.Em (pos 2000000) ∷ unit.Em (pos 2000000) ∷ unit.Rem (pos 1000000) ∷ unit.Rem (pos 1000000) ∷ [])).0 ≡ fixed 40 ∷ fixed 20 ∷ []
+its_columns : (computed_tracks (px 20) (px 20) (fixed 0 ∷ fixed 0 ∷ []) (unit.Em (pos 2000000) ∷ unit.Em (pos 2000000) ∷ unit.Rem (pos 1000000) ∷ unit.Rem (pos 1000000) ∷ [])).0
+    ≡ fixed 40 ∷ fixed 20 ∷ []
 unfolding relative
 its_columns = refl
 
@@ -77,7 +78,12 @@ child_margin : computed_size (px 10) (px 20) (size.Length (pos 0)) (unit.Em (pos
 unfolding relative
 child_margin = refl
 
-by_fonts : boxes (px 300) (px 100) (grid main (record plain_grid { columns = record plain_axis { template = tracks (fixed 40 ∷ fixed 20 ∷ []); gap = px_size 10 } }) plain_content) (side_by_side (leaf name_a (pos 0) (px 10) (record plain_grid { columns = record plain_axis { margin_start = Some (px 10) } }) plain_content ∷ plain_leaf name_b 0 10 ∷ []))
+by_fonts : boxes (px 300) (px 100)
+    (grid main (record plain_grid { columns = record plain_axis { template = tracks (fixed 40 ∷ fixed 20 ∷ []); gap = px_size 10 } })
+    plain_content)
+    (side_by_side
+    (leaf name_a (pos 0) (px 10) (record plain_grid { columns = record plain_axis { margin_start = Some (px 10) } }) plain_content ∷
+    plain_leaf name_b 0 10 ∷ []))
     ≡ px_box main 0 0 300 10 ∷ px_box name_a 10 0 30 10 ∷ px_box name_b 50 0 20 10 ∷ []
 unfolding clamp floor_div sized group_fitted spans_fitted handed_by_level left_flexible placed_by_rows
 by_fonts = refl
@@ -87,7 +93,11 @@ part_of_em : computed_size first_font first_font (size.Length (pos 0)) (unit.Em 
 unfolding relative
 part_of_em = refl
 
-by_part : boxes (px 300) (px 100) (grid main plain_grid plain_content) (side_by_side (leaf name_p (pos 0) (px 10) plain_grid (record plain_content { inline = record plain_content_axis { size = size.Length (pos 307); own = aligned align_mode.Start } }) ∷ []))
+by_part : boxes (px 300) (px 100) (grid main plain_grid plain_content)
+    (side_by_side
+    (leaf name_p (pos 0) (px 10) plain_grid
+    (record plain_content { inline = record plain_content_axis { size = size.Length (pos 307); own = aligned align_mode.Start } }) ∷
+    []))
     ≡ px_box main 0 0 300 10 ∷ box name_p (pos 0) (pos 0) (pos 307) (px 10) ∷ []
 unfolding clamp floor_div sized group_fitted spans_fitted handed_by_level left_flexible placed_by_rows
 by_part = refl

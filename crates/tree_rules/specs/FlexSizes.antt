@@ -71,7 +71,8 @@ flex_by x kids = record { label = x; members = map member_of (in_order (λ (k : 
 -- unless it is `content`, the declared main size; else that of the content.
 abbrev pub base_size : Option ℤ → Bool → Size → Bounds → ℤ → ℤ
 base_size main border_box size.Content b content = content +ℤ b.inner
-base_size main border_box basis b content = unwrap_or (option_map (border_size border_box b.inner) (resolved main basis)) (unwrap_or b.size (content +ℤ b.inner))
+base_size main border_box basis b content =
+    unwrap_or (option_map (border_size border_box b.inner) (resolved main basis)) (unwrap_or b.size (content +ℤ b.inner))
 
 -- The automatic minimum (CSS Flexbox 1, 4.5): the content size, but at most a declared main size and a declared maximum; 0 for a scroll
 -- container.
@@ -154,7 +155,9 @@ lines_by x main gap items =
 
 -- The lines of a row in a container of this inline size.
 abbrev pub row_lines : Flex → ℤ → Lines
-row_lines f width = lines_by f.label width (gap_by (Some width) (pos 0) f.label.grid.columns.gap) (map (λ (m : Member). flex_item false (Some width) m.kid.label m.inline) f.members)
+row_lines f width =
+    lines_by f.label width (gap_by (Some width) (pos 0) f.label.grid.columns.gap)
+    (map (λ (m : Member). flex_item false (Some width) m.kid.label m.inline) f.members)
 
 -- The children of a row have their main sizes.
 abbrev pub row_settled : Flex → Lines → List Settled
@@ -207,20 +210,30 @@ column_block f settled = in_a_row (gap_by None (pos 0) f.label.grid.rows.gap) (m
 
 -- a node with these content-class values, borders and paddings of 4 and margins of 3 in both axes
 abbrev a_child : ContentStyle → Label
-a_child c = record { name = []; kind = kind.Flex; grid = record plain_grid { columns = record plain_axis { padding_start = pos 4; margin_end = Some (pos 3) }; rows = record plain_axis { padding_start = pos 4; margin_end = Some (pos 3) } }; content = c }
+a_child c = record {
+  name = [];
+  kind = kind.Flex;
+  grid = record plain_grid
+      { columns = record plain_axis { padding_start = pos 4; margin_end = Some (pos 3) }; rows = record plain_axis { padding_start = pos 4; margin_end = Some (pos 3) } };
+  content = c;
+}
 
 -- Contents of 20 and 30 with 4: the basis is 34 and the least size 24.
-by_content : flex_item false (Some (pos 100)) (a_child plain_content) (pos 20, pos 30) ≡ record { base = pos 34; min = pos 24; max = None; margins = pos 3; inner = pos 4; grow = 0; shrink = 1000 }
+by_content : flex_item false (Some (pos 100)) (a_child plain_content) (pos 20, pos 30) ≡
+    record { base = pos 34; min = pos 24; max = None; margins = pos 3; inner = pos 4; grow = 0; shrink = 1000 }
 unfolding clamp
 by_content = refl
 
 -- A width of 10 is 14 with 4; so is the basis, and the least size too, since that is less than the content.
-by_width : flex_item false (Some (pos 100)) (a_child (record plain_content { inline = record plain_content_axis { size = size.Length (pos 10) } })) (pos 20, pos 30) ≡ record { base = pos 14; min = pos 14; max = None; margins = pos 3; inner = pos 4; grow = 0; shrink = 1000 }
+by_width : flex_item false (Some (pos 100))
+    (a_child (record plain_content { inline = record plain_content_axis { size = size.Length (pos 10) } })) (pos 20, pos 30) ≡
+    record { base = pos 14; min = pos 14; max = None; margins = pos 3; inner = pos 4; grow = 0; shrink = 1000 }
 unfolding clamp
 by_width = refl
 
 -- The basis `content` passes over the width.
-by_basis_content : (flex_item false (Some (pos 100)) (a_child (record plain_content { inline = record plain_content_axis { size = size.Length (pos 10) }; basis = size.Content })) (pos 20, pos 30)).base ≡ pos 34
+by_basis_content : (flex_item false (Some (pos 100)) (a_child (record plain_content { inline = record plain_content_axis { size = size.Length (pos 10) }; basis = size.Content })) (pos 20, pos 30)).base
+    ≡ pos 34
 unfolding clamp
 by_basis_content = refl
 
@@ -238,7 +251,8 @@ scrolling : (flex_item false (Some (pos 100)) (a_child (record plain_content { s
 unfolding clamp
 scrolling = refl
 
-minimum_of_nothing : (flex_item true None (a_child (record plain_content { block = record plain_content_axis { least = size.Percent 50000 } })) (pos 20, pos 30)).min ≡ pos 24
+minimum_of_nothing : (flex_item true None (a_child (record plain_content { block = record plain_content_axis { least = size.Percent 50000 } })) (pos 20, pos 30)).min
+    ≡ pos 24
 unfolding clamp
 minimum_of_nothing = refl
 

@@ -51,7 +51,13 @@ moved_boxes by (b ∷ rest) = (b.0, moved_by by b.1) ∷ moved_boxes by rest
 
 -- what is known of a container by its inline size, from the frames that it gives its children
 abbrev pub down_of : ℤ → List Item → (Given → List Framed) → Down
-down_of block lent framed = record { block = block; lend_rows = lent; frames = λ height. map (λ (f : Framed). f.frame) (framed height); boxes = λ height at. boxes_at at (framed height) }
+down_of block lent framed = record {
+  block = block;
+  lend_rows = lent;
+  frames = λ height. map (λ (f : Framed). f.frame) (framed height);
+  boxes = λ height at. boxes_at at
+      (framed height);
+}
 
 -- ---- grids (CSS Grid 2, section 6 and 11)
 
@@ -81,12 +87,22 @@ row_extent g rows w =
     let a = self_align x.content.block.own g.label.content.block.items in
     let box = block_used b (is_stretched a x.grid.rows x.content.block) (margins x.grid.rows) size w.down.block in
     let own : Extent = record { at = aligned_at a x.grid.rows (first_start tracks) size box; size = box; given = given.Size (content_of_box b.inner box) } in
-    let shared : Extent = record { at = first_start tracks +ℤ margin x.grid.rows.margin_start; size = subgrid_box x.grid.rows size; given = given_view (view_in rows span x.grid.rows) } in
+    let shared : Extent = record {
+      at = first_start tracks +ℤ margin x.grid.rows.margin_start;
+      size = subgrid_box x.grid.rows size;
+      given = given_view
+          (view_in rows span x.grid.rows);
+    } in
     if shares_rows w.entry.kid then shared else own
 
 -- A child with these places, from the content box of its parent, whose borders and paddings lie before it.
 abbrev pub framed_at : Label → Label → Extent → Extent → Down → Framed
-framed_at parent x i b d = record { name = x.name; frame = record { rect = record { x = inner_start parent.grid.columns +ℤ i.at; y = inner_start parent.grid.rows +ℤ b.at; width = i.size; height = b.size }; inline = i.given; block = b.given }; down = d }
+framed_at parent x i b d = record {
+  name = x.name;
+  frame = record
+      { rect = record { x = inner_start parent.grid.columns +ℤ i.at; y = inner_start parent.grid.rows +ℤ b.at; width = i.size; height = b.size }; inline = i.given; block = b.given };
+  down = d;
+}
 
 -- a child with its number in document order
 abbrev pub grid_child : Grid → View 0 → View 1 → Wide → ℕ × Framed
@@ -201,7 +217,8 @@ lines_framed column container main cross gap between moved k at [] ranges all = 
 lines_framed column container main cross gap between moved k at (size ∷ sizes) [] all = []
 lines_framed column container main cross gap between moved k at (size ∷ sizes) (range ∷ ranges) all =
     let l : LineAt = record { at = at +ℤ moved k; size = size } in
-    line_framed column container main cross gap l (slice_range all range.0 range.1) ++ lines_framed column container main cross gap between moved (k + 1) (at +ℤ size +ℤ between) sizes ranges all
+    line_framed column container main cross gap l (slice_range all range.0 range.1) ++
+    lines_framed column container main cross gap between moved (k + 1) (at +ℤ size +ℤ between) sizes ranges all
 
 -- a child with its main size, limited as each box size is
 abbrev pub sitting_of : Bool → Option ℤ → Settled → ℤ → Sitting
@@ -217,7 +234,9 @@ flex_framed column f main cross lines settled =
     let free = cross -ℤ gaps between (length sizes) -ℤ sum_of sizes in
     let a = x.content.block.distribution in
     let all = zipped (sitting_of column (Some cross)) settled lines.mains in
-    in_document_order (lines_framed column x main cross gap between (λ k. content_moved (mode_of a.mode) (is_safe a) free k (length sizes)) 0 (pos 0) sizes lines.ranges all)
+    in_document_order
+    (lines_framed column x main cross gap between (λ k. content_moved (mode_of a.mode) (is_safe a) free k (length sizes)) 0 (pos 0) sizes
+    lines.ranges all)
 
 -- the size that is given
 abbrev pub given_size : Given → ℤ
@@ -253,28 +272,42 @@ ends_line : place_across false (node_of plain_axis plain_content_axis) (line_at 
 ends_line = refl
 
 -- Its one `auto` margin after it takes what is free.
-margin_takes : place_across false (node_of plain_axis plain_content_axis) (line_at (pos 100) (pos 50)) (node_of (record plain_axis { margin_end = None }) (by align_mode.End)) (pos 20) ≡ pos 100
+margin_takes : place_across false (node_of plain_axis plain_content_axis) (line_at (pos 100) (pos 50))
+    (node_of (record plain_axis { margin_end = None }) (by align_mode.End)) (pos 20) ≡ pos 100
 margin_takes = refl
 
 -- A node of 70 passes the line by 20: at the end it starts 20 before it, but with an `auto` margin at its start.
 passes_line : place_across false (node_of plain_axis plain_content_axis) (line_at (pos 100) (pos 50)) (node_of plain_axis (by align_mode.End)) (pos 70) ≡ pos 80
 passes_line = refl
 
-passes_with_margin : place_across false (node_of plain_axis plain_content_axis) (line_at (pos 100) (pos 50)) (node_of (record plain_axis { margin_end = None }) (by align_mode.End)) (pos 70) ≡ pos 100
+passes_with_margin : place_across false (node_of plain_axis plain_content_axis) (line_at (pos 100) (pos 50))
+    (node_of (record plain_axis { margin_end = None }) (by align_mode.End)) (pos 70) ≡ pos 100
 passes_with_margin = refl
 
 -- Two boxes below a node at (10, 20): the second has one below it at (1, 2) of its own.
 abbrev framed_box : List ℕ → ℤ → ℤ → Down → Framed
-framed_box name x y d = record { name = name; frame = record { rect = record { x = x; y = y; width = pos 5; height = pos 6 }; inline = given.None; block = given.None }; down = d }
+framed_box name x y d = record {
+  name = name;
+  frame = record { rect = record { x = x; y = y; width = pos 5; height = pos 6 }; inline = given.None; block = given.None };
+  down
+      = d;
+}
 
 abbrev leaf_below : Down
 leaf_below = down_of (pos 0) [] (λ height. [])
 
-told_in_order : boxes_at (pos 10, pos 20) (framed_box (codes "a") (pos 3) (pos 4) leaf_below ∷ framed_box (codes "b") (pos 5) (pos 7) (down_of (pos 0) [] (λ height. framed_box (codes "c") (pos 1) (pos 2) leaf_below ∷ [])) ∷ [])
-    ≡ (codes "a", record { x = pos 13; y = pos 24; width = pos 5; height = pos 6 }) ∷ (codes "b", record { x = pos 15; y = pos 27; width = pos 5; height = pos 6 }) ∷ (codes "c", record { x = pos 16; y = pos 29; width = pos 5; height = pos 6 }) ∷ []
+told_in_order : boxes_at (pos 10, pos 20)
+    (framed_box (codes "a") (pos 3) (pos 4) leaf_below ∷
+    framed_box (codes "b") (pos 5) (pos 7) (down_of (pos 0) [] (λ height. framed_box (codes "c") (pos 1) (pos 2) leaf_below ∷ [])) ∷ [])
+    ≡ (codes "a", record { x = pos 13; y = pos 24; width = pos 5; height = pos 6 }) ∷
+    (codes "b", record { x = pos 15; y = pos 27; width = pos 5; height = pos 6 }) ∷
+    (codes "c", record { x = pos 16; y = pos 29; width = pos 5; height = pos 6 }) ∷ []
 told_in_order = refl
 
 -- The same two boxes by 7 to the left and by 5 down.
-moved_together : moved_boxes (neg_ℤ (pos 7), pos 5) ((codes "a", record { x = pos 13; y = pos 24; width = pos 5; height = pos 6 }) ∷ (codes "c", record { x = pos 16; y = pos 29; width = pos 5; height = pos 6 }) ∷ [])
-    ≡ (codes "a", record { x = pos 6; y = pos 29; width = pos 5; height = pos 6 }) ∷ (codes "c", record { x = pos 9; y = pos 34; width = pos 5; height = pos 6 }) ∷ []
+moved_together : moved_boxes (neg_ℤ (pos 7), pos 5)
+    ((codes "a", record { x = pos 13; y = pos 24; width = pos 5; height = pos 6 }) ∷
+    (codes "c", record { x = pos 16; y = pos 29; width = pos 5; height = pos 6 }) ∷ [])
+    ≡ (codes "a", record { x = pos 6; y = pos 29; width = pos 5; height = pos 6 }) ∷
+    (codes "c", record { x = pos 9; y = pos 34; width = pos 5; height = pos 6 }) ∷ []
 moved_together = refl

@@ -56,7 +56,14 @@ pub record TrackAxis : Type 0 where
 abbrev pub fit_of_axis : {axis : ℕ} → TrackAxis → Space axis → ℤ → Fit axis
 fit_of_axis a space gap =
     let b = bounds_of None a.border_box a.grid a.content in
-    record { space = space; min = option_map (λ v. v -ℤ b.inner) b.least; max = option_map (λ v. v -ℤ b.inner) b.most; gap = gap; stretch = stretches a.content.distribution.mode }
+    record {
+      space = space;
+      min = option_map (λ v. v -ℤ b.inner) b.least;
+      max = option_map (λ v. v -ℤ b.inner) b.most;
+      gap = gap;
+      stretch = stretches
+          a.content.distribution.mode;
+    }
 
 -- The tracks of an axis, sized for this space. Percentages are of this size, or of none.
 abbrev pub sized_for : {axis : ℕ} → TrackAxis → Space axis → Option ℤ → Sized
@@ -163,7 +170,15 @@ grid_by x chain kids outer width =
     let entries = zipped entry_of (in_order (λ (k : Kid). k.label.grid.order) kids) placed.areas in
     let inlines = map (inline_of_entry pairs) entries in
     let items = joined (zipped (column_items_of context.columns pairs) entries inlines) in
-    let columns : TrackAxis = record { border_box = x.content.border_box; grid = x.grid.columns; content = x.content.inline; written = written x.grid.columns.template pair.0; spans = column_spans placed; tracks = placed.columns; items = items } in
+    let columns : TrackAxis = record {
+      border_box = x.content.border_box;
+      grid = x.grid.columns;
+      content = x.content.inline;
+      written = written x.grid.columns.template pair.0;
+      spans = column_spans placed;
+      tracks = placed.columns;
+      items = items;
+    } in
     record { label = x; pairs = pairs; context = context; placed = placed; entries = entries; inlines = inlines; columns = columns }
 
 -- Inline sizes of the content: the totals of the columns under a min-content and a max-content space, the second at least the first.
@@ -221,7 +236,16 @@ rows_of_grid g wides =
     let x = g.label in
     let pair : Pair = own_pair x given.None in
     let items = joined (map (λ (w : Wide). row_items_of g.context.rows w.entry w.down) wides) in
-    record { border_box = x.content.border_box; grid = x.grid.rows; content = x.content.block; written = written x.grid.rows.template pair.1; spans = row_spans g.placed; tracks = g.placed.rows; items = items }
+    record {
+      border_box = x.content.border_box;
+      grid = x.grid.rows;
+      content = x.content.block;
+      written = written x.grid.rows.template pair.1;
+      spans =
+          row_spans g.placed;
+      tracks = g.placed.rows;
+      items = items;
+    }
 
 -- The block size of the content: the total of the rows under a max-content space. That of a subgrid in the rows is not asked for.
 abbrev pub grid_block : Grid → TrackAxis → ℤ
@@ -241,7 +265,16 @@ an_item start end low high = record { span = record { start = start; end = end }
 
 -- the columns of these sizes, with a gap, a minimum and a maximum, and these items
 abbrev columns_with : List TrackFn → Size → Size → Size → List Item → TrackAxis
-columns_with sizes gap least most items = record { border_box = false; grid = record plain_axis { gap = gap }; content = record plain_content_axis { least = least; most = most }; written = record { sizes = sizes; names = []; fit = None }; spans = []; tracks = record { start = pos 0; end = pos (length sizes) }; items = items }
+columns_with sizes gap least most items = record {
+  border_box = false;
+  grid = record plain_axis { gap = gap };
+  content = record plain_content_axis { least = least; most = most };
+  written =
+      record { sizes = sizes; names = []; fit = None };
+  spans = [];
+  tracks = record { start = pos 0; end = pos (length sizes) };
+  items = items;
+}
 
 abbrev low_space : Space 0
 low_space = MinContent
@@ -250,34 +283,47 @@ abbrev high_space : Space 0
 high_space = MaxContent
 
 -- An `auto` column of an item of 20 to 50 beside a fixed one of 30, with a gap of 5.
-low_total : total_for (columns_with (auto_track ∷ px_track 30 ∷ []) (size.Length (pos 5)) size.Auto size.Absent (an_item (pos 0) (pos 1) (pos 20) (pos 50) ∷ [])) low_space ≡ pos 55
+low_total : total_for
+    (columns_with (auto_track ∷ px_track 30 ∷ []) (size.Length (pos 5)) size.Auto size.Absent (an_item (pos 0) (pos 1) (pos 20) (pos 50) ∷ []))
+    low_space ≡ pos 55
 unfolding clamp floor_div sized group_fitted spans_fitted handed_by_level left_flexible
 low_total = refl
 
-high_total : total_for (columns_with (auto_track ∷ px_track 30 ∷ []) (size.Length (pos 5)) size.Auto size.Absent (an_item (pos 0) (pos 1) (pos 20) (pos 50) ∷ [])) high_space ≡ pos 85
+high_total : total_for
+    (columns_with (auto_track ∷ px_track 30 ∷ []) (size.Length (pos 5)) size.Auto size.Absent (an_item (pos 0) (pos 1) (pos 20) (pos 50) ∷ []))
+    high_space ≡ pos 85
 unfolding clamp floor_div sized group_fitted spans_fitted handed_by_level left_flexible
 high_total = refl
 
 -- A percentage gap is nothing of an intrinsic space, and a percentage column is `auto`.
-percentages_of_nothing : total_for (columns_with (record { least = breadth.Percent 50000; most = breadth.Percent 50000; fit = None } ∷ px_track 30 ∷ []) (size.Percent 10000) size.Auto size.Absent (an_item (pos 0) (pos 1) (pos 20) (pos 50) ∷ [])) low_space ≡ pos 50
+percentages_of_nothing : total_for
+    (columns_with (record { least = breadth.Percent 50000; most = breadth.Percent 50000; fit = None } ∷ px_track 30 ∷ []) (size.Percent 10000)
+    size.Auto size.Absent (an_item (pos 0) (pos 1) (pos 20) (pos 50) ∷ [])) low_space ≡ pos 50
 unfolding clamp floor_div sized group_fitted spans_fitted handed_by_level left_flexible
 percentages_of_nothing = refl
 
 -- Under a declared maximum of 60 the `auto` column grows by what that leaves of 20 and 30, to 30.
-within_maximum : total_for (columns_with (auto_track ∷ px_track 30 ∷ []) size.Normal size.Auto (size.Length (pos 60)) (an_item (pos 0) (pos 1) (pos 20) (pos 50) ∷ [])) high_space ≡ pos 60
+within_maximum : total_for
+    (columns_with (auto_track ∷ px_track 30 ∷ []) size.Normal size.Auto (size.Length (pos 60))
+    (an_item (pos 0) (pos 1) (pos 20) (pos 50) ∷ [])) high_space ≡ pos 60
 unfolding clamp floor_div sized group_fitted spans_fitted handed_by_level left_flexible
 within_maximum = refl
 
 -- Up to a declared minimum of 100 an `auto` column is stretched.
-up_to_minimum : total_for (columns_with (auto_track ∷ px_track 30 ∷ []) size.Normal (size.Length (pos 100)) size.Absent (an_item (pos 0) (pos 1) (pos 20) (pos 50) ∷ [])) low_space ≡ pos 100
+up_to_minimum : total_for
+    (columns_with (auto_track ∷ px_track 30 ∷ []) size.Normal (size.Length (pos 100)) size.Absent
+    (an_item (pos 0) (pos 1) (pos 20) (pos 50) ∷ [])) low_space ≡ pos 100
 unfolding clamp floor_div sized group_fitted spans_fitted handed_by_level left_flexible
 up_to_minimum = refl
 
 -- In a width of 200 a gap of 10% is 20, and the `auto` column is stretched over what is left.
-in_width : view_for {axis = 0} (columns_with (auto_track ∷ px_track 30 ∷ []) (size.Percent 10000) size.Auto size.Absent (an_item (pos 0) (pos 1) (pos 20) (pos 50) ∷ [])) (pos 200) ≡ record { edges = (pos 0, pos 150) ∷ (pos 170, pos 200) ∷ []; gap = pos 20 }
+in_width : view_for {axis = 0}
+    (columns_with (auto_track ∷ px_track 30 ∷ []) (size.Percent 10000) size.Auto size.Absent (an_item (pos 0) (pos 1) (pos 20) (pos 50) ∷ []))
+    (pos 200) ≡ record { edges = (pos 0, pos 150) ∷ (pos 170, pos 200) ∷ []; gap = pos 20 }
 unfolding clamp floor_div sized group_fitted spans_fitted handed_by_level left_flexible
 in_width = refl
 
 -- What a subgrid is given is what it sees.
-given_tracks : view_by {axis = 0} (columns_with [] size.Normal size.Auto size.Absent []) (given.Tracks ((pos 0, pos 9) ∷ []) (pos 3)) ≡ record { edges = (pos 0, pos 9) ∷ []; gap = pos 3 }
+given_tracks : view_by {axis = 0} (columns_with [] size.Normal size.Auto size.Absent []) (given.Tracks ((pos 0, pos 9) ∷ []) (pos 3)) ≡
+    record { edges = (pos 0, pos 9) ∷ []; gap = pos 3 }
 given_tracks = refl

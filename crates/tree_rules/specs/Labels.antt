@@ -296,7 +296,18 @@ plain_content_axis = record { size = size.Auto; least = size.Auto; most = size.A
 
 -- where no content-class property is set
 abbrev pub plain_content : ContentStyle
-plain_content = record { inline = plain_content_axis; block = plain_content_axis; border_box = false; scrolls = false; column = false; wrap = false; grow = 0; shrink = 1000; basis = size.Auto }
+plain_content = record {
+  inline = plain_content_axis;
+  block = plain_content_axis;
+  border_box = false;
+  scrolls = false;
+  column = false;
+  wrap = false;
+  grow = 0;
+  shrink
+      = 1000;
+  basis = size.Auto;
+}
 
 -- ---- worked rows
 

@@ -45,7 +45,8 @@ empty_item (l ∷ outer) =
 -- a subgrid over the lines 1 to 3 of one over the lines 4 to 8, with gaps of 10, 4 and 0, and margins, borders and paddings of 1 and 2, and of 5
 -- and 7
 abbrev two_levels : List Level
-two_levels = record { span = record { start = pos 1; end = pos 3 }; gap = pos 10; outer_gap = pos 4; before = pos 1; after = pos 2 } ∷ record { span = record { start = pos 4; end = pos 8 }; gap = pos 4; outer_gap = pos 0; before = pos 5; after = pos 7 } ∷ []
+two_levels = record { span = record { start = pos 1; end = pos 3 }; gap = pos 10; outer_gap = pos 4; before = pos 1; after = pos 2 } ∷
+    record { span = record { start = pos 4; end = pos 8 }; gap = pos 4; outer_gap = pos 0; before = pos 5; after = pos 7 } ∷ []
 
 -- Its line 0 is line 5 of the grid that sizes the tracks.
 lifted_span : lifted two_levels (record { start = pos 0; end = pos 2 }) ≡ record { start = pos 5; end = pos 7 }
@@ -61,7 +62,8 @@ unfolding clamp floor_div
 extra_inside = refl
 
 -- An item of contents 20 and 30 there with margins of 4 is 32 and 42 wide.
-lent_child : child_item two_levels false false (record plain_axis { margin_start = Some (pos 4) }) plain_content_axis (record { start = pos 0; end = pos 1 }) (pos 20, pos 30)
+lent_child : child_item two_levels false false (record plain_axis { margin_start = Some (pos 4) }) plain_content_axis
+    (record { start = pos 0; end = pos 1 }) (pos 20, pos 30)
     ≡ record { span = record { start = pos 5; end = pos 6 }; low = pos 32; high = pos 42; floor = Content (pos 20) (pos 12) (pos 0) }
 unfolding clamp floor_div
 lent_child = refl

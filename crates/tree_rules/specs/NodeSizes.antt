@@ -78,7 +78,13 @@ pub record Bounds : Type 0 where
 abbrev pub bounds_of : Option ℤ → Bool → GridAxis → ContentAxis → Bounds
 bounds_of base border_box g c =
     let p = inner g in
-    record { inner = p; size = option_map (border_size border_box p) (resolved base c.size); least = option_map (border_size border_box p) (resolved base c.least); most = option_map (border_size border_box p) (resolved base c.most) }
+    record {
+      inner = p;
+      size = option_map (border_size border_box p) (resolved base c.size);
+      least = option_map (border_size border_box p)
+          (resolved base c.least);
+      most = option_map (border_size border_box p) (resolved base c.most);
+    }
 
 -- A border-box size limited by the maximum, then by the minimum, and by borders and paddings (CSS Sizing 3, section 5.2). The minimum
 -- `auto` is 0 here.
@@ -175,7 +181,9 @@ sized s least most = record plain_content_axis { size = s; least = least; most =
 
 -- borders and paddings of 6 and 4, margins of 3 and `auto`
 abbrev thick : GridAxis
-thick = record plain_axis { margin_start = Some (pos 3); margin_end = None; border_start = pos 1; border_end = pos 2; padding_start = pos 5; padding_end = pos 2 }
+thick =
+    record plain_axis
+    { margin_start = Some (pos 3); margin_end = None; border_start = pos 1; border_end = pos 2; padding_start = pos 5; padding_end = pos 2 }
 
 auto_counts_0 : margins thick ≡ pos 3
 auto_counts_0 = refl
@@ -218,12 +226,14 @@ unfolding clamp
 scrolling = refl
 
 -- A percentage minimum counts 0.
-percentage_minimum : floor_of (size.Percent 100000) false (bounds_of None false thick (sized size.Auto (size.Percent 100000) size.Absent)) (pos 3) (pos 20) ≡ Known (pos 13)
+percentage_minimum : floor_of (size.Percent 100000) false (bounds_of None false thick (sized size.Auto (size.Percent 100000) size.Absent)) (pos 3)
+    (pos 20) ≡ Known (pos 13)
 unfolding clamp
 percentage_minimum = refl
 
 -- A declared minimum of 7 is 17 with inner 10; with a declared size of 8 the minimum is the whole contribution, 3 + 18.
-declared_minimum : floor_of (size.Length (pos 7)) false (bounds_of None false thick (sized size.Auto (size.Length (pos 7)) size.Absent)) (pos 3) (pos 20) ≡ Known (pos 20)
+declared_minimum : floor_of (size.Length (pos 7)) false (bounds_of None false thick (sized size.Auto (size.Length (pos 7)) size.Absent)) (pos 3)
+    (pos 20) ≡ Known (pos 20)
 unfolding clamp
 declared_minimum = refl
 
@@ -261,5 +271,6 @@ not_by_margin = refl
 not_by_size : is_stretched (record { mode = align_mode.Stretch; safe = None }) plain_axis (sized (size.Percent 0) size.Auto size.Absent) ≡ false
 not_by_size = refl
 
-by_container : self_align (record { mode = align_mode.Auto; safe = None }) (record { mode = align_mode.Center; safe = Some true }) ≡ record { mode = align_mode.Center; safe = Some true }
+by_container : self_align (record { mode = align_mode.Auto; safe = None }) (record { mode = align_mode.Center; safe = Some true }) ≡
+    record { mode = align_mode.Center; safe = Some true }
 by_container = refl

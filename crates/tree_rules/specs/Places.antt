@@ -60,7 +60,10 @@ sub = record plain_grid { columns = record plain_axis { template = template.Subg
 
 -- a grid of a grid and a subgrid, which has a subgrid
 abbrev three_levels : Trees Label
-three_levels = tree (grid_of (codes "a") plain_grid) (tree (grid_of (codes "b") plain_grid) leafless (tree (grid_of (codes "c") sub) (tree (grid_of (codes "d") sub) leafless leafless) leafless)) leafless
+three_levels =
+    tree (grid_of (codes "a") plain_grid)
+    (tree (grid_of (codes "b") plain_grid) leafless (tree (grid_of (codes "c") sub) (tree (grid_of (codes "d") sub) leafless leafless) leafless))
+    leafless
 
 abbrev name_of : Option Seen → List ℕ
 name_of None = []

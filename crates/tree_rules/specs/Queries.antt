@@ -128,7 +128,10 @@ same_given a b = false
 
 -- the same question
 abbrev pub same_query : Query → Query → Bool
-same_query q r = (ask_number q.ask == ask_number r.ask) && (same_items (λ (a : Pair) (b : Pair). (a.0 == b.0) && (a.1 == b.1)) q.reps r.reps && (same_given q.inline r.inline && same_given q.block r.block))
+same_query q r =
+    (ask_number q.ask == ask_number r.ask) &&
+    (same_items (λ (a : Pair) (b : Pair). (a.0 == b.0) && (a.1 == b.1)) q.reps r.reps &&
+    (same_given q.inline r.inline && same_given q.block r.block))
 
 -- ---- worked rows
 
@@ -137,7 +140,11 @@ question a inline block = record { ask = a; reps = []; inline = inline; block = 
 
 -- a leaf of 40 by 20
 abbrev a_leaf : Seen
-a_leaf = record { label = record { name = []; kind = kind.Leaf (content.Fixed (pos 40) (pos 20)); grid = plain_grid; content = plain_content }; chain = []; below = leafless }
+a_leaf = record {
+  label = record { name = []; kind = kind.Leaf (content.Fixed (pos 40) (pos 20)); grid = plain_grid; content = plain_content };
+  chain = [];
+  below = leafless;
+}
 
 its_sizes : answer_of a_leaf (question ask.Inline given.None given.None) ≡ inline_sizes (pos 40, pos 40)
 its_sizes = refl
@@ -169,5 +176,6 @@ other_width = refl
 other_ask : same_query (question ask.Block (given.Size (pos 7)) given.None) (question ask.LendRows (given.Size (pos 7)) given.None) ≡ false
 other_ask = refl
 
-same_tracks : same_query (question ask.Block (given.Tracks ((pos 0, pos 7) ∷ []) (pos 2)) given.None) (question ask.Block (given.Tracks ((pos 0, pos 7) ∷ []) (pos 2)) given.None) ≡ true
+same_tracks : same_query (question ask.Block (given.Tracks ((pos 0, pos 7) ∷ []) (pos 2)) given.None)
+    (question ask.Block (given.Tracks ((pos 0, pos 7) ∷ []) (pos 2)) given.None) ≡ true
 same_tracks = refl

@@ -88,7 +88,11 @@ columns_space x given.None = space_of x.content.border_box x.grid.columns x.cont
 -- The counts of a grid that is given this in the inline axis. Rows are always counted by the declared sizes, also once the height is given
 -- (own rule).
 abbrev pub own_pair : Label → Given → Pair
-own_pair x width = (template_count x.grid.columns x.grid.columns.template (columns_space x width), template_count x.grid.rows x.grid.rows.template (space_of x.content.border_box x.grid.rows x.content.block))
+own_pair x width = (
+  template_count x.grid.columns x.grid.columns.template (columns_space x width),
+  template_count x.grid.rows x.grid.rows.template
+      (space_of x.content.border_box x.grid.rows x.content.block),
+)
 
 -- ---- worked rows, in units
 
@@ -111,11 +115,20 @@ by_nothing : space_of false plain_axis (of_sizes (size.Percent 50000) (size.Perc
 by_nothing = refl
 
 -- Under `border-box` 100 less paddings of 30 are left.
-by_border_box : space_of true (record plain_axis { padding_start = pos 10; padding_end = pos 20 }) (of_sizes (size.Length (pos 100)) size.Auto size.Absent) ≡ Fits (pos 70)
+by_border_box : space_of true (record plain_axis { padding_start = pos 10; padding_end = pos 20 })
+    (of_sizes (size.Length (pos 100)) size.Auto size.Absent) ≡ Fits (pos 70)
 by_border_box = refl
 
 abbrev repeating : Breadth → Breadth → Template
-repeating a b = template.Tracks (record { sizes = []; names = [] ∷ [] ∷ []; repeat = Some (record { before = 0; auto_fit = false; sizes = record { least = a; most = b; fit = None } ∷ []; names = [] ∷ [] ∷ [] }) })
+repeating a b =
+    template.Tracks
+    (record {
+      sizes = [];
+      names = [] ∷ [] ∷
+          [];
+      repeat = Some
+          (record { before = 0; auto_fit = false; sizes = record { least = a; most = b; fit = None } ∷ []; names = [] ∷ [] ∷ [] });
+    })
 
 -- Tracks of 10% of 6400, which are 640, with gaps of 5%, which are 320: six and five gaps are 5440, seven and six are 6400, and eight are 7360.
 percentages : template_count (record plain_axis { gap = size.Percent 5000 }) (repeating (breadth.Percent 10000) (breadth.Percent 10000)) (Fits (pos 6400)) ≡ 7
@@ -123,7 +136,8 @@ unfolding clamp floor_div
 percentages = refl
 
 -- minmax(200px, 1fr) counts as 200px: four of them with gaps of 20px fit 980px, and five do not.
-by_least : template_count (record plain_axis { gap = size.Length (pos 1280) }) (repeating (breadth.Length (pos 12800)) (breadth.Flex 1000)) (Fits (pos 62720)) ≡ 4
+by_least : template_count (record plain_axis { gap = size.Length (pos 1280) }) (repeating (breadth.Length (pos 12800)) (breadth.Flex 1000))
+    (Fits (pos 62720)) ≡ 4
 unfolding clamp floor_div
 by_least = refl
 

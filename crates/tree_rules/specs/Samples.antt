@@ -49,7 +49,8 @@ named_tracks names sizes = template.Tracks (record { sizes = sizes; names = map 
 
 -- a repeat alone, with these names of its lines and of those around it
 abbrev pub repeated : Bool → List TrackFn → List (List (List ℕ)) → List (List (List ℕ)) → Template
-repeated fit sizes names around = template.Tracks (record { sizes = []; names = around; repeat = Some (record { before = 0; auto_fit = fit; sizes = sizes; names = names }) })
+repeated fit sizes names around =
+    template.Tracks (record { sizes = []; names = around; repeat = Some (record { before = 0; auto_fit = fit; sizes = sizes; names = names }) })
 
 -- ---- styles
 
@@ -86,7 +87,8 @@ abbrev pub leaf : List ℕ → ℤ → ℤ → GridStyle → ContentStyle → La
 leaf name width height g c = record { name = name; kind = kind.Leaf (content.Fixed width height); grid = g; content = c }
 
 abbrev pub words : List ℕ → ℕ → ℕ → List ℕ → GridStyle → Label
-words name height space widths g = record { name = name; kind = kind.Leaf (content.Words (px height) (px space) (map px widths)); grid = g; content = plain_content }
+words name height space widths g = record
+    { name = name; kind = kind.Leaf (content.Words (px height) (px space) (map px widths)); grid = g; content = plain_content }
 
 -- a leaf of so many px without declarations
 abbrev pub plain_leaf : List ℕ → ℕ → ℕ → Label

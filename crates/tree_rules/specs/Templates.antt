@@ -81,7 +81,15 @@ px_track n = record { least = breadth.Length (pos n); most = breadth.Length (pos
 
 -- repeat(auto-fill, [a] 100px) [z], three times: the lines a, a, a and z
 abbrev three_times : Written
-three_times = written (template.Tracks (record { sizes = []; names = [] ∷ (z_name ∷ []) ∷ []; repeat = Some (record { before = 0; auto_fit = false; sizes = px_track 6400 ∷ []; names = (a_name ∷ []) ∷ [] ∷ [] }) })) 3
+three_times =
+    written
+    (template.Tracks
+    (record {
+      sizes = [];
+      names = [] ∷ (z_name ∷ []) ∷
+          [];
+      repeat = Some (record { before = 0; auto_fit = false; sizes = px_track 6400 ∷ []; names = (a_name ∷ []) ∷ [] ∷ [] });
+    })) 3
 
 three_names : three_times.names ≡ (a_name ∷ []) ∷ (a_name ∷ []) ∷ (a_name ∷ []) ∷ (z_name ∷ []) ∷ []
 three_names = refl
@@ -91,7 +99,15 @@ three_sizes = refl
 
 -- auto [a] repeat(auto-fit, [z] 1px [a]) [z] 2px, twice: the line before the repeat is `a z`, the seam `a z`, the line after it `a z`
 abbrev twice : Written
-twice = written (template.Tracks (record { sizes = auto_track ∷ px_track 128 ∷ []; names = [] ∷ (a_name ∷ []) ∷ (z_name ∷ []) ∷ [] ∷ []; repeat = Some (record { before = 1; auto_fit = true; sizes = px_track 64 ∷ []; names = (z_name ∷ []) ∷ (a_name ∷ []) ∷ [] }) })) 2
+twice =
+    written
+    (template.Tracks
+    (record {
+      sizes = auto_track ∷ px_track 128 ∷ [];
+      names = [] ∷ (a_name ∷ []) ∷ (z_name ∷ []) ∷ [] ∷
+          [];
+      repeat = Some (record { before = 1; auto_fit = true; sizes = px_track 64 ∷ []; names = (z_name ∷ []) ∷ (a_name ∷ []) ∷ [] });
+    })) 2
 
 seams : twice.names ≡ [] ∷ (a_name ∷ z_name ∷ []) ∷ (a_name ∷ z_name ∷ []) ∷ (a_name ∷ z_name ∷ []) ∷ [] ∷ []
 seams = refl

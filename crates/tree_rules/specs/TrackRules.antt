@@ -100,25 +100,31 @@ abbrev sized_by : Breadth → Breadth → Option Breadth → TrackFn
 sized_by a b f = record { least = a; most = b; fit = f }
 
 -- 25% of 1000 is 250, and of nothing `auto`.
-percentage : rule_of (Some (pos 1000)) (sized_by (breadth.Percent 25000) (breadth.Percent 25000) None) false ≡ record { least = least.Fixed (pos 250); most = most.Fixed (pos 250); collapsed = false }
+percentage : rule_of (Some (pos 1000)) (sized_by (breadth.Percent 25000) (breadth.Percent 25000) None) false ≡
+    record { least = least.Fixed (pos 250); most = most.Fixed (pos 250); collapsed = false }
 unfolding clamp floor_div
 percentage = refl
 
-percentage_of_nothing : rule_of None (sized_by (breadth.Percent 25000) (breadth.Percent 25000) None) false ≡ record { least = least.Auto; most = most.Auto; collapsed = false }
+percentage_of_nothing : rule_of None (sized_by (breadth.Percent 25000) (breadth.Percent 25000) None) false ≡
+    record { least = least.Auto; most = most.Auto; collapsed = false }
 percentage_of_nothing = refl
 
 -- minmax(30, 20) is minmax(30, 30).
-raised : rule_of None (sized_by (breadth.Length (pos 30)) (breadth.Length (pos 20)) None) false ≡ record { least = least.Fixed (pos 30); most = most.Fixed (pos 30); collapsed = false }
+raised : rule_of None (sized_by (breadth.Length (pos 30)) (breadth.Length (pos 20)) None) false ≡
+    record { least = least.Fixed (pos 30); most = most.Fixed (pos 30); collapsed = false }
 raised = refl
 
 -- fit-content(40) caps `max-content` at 40; fit-content(50%) of nothing does not cap it.
-capped : rule_of None (sized_by breadth.Auto breadth.MaxContent (Some (breadth.Length (pos 40)))) false ≡ record { least = least.Auto; most = most.Fit (pos 40); collapsed = false }
+capped : rule_of None (sized_by breadth.Auto breadth.MaxContent (Some (breadth.Length (pos 40)))) false ≡
+    record { least = least.Auto; most = most.Fit (pos 40); collapsed = false }
 capped = refl
 
-not_capped : rule_of None (sized_by breadth.Auto breadth.MaxContent (Some (breadth.Percent 50000))) false ≡ record { least = least.Auto; most = most.MaxContent; collapsed = false }
+not_capped : rule_of None (sized_by breadth.Auto breadth.MaxContent (Some (breadth.Percent 50000))) false ≡
+    record { least = least.Auto; most = most.MaxContent; collapsed = false }
 not_capped = refl
 
-capped_by_percentage : rule_of (Some (pos 90)) (sized_by breadth.Auto breadth.MaxContent (Some (breadth.Percent 50000))) false ≡ record { least = least.Auto; most = most.Fit (pos 45); collapsed = false }
+capped_by_percentage : rule_of (Some (pos 90)) (sized_by breadth.Auto breadth.MaxContent (Some (breadth.Percent 50000))) false ≡
+    record { least = least.Auto; most = most.Fit (pos 45); collapsed = false }
 unfolding clamp floor_div
 capped_by_percentage = refl
 
@@ -131,7 +137,8 @@ of_size n collapsed = record { least = least.Fixed (pos n); most = most.Fixed (p
 
 -- The tracks from -1 to 4 with an item in the second one: the first repeated one collapses; before it stands the last automatic size, and after
 -- the template the automatic ones from the first on.
-around_template : axis_rules None (record plain_axis { autos = px_track 2 ∷ px_track 3 ∷ [] }) fitting (record { start = pos 1; end = pos 2 } ∷ []) (tracks_of (record { start = negsuc 0; end = pos 4 }))
+around_template : axis_rules None (record plain_axis { autos = px_track 2 ∷ px_track 3 ∷ [] }) fitting
+    (record { start = pos 1; end = pos 2 } ∷ []) (tracks_of (record { start = negsuc 0; end = pos 4 }))
     ≡ of_size 3 false ∷ of_size 1 true ∷ of_size 1 false ∷ of_size 2 false ∷ of_size 3 false ∷ []
 around_template = refl
 

@@ -77,7 +77,9 @@ abbrev pub line_settings : Prop → Prop → LineValue × LineValue → Settings
 line_settings p q read = two_settings p q (line_value read.0) (line_value read.1)
 
 abbrev pub area_settings : FourLines → Settings
-area_settings read = (prop.GridRowStart, line_value read.0) ∷ (prop.GridColumnStart, line_value read.1) ∷ (prop.GridRowEnd, line_value read.2) ∷ (prop.GridColumnEnd, line_value read.3) ∷ []
+area_settings read =
+    (prop.GridRowStart, line_value read.0) ∷ (prop.GridColumnStart, line_value read.1) ∷ (prop.GridRowEnd, line_value read.2) ∷
+    (prop.GridColumnEnd, line_value read.3) ∷ []
 
 abbrev pub gap_settings : Measured × Measured → Settings
 gap_settings read = two_settings prop.RowGap prop.ColumnGap (size_value read.0) (size_value read.1)
@@ -97,9 +99,13 @@ parts_of relative shorthand.GridColumn words = option_map (line_settings prop.Gr
 parts_of relative shorthand.GridRow words = option_map (line_settings prop.GridRowStart prop.GridRowEnd) (two_lines words)
 parts_of relative shorthand.GridArea words = option_map area_settings (four_lines words)
 parts_of relative shorthand.Gap words = option_map gap_settings (two_sizes relative gap_form words)
-parts_of relative shorthand.Margin words = option_map (side_settings prop.MarginTop prop.MarginRight prop.MarginBottom prop.MarginLeft) (side_sizes relative margin_form words)
-parts_of relative shorthand.Padding words = option_map (side_settings prop.PaddingTop prop.PaddingRight prop.PaddingBottom prop.PaddingLeft) (side_sizes relative edge_form words)
-parts_of relative shorthand.BorderWidth words = option_map (side_settings prop.BorderTopWidth prop.BorderRightWidth prop.BorderBottomWidth prop.BorderLeftWidth) (side_sizes relative edge_form words)
+parts_of relative shorthand.Margin words =
+    option_map (side_settings prop.MarginTop prop.MarginRight prop.MarginBottom prop.MarginLeft) (side_sizes relative margin_form words)
+parts_of relative shorthand.Padding words =
+    option_map (side_settings prop.PaddingTop prop.PaddingRight prop.PaddingBottom prop.PaddingLeft) (side_sizes relative edge_form words)
+parts_of relative shorthand.BorderWidth words =
+    option_map (side_settings prop.BorderTopWidth prop.BorderRightWidth prop.BorderBottomWidth prop.BorderLeftWidth)
+    (side_sizes relative edge_form words)
 parts_of relative shorthand.Flex words = option_map flex_settings (flex_of relative words)
 
 abbrev pub one_setting : Prop → DeclaredValue → Settings

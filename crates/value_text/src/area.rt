@@ -38,7 +38,8 @@ fn piece_of(text: &[u8]) -> (&[u8], bool)
 
 /// The text of a word that begins a string.
 fn opened(word: &[u8]) -> Option<&[u8]>
-    ensures { MatchOption result (opened word.now ≡ None) (λ text. opened word.now ≡ Some text.now) }
+    ensures { MatchOption result (opened word.now ≡ None)
+        (λ text. opened word.now ≡ Some text.now) }
 {
     match word.split_first() {
         Some((34, text)) => Some(text),
@@ -47,7 +48,8 @@ fn opened(word: &[u8]) -> Option<&[u8]>
 }
 
 fn piece(within: bool, word: &[u8]) -> Option<(&[u8], bool)>
-    ensures { MatchOption result (piece within word.now ≡ None) (λ p. piece within word.now ≡ Some (p.0.now, p.1)) }
+    ensures { MatchOption result (piece within word.now ≡ None)
+        (λ p. piece within word.now ≡ Some (p.0.now, p.1)) }
 {
     if within {
         return Some(piece_of(word));
@@ -76,7 +78,9 @@ fn going_on(reading: Reading, column: u32) -> Reading
 
 /// A cell of this name.
 fn named_cell(reading: Reading, name: Name, column: u32) -> Result<Reading, NoMemory>
-    ensures { IfOk result (λ next. next ≡ going_on reading column (add_cell reading.found name reading.rows reading.column)) }
+    ensures { IfOk result
+        (λ next. next ≡
+        going_on reading column (add_cell reading.found name reading.rows reading.column)) }
 {
     let Reading {
         within: _,

@@ -128,7 +128,8 @@ fn with_more(
 ) -> Result<Sequence<Found>, NoMemory>
     requires { place_from 0 name list ≡ Some place }
     ensures list { IfOk result (λ more. more ≡ add_cell list name row column) }
-    ensures places { IfOk result (λ more. (q : List ℕ) → place_from 0 q list ≡ place_from 0 q more) }
+    ensures places { IfOk result
+        (λ more. (q : List ℕ) → place_from 0 q list ≡ place_from 0 q more) }
 {
     let mut list = list;
     let found = match list.get(place) {

@@ -59,7 +59,8 @@ fn read_value(
     tokens: &[Token],
 ) -> Result<Sequence<(Prop, DeclaredValue)>, ReadError>
     requires { list_all (fits text.now) tokens.now ≡ true }
-    ensures { Reads result (value_reading at relative property (map (word_at text.now) tokens.now)) }
+    ensures { Reads result
+        (value_reading at relative property (map (word_at text.now) tokens.now)) }
 {
     if is_refused(relative, refused_by(property), Words::new(text, tokens)) {
         return Err(fault(UNSUPPORTED, at));
@@ -134,7 +135,9 @@ fn by_property(
 ) -> Result<Sequence<(Prop, DeclaredValue)>, ReadError>
     requires token { fits text.now token ≡ true }
     requires tokens { list_all (fits text.now) tokens.now ≡ true }
-    ensures { Reads result (by_property at relative text.now token tokens.now (property_of relative (word_at text.now token))) }
+    ensures { Reads result
+        (by_property at relative text.now token tokens.now
+        (property_of relative (word_at text.now token))) }
 {
     match property_of(relative, &text[token.start..token.end]) {
         None => Err(fault(UNKNOWN_PROPERTY, place_after(at, token.start))),

@@ -106,7 +106,11 @@ fn other_lines(
     row_end: LineValue,
     column_end: LineValue,
 ) -> Result<Sequence<(Prop, DeclaredValue)>, NoMemory>
-    ensures { IfOk result (λ all. all ≡ (prop.GridRowStart, row) ∷ (prop.GridColumnStart, line_value column) ∷ (prop.GridRowEnd, line_value row_end) ∷ (prop.GridColumnEnd, line_value column_end) ∷ []) }
+    ensures { IfOk result
+        (λ all. all ≡
+        (prop.GridRowStart, row) ∷ (prop.GridColumnStart, line_value column) ∷
+        (prop.GridRowEnd, line_value row_end) ∷
+        (prop.GridColumnEnd, line_value column_end) ∷ []) }
 {
     let column = line(alloc, column);
     let mut all = two_settings(
@@ -149,7 +153,10 @@ fn other_sides(
     bottom: Measured,
     left: Measured,
 ) -> Result<Sequence<(Prop, DeclaredValue)>, NoMemory>
-    ensures { IfOk result (λ all. all ≡ (props.top, top) ∷ (props.right, size_value right) ∷ (props.bottom, size_value bottom) ∷ (props.left, size_value left) ∷ []) }
+    ensures { IfOk result
+        (λ all. all ≡
+        (props.top, top) ∷ (props.right, size_value right) ∷ (props.bottom, size_value bottom) ∷
+        (props.left, size_value left) ∷ []) }
 {
     let right = size_value(alloc, right.size, right.unit)?;
     let mut all = two_settings(alloc, props.top, props.right, top, right)?;
@@ -166,7 +173,9 @@ fn sides(
     form: SizeForm,
     words: Words,
 ) -> Result<Sequence<(Prop, DeclaredValue)>, Stop>
-    ensures { Gives result (option_map (side_settings props.top props.right props.bottom props.left) (side_sizes relative form words.entry)) }
+    ensures { Gives result
+        (option_map (side_settings props.top props.right props.bottom props.left)
+        (side_sizes relative form words.entry)) }
 {
     let (top, right, bottom, left) = side_sizes(relative, form, words).ok_or(Stop::Bad)?;
     let top = size_value(alloc, top.size, top.unit)?;
@@ -230,7 +239,8 @@ fn longhand(
     p: Prop,
     words: Words,
 ) -> Result<Sequence<(Prop, DeclaredValue)>, Stop>
-    ensures { Gives result (option_map (one_setting p) (value_of relative (form_of p) words.entry)) }
+    ensures { Gives result
+        (option_map (one_setting p) (value_of relative (form_of p) words.entry)) }
 {
     let value = value_of(alloc, relative, form_of(p), words)?;
     Ok(one_setting(alloc, p, value)?)

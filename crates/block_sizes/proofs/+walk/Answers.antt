@@ -76,8 +76,10 @@ has_kind k s = is_grid_kind k && has_subgrid s
 pub asking::ask_lent-lend_rows_at-requires : goal.asking::ask_lent-lend_rows_at-requires
 asking::ask_lent-lend_rows_at-requires g t c =
     let live : IsLive (bare c.args.tree.now.tree) c.args.entry.child = c.requires.entry.entry.live in
-    let fits : Fits (sight_at (bare c.args.tree.now.tree) c.args.entry.child) (block_query true c.as_slice-reps.result.now c.args.width.now) = subst (λ (r : List Pair). Fits (sight_at (bare c.args.tree.now.tree) c.args.entry.child) (block_query true r c.args.width.now)) ((pairs_all (bare c.args.tree.now.tree) c.args.id c.args.base.now c.args.entry c.requires.entry (shared_chain (bare c.args.tree.now.tree) c.args.id c.args.base.now c.args.entry c.requires.entry c.requires.shared)) ∙ sym c.as_slice-reps.ensures) c.requires.fits in
-    let seat : IsSeat (sight_at (bare c.args.tree.now.tree) c.args.entry.child) c.as_slice-reps.result.now c.args.base.now.above c.args.entry.area = subst (λ (r : List Pair). IsSeat (sight_at (bare c.args.tree.now.tree) c.args.entry.child) r c.args.base.now.above c.args.entry.area) (sym c.as_slice-reps.ensures) (c.requires.entry.entry.seat (shared_chain (bare c.args.tree.now.tree) c.args.id c.args.base.now c.args.entry c.requires.entry c.requires.shared)) in
+    let fits : Fits (sight_at (bare c.args.tree.now.tree) c.args.entry.child) (block_query true c.as_slice-reps.result.now c.args.width.now) = subst (λ (r : List Pair). Fits (sight_at (bare c.args.tree.now.tree) c.args.entry.child) (block_query true r c.args.width.now))
+    ((pairs_all (bare c.args.tree.now.tree) c.args.id c.args.base.now c.args.entry c.requires.entry (shared_chain (bare c.args.tree.now.tree) c.args.id c.args.base.now c.args.entry c.requires.entry c.requires.shared)) ∙ sym c.as_slice-reps.ensures) c.requires.fits in
+    let seat : IsSeat (sight_at (bare c.args.tree.now.tree) c.args.entry.child) c.as_slice-reps.result.now c.args.base.now.above c.args.entry.area = subst (λ (r : List Pair). IsSeat (sight_at (bare c.args.tree.now.tree) c.args.entry.child) r c.args.base.now.above c.args.entry.area)
+    (sym c.as_slice-reps.ensures) (c.requires.entry.entry.seat (shared_chain (bare c.args.tree.now.tree) c.args.id c.args.base.now c.args.entry c.requires.entry c.requires.shared)) in
     let small : 16 * size_at (bare c.args.tree.now.tree) c.args.entry.child + 6 < 16 * size_at (bare c.args.tree.now.tree) c.args.entry.child + 7 = omega arith in
     search rules
 
@@ -90,68 +92,105 @@ asking::ask_lent-returns-in-Some-clause-stopped g t c = on_err _ _ (walked_stopp
 pub asking::ask_lent-returns-in-Some-clause-items : goal.asking::ask_lent-returns-in-Some-clause-items
 asking::ask_lent-returns-in-Some-clause-items g t c =
     let kept : c.as_slice.result.now ≡ ((kid_at (bare c.args.tree.now.tree) c.args.entry.child).answers.down (pairs_seen (bare c.args.tree.now.tree) c.args.base.now c.args.entry) c.args.width.now).lend_rows =
-    c.as_slice.ensures ∙ items_are _ _ c.in-Some.ensures.value ∙ ap (λ (r : List Pair). ((kid_at (bare c.args.tree.now.tree) c.args.entry.child).answers.down r c.args.width.now).lend_rows) (c.as_slice-reps.ensures ∙ sym (pairs_all (bare c.args.tree.now.tree) c.args.id c.args.base.now c.args.entry c.requires.entry (shared_chain (bare c.args.tree.now.tree) c.args.id c.args.base.now c.args.entry c.requires.entry c.requires.shared))) in
+    c.as_slice.ensures ∙ items_are _ _ c.in-Some.ensures.value ∙
+    ap (λ (r : List Pair). ((kid_at (bare c.args.tree.now.tree) c.args.entry.child).answers.down r c.args.width.now).lend_rows)
+    (c.as_slice-reps.ensures ∙ sym (pairs_all (bare c.args.tree.now.tree) c.args.id c.args.base.now c.args.entry c.requires.entry (shared_chain (bare c.args.tree.now.tree) c.args.id c.args.base.now c.args.entry c.requires.entry c.requires.shared))) in
     on_ok_by c.append.result (c.append.new.items ≡ c.args.items.now ++ c.as_slice.result.now)
     (c.append.new.items ≡ c.args.items.now ++ ((kid_at (bare c.args.tree.now.tree) c.args.entry.child).answers.down (pairs_seen (bare c.args.tree.now.tree) c.args.base.now c.args.entry) c.args.width.now).lend_rows)
     (λ e. e ∙ ap (λ (l : List Item). c.args.items.now ++ l) kept) c.append.ensures
 
 pub asking::ask_lent-returns-in_err-lent-clause-stopped : goal.asking::ask_lent-returns-in_err-lent-clause-stopped
 asking::ask_lent-returns-in_err-lent-clause-stopped g t c =
-    on_err _ _ (subst (λ (q : Query). Stopped c.args.entry.child q (state c.args.tree.now c.args.tally.now c.args.passes.now (g.R.Ruler.log c.args.ruler.now)) (state c.lend_rows_at.new.tree c.lend_rows_at.new.tally c.lend_rows_at.new.passes (g.R.Ruler.log c.lend_rows_at.new.ruler))) (ap (λ (r : List Pair). block_query true r c.args.width.now) (c.as_slice-reps.ensures ∙ sym (pairs_all (bare c.args.tree.now.tree) c.args.id c.args.base.now c.args.entry c.requires.entry (shared_chain (bare c.args.tree.now.tree) c.args.id c.args.base.now c.args.entry c.requires.entry c.requires.shared)))) c.in_err-lent.ensures.stopped)
+    on_err _ _
+    (subst (λ (q : Query). Stopped c.args.entry.child q (state c.args.tree.now c.args.tally.now c.args.passes.now (g.R.Ruler.log c.args.ruler.now)) (state c.lend_rows_at.new.tree c.lend_rows_at.new.tally c.lend_rows_at.new.passes (g.R.Ruler.log c.lend_rows_at.new.ruler)))
+    (ap (λ (r : List Pair). block_query true r c.args.width.now)
+    (c.as_slice-reps.ensures ∙ sym (pairs_all (bare c.args.tree.now.tree) c.args.id c.args.base.now c.args.entry c.requires.entry (shared_chain (bare c.args.tree.now.tree) c.args.id c.args.base.now c.args.entry c.requires.entry c.requires.shared))))
+    c.in_err-lent.ensures.stopped)
 
 pub asking::ask_lent-returns-in_err-append-clause-stopped : goal.asking::ask_lent-returns-in_err-append-clause-stopped
 asking::ask_lent-returns-in_err-append-clause-stopped g t c =
-    on_err _ _ (walked_stopped _ _ _ _ (subst (λ (q : Query). Walked c.args.entry.child q (state c.args.tree.now c.args.tally.now c.args.passes.now (g.R.Ruler.log c.args.ruler.now)) (state c.lend_rows_at.new.tree c.lend_rows_at.new.tally c.lend_rows_at.new.passes (g.R.Ruler.log c.lend_rows_at.new.ruler))) (ap (λ (r : List Pair). block_query true r c.args.width.now) (c.as_slice-reps.ensures ∙ sym (pairs_all (bare c.args.tree.now.tree) c.args.id c.args.base.now c.args.entry c.requires.entry (shared_chain (bare c.args.tree.now.tree) c.args.id c.args.base.now c.args.entry c.requires.entry c.requires.shared)))) c.in_ok-lent.ensures.walked))
+    on_err _ _
+    (walked_stopped _ _ _ _
+    (subst (λ (q : Query). Walked c.args.entry.child q (state c.args.tree.now c.args.tally.now c.args.passes.now (g.R.Ruler.log c.args.ruler.now)) (state c.lend_rows_at.new.tree c.lend_rows_at.new.tally c.lend_rows_at.new.passes (g.R.Ruler.log c.lend_rows_at.new.ruler)))
+    (ap (λ (r : List Pair). block_query true r c.args.width.now)
+    (c.as_slice-reps.ensures ∙ sym (pairs_all (bare c.args.tree.now.tree) c.args.id c.args.base.now c.args.entry c.requires.entry (shared_chain (bare c.args.tree.now.tree) c.args.id c.args.base.now c.args.entry c.requires.entry c.requires.shared))))
+    c.in_ok-lent.ensures.walked))
 
 pub asking::ask_lent-returns-clause-walked : goal.asking::ask_lent-returns-clause-walked
 asking::ask_lent-returns-clause-walked g t c =
-    (subst (λ (q : Query). Walked c.args.entry.child q (state c.args.tree.now c.args.tally.now c.args.passes.now (g.R.Ruler.log c.args.ruler.now)) (state c.lend_rows_at.new.tree c.lend_rows_at.new.tally c.lend_rows_at.new.passes (g.R.Ruler.log c.lend_rows_at.new.ruler))) (ap (λ (r : List Pair). block_query true r c.args.width.now) (c.as_slice-reps.ensures ∙ sym (pairs_all (bare c.args.tree.now.tree) c.args.id c.args.base.now c.args.entry c.requires.entry (shared_chain (bare c.args.tree.now.tree) c.args.id c.args.base.now c.args.entry c.requires.entry c.requires.shared)))) c.in_ok-lent.ensures.walked)
+    (subst (λ (q : Query). Walked c.args.entry.child q (state c.args.tree.now c.args.tally.now c.args.passes.now (g.R.Ruler.log c.args.ruler.now)) (state c.lend_rows_at.new.tree c.lend_rows_at.new.tally c.lend_rows_at.new.passes (g.R.Ruler.log c.lend_rows_at.new.ruler)))
+    (ap (λ (r : List Pair). block_query true r c.args.width.now)
+    (c.as_slice-reps.ensures ∙ sym (pairs_all (bare c.args.tree.now.tree) c.args.id c.args.base.now c.args.entry c.requires.entry (shared_chain (bare c.args.tree.now.tree) c.args.id c.args.base.now c.args.entry c.requires.entry c.requires.shared)))) c.in_ok-lent.ensures.walked)
 
 pub asking::ask_lent-returns-clause-items : goal.asking::ask_lent-returns-clause-items
 asking::ask_lent-returns-clause-items g t c =
-    c.in_ok-append.ensures ∙ ap (λ (l : List Item). c.args.items.now ++ l) (c.as_slice-2.ensures ∙ items_are _ _ c.in_ok-lent.ensures.value ∙ ap (λ (r : List Pair). ((kid_at (bare c.args.tree.now.tree) c.args.entry.child).answers.down r c.args.width.now).lend_rows) (c.as_slice-reps.ensures ∙ sym (pairs_all (bare c.args.tree.now.tree) c.args.id c.args.base.now c.args.entry c.requires.entry (shared_chain (bare c.args.tree.now.tree) c.args.id c.args.base.now c.args.entry c.requires.entry c.requires.shared))))
+    c.in_ok-append.ensures ∙
+    ap (λ (l : List Item). c.args.items.now ++ l)
+    (c.as_slice-2.ensures ∙ items_are _ _ c.in_ok-lent.ensures.value ∙
+    ap (λ (r : List Pair). ((kid_at (bare c.args.tree.now.tree) c.args.entry.child).answers.down r c.args.width.now).lend_rows)
+    (c.as_slice-reps.ensures ∙ sym (pairs_all (bare c.args.tree.now.tree) c.args.id c.args.base.now c.args.entry c.requires.entry (shared_chain (bare c.args.tree.now.tree) c.args.id c.args.base.now c.args.entry c.requires.entry c.requires.shared))))
 
 pub asking::ask_block-block_at-requires : goal.asking::ask_block-block_at-requires
 asking::ask_block-block_at-requires g t c =
     let live : IsLive (bare c.args.tree.now.tree) c.args.entry.child = c.requires.entry.entry.live in
-    let fits : Fits (sight_at (bare c.args.tree.now.tree) c.args.entry.child) (block_query false c.as_slice-reps.result.now c.args.width.now) = subst (λ (r : List Pair). Fits (sight_at (bare c.args.tree.now.tree) c.args.entry.child) (block_query false r c.args.width.now)) ((pairs_all (bare c.args.tree.now.tree) c.args.id c.args.base.now c.args.entry c.requires.entry (c.requires.entry.entry.chain ∙ (λ i. has_kind (sym c.node_at.ensures.kind i) (sym c.node_at.ensures.grid i)) ∙ sym c.has_subgrid.ensures ∙ c.if-has_subgrid.true)) ∙ sym c.as_slice-reps.ensures) c.requires.fits in
-    let seat : IsSeat (sight_at (bare c.args.tree.now.tree) c.args.entry.child) c.as_slice-reps.result.now c.args.base.now.above c.args.entry.area = subst (λ (r : List Pair). IsSeat (sight_at (bare c.args.tree.now.tree) c.args.entry.child) r c.args.base.now.above c.args.entry.area) (sym c.as_slice-reps.ensures) (c.requires.entry.entry.seat (c.requires.entry.entry.chain ∙ (λ i. has_kind (sym c.node_at.ensures.kind i) (sym c.node_at.ensures.grid i)) ∙ sym c.has_subgrid.ensures ∙ c.if-has_subgrid.true)) in
+    let fits : Fits (sight_at (bare c.args.tree.now.tree) c.args.entry.child) (block_query false c.as_slice-reps.result.now c.args.width.now) = subst (λ (r : List Pair). Fits (sight_at (bare c.args.tree.now.tree) c.args.entry.child) (block_query false r c.args.width.now))
+    ((pairs_all (bare c.args.tree.now.tree) c.args.id c.args.base.now c.args.entry c.requires.entry (c.requires.entry.entry.chain ∙ (λ i. has_kind (sym c.node_at.ensures.kind i) (sym c.node_at.ensures.grid i)) ∙ sym c.has_subgrid.ensures ∙ c.if-has_subgrid.true)) ∙
+    sym c.as_slice-reps.ensures) c.requires.fits in
+    let seat : IsSeat (sight_at (bare c.args.tree.now.tree) c.args.entry.child) c.as_slice-reps.result.now c.args.base.now.above c.args.entry.area = subst (λ (r : List Pair). IsSeat (sight_at (bare c.args.tree.now.tree) c.args.entry.child) r c.args.base.now.above c.args.entry.area)
+    (sym c.as_slice-reps.ensures) (c.requires.entry.entry.seat (c.requires.entry.entry.chain ∙ (λ i. has_kind (sym c.node_at.ensures.kind i) (sym c.node_at.ensures.grid i)) ∙ sym c.has_subgrid.ensures ∙ c.if-has_subgrid.true)) in
     let small : 16 * size_at (bare c.args.tree.now.tree) c.args.entry.child + 6 < 16 * size_at (bare c.args.tree.now.tree) c.args.entry.child + 7 = omega arith in
     search rules
 
 pub asking::ask_rows-ask_lent-requires : goal.asking::ask_rows-ask_lent-requires
 asking::ask_rows-ask_lent-requires g t c =
     let shared : shares_rows (kid_at (bare c.args.tree.now.tree) c.args.entry.child) ≡ true = (rows_told (bare c.args.tree.now.tree) c.args.id c.args.base.now c.args.entry c.requires.entry ∙ sym c.shares.ensures ∙ c.if-shares.true) in
-    let fits : Fits (sight_at (bare c.args.tree.now.tree) c.args.entry.child) (block_query true (pairs_seen (bare c.args.tree.now.tree) c.args.base.now c.args.entry) c.args.width.now) = subst (Fits (sight_at (bare c.args.tree.now.tree) c.args.entry.child)) (sym (asked_as (bare c.args.tree.now.tree) c.args.id c.args.base.now c.args.entry c.requires.entry true c.args.width.now (rows_told (bare c.args.tree.now.tree) c.args.id c.args.base.now c.args.entry c.requires.entry ∙ sym c.shares.ensures ∙ c.if-shares.true))) c.requires.fits in
+    let fits : Fits (sight_at (bare c.args.tree.now.tree) c.args.entry.child) (block_query true (pairs_seen (bare c.args.tree.now.tree) c.args.base.now c.args.entry) c.args.width.now) = subst (Fits (sight_at (bare c.args.tree.now.tree) c.args.entry.child))
+    (sym (asked_as (bare c.args.tree.now.tree) c.args.id c.args.base.now c.args.entry c.requires.entry true c.args.width.now (rows_told (bare c.args.tree.now.tree) c.args.id c.args.base.now c.args.entry c.requires.entry ∙ sym c.shares.ensures ∙ c.if-shares.true))) c.requires.fits
+    in
     let small : 16 * size_at (bare c.args.tree.now.tree) c.args.entry.child + 7 < 16 * size_at (bare c.args.tree.now.tree) c.args.entry.child + 8 = omega arith in
     search rules
 
 pub asking::ask_rows-ask_block-requires : goal.asking::ask_rows-ask_block-requires
 asking::ask_rows-ask_block-requires g t c =
     let own : shares_rows (kid_at (bare c.args.tree.now.tree) c.args.entry.child) ≡ false = (rows_told (bare c.args.tree.now.tree) c.args.id c.args.base.now c.args.entry c.requires.entry ∙ sym c.shares.ensures ∙ c.if-shares.false) in
-    let fits : Fits (sight_at (bare c.args.tree.now.tree) c.args.entry.child) (block_query false (pairs_seen (bare c.args.tree.now.tree) c.args.base.now c.args.entry) c.args.width.now) = subst (Fits (sight_at (bare c.args.tree.now.tree) c.args.entry.child)) (sym (asked_as (bare c.args.tree.now.tree) c.args.id c.args.base.now c.args.entry c.requires.entry false c.args.width.now (rows_told (bare c.args.tree.now.tree) c.args.id c.args.base.now c.args.entry c.requires.entry ∙ sym c.shares.ensures ∙ c.if-shares.false))) c.requires.fits in
+    let fits : Fits (sight_at (bare c.args.tree.now.tree) c.args.entry.child) (block_query false (pairs_seen (bare c.args.tree.now.tree) c.args.base.now c.args.entry) c.args.width.now) = subst (Fits (sight_at (bare c.args.tree.now.tree) c.args.entry.child))
+    (sym (asked_as (bare c.args.tree.now.tree) c.args.id c.args.base.now c.args.entry c.requires.entry false c.args.width.now (rows_told (bare c.args.tree.now.tree) c.args.id c.args.base.now c.args.entry c.requires.entry ∙ sym c.shares.ensures ∙ c.if-shares.false))) c.requires.fits
+    in
     let small : 16 * size_at (bare c.args.tree.now.tree) c.args.entry.child + 7 < 16 * size_at (bare c.args.tree.now.tree) c.args.entry.child + 8 = omega arith in
     search rules
 
 pub asking::ask_rows-returns-in_err-ask_lent-clause-stopped : goal.asking::ask_rows-returns-in_err-ask_lent-clause-stopped
 asking::ask_rows-returns-in_err-ask_lent-clause-stopped g t c =
-    on_err _ _ (subst (λ (q : Query). Stopped c.args.entry.child q (state c.args.tree.now c.args.tally.now c.args.passes.now (g.R.Ruler.log c.args.ruler.now)) (state c.ask_lent.new.tree c.ask_lent.new.tally c.ask_lent.new.passes (g.R.Ruler.log c.ask_lent.new.ruler))) (asked_as (bare c.args.tree.now.tree) c.args.id c.args.base.now c.args.entry c.requires.entry true c.args.width.now (rows_told (bare c.args.tree.now.tree) c.args.id c.args.base.now c.args.entry c.requires.entry ∙ sym c.shares.ensures ∙ c.if-shares.true)) c.in_err-ask_lent.ensures.stopped)
+    on_err _ _
+    (subst (λ (q : Query). Stopped c.args.entry.child q (state c.args.tree.now c.args.tally.now c.args.passes.now (g.R.Ruler.log c.args.ruler.now)) (state c.ask_lent.new.tree c.ask_lent.new.tally c.ask_lent.new.passes (g.R.Ruler.log c.ask_lent.new.ruler)))
+    (asked_as (bare c.args.tree.now.tree) c.args.id c.args.base.now c.args.entry c.requires.entry true c.args.width.now (rows_told (bare c.args.tree.now.tree) c.args.id c.args.base.now c.args.entry c.requires.entry ∙ sym c.shares.ensures ∙ c.if-shares.true))
+    c.in_err-ask_lent.ensures.stopped)
 
 pub asking::ask_rows-returns-in_err-block-clause-stopped : goal.asking::ask_rows-returns-in_err-block-clause-stopped
 asking::ask_rows-returns-in_err-block-clause-stopped g t c =
-    on_err _ _ (subst (λ (q : Query). Stopped c.args.entry.child q (state c.args.tree.now c.args.tally.now c.args.passes.now (g.R.Ruler.log c.args.ruler.now)) (state c.ask_block.new.tree c.ask_block.new.tally c.ask_block.new.passes (g.R.Ruler.log c.ask_block.new.ruler))) (asked_as (bare c.args.tree.now.tree) c.args.id c.args.base.now c.args.entry c.requires.entry false c.args.width.now (rows_told (bare c.args.tree.now.tree) c.args.id c.args.base.now c.args.entry c.requires.entry ∙ sym c.shares.ensures ∙ c.if-shares.false)) c.in_err-block.ensures.stopped)
+    on_err _ _
+    (subst (λ (q : Query). Stopped c.args.entry.child q (state c.args.tree.now c.args.tally.now c.args.passes.now (g.R.Ruler.log c.args.ruler.now)) (state c.ask_block.new.tree c.ask_block.new.tally c.ask_block.new.passes (g.R.Ruler.log c.ask_block.new.ruler)))
+    (asked_as (bare c.args.tree.now.tree) c.args.id c.args.base.now c.args.entry c.requires.entry false c.args.width.now (rows_told (bare c.args.tree.now.tree) c.args.id c.args.base.now c.args.entry c.requires.entry ∙ sym c.shares.ensures ∙ c.if-shares.false))
+    c.in_err-block.ensures.stopped)
 
 pub asking::ask_rows-returns-in_err-push-clause-stopped : goal.asking::ask_rows-returns-in_err-push-clause-stopped
 asking::ask_rows-returns-in_err-push-clause-stopped g t c =
-    on_err _ _ (walked_stopped _ _ _ _ (subst (λ (q : Query). Walked c.args.entry.child q (state c.args.tree.now c.args.tally.now c.args.passes.now (g.R.Ruler.log c.args.ruler.now)) (state c.ask_block.new.tree c.ask_block.new.tally c.ask_block.new.passes (g.R.Ruler.log c.ask_block.new.ruler))) (asked_as (bare c.args.tree.now.tree) c.args.id c.args.base.now c.args.entry c.requires.entry false c.args.width.now (rows_told (bare c.args.tree.now.tree) c.args.id c.args.base.now c.args.entry c.requires.entry ∙ sym c.shares.ensures ∙ c.if-shares.false)) c.in_ok-block.ensures.walked))
+    on_err _ _
+    (walked_stopped _ _ _ _
+    (subst (λ (q : Query). Walked c.args.entry.child q (state c.args.tree.now c.args.tally.now c.args.passes.now (g.R.Ruler.log c.args.ruler.now)) (state c.ask_block.new.tree c.ask_block.new.tally c.ask_block.new.passes (g.R.Ruler.log c.ask_block.new.ruler)))
+    (asked_as (bare c.args.tree.now.tree) c.args.id c.args.base.now c.args.entry c.requires.entry false c.args.width.now (rows_told (bare c.args.tree.now.tree) c.args.id c.args.base.now c.args.entry c.requires.entry ∙ sym c.shares.ensures ∙ c.if-shares.false))
+    c.in_ok-block.ensures.walked))
 
 pub asking::ask_rows-returns-clause-walked : goal.asking::ask_rows-returns-clause-walked
 asking::ask_rows-returns-clause-walked g t c =
-    (subst (λ (q : Query). Walked c.args.entry.child q (state c.args.tree.now c.args.tally.now c.args.passes.now (g.R.Ruler.log c.args.ruler.now)) (state c.ask_block.new.tree c.ask_block.new.tally c.ask_block.new.passes (g.R.Ruler.log c.ask_block.new.ruler))) (asked_as (bare c.args.tree.now.tree) c.args.id c.args.base.now c.args.entry c.requires.entry false c.args.width.now (rows_told (bare c.args.tree.now.tree) c.args.id c.args.base.now c.args.entry c.requires.entry ∙ sym c.shares.ensures ∙ c.if-shares.false)) c.in_ok-block.ensures.walked)
+    (subst (λ (q : Query). Walked c.args.entry.child q (state c.args.tree.now c.args.tally.now c.args.passes.now (g.R.Ruler.log c.args.ruler.now)) (state c.ask_block.new.tree c.ask_block.new.tally c.ask_block.new.passes (g.R.Ruler.log c.ask_block.new.ruler)))
+    (asked_as (bare c.args.tree.now.tree) c.args.id c.args.base.now c.args.entry c.requires.entry false c.args.width.now (rows_told (bare c.args.tree.now.tree) c.args.id c.args.base.now c.args.entry c.requires.entry ∙ sym c.shares.ensures ∙ c.if-shares.false))
+    c.in_ok-block.ensures.walked)
 
 pub asking::ask_rows-returns-clause-value : goal.asking::ask_rows-returns-clause-value
 asking::ask_rows-returns-clause-value g t c =
-    block_own (bare c.args.tree.now.tree) c.args.id c.args.base.now c.args.entry c.requires.entry c.args.width.now c.in_ok-block.block (rows_told (bare c.args.tree.now.tree) c.args.id c.args.base.now c.args.entry c.requires.entry ∙ sym c.shares.ensures ∙ c.if-shares.false) c.in_ok-block.ensures.value
+    block_own (bare c.args.tree.now.tree) c.args.id c.args.base.now c.args.entry c.requires.entry c.args.width.now c.in_ok-block.block (rows_told (bare c.args.tree.now.tree) c.args.id c.args.base.now c.args.entry c.requires.entry ∙ sym c.shares.ensures ∙ c.if-shares.false)
+    c.in_ok-block.ensures.value
 
 pub asking::ask_child-returns-in_err-size-clause-stopped : goal.asking::ask_child-returns-in_err-size-clause-stopped
 asking::ask_child-returns-in_err-size-clause-stopped g t c =
@@ -159,11 +198,14 @@ asking::ask_child-returns-in_err-size-clause-stopped g t c =
 
 pub asking::ask_child-returns-in_err-block-clause-stopped : goal.asking::ask_child-returns-in_err-block-clause-stopped
 asking::ask_child-returns-in_err-block-clause-stopped g t c =
-    on_err _ _ (subst (λ (q : Query). Stopped c.args.entry.child q (state c.args.tree.now c.args.tally.now c.args.passes.now (g.R.Ruler.log c.args.ruler.now)) (state c.ask_rows.new.tree c.ask_rows.new.tally c.ask_rows.new.passes (g.R.Ruler.log c.ask_rows.new.ruler))) (ap (λ (p : ℤ × Given). asked_of (bare c.args.tree.now.tree) c.args.base.now c.args.entry p.1) c.in_ok-size.ensures.value) c.in_err-block.ensures.stopped)
+    on_err _ _
+    (subst (λ (q : Query). Stopped c.args.entry.child q (state c.args.tree.now c.args.tally.now c.args.passes.now (g.R.Ruler.log c.args.ruler.now)) (state c.ask_rows.new.tree c.ask_rows.new.tally c.ask_rows.new.passes (g.R.Ruler.log c.ask_rows.new.ruler)))
+    (ap (λ (p : ℤ × Given). asked_of (bare c.args.tree.now.tree) c.args.base.now c.args.entry p.1) c.in_ok-size.ensures.value) c.in_err-block.ensures.stopped)
 
 pub asking::ask_child-returns-clause-walked : goal.asking::ask_child-returns-clause-walked
 asking::ask_child-returns-clause-walked g t c =
-    subst (λ (q : Query). Walked c.args.entry.child q (state c.args.tree.now c.args.tally.now c.args.passes.now (g.R.Ruler.log c.args.ruler.now)) (state c.ask_rows.new.tree c.ask_rows.new.tally c.ask_rows.new.passes (g.R.Ruler.log c.ask_rows.new.ruler))) (ap (λ (p : ℤ × Given). asked_of (bare c.args.tree.now.tree) c.args.base.now c.args.entry p.1) c.in_ok-size.ensures.value) c.in_ok-block.ensures.walked
+    subst (λ (q : Query). Walked c.args.entry.child q (state c.args.tree.now c.args.tally.now c.args.passes.now (g.R.Ruler.log c.args.ruler.now)) (state c.ask_rows.new.tree c.ask_rows.new.tally c.ask_rows.new.passes (g.R.Ruler.log c.ask_rows.new.ruler)))
+    (ap (λ (p : ℤ × Given). asked_of (bare c.args.tree.now.tree) c.args.base.now c.args.entry p.1) c.in_ok-size.ensures.value) c.in_ok-block.ensures.walked
 
 pub asking::ask_child-returns-clause-items : goal.asking::ask_child-returns-clause-items
 asking::ask_child-returns-clause-items g t c =
@@ -181,7 +223,9 @@ asking::ask_children-loop-index-init g t c =
       same = refl;
       walked = λ q leads. walked_none c.args.id q (state c.args.tree.now c.args.tally.now c.args.passes.now (g.R.Ruler.log c.args.ruler.now)) c.requires.right;
       counted = ap length c.in_ok-children.ensures;
-      told = told_start (TellsRows (sight_at (bare c.args.tree.now.tree) c.args.id) (kid_at (bare c.args.tree.now.tree)) c.args.parts.now.base c.args.columns (sight_at (bare c.args.tree.now.tree) c.args.id).label.content.inline.items) _ _ _ c.in_ok-children.ensures c.in_ok-items.ensures c.in_ok-ends.ensures;
+      told =
+          told_start (TellsRows (sight_at (bare c.args.tree.now.tree) c.args.id) (kid_at (bare c.args.tree.now.tree)) c.args.parts.now.base c.args.columns (sight_at (bare c.args.tree.now.tree) c.args.id).label.content.inline.items) _ _ _ c.in_ok-children.ensures c.in_ok-items.ensures
+          c.in_ok-ends.ensures;
     }
 
 pub asking::ask_children-returns-in_err-children-clause-stopped : goal.asking::ask_children-returns-in_err-children-clause-stopped
@@ -218,36 +262,53 @@ asking::ask_children-ask_child-requires g t c =
 
 pub asking::ask_children-sizes_at-sizes-requires : goal.asking::ask_children-sizes_at-sizes-requires
 asking::ask_children-sizes_at-sizes-requires g t c =
-    sizes_there (bare c.loop-index.tree.tree) c.args.id c.args.reps.now c.args.width.now c.args.parts.now (c.loop-index.index) _ _ (subst (λ (z : BareTrees). IsGrid z c.args.id c.args.reps.now c.args.width.now c.args.parts.now) (sym c.loop-index.invariant.same) c.requires.grid) c.child_in-entry.ensures.next
+    sizes_there (bare c.loop-index.tree.tree) c.args.id c.args.reps.now c.args.width.now c.args.parts.now (c.loop-index.index) _ _ (subst (λ (z : BareTrees). IsGrid z c.args.id c.args.reps.now c.args.width.now c.args.parts.now) (sym c.loop-index.invariant.same) c.requires.grid)
+    c.child_in-entry.ensures.next
 
 pub asking::ask_children-returns-in_err-child-clause-stopped : goal.asking::ask_children-returns-in_err-child-clause-stopped
 asking::ask_children-returns-in_err-child-clause-stopped g t c =
-    on_err _ _ (turn_stops (bare c.args.tree.now.tree) (bare c.loop-index.tree.tree) c.loop-index.invariant.same c.args.id c.args.reps.now c.args.width.now c.args.parts.now c.requires.grid c.root.ensures.steps c.grid-base.result.now c.grid-base.ensures c.args.columns c.requires.columns.seen c.child_in-entry.result c.sizes_at-sizes.result c.loop-index.index c.child_in-entry.ensures.next c.sizes_at-sizes.ensures c.child_in-entry.ensures.child.entry.number _ _ _ refl c.loop-index.invariant.walked c.in_err-child.ensures.stopped)
+    on_err _ _
+    (turn_stops (bare c.args.tree.now.tree) (bare c.loop-index.tree.tree) c.loop-index.invariant.same c.args.id c.args.reps.now c.args.width.now c.args.parts.now c.requires.grid c.root.ensures.steps c.grid-base.result.now c.grid-base.ensures c.args.columns c.requires.columns.seen
+    c.child_in-entry.result c.sizes_at-sizes.result c.loop-index.index c.child_in-entry.ensures.next c.sizes_at-sizes.ensures c.child_in-entry.ensures.child.entry.number _ _ _ refl c.loop-index.invariant.walked c.in_err-child.ensures.stopped)
 
 pub asking::ask_children-returns-in_err-push-clause-stopped : goal.asking::ask_children-returns-in_err-push-clause-stopped
 asking::ask_children-returns-in_err-push-clause-stopped g t c =
-    on_err _ _ (turn_ends (bare c.args.tree.now.tree) (bare c.loop-index.tree.tree) c.loop-index.invariant.same c.args.id c.args.reps.now c.args.width.now c.args.parts.now c.requires.grid c.root.ensures.steps c.grid-base.result.now c.grid-base.ensures c.args.columns c.requires.columns.seen c.child_in-entry.result c.sizes_at-sizes.result c.loop-index.index c.child_in-entry.ensures.next c.sizes_at-sizes.ensures c.child_in-entry.ensures.child.entry.number _ _ _ refl c.loop-index.invariant.walked c.in_ok-child.ensures.walked)
+    on_err _ _
+    (turn_ends (bare c.args.tree.now.tree) (bare c.loop-index.tree.tree) c.loop-index.invariant.same c.args.id c.args.reps.now c.args.width.now c.args.parts.now c.requires.grid c.root.ensures.steps c.grid-base.result.now c.grid-base.ensures c.args.columns c.requires.columns.seen
+    c.child_in-entry.result c.sizes_at-sizes.result c.loop-index.index c.child_in-entry.ensures.next c.sizes_at-sizes.ensures c.child_in-entry.ensures.child.entry.number _ _ _ refl c.loop-index.invariant.walked c.in_ok-child.ensures.walked)
 
 pub asking::ask_children-returns-in_err-push-2-clause-stopped : goal.asking::ask_children-returns-in_err-push-2-clause-stopped
 asking::ask_children-returns-in_err-push-2-clause-stopped g t c =
-    on_err _ _ (turn_ends (bare c.args.tree.now.tree) (bare c.loop-index.tree.tree) c.loop-index.invariant.same c.args.id c.args.reps.now c.args.width.now c.args.parts.now c.requires.grid c.root.ensures.steps c.grid-base.result.now c.grid-base.ensures c.args.columns c.requires.columns.seen c.child_in-entry.result c.sizes_at-sizes.result c.loop-index.index c.child_in-entry.ensures.next c.sizes_at-sizes.ensures c.child_in-entry.ensures.child.entry.number _ _ _ refl c.loop-index.invariant.walked c.in_ok-child.ensures.walked)
+    on_err _ _
+    (turn_ends (bare c.args.tree.now.tree) (bare c.loop-index.tree.tree) c.loop-index.invariant.same c.args.id c.args.reps.now c.args.width.now c.args.parts.now c.requires.grid c.root.ensures.steps c.grid-base.result.now c.grid-base.ensures c.args.columns c.requires.columns.seen
+    c.child_in-entry.result c.sizes_at-sizes.result c.loop-index.index c.child_in-entry.ensures.next c.sizes_at-sizes.ensures c.child_in-entry.ensures.child.entry.number _ _ _ refl c.loop-index.invariant.walked c.in_ok-child.ensures.walked)
 
 pub asking::ask_children-loop-index-preserved : goal.asking::ask_children-loop-index-preserved
 asking::ask_children-loop-index-preserved g t c =
-    let own : TellsRows (sight_at (bare c.args.tree.now.tree) c.args.id) (kid_at (bare c.args.tree.now.tree)) c.args.parts.now.base c.args.columns (sight_at (bare c.args.tree.now.tree) c.args.id).label.content.inline.items c.loop-index.index c.in_ok-child.child (items_seen (bare c.loop-index.tree.tree) c.args.id c.grid-base.result.now c.child_in-entry.result (wide_in (bare c.loop-index.tree.tree) c.args.id c.grid-base.result.now c.args.columns c.child_in-entry.result c.sizes_at-sizes.result).inline) =
-    tells_now (bare c.args.tree.now.tree) (bare c.loop-index.tree.tree) c.loop-index.invariant.same c.args.id c.args.reps.now c.args.width.now c.args.parts.now c.grid-base.result.now c.grid-base.ensures c.args.columns c.child_in-entry.result c.sizes_at-sizes.result c.loop-index.index c.in_ok-child.child (items_seen (bare c.loop-index.tree.tree) c.args.id c.grid-base.result.now c.child_in-entry.result (wide_in (bare c.loop-index.tree.tree) c.args.id c.grid-base.result.now c.args.columns c.child_in-entry.result c.sizes_at-sizes.result).inline) c.requires.grid c.child_in-entry.ensures.told c.child_in-entry.ensures.next c.sizes_at-sizes.ensures c.in_ok-child.ensures.value refl in
+    let own : TellsRows (sight_at (bare c.args.tree.now.tree) c.args.id) (kid_at (bare c.args.tree.now.tree)) c.args.parts.now.base c.args.columns (sight_at (bare c.args.tree.now.tree) c.args.id).label.content.inline.items c.loop-index.index c.in_ok-child.child
+    (items_seen (bare c.loop-index.tree.tree) c.args.id c.grid-base.result.now c.child_in-entry.result (wide_in (bare c.loop-index.tree.tree) c.args.id c.grid-base.result.now c.args.columns c.child_in-entry.result c.sizes_at-sizes.result).inline) =
+    tells_now (bare c.args.tree.now.tree) (bare c.loop-index.tree.tree) c.loop-index.invariant.same c.args.id c.args.reps.now c.args.width.now c.args.parts.now c.grid-base.result.now c.grid-base.ensures c.args.columns c.child_in-entry.result c.sizes_at-sizes.result c.loop-index.index
+    c.in_ok-child.child (items_seen (bare c.loop-index.tree.tree) c.args.id c.grid-base.result.now c.child_in-entry.result (wide_in (bare c.loop-index.tree.tree) c.args.id c.grid-base.result.now c.args.columns c.child_in-entry.result c.sizes_at-sizes.result).inline) c.requires.grid
+    c.child_in-entry.ensures.told c.child_in-entry.ensures.next c.sizes_at-sizes.ensures c.in_ok-child.ensures.value refl in
     record {
       right = c.ask_child.ensures.right;
       same = c.in_ok-child.ensures.walked.walk.bare_same ∙ c.loop-index.invariant.same;
-      walked = turn_below (bare c.args.tree.now.tree) (bare c.loop-index.tree.tree) c.loop-index.invariant.same c.args.id c.args.reps.now c.args.width.now c.args.parts.now c.requires.grid c.root.ensures.steps c.grid-base.result.now c.grid-base.ensures c.args.columns c.requires.columns.seen c.child_in-entry.result c.sizes_at-sizes.result c.loop-index.index c.child_in-entry.ensures.next c.sizes_at-sizes.ensures c.child_in-entry.ensures.child.entry.number _ _ _ refl c.loop-index.invariant.walked c.in_ok-child.ensures.walked;
+      walked =
+          turn_below (bare c.args.tree.now.tree) (bare c.loop-index.tree.tree) c.loop-index.invariant.same c.args.id c.args.reps.now c.args.width.now c.args.parts.now c.requires.grid c.root.ensures.steps c.grid-base.result.now c.grid-base.ensures c.args.columns c.requires.columns.seen
+          c.child_in-entry.result c.sizes_at-sizes.result c.loop-index.index c.child_in-entry.ensures.next c.sizes_at-sizes.ensures c.child_in-entry.ensures.child.entry.number _ _ _ refl c.loop-index.invariant.walked c.in_ok-child.ensures.walked;
       counted = ap length c.in_ok-push.ensures.ok ∙ length_more c.loop-index.children c.in_ok-child.child c.loop-index.index c.loop-index.invariant.counted;
-      told = told_more (TellsRows (sight_at (bare c.args.tree.now.tree) c.args.id) (kid_at (bare c.args.tree.now.tree)) c.args.parts.now.base c.args.columns (sight_at (bare c.args.tree.now.tree) c.args.id).label.content.inline.items) c.loop-index.children c.loop-index.items c.loop-index.ends c.loop-index.index c.in_ok-child.child (items_seen (bare c.loop-index.tree.tree) c.args.id c.grid-base.result.now c.child_in-entry.result (wide_in (bare c.loop-index.tree.tree) c.args.id c.grid-base.result.now c.args.columns c.child_in-entry.result c.sizes_at-sizes.result).inline) _ _ _ c.len.result c.loop-index.invariant.counted c.in_ok-push.ensures.ok c.in_ok-child.ensures.items c.len.ensures c.in_ok-push-2.ensures.ok c.loop-index.invariant.told own;
+      told =
+          told_more (TellsRows (sight_at (bare c.args.tree.now.tree) c.args.id) (kid_at (bare c.args.tree.now.tree)) c.args.parts.now.base c.args.columns (sight_at (bare c.args.tree.now.tree) c.args.id).label.content.inline.items) c.loop-index.children c.loop-index.items
+          c.loop-index.ends c.loop-index.index c.in_ok-child.child
+          (items_seen (bare c.loop-index.tree.tree) c.args.id c.grid-base.result.now c.child_in-entry.result (wide_in (bare c.loop-index.tree.tree) c.args.id c.grid-base.result.now c.args.columns c.child_in-entry.result c.sizes_at-sizes.result).inline) _ _ _ c.len.result
+          c.loop-index.invariant.counted c.in_ok-push.ensures.ok c.in_ok-child.ensures.items c.len.ensures c.in_ok-push-2.ensures.ok c.loop-index.invariant.told own;
     }
 
 pub asking::ask_children-returns-clause-told : goal.asking::ask_children-returns-clause-told
 asking::ask_children-returns-clause-told g t c =
     let counted : length c.loop-index.children ≡ length c.args.parts.now.base.placed.areas = omega (arith, c.loop-index.invariant.counted, c.len-count.ensures, ap (λ (base : GridBase). length base.placed.areas) c.grid-base.ensures) in
-    rows_in (bare c.args.tree.now.tree) c.args.id c.args.parts.now.base c.args.columns Each (record { columns = c.args.columns; align = c.items-align.result; children = c.loop-index.children; items = c.loop-index.items; ends = c.loop-index.ends }) refl (c.items-align.ensures ∙ ap (λ (x : ContentStyle). x.inline.items) c.node_at.ensures.content) counted c.loop-index.invariant.told
+    rows_in (bare c.args.tree.now.tree) c.args.id c.args.parts.now.base c.args.columns Each (record { columns = c.args.columns; align = c.items-align.result; children = c.loop-index.children; items = c.loop-index.items; ends = c.loop-index.ends }) refl
+    (c.items-align.ensures ∙ ap (λ (x : ContentStyle). x.inline.items) c.node_at.ensures.content) counted c.loop-index.invariant.told
 
 pub asking::ask_children-returns-clause-right : goal.asking::ask_children-returns-clause-right
 asking::ask_children-returns-clause-right g t c = c.loop-index.invariant.right
@@ -262,7 +323,10 @@ asking::ask_stale-loop-index-init g t c =
       same = refl;
       walked = λ q leads. walked_none c.args.id q (state c.args.tree.now c.args.tally.now c.args.passes.now (g.R.Ruler.log c.args.ruler.now)) c.requires.right;
       counted = c.requires.past.told.told.counted;
-      told = subst (λ (l : List ℕ). AreTold (AllBut l) (TellsRows (sight_at (bare c.args.tree.now.tree) c.args.id) (kid_at (bare c.args.tree.now.tree)) c.args.parts.now.base c.args.columns.now (sight_at (bare c.args.tree.now.tree) c.args.id).label.content.inline.items) c.args.past.told.children c.args.past.told.items c.args.past.told.ends) (sym c.as_slice-index-items.ensures) (rows_from (bare c.args.tree.now.tree) c.args.id c.args.parts.now.base c.args.columns.now (AllBut c.args.past.stale) c.args.past.told c.requires.past.told);
+      told =
+          subst
+          (λ (l : List ℕ). AreTold (AllBut l) (TellsRows (sight_at (bare c.args.tree.now.tree) c.args.id) (kid_at (bare c.args.tree.now.tree)) c.args.parts.now.base c.args.columns.now (sight_at (bare c.args.tree.now.tree) c.args.id).label.content.inline.items) c.args.past.told.children
+          c.args.past.told.items c.args.past.told.ends) (sym c.as_slice-index-items.ensures) (rows_from (bare c.args.tree.now.tree) c.args.id c.args.parts.now.base c.args.columns.now (AllBut c.args.past.stale) c.args.past.told c.requires.past.told);
       rows = c.requires.past.laid;
     }
 
@@ -273,7 +337,8 @@ asking::ask_stale-child_in-entry-requires g t c =
     let readable : AreReadable (bare c.loop-index.tree.tree) = subst AreReadable back c.requires.readable in
     let grid : (sight_at (bare c.loop-index.tree.tree) c.args.id).label.kind ≡ kind.Grid = subst (λ (z : BareTrees). (sight_at z c.args.id).label.kind ≡ kind.Grid) back c.requires.kind in
     let made : IsGrid (bare c.loop-index.tree.tree) c.args.id c.args.reps.now c.args.width.now c.args.parts.now = (subst (λ (z : BareTrees). IsGrid z c.args.id c.args.reps.now c.args.width.now c.args.parts.now) (sym c.loop-index.invariant.same) c.requires.grid) in
-    let index : (get_or c.as_slice-index-items.result.now c.loop-index.index-index 0) < length c.args.parts.now.base.placed.areas = stale_within (length c.args.parts.now.base.placed.areas) c.args.past.stale c.as_slice-index-items.result.now c.loop-index.index-index c.as_slice-index-items.ensures c.requires.past.stale (omega arith) in
+    let index : (get_or c.as_slice-index-items.result.now c.loop-index.index-index 0) < length c.args.parts.now.base.placed.areas = stale_within (length c.args.parts.now.base.placed.areas) c.args.past.stale c.as_slice-index-items.result.now c.loop-index.index-index
+    c.as_slice-index-items.ensures c.requires.past.stale (omega arith) in
     search rules
 
 pub asking::ask_stale-ask_child-requires : goal.asking::ask_stale-ask_child-requires
@@ -291,20 +356,37 @@ asking::ask_stale-ask_child-requires g t c =
 
 pub asking::ask_stale-sizes_at-sizes-requires : goal.asking::ask_stale-sizes_at-sizes-requires
 asking::ask_stale-sizes_at-sizes-requires g t c =
-    sizes_there (bare c.loop-index.tree.tree) c.args.id c.args.reps.now c.args.width.now c.args.parts.now ((get_or c.as_slice-index-items.result.now c.loop-index.index-index 0)) _ _ (subst (λ (z : BareTrees). IsGrid z c.args.id c.args.reps.now c.args.width.now c.args.parts.now) (sym c.loop-index.invariant.same) c.requires.grid) c.child_in-entry.ensures.next
+    sizes_there (bare c.loop-index.tree.tree) c.args.id c.args.reps.now c.args.width.now c.args.parts.now ((get_or c.as_slice-index-items.result.now c.loop-index.index-index 0)) _ _
+    (subst (λ (z : BareTrees). IsGrid z c.args.id c.args.reps.now c.args.width.now c.args.parts.now) (sym c.loop-index.invariant.same) c.requires.grid) c.child_in-entry.ensures.next
 
 pub asking::ask_stale-returns-in_err-child-clause-stopped : goal.asking::ask_stale-returns-in_err-child-clause-stopped
 asking::ask_stale-returns-in_err-child-clause-stopped g t c =
-    on_err _ _ (turn_stops (bare c.args.tree.now.tree) (bare c.loop-index.tree.tree) c.loop-index.invariant.same c.args.id c.args.reps.now c.args.width.now c.args.parts.now c.requires.grid c.root.ensures.steps c.grid-base.result.now c.grid-base.ensures c.args.columns.now c.requires.columns.seen c.child_in-entry.result c.sizes_at-sizes.result (get_or c.as_slice-index-items.result.now c.loop-index.index-index 0) c.child_in-entry.ensures.next c.sizes_at-sizes.ensures c.child_in-entry.ensures.child.entry.number _ _ _ refl c.loop-index.invariant.walked c.in_err-child.ensures.stopped)
+    on_err _ _
+    (turn_stops (bare c.args.tree.now.tree) (bare c.loop-index.tree.tree) c.loop-index.invariant.same c.args.id c.args.reps.now c.args.width.now c.args.parts.now c.requires.grid c.root.ensures.steps c.grid-base.result.now c.grid-base.ensures c.args.columns.now
+    c.requires.columns.seen c.child_in-entry.result c.sizes_at-sizes.result (get_or c.as_slice-index-items.result.now c.loop-index.index-index 0) c.child_in-entry.ensures.next c.sizes_at-sizes.ensures c.child_in-entry.ensures.child.entry.number _ _ _ refl
+    c.loop-index.invariant.walked c.in_err-child.ensures.stopped)
 
 pub asking::ask_stale-returns-in_err-put_items-clause-stopped : goal.asking::ask_stale-returns-in_err-put_items-clause-stopped
 asking::ask_stale-returns-in_err-put_items-clause-stopped g t c =
-    on_err _ _ (turn_ends (bare c.args.tree.now.tree) (bare c.loop-index.tree.tree) c.loop-index.invariant.same c.args.id c.args.reps.now c.args.width.now c.args.parts.now c.requires.grid c.root.ensures.steps c.grid-base.result.now c.grid-base.ensures c.args.columns.now c.requires.columns.seen c.child_in-entry.result c.sizes_at-sizes.result (get_or c.as_slice-index-items.result.now c.loop-index.index-index 0) c.child_in-entry.ensures.next c.sizes_at-sizes.ensures c.child_in-entry.ensures.child.entry.number _ _ _ refl c.loop-index.invariant.walked c.in_ok-child.ensures.walked)
+    on_err _ _
+    (turn_ends (bare c.args.tree.now.tree) (bare c.loop-index.tree.tree) c.loop-index.invariant.same c.args.id c.args.reps.now c.args.width.now c.args.parts.now c.requires.grid c.root.ensures.steps c.grid-base.result.now c.grid-base.ensures c.args.columns.now
+    c.requires.columns.seen c.child_in-entry.result c.sizes_at-sizes.result (get_or c.as_slice-index-items.result.now c.loop-index.index-index 0) c.child_in-entry.ensures.next c.sizes_at-sizes.ensures c.child_in-entry.ensures.child.entry.number _ _ _ refl
+    c.loop-index.invariant.walked c.in_ok-child.ensures.walked)
 
 pub asking::ask_stale-put_items-requires : goal.asking::ask_stale-put_items-requires
 asking::ask_stale-put_items-requires g t c =
-    let parts : HasParts c.loop-index.items c.loop-index.ends = has_parts (AllBut (drop c.loop-index.index-index c.as_slice-index-items.result.now)) (TellsRows (sight_at (bare c.args.tree.now.tree) c.args.id) (kid_at (bare c.args.tree.now.tree)) c.args.parts.now.base c.args.columns.now (sight_at (bare c.args.tree.now.tree) c.args.id).label.content.inline.items) c.loop-index.children c.loop-index.items c.loop-index.ends c.loop-index.invariant.told in
-    let index : (get_or c.as_slice-index-items.result.now c.loop-index.index-index 0) < length c.loop-index.ends = omega (arith, stale_within (length c.args.parts.now.base.placed.areas) c.args.past.stale c.as_slice-index-items.result.now c.loop-index.index-index c.as_slice-index-items.ensures c.requires.past.stale (omega arith), c.loop-index.invariant.counted, ends_length (AllBut (drop c.loop-index.index-index c.as_slice-index-items.result.now)) (TellsRows (sight_at (bare c.args.tree.now.tree) c.args.id) (kid_at (bare c.args.tree.now.tree)) c.args.parts.now.base c.args.columns.now (sight_at (bare c.args.tree.now.tree) c.args.id).label.content.inline.items) c.loop-index.children c.loop-index.items c.loop-index.ends c.loop-index.invariant.told) in
+    let parts : HasParts c.loop-index.items c.loop-index.ends = has_parts (AllBut (drop c.loop-index.index-index c.as_slice-index-items.result.now))
+    (TellsRows (sight_at (bare c.args.tree.now.tree) c.args.id) (kid_at (bare c.args.tree.now.tree)) c.args.parts.now.base c.args.columns.now (sight_at (bare c.args.tree.now.tree) c.args.id).label.content.inline.items) c.loop-index.children c.loop-index.items c.loop-index.ends
+    c.loop-index.invariant.told in
+    let index : (get_or c.as_slice-index-items.result.now c.loop-index.index-index 0) < length c.loop-index.ends = omega (
+      arith,
+      stale_within (length c.args.parts.now.base.placed.areas) c.args.past.stale c.as_slice-index-items.result.now c.loop-index.index-index c.as_slice-index-items.ensures c.requires.past.stale (omega arith),
+      c.loop-index.invariant.counted,
+      ends_length
+          (AllBut (drop c.loop-index.index-index c.as_slice-index-items.result.now))
+          (TellsRows (sight_at (bare c.args.tree.now.tree) c.args.id) (kid_at (bare c.args.tree.now.tree)) c.args.parts.now.base c.args.columns.now (sight_at (bare c.args.tree.now.tree) c.args.id).label.content.inline.items) c.loop-index.children c.loop-index.items c.loop-index.ends
+          c.loop-index.invariant.told,
+    ) in
     record { parts = parts; index = index }
 
 pub asking::ask_stale-set-requires : goal.asking::ask_stale-set-requires
@@ -312,15 +394,26 @@ asking::ask_stale-set-requires g t c = omega (arith, stale_within (length c.args
 
 pub asking::ask_stale-loop-index-preserved : goal.asking::ask_stale-loop-index-preserved
 asking::ask_stale-loop-index-preserved g t c =
-    let own : TellsRows (sight_at (bare c.args.tree.now.tree) c.args.id) (kid_at (bare c.args.tree.now.tree)) c.args.parts.now.base c.args.columns.now (sight_at (bare c.args.tree.now.tree) c.args.id).label.content.inline.items (get_or c.as_slice-index-items.result.now c.loop-index.index-index 0) c.in_ok-child.child (c.as_slice.result.now) =
-    tells_now (bare c.args.tree.now.tree) (bare c.loop-index.tree.tree) c.loop-index.invariant.same c.args.id c.args.reps.now c.args.width.now c.args.parts.now c.grid-base.result.now c.grid-base.ensures c.args.columns.now c.child_in-entry.result c.sizes_at-sizes.result (get_or c.as_slice-index-items.result.now c.loop-index.index-index 0) c.in_ok-child.child (c.as_slice.result.now) c.requires.grid c.child_in-entry.ensures.told c.child_in-entry.ensures.next c.sizes_at-sizes.ensures c.in_ok-child.ensures.value (c.as_slice.ensures ∙ c.in_ok-child.ensures.items ∙ ap (λ (l : List Item). l ++ items_seen (bare c.loop-index.tree.tree) c.args.id c.grid-base.result.now c.child_in-entry.result (wide_in (bare c.loop-index.tree.tree) c.args.id c.grid-base.result.now c.args.columns.now c.child_in-entry.result c.sizes_at-sizes.result).inline) c.new-own.ensures) in
-    let within : (get_or c.as_slice-index-items.result.now c.loop-index.index-index 0) < length c.loop-index.children = omega (arith, stale_within (length c.args.parts.now.base.placed.areas) c.args.past.stale c.as_slice-index-items.result.now c.loop-index.index-index c.as_slice-index-items.ensures c.requires.past.stale (omega arith), c.loop-index.invariant.counted) in
+    let own : TellsRows (sight_at (bare c.args.tree.now.tree) c.args.id) (kid_at (bare c.args.tree.now.tree)) c.args.parts.now.base c.args.columns.now (sight_at (bare c.args.tree.now.tree) c.args.id).label.content.inline.items
+    (get_or c.as_slice-index-items.result.now c.loop-index.index-index 0) c.in_ok-child.child (c.as_slice.result.now) =
+    tells_now (bare c.args.tree.now.tree) (bare c.loop-index.tree.tree) c.loop-index.invariant.same c.args.id c.args.reps.now c.args.width.now c.args.parts.now c.grid-base.result.now c.grid-base.ensures c.args.columns.now c.child_in-entry.result c.sizes_at-sizes.result
+    (get_or c.as_slice-index-items.result.now c.loop-index.index-index 0) c.in_ok-child.child (c.as_slice.result.now) c.requires.grid c.child_in-entry.ensures.told c.child_in-entry.ensures.next c.sizes_at-sizes.ensures c.in_ok-child.ensures.value
+    (c.as_slice.ensures ∙ c.in_ok-child.ensures.items ∙
+    ap (λ (l : List Item). l ++ items_seen (bare c.loop-index.tree.tree) c.args.id c.grid-base.result.now c.child_in-entry.result (wide_in (bare c.loop-index.tree.tree) c.args.id c.grid-base.result.now c.args.columns.now c.child_in-entry.result c.sizes_at-sizes.result).inline)
+    c.new-own.ensures) in
+    let within : (get_or c.as_slice-index-items.result.now c.loop-index.index-index 0) < length c.loop-index.children = omega
+    (arith, stale_within (length c.args.parts.now.base.placed.areas) c.args.past.stale c.as_slice-index-items.result.now c.loop-index.index-index c.as_slice-index-items.ensures c.requires.past.stale (omega arith), c.loop-index.invariant.counted) in
     record {
       right = c.ask_child.ensures.right;
       same = c.in_ok-child.ensures.walked.walk.bare_same ∙ c.loop-index.invariant.same;
-      walked = turn_below (bare c.args.tree.now.tree) (bare c.loop-index.tree.tree) c.loop-index.invariant.same c.args.id c.args.reps.now c.args.width.now c.args.parts.now c.requires.grid c.root.ensures.steps c.grid-base.result.now c.grid-base.ensures c.args.columns.now c.requires.columns.seen c.child_in-entry.result c.sizes_at-sizes.result (get_or c.as_slice-index-items.result.now c.loop-index.index-index 0) c.child_in-entry.ensures.next c.sizes_at-sizes.ensures c.child_in-entry.ensures.child.entry.number _ _ _ refl c.loop-index.invariant.walked c.in_ok-child.ensures.walked;
+      walked =
+          turn_below (bare c.args.tree.now.tree) (bare c.loop-index.tree.tree) c.loop-index.invariant.same c.args.id c.args.reps.now c.args.width.now c.args.parts.now c.requires.grid c.root.ensures.steps c.grid-base.result.now c.grid-base.ensures c.args.columns.now
+          c.requires.columns.seen c.child_in-entry.result c.sizes_at-sizes.result (get_or c.as_slice-index-items.result.now c.loop-index.index-index 0) c.child_in-entry.ensures.next c.sizes_at-sizes.ensures c.child_in-entry.ensures.child.entry.number _ _ _ refl
+          c.loop-index.invariant.walked c.in_ok-child.ensures.walked;
       counted = ap length c.set.ensures ∙ length_set c.loop-index.children (get_or c.as_slice-index-items.result.now c.loop-index.index-index 0) c.in_ok-child.child ∙ c.loop-index.invariant.counted;
-      told = told_again (TellsRows (sight_at (bare c.args.tree.now.tree) c.args.id) (kid_at (bare c.args.tree.now.tree)) c.args.parts.now.base c.args.columns.now (sight_at (bare c.args.tree.now.tree) c.args.id).label.content.inline.items) c.loop-index.children c.loop-index.items c.loop-index.ends c.as_slice-index-items.result.now c.loop-index.index-index c.in_ok-child.child c.as_slice.result.now _ _ _ (omega arith) within c.set.ensures c.in_ok-put_items.ensures.items c.in_ok-put_items.ensures.ends c.loop-index.invariant.told own;
+      told =
+          told_again (TellsRows (sight_at (bare c.args.tree.now.tree) c.args.id) (kid_at (bare c.args.tree.now.tree)) c.args.parts.now.base c.args.columns.now (sight_at (bare c.args.tree.now.tree) c.args.id).label.content.inline.items) c.loop-index.children c.loop-index.items
+          c.loop-index.ends c.as_slice-index-items.result.now c.loop-index.index-index c.in_ok-child.child c.as_slice.result.now _ _ _ (omega arith) within c.set.ensures c.in_ok-put_items.ensures.items c.in_ok-put_items.ensures.ends c.loop-index.invariant.told own;
       rows = elim c.if-branch.branch [
         | asking::ask_stale-then-branch w ↦ rows_lost (sight_at (bare c.args.tree.now.tree) c.args.id) c.args.parts.now.base c.loop-index.items c.put_items.new.items c.loop-index.rows c.if-branch.rows w.rows-is
         | asking::ask_stale-else-branch w ↦ rows_last (sight_at (bare c.args.tree.now.tree) c.args.id) c.args.parts.now.base c.loop-index.items c.put_items.new.items c.loop-index.rows c.if-branch.rows w.rows-is (c.in_ok-put_items.ensures.same w.if-branch.false) c.loop-index.invariant.rows
@@ -329,8 +422,10 @@ asking::ask_stale-loop-index-preserved g t c =
 
 pub asking::ask_stale-returns-clause-told : goal.asking::ask_stale-returns-clause-told
 asking::ask_stale-returns-clause-told g t c =
-    rows_in (bare c.args.tree.now.tree) c.args.id c.args.parts.now.base c.args.columns.now Each (record { columns = c.args.past.told.columns; align = c.args.past.told.align; children = c.loop-index.children; items = c.loop-index.items; ends = c.loop-index.ends }) c.requires.past.told.over c.requires.past.told.aligned c.loop-index.invariant.counted
-    (told_end (TellsRows (sight_at (bare c.args.tree.now.tree) c.args.id) (kid_at (bare c.args.tree.now.tree)) c.args.parts.now.base c.args.columns.now (sight_at (bare c.args.tree.now.tree) c.args.id).label.content.inline.items) c.loop-index.children c.loop-index.items c.loop-index.ends c.as_slice-index-items.result.now c.loop-index.index-index (omega arith) c.loop-index.invariant.told)
+    rows_in (bare c.args.tree.now.tree) c.args.id c.args.parts.now.base c.args.columns.now Each (record { columns = c.args.past.told.columns; align = c.args.past.told.align; children = c.loop-index.children; items = c.loop-index.items; ends = c.loop-index.ends })
+    c.requires.past.told.over c.requires.past.told.aligned c.loop-index.invariant.counted
+    (told_end (TellsRows (sight_at (bare c.args.tree.now.tree) c.args.id) (kid_at (bare c.args.tree.now.tree)) c.args.parts.now.base c.args.columns.now (sight_at (bare c.args.tree.now.tree) c.args.id).label.content.inline.items) c.loop-index.children c.loop-index.items
+    c.loop-index.ends c.as_slice-index-items.result.now c.loop-index.index-index (omega arith) c.loop-index.invariant.told)
 
 pub asking::ask_stale-returns-clause-right : goal.asking::ask_stale-returns-clause-right
 asking::ask_stale-returns-clause-right g t c = c.loop-index.invariant.right
@@ -351,7 +446,8 @@ asking::told_wide_by-columns_of-requires g t c =
     let readable : AreReadable (bare c.grid_at.new.tree.tree) = subst AreReadable back c.requires.readable in
     let grid : (sight_at (bare c.grid_at.new.tree.tree) c.args.id).label.kind ≡ kind.Grid = subst (λ (z : BareTrees). (sight_at z c.args.id).label.kind ≡ kind.Grid) back c.requires.grid in
     let made : IsGrid (bare c.grid_at.new.tree.tree) c.args.id c.args.reps.now c.args.width.now c.in_ok-told.told.parts = subst (λ (z : BareTrees). IsGrid z c.args.id c.args.reps.now c.args.width.now c.in_ok-told.told.parts) back c.in_ok-told.ensures.value in
-    let inline : IsGivenFor true (sees_columns (sight_at (bare c.grid_at.new.tree.tree) c.args.id)) (outer_context (sight_at (bare c.grid_at.new.tree.tree) c.args.id) c.args.reps.now).columns.table.tracks c.args.width.now = subst (λ (z : BareTrees). IsGivenFor true (sees_columns (sight_at z c.args.id)) (outer_context (sight_at z c.args.id) c.args.reps.now).columns.table.tracks c.args.width.now) back c.requires.inline in
+    let inline : IsGivenFor true (sees_columns (sight_at (bare c.grid_at.new.tree.tree) c.args.id)) (outer_context (sight_at (bare c.grid_at.new.tree.tree) c.args.id) c.args.reps.now).columns.table.tracks c.args.width.now = subst
+    (λ (z : BareTrees). IsGivenFor true (sees_columns (sight_at z c.args.id)) (outer_context (sight_at z c.args.id) c.args.reps.now).columns.table.tracks c.args.width.now) back c.requires.inline in
     let apart : IsSpread (farthest (level_at (bare c.grid_at.new.tree.tree) c.args.id)) c.args.width.now = subst (λ (z : BareTrees). IsSpread (farthest (level_at z c.args.id)) c.args.width.now) back c.requires.spread in
     search rules
 
@@ -362,35 +458,50 @@ asking::told_wide_by-told_rows-requires g t c =
     let readable : AreReadable (bare c.grid_at.new.tree.tree) = subst AreReadable back c.requires.readable in
     let grid : (sight_at (bare c.grid_at.new.tree.tree) c.args.id).label.kind ≡ kind.Grid = subst (λ (z : BareTrees). (sight_at z c.args.id).label.kind ≡ kind.Grid) back c.requires.grid in
     let made : IsGrid (bare c.grid_at.new.tree.tree) c.args.id c.args.reps.now c.args.width.now c.in_ok-told.told.parts = subst (λ (z : BareTrees). IsGrid z c.args.id c.args.reps.now c.args.width.now c.in_ok-told.told.parts) back c.in_ok-told.ensures.value in
-    let laid : AreLaid (bare c.grid_at.new.tree.tree) c.args.id c.args.reps.now c.args.width.now c.in_ok-told.told.parts.base c.in_ok-columns.columns = record { seen = c.in_ok-columns.ensures.value; counted = c.in_ok-columns.ensures.counted; gap = c.in_ok-columns.ensures.gap; range = c.in_ok-columns.ensures.range; spread = c.in_ok-columns.ensures.spread } in
+    let laid : AreLaid (bare c.grid_at.new.tree.tree) c.args.id c.args.reps.now c.args.width.now c.in_ok-told.told.parts.base c.in_ok-columns.columns = record
+    { seen = c.in_ok-columns.ensures.value; counted = c.in_ok-columns.ensures.counted; gap = c.in_ok-columns.ensures.gap; range = c.in_ok-columns.ensures.range; spread = c.in_ok-columns.ensures.spread } in
     let past : IfSome c.args.past.1 (IsPastRows (bare c.grid_at.new.tree.tree) c.args.id) = subst (λ (z : BareTrees). IfSome c.args.past.1 (IsPastRows z c.args.id)) back c.requires.past_rows in
-    let small : 16 * size_at (bare c.grid_at.new.tree.tree) c.args.id + 1 < 16 * size_at (bare c.args.tree.now.tree) c.args.id + 2 = omega (arith, ap (λ (z : BareTrees). size_at z c.args.id) (c.in_ok-told.ensures.below (block_query false c.args.reps.now c.args.width.now) refl refl).walk.bare_same) in
+    let small : 16 * size_at (bare c.grid_at.new.tree.tree) c.args.id + 1 < 16 * size_at (bare c.args.tree.now.tree) c.args.id +
+    2 = omega (arith, ap (λ (z : BareTrees). size_at z c.args.id) (c.in_ok-told.ensures.below (block_query false c.args.reps.now c.args.width.now) refl refl).walk.bare_same) in
     search rules
 
 pub asking::told_wide_by-returns-in_err-told-clause-stopped : goal.asking::told_wide_by-returns-in_err-told-clause-stopped
 asking::told_wide_by-returns-in_err-told-clause-stopped g t c =
-    let all : (q : Query) → q.reps ≡ c.args.reps.now → q.inline ≡ c.args.width.now → needs_inline q.ask ≡ true → Stopped c.args.id q (state c.args.tree.now c.args.tally.now c.args.passes.now (g.R.Ruler.log c.args.ruler.now)) (state c.grid_at.new.tree c.grid_at.new.tally c.grid_at.new.passes (g.R.Ruler.log c.grid_at.new.ruler)) = λ q r w needs. c.in_err-told.ensures.stopped q r w in
+    let all : (q : Query) → q.reps ≡ c.args.reps.now → q.inline ≡ c.args.width.now → needs_inline q.ask ≡ true →
+    Stopped c.args.id q (state c.args.tree.now c.args.tally.now c.args.passes.now (g.R.Ruler.log c.args.ruler.now)) (state c.grid_at.new.tree c.grid_at.new.tally c.grid_at.new.passes (g.R.Ruler.log c.grid_at.new.ruler)) = λ q r w needs. c.in_err-told.ensures.stopped q r w in
     on_err _ _ all
 
 pub asking::told_wide_by-returns-in_err-columns-clause-stopped : goal.asking::told_wide_by-returns-in_err-columns-clause-stopped
 asking::told_wide_by-returns-in_err-columns-clause-stopped g t c =
-    let all : (q : Query) → q.reps ≡ c.args.reps.now → q.inline ≡ c.args.width.now → needs_inline q.ask ≡ true → Stopped c.args.id q (state c.args.tree.now c.args.tally.now c.args.passes.now (g.R.Ruler.log c.args.ruler.now)) (state c.grid_at.new.tree c.grid_at.new.tally c.columns_of.new.passes (g.R.Ruler.log c.grid_at.new.ruler)) = λ q r w needs. stopped c.args.id q 1 _ _ (ticked c.args.id q 0 1 _ _ c.columns_of.new.passes c.columns_of.ensures.ticks (c.in_ok-told.ensures.below q r w)) in
+    let all : (q : Query) → q.reps ≡ c.args.reps.now → q.inline ≡ c.args.width.now → needs_inline q.ask ≡ true →
+    Stopped c.args.id q (state c.args.tree.now c.args.tally.now c.args.passes.now (g.R.Ruler.log c.args.ruler.now)) (state c.grid_at.new.tree c.grid_at.new.tally c.columns_of.new.passes (g.R.Ruler.log c.grid_at.new.ruler)) = λ q r w needs. stopped c.args.id q 1 _ _
+    (ticked c.args.id q 0 1 _ _ c.columns_of.new.passes c.columns_of.ensures.ticks (c.in_ok-told.ensures.below q r w)) in
     on_err _ _ all
 
 pub asking::told_wide_by-returns-in_err-asked-clause-stopped : goal.asking::told_wide_by-returns-in_err-asked-clause-stopped
 asking::told_wide_by-returns-in_err-asked-clause-stopped g t c =
-    let all : (q : Query) → q.reps ≡ c.args.reps.now → q.inline ≡ c.args.width.now → needs_inline q.ask ≡ true → Stopped c.args.id q (state c.args.tree.now c.args.tally.now c.args.passes.now (g.R.Ruler.log c.args.ruler.now)) (state c.told_rows.new.tree c.told_rows.new.tally c.told_rows.new.passes (g.R.Ruler.log c.told_rows.new.ruler)) =
-    λ q r w needs. joined_stopped c.args.id q 1 (state c.args.tree.now c.args.tally.now c.args.passes.now (g.R.Ruler.log c.args.ruler.now)) (state c.grid_at.new.tree c.grid_at.new.tally c.columns_of.new.passes (g.R.Ruler.log c.grid_at.new.ruler)) _ (ticked c.args.id q 0 1 _ _ c.columns_of.new.passes c.columns_of.ensures.ticks (c.in_ok-told.ensures.below q r w)) (c.in_err-asked.ensures.stopped q (leads_down (bare c.grid_at.new.tree.tree) c.args.id c.args.reps.now c.args.width.now q (subst (λ (z : BareTrees). (sight_at z c.args.id).label.kind ≡ kind.Grid) (sym (c.in_ok-told.ensures.below (block_query false c.args.reps.now c.args.width.now) refl refl).walk.bare_same) c.requires.grid) r w needs)) in
+    let all : (q : Query) → q.reps ≡ c.args.reps.now → q.inline ≡ c.args.width.now → needs_inline q.ask ≡ true →
+    Stopped c.args.id q (state c.args.tree.now c.args.tally.now c.args.passes.now (g.R.Ruler.log c.args.ruler.now)) (state c.told_rows.new.tree c.told_rows.new.tally c.told_rows.new.passes (g.R.Ruler.log c.told_rows.new.ruler)) =
+    λ q r w needs. joined_stopped c.args.id q 1 (state c.args.tree.now c.args.tally.now c.args.passes.now (g.R.Ruler.log c.args.ruler.now)) (state c.grid_at.new.tree c.grid_at.new.tally c.columns_of.new.passes (g.R.Ruler.log c.grid_at.new.ruler)) _
+    (ticked c.args.id q 0 1 _ _ c.columns_of.new.passes c.columns_of.ensures.ticks (c.in_ok-told.ensures.below q r w))
+    (c.in_err-asked.ensures.stopped q
+    (leads_down (bare c.grid_at.new.tree.tree) c.args.id c.args.reps.now c.args.width.now q
+    (subst (λ (z : BareTrees). (sight_at z c.args.id).label.kind ≡ kind.Grid) (sym (c.in_ok-told.ensures.below (block_query false c.args.reps.now c.args.width.now) refl refl).walk.bare_same) c.requires.grid) r w needs)) in
     on_err _ _ all
 
 pub asking::told_wide_by-returns-clause-below : goal.asking::told_wide_by-returns-clause-below
 asking::told_wide_by-returns-clause-below g t c =
-    λ q r w needs. joined_below c.args.id q 1 (state c.args.tree.now c.args.tally.now c.args.passes.now (g.R.Ruler.log c.args.ruler.now)) (state c.grid_at.new.tree c.grid_at.new.tally c.columns_of.new.passes (g.R.Ruler.log c.grid_at.new.ruler)) _ (ticked c.args.id q 0 1 _ _ c.columns_of.new.passes c.columns_of.ensures.ticks (c.in_ok-told.ensures.below q r w)) (c.in_ok-asked.ensures.below q (leads_down (bare c.grid_at.new.tree.tree) c.args.id c.args.reps.now c.args.width.now q (subst (λ (z : BareTrees). (sight_at z c.args.id).label.kind ≡ kind.Grid) (sym (c.in_ok-told.ensures.below (block_query false c.args.reps.now c.args.width.now) refl refl).walk.bare_same) c.requires.grid) r w needs))
+    λ q r w needs. joined_below c.args.id q 1 (state c.args.tree.now c.args.tally.now c.args.passes.now (g.R.Ruler.log c.args.ruler.now)) (state c.grid_at.new.tree c.grid_at.new.tally c.columns_of.new.passes (g.R.Ruler.log c.grid_at.new.ruler)) _
+    (ticked c.args.id q 0 1 _ _ c.columns_of.new.passes c.columns_of.ensures.ticks (c.in_ok-told.ensures.below q r w))
+    (c.in_ok-asked.ensures.below q
+    (leads_down (bare c.grid_at.new.tree.tree) c.args.id c.args.reps.now c.args.width.now q
+    (subst (λ (z : BareTrees). (sight_at z c.args.id).label.kind ≡ kind.Grid) (sym (c.in_ok-told.ensures.below (block_query false c.args.reps.now c.args.width.now) refl refl).walk.bare_same) c.requires.grid) r w needs))
 
 pub asking::told_wide_by-returns-clause-value : goal.asking::told_wide_by-returns-clause-value
 asking::told_wide_by-returns-clause-value g t c =
     let same = (c.in_ok-told.ensures.below (block_query false c.args.reps.now c.args.width.now) refl refl).walk.bare_same in
-    let laid : AreLaid (bare c.args.tree.now.tree) c.args.id c.args.reps.now c.args.width.now c.in_ok-told.told.parts.base c.in_ok-columns.columns = subst (λ (z : BareTrees). AreLaid z c.args.id c.args.reps.now c.args.width.now c.in_ok-told.told.parts.base c.in_ok-columns.columns) same (record { seen = c.in_ok-columns.ensures.value; counted = c.in_ok-columns.ensures.counted; gap = c.in_ok-columns.ensures.gap; range = c.in_ok-columns.ensures.range; spread = c.in_ok-columns.ensures.spread }) in
+    let laid : AreLaid (bare c.args.tree.now.tree) c.args.id c.args.reps.now c.args.width.now c.in_ok-told.told.parts.base c.in_ok-columns.columns = subst (λ (z : BareTrees). AreLaid z c.args.id c.args.reps.now c.args.width.now c.in_ok-told.told.parts.base c.in_ok-columns.columns) same
+    (record { seen = c.in_ok-columns.ensures.value; counted = c.in_ok-columns.ensures.counted; gap = c.in_ok-columns.ensures.gap; range = c.in_ok-columns.ensures.range; spread = c.in_ok-columns.ensures.spread }) in
     told_made (bare c.args.tree.now.tree) c.args.id c.args.reps.now c.args.width.now c.in_ok-told.told.parts c.in_ok-told.ensures.value c.root.ensures.tree c.in_ok-columns.columns c.in_ok-asked.asked c.in_ok-asked.rows c.in_ok-told.told.ends c.in_ok-told.ensures.told laid c.in_ok-columns.ensures.far
     (subst (λ (z : BareTrees). AreIn z c.args.id c.in_ok-told.told.parts.base c.in_ok-columns.columns Each c.in_ok-asked.asked) same c.in_ok-asked.ensures.told)
     (subst (λ (z : BareTrees). IfSome c.in_ok-asked.rows (AreRowsFor (sight_at z c.args.id) c.in_ok-told.told.parts.base c.in_ok-asked.asked.items)) same c.in_ok-asked.ensures.rows)
@@ -403,7 +514,8 @@ asking::told_wide_at-told_wide_by-requires g t c =
     let grid : (sight_at (bare c.take_past.new.tree.tree) c.args.id).label.kind ≡ kind.Grid = subst (λ (z : BareTrees). (sight_at z c.args.id).label.kind ≡ kind.Grid) back c.requires.grid in
     let counts : length c.args.reps.now ≡ length (sight_at (bare c.take_past.new.tree.tree) c.args.id).chain = subst (λ (z : BareTrees). length c.args.reps.now ≡ length (sight_at z c.args.id).chain) back c.requires.reps in
     let seat : IsSeat (sight_at (bare c.take_past.new.tree.tree) c.args.id) c.args.reps.now c.args.above.now c.args.area = subst (λ (z : BareTrees). IsSeat (sight_at z c.args.id) c.args.reps.now c.args.above.now c.args.area) back c.requires.seat in
-    let inline : IsGivenFor true (sees_columns (sight_at (bare c.take_past.new.tree.tree) c.args.id)) (outer_context (sight_at (bare c.take_past.new.tree.tree) c.args.id) c.args.reps.now).columns.table.tracks c.args.width.now = subst (λ (z : BareTrees). IsGivenFor true (sees_columns (sight_at z c.args.id)) (outer_context (sight_at z c.args.id) c.args.reps.now).columns.table.tracks c.args.width.now) back c.requires.inline in
+    let inline : IsGivenFor true (sees_columns (sight_at (bare c.take_past.new.tree.tree) c.args.id)) (outer_context (sight_at (bare c.take_past.new.tree.tree) c.args.id) c.args.reps.now).columns.table.tracks c.args.width.now = subst
+    (λ (z : BareTrees). IsGivenFor true (sees_columns (sight_at z c.args.id)) (outer_context (sight_at z c.args.id) c.args.reps.now).columns.table.tracks c.args.width.now) back c.requires.inline in
     let apart : IsSpread (farthest (level_at (bare c.take_past.new.tree.tree) c.args.id)) c.args.width.now = subst (λ (z : BareTrees). IsSpread (farthest (level_at z c.args.id)) c.args.width.now) back c.requires.spread in
     let columns : IfSome c.in_ok-past.past.0 (IsPastColumns (bare c.take_past.new.tree.tree) c.args.id) = subst (λ (z : BareTrees). IfSome c.in_ok-past.past.0 (IsPastColumns z c.args.id)) back c.in_ok-past.ensures.columns in
     let rows : IfSome c.in_ok-past.past.1 (IsPastRows (bare c.take_past.new.tree.tree) c.args.id) = subst (λ (z : BareTrees). IfSome c.in_ok-past.past.1 (IsPastRows z c.args.id)) back c.in_ok-past.ensures.rows in
@@ -412,16 +524,24 @@ asking::told_wide_at-told_wide_by-requires g t c =
 
 pub asking::told_wide_at-returns-in_err-past-clause-stopped : goal.asking::told_wide_at-returns-in_err-past-clause-stopped
 asking::told_wide_at-returns-in_err-past-clause-stopped g t c =
-    let all : (q : Query) → q.reps ≡ c.args.reps.now → q.inline ≡ c.args.width.now → needs_inline q.ask ≡ true → Stopped c.args.id q (state c.args.tree.now c.args.tally.now c.args.passes.now (g.R.Ruler.log c.args.ruler.now)) (state c.take_past.new.tree c.args.tally.now c.args.passes.now (g.R.Ruler.log c.args.ruler.now)) = λ q r w needs. then_stopped_alike c.args.tree.now c.take_past.new.tree c.take_past.ensures.alike c.args.tally.now c.args.passes.now (g.R.Ruler.log c.args.ruler.now) (state c.args.tree.now c.args.tally.now c.args.passes.now (g.R.Ruler.log c.args.ruler.now)) c.args.id q (stopped c.args.id q 0 _ _ (walked_none c.args.id q (state c.args.tree.now c.args.tally.now c.args.passes.now (g.R.Ruler.log c.args.ruler.now)) c.requires.right)) in
+    let all : (q : Query) → q.reps ≡ c.args.reps.now → q.inline ≡ c.args.width.now → needs_inline q.ask ≡ true →
+    Stopped c.args.id q (state c.args.tree.now c.args.tally.now c.args.passes.now (g.R.Ruler.log c.args.ruler.now)) (state c.take_past.new.tree c.args.tally.now c.args.passes.now (g.R.Ruler.log c.args.ruler.now)) = λ q r w needs. then_stopped_alike c.args.tree.now
+    c.take_past.new.tree c.take_past.ensures.alike c.args.tally.now c.args.passes.now (g.R.Ruler.log c.args.ruler.now) (state c.args.tree.now c.args.tally.now c.args.passes.now (g.R.Ruler.log c.args.ruler.now)) c.args.id q
+    (stopped c.args.id q 0 _ _ (walked_none c.args.id q (state c.args.tree.now c.args.tally.now c.args.passes.now (g.R.Ruler.log c.args.ruler.now)) c.requires.right)) in
     on_err _ _ all
 
 pub asking::told_wide_at-returns-in_err-told-clause-stopped : goal.asking::told_wide_at-returns-in_err-told-clause-stopped
 asking::told_wide_at-returns-in_err-told-clause-stopped g t c =
-    let all : (q : Query) → q.reps ≡ c.args.reps.now → q.inline ≡ c.args.width.now → needs_inline q.ask ≡ true → Stopped c.args.id q (state c.args.tree.now c.args.tally.now c.args.passes.now (g.R.Ruler.log c.args.ruler.now)) (state c.told_wide_by.new.tree c.told_wide_by.new.tally c.told_wide_by.new.passes (g.R.Ruler.log c.told_wide_by.new.ruler)) = λ q r w needs. from_stopped_alike c.args.tree.now c.take_past.new.tree c.take_past.ensures.alike c.args.tally.now c.args.passes.now (g.R.Ruler.log c.args.ruler.now) (state c.told_wide_by.new.tree c.told_wide_by.new.tally c.told_wide_by.new.passes (g.R.Ruler.log c.told_wide_by.new.ruler)) c.args.id q (c.in_err-told.ensures.stopped q r w needs) in
+    let all : (q : Query) → q.reps ≡ c.args.reps.now → q.inline ≡ c.args.width.now → needs_inline q.ask ≡ true →
+    Stopped c.args.id q (state c.args.tree.now c.args.tally.now c.args.passes.now (g.R.Ruler.log c.args.ruler.now)) (state c.told_wide_by.new.tree c.told_wide_by.new.tally c.told_wide_by.new.passes (g.R.Ruler.log c.told_wide_by.new.ruler)) = λ q r w needs. from_stopped_alike
+    c.args.tree.now c.take_past.new.tree c.take_past.ensures.alike c.args.tally.now c.args.passes.now (g.R.Ruler.log c.args.ruler.now) (state c.told_wide_by.new.tree c.told_wide_by.new.tally c.told_wide_by.new.passes (g.R.Ruler.log c.told_wide_by.new.ruler)) c.args.id q
+    (c.in_err-told.ensures.stopped q r w needs) in
     on_err _ _ all
 
 pub asking::told_wide_at-returns-clause-below : goal.asking::told_wide_at-returns-clause-below
-asking::told_wide_at-returns-clause-below g t c = λ q r w needs. from_alike c.args.tree.now c.take_past.new.tree c.take_past.ensures.alike c.args.tally.now c.args.passes.now (g.R.Ruler.log c.args.ruler.now) (state c.told_wide_by.new.tree c.told_wide_by.new.tally c.told_wide_by.new.passes (g.R.Ruler.log c.told_wide_by.new.ruler)) c.args.id q 1 (c.in_ok-told.ensures.below q r w needs)
+asking::told_wide_at-returns-clause-below g t c =
+    λ q r w needs. from_alike c.args.tree.now c.take_past.new.tree c.take_past.ensures.alike c.args.tally.now c.args.passes.now (g.R.Ruler.log c.args.ruler.now) (state c.told_wide_by.new.tree c.told_wide_by.new.tally c.told_wide_by.new.passes (g.R.Ruler.log c.told_wide_by.new.ruler))
+    c.args.id q 1 (c.in_ok-told.ensures.below q r w needs)
 
 pub asking::told_wide_at-returns-clause-value : goal.asking::told_wide_at-returns-clause-value
 asking::told_wide_at-returns-clause-value g t c = subst (λ (z : BareTrees). IsToldWide z c.args.id c.args.reps.now c.args.width.now c.in_ok-told.told) c.take_past.ensures.alike.bare c.in_ok-told.ensures.value
@@ -436,7 +556,8 @@ walk::grid_anew-told_wide_at-requires g t c =
     let seat : IsSeat (sight_at (bare c.args.tree.now.tree) c.args.id) c.as_slice-reps.result.now c.args.above.now c.args.area = subst (λ (r : List Pair). IsSeat (sight_at (bare c.args.tree.now.tree) c.args.id) r c.args.above.now c.args.area) (sym c.as_slice-reps.ensures) c.requires.seat in
     let inline : IsGivenFor true (sees_columns (sight_at (bare c.args.tree.now.tree) c.args.id)) (outer_context (sight_at (bare c.args.tree.now.tree) c.args.id) c.as_slice-reps.result.now).columns.table.tracks c.args.query.inline =
     subst (λ (r : List Pair). IsGivenFor true (sees_columns (sight_at (bare c.args.tree.now.tree) c.args.id)) (outer_context (sight_at (bare c.args.tree.now.tree) c.args.id) r).columns.table.tracks c.args.query.inline) (sym c.as_slice-reps.ensures)
-    (subst (λ (t : Bool). IsGivenFor t (sees_columns (sight_at (bare c.args.tree.now.tree) c.args.id)) (outer_context (sight_at (bare c.args.tree.now.tree) c.args.id) c.args.query.reps).columns.table.tracks c.args.query.inline) (ap (λ (q : Query). needs_inline q.ask) c.requires.query) c.requires.fits.inline) in
+    (subst (λ (t : Bool). IsGivenFor t (sees_columns (sight_at (bare c.args.tree.now.tree) c.args.id)) (outer_context (sight_at (bare c.args.tree.now.tree) c.args.id) c.args.query.reps).columns.table.tracks c.args.query.inline) (ap (λ (q : Query). needs_inline q.ask) c.requires.query)
+    c.requires.fits.inline) in
     let spread : IsSpread (farthest (level_at (bare c.args.tree.now.tree) c.args.id)) c.args.query.inline = c.requires.spread in
     let small : 16 * size_at (bare c.args.tree.now.tree) c.args.id + 3 < 16 * size_at (bare c.args.tree.now.tree) c.args.id + 4 = omega arith in
     search rules
@@ -467,7 +588,8 @@ walk::grid_anew-put-requires g t c =
     let walked = c.in_ok-told.ensures.below c.args.query (sym c.as_slice-reps.ensures) refl (ap (λ (q : Query). needs_inline q.ask) c.requires.query) in
     let back = sym (c.keep_told.ensures.alike.bare ∙ walked.walk.bare_same) in
     let laid : IsWide (bare c.args.tree.now.tree) c.args.id c.as_slice-reps.result.now c.args.query.inline c.in_ok-size.laid = subst (λ (z : BareTrees). IsWide z c.args.id c.as_slice-reps.result.now c.args.query.inline c.in_ok-size.laid) walked.walk.bare_same c.in_ok-size.ensures.wide in
-    let held : IsWide (bare c.args.tree.now.tree) c.args.id c.args.query.reps c.args.query.inline c.in_ok-held.held = subst (IsWide (bare c.args.tree.now.tree) c.args.id c.args.query.reps c.args.query.inline) (sym c.in_ok-held.ensures) (subst (λ (r : List Pair). IsWide (bare c.args.tree.now.tree) c.args.id r c.args.query.inline c.in_ok-size.laid) c.as_slice-reps.ensures laid) in
+    let held : IsWide (bare c.args.tree.now.tree) c.args.id c.args.query.reps c.args.query.inline c.in_ok-held.held = subst (IsWide (bare c.args.tree.now.tree) c.args.id c.args.query.reps c.args.query.inline) (sym c.in_ok-held.ensures)
+    (subst (λ (r : List Pair). IsWide (bare c.args.tree.now.tree) c.args.id r c.args.query.inline c.in_ok-size.laid) c.as_slice-reps.ensures laid) in
     record {
       live = subst (λ (z : BareTrees). IsLive z c.args.id) back c.requires.live;
       right = c.keep_told.ensures.right;
@@ -481,28 +603,49 @@ walk::grid_anew-put-requires g t c =
 
 pub walk::grid_anew-returns-clause-value : goal.walk::grid_anew-returns-clause-value
 walk::grid_anew-returns-clause-value g t c =
-    laid_answer (bare c.args.tree.now.tree) (bare c.told_wide_at.new.tree.tree) (c.in_ok-told.ensures.below c.args.query (sym c.as_slice-reps.ensures) refl (ap (λ (q : Query). needs_inline q.ask) c.requires.query)).walk.bare_same c.args.id c.args.query c.as_slice-reps.result.now c.in_ok-size.size c.as_slice-reps.ensures c.requires.grid (ap (λ (q : Query). q.ask) c.requires.query) c.in_ok-size.ensures.value
+    laid_answer (bare c.args.tree.now.tree) (bare c.told_wide_at.new.tree.tree) (c.in_ok-told.ensures.below c.args.query (sym c.as_slice-reps.ensures) refl (ap (λ (q : Query). needs_inline q.ask) c.requires.query)).walk.bare_same c.args.id c.args.query c.as_slice-reps.result.now
+    c.in_ok-size.size c.as_slice-reps.ensures c.requires.grid (ap (λ (q : Query). q.ask) c.requires.query) c.in_ok-size.ensures.value
 
 pub walk::grid_anew-returns-in_err-told-clause-stopped : goal.walk::grid_anew-returns-in_err-told-clause-stopped
 walk::grid_anew-returns-in_err-told-clause-stopped g t c = on_err _ _ (c.in_err-told.ensures.stopped c.args.query (sym c.as_slice-reps.ensures) refl (ap (λ (q : Query). needs_inline q.ask) c.requires.query))
 
 pub walk::grid_anew-returns-in_err-size-clause-stopped : goal.walk::grid_anew-returns-in_err-size-clause-stopped
-walk::grid_anew-returns-in_err-size-clause-stopped g t c = on_err _ _ (stopped c.args.id c.args.query 2 _ _ (ticked c.args.id c.args.query 1 1 _ _ c.laid_rows.new.passes c.laid_rows.ensures.ticks (c.in_ok-told.ensures.below c.args.query (sym c.as_slice-reps.ensures) refl (ap (λ (q : Query). needs_inline q.ask) c.requires.query))))
+walk::grid_anew-returns-in_err-size-clause-stopped g t c =
+    on_err _ _ (stopped c.args.id c.args.query 2 _ _ (ticked c.args.id c.args.query 1 1 _ _ c.laid_rows.new.passes c.laid_rows.ensures.ticks (c.in_ok-told.ensures.below c.args.query (sym c.as_slice-reps.ensures) refl (ap (λ (q : Query). needs_inline q.ask) c.requires.query))))
 
 pub walk::grid_anew-returns-in_err-held-clause-stopped : goal.walk::grid_anew-returns-in_err-held-clause-stopped
-walk::grid_anew-returns-in_err-held-clause-stopped g t c = on_err _ _ (stopped c.args.id c.args.query 2 _ _ (ticked c.args.id c.args.query 1 1 _ _ c.laid_rows.new.passes c.laid_rows.ensures.ticks (c.in_ok-told.ensures.below c.args.query (sym c.as_slice-reps.ensures) refl (ap (λ (q : Query). needs_inline q.ask) c.requires.query))))
+walk::grid_anew-returns-in_err-held-clause-stopped g t c =
+    on_err _ _ (stopped c.args.id c.args.query 2 _ _ (ticked c.args.id c.args.query 1 1 _ _ c.laid_rows.new.passes c.laid_rows.ensures.ticks (c.in_ok-told.ensures.below c.args.query (sym c.as_slice-reps.ensures) refl (ap (λ (q : Query). needs_inline q.ask) c.requires.query))))
 
 pub walk::grid_anew-returns-in_err-keep_told-clause-stopped : goal.walk::grid_anew-returns-in_err-keep_told-clause-stopped
-walk::grid_anew-returns-in_err-keep_told-clause-stopped g t c = on_err _ _ (stopped c.args.id c.args.query 2 _ _ (then_alike c.told_wide_at.new.tree c.keep_told.new.tree c.keep_told.ensures.alike c.told_wide_at.new.tally c.laid_rows.new.passes (g.R.Ruler.log c.told_wide_at.new.ruler) (state c.args.tree.now c.args.tally.now c.args.passes.now (g.R.Ruler.log c.args.ruler.now)) c.args.id c.args.query 2 (ticked c.args.id c.args.query 1 1 _ _ c.laid_rows.new.passes c.laid_rows.ensures.ticks (c.in_ok-told.ensures.below c.args.query (sym c.as_slice-reps.ensures) refl (ap (λ (q : Query). needs_inline q.ask) c.requires.query)))))
+walk::grid_anew-returns-in_err-keep_told-clause-stopped g t c =
+    on_err _ _
+    (stopped c.args.id c.args.query 2 _ _
+    (then_alike c.told_wide_at.new.tree c.keep_told.new.tree c.keep_told.ensures.alike c.told_wide_at.new.tally c.laid_rows.new.passes (g.R.Ruler.log c.told_wide_at.new.ruler) (state c.args.tree.now c.args.tally.now c.args.passes.now (g.R.Ruler.log c.args.ruler.now)) c.args.id
+    c.args.query 2 (ticked c.args.id c.args.query 1 1 _ _ c.laid_rows.new.passes c.laid_rows.ensures.ticks (c.in_ok-told.ensures.below c.args.query (sym c.as_slice-reps.ensures) refl (ap (λ (q : Query). needs_inline q.ask) c.requires.query)))))
 
 pub walk::grid_anew-returns-in_err-put-clause-stopped : goal.walk::grid_anew-returns-in_err-put-clause-stopped
-walk::grid_anew-returns-in_err-put-clause-stopped g t c = on_err _ _ (c.in_err-put.ensures.stopped _ 2 _ _ (then_alike c.told_wide_at.new.tree c.keep_told.new.tree c.keep_told.ensures.alike c.told_wide_at.new.tally c.laid_rows.new.passes (g.R.Ruler.log c.told_wide_at.new.ruler) (state c.args.tree.now c.args.tally.now c.args.passes.now (g.R.Ruler.log c.args.ruler.now)) c.args.id c.args.query 2 (ticked c.args.id c.args.query 1 1 _ _ c.laid_rows.new.passes c.laid_rows.ensures.ticks (c.in_ok-told.ensures.below c.args.query (sym c.as_slice-reps.ensures) refl (ap (λ (q : Query). needs_inline q.ask) c.requires.query)))))
+walk::grid_anew-returns-in_err-put-clause-stopped g t c =
+    on_err _ _
+    (c.in_err-put.ensures.stopped _ 2 _ _
+    (then_alike c.told_wide_at.new.tree c.keep_told.new.tree c.keep_told.ensures.alike c.told_wide_at.new.tally c.laid_rows.new.passes (g.R.Ruler.log c.told_wide_at.new.ruler) (state c.args.tree.now c.args.tally.now c.args.passes.now (g.R.Ruler.log c.args.ruler.now)) c.args.id
+    c.args.query 2 (ticked c.args.id c.args.query 1 1 _ _ c.laid_rows.new.passes c.laid_rows.ensures.ticks (c.in_ok-told.ensures.below c.args.query (sym c.as_slice-reps.ensures) refl (ap (λ (q : Query). needs_inline q.ask) c.requires.query)))))
 
 pub walk::grid_anew-returns-clause-walked : goal.walk::grid_anew-returns-clause-walked
-walk::grid_anew-returns-clause-walked g t c = c.in_ok-put.ensures.joins _ 2 _ _ (omega arith) (then_alike c.told_wide_at.new.tree c.keep_told.new.tree c.keep_told.ensures.alike c.told_wide_at.new.tally c.laid_rows.new.passes (g.R.Ruler.log c.told_wide_at.new.ruler) (state c.args.tree.now c.args.tally.now c.args.passes.now (g.R.Ruler.log c.args.ruler.now)) c.args.id c.args.query 2 (ticked c.args.id c.args.query 1 1 _ _ c.laid_rows.new.passes c.laid_rows.ensures.ticks (c.in_ok-told.ensures.below c.args.query (sym c.as_slice-reps.ensures) refl (ap (λ (q : Query). needs_inline q.ask) c.requires.query))))
+walk::grid_anew-returns-clause-walked g t c =
+    c.in_ok-put.ensures.joins _ 2 _ _ (omega arith)
+    (then_alike c.told_wide_at.new.tree c.keep_told.new.tree c.keep_told.ensures.alike c.told_wide_at.new.tally c.laid_rows.new.passes (g.R.Ruler.log c.told_wide_at.new.ruler) (state c.args.tree.now c.args.tally.now c.args.passes.now (g.R.Ruler.log c.args.ruler.now)) c.args.id
+    c.args.query 2 (ticked c.args.id c.args.query 1 1 _ _ c.laid_rows.new.passes c.laid_rows.ensures.ticks (c.in_ok-told.ensures.below c.args.query (sym c.as_slice-reps.ensures) refl (ap (λ (q : Query). needs_inline q.ask) c.requires.query))))
 
 pub walk::grid_anew-returns-clause-own : goal.walk::grid_anew-returns-clause-own
-walk::grid_anew-returns-clause-own g t c = (answer.Laid c.in_ok-size.size c.in_ok-held.held, (refl, c.in_ok-put.ensures.own ∙ ap (λ l. kept_with l ((c.args.query, answer.Laid c.in_ok-size.size c.in_ok-held.held) ∷ [])) (c.keep_told.ensures.alike.kept c.args.id ∙ (c.in_ok-told.ensures.below c.args.query (sym c.as_slice-reps.ensures) refl (ap (λ (q : Query). needs_inline q.ask) c.requires.query)).own)))
+walk::grid_anew-returns-clause-own g t c = (
+  answer.Laid c.in_ok-size.size c.in_ok-held.held,
+  (
+    refl,
+    c.in_ok-put.ensures.own ∙
+        ap (λ l. kept_with l ((c.args.query, answer.Laid c.in_ok-size.size c.in_ok-held.held) ∷ [])) (c.keep_told.ensures.alike.kept c.args.id ∙ (c.in_ok-told.ensures.below c.args.query (sym c.as_slice-reps.ensures) refl (ap (λ (q : Query). needs_inline q.ask) c.requires.query)).own),
+  ),
+)
 
 pub walk::block_anew-returns-then-is_leaf-clause-own : goal.walk::block_anew-returns-then-is_leaf-clause-own
 walk::block_anew-returns-then-is_leaf-clause-own g t c = grows_by_block c.leaf_height.result (kept_at c.args.tree.now.tree c.args.id) (kept_at c.leaf_height.new.tree.tree c.args.id) c.args.query c.leaf_height.ensures.own
@@ -520,7 +663,8 @@ walk::rows_anew-wide_at-requires g t c =
     let seat : IsSeat (sight_at (bare c.args.tree.now.tree) c.args.id) c.as_slice-reps.result.now c.args.above.now c.args.area = subst (λ (r : List Pair). IsSeat (sight_at (bare c.args.tree.now.tree) c.args.id) r c.args.above.now c.args.area) (sym c.as_slice-reps.ensures) c.requires.seat in
     let inline : IsGivenFor true (sees_columns (sight_at (bare c.args.tree.now.tree) c.args.id)) (outer_context (sight_at (bare c.args.tree.now.tree) c.args.id) c.as_slice-reps.result.now).columns.table.tracks c.args.query.inline =
     subst (λ (r : List Pair). IsGivenFor true (sees_columns (sight_at (bare c.args.tree.now.tree) c.args.id)) (outer_context (sight_at (bare c.args.tree.now.tree) c.args.id) r).columns.table.tracks c.args.query.inline) (sym c.as_slice-reps.ensures)
-    (subst (λ (t : Bool). IsGivenFor t (sees_columns (sight_at (bare c.args.tree.now.tree) c.args.id)) (outer_context (sight_at (bare c.args.tree.now.tree) c.args.id) c.args.query.reps).columns.table.tracks c.args.query.inline) (ap (λ (q : Query). needs_inline q.ask) c.requires.query) c.requires.fits.inline) in
+    (subst (λ (t : Bool). IsGivenFor t (sees_columns (sight_at (bare c.args.tree.now.tree) c.args.id)) (outer_context (sight_at (bare c.args.tree.now.tree) c.args.id) c.args.query.reps).columns.table.tracks c.args.query.inline) (ap (λ (q : Query). needs_inline q.ask) c.requires.query)
+    c.requires.fits.inline) in
     let spread : IsSpread (farthest (level_at (bare c.args.tree.now.tree) c.args.id)) c.args.query.inline = c.requires.spread in
     let small : 16 * size_at (bare c.args.tree.now.tree) c.args.id + 4 < 16 * size_at (bare c.args.tree.now.tree) c.args.id + 5 = omega arith in
     search rules
@@ -532,13 +676,20 @@ pub walk::rows_anew-lent_rows-requires-clause-readable : goal.walk::rows_anew-le
 walk::rows_anew-lent_rows-requires-clause-readable g t c = subst AreReadable (sym (c.in_ok-wide.ensures.below c.args.query (sym c.as_slice-reps.ensures) refl (ap (λ (q : Query). needs_inline q.ask) c.requires.query)).walk.bare_same) c.requires.readable
 
 pub walk::rows_anew-lent_rows-requires-clause-kind : goal.walk::rows_anew-lent_rows-requires-clause-kind
-walk::rows_anew-lent_rows-requires-clause-kind g t c = subst (λ (z : BareTrees). (sight_at z c.args.id).label.kind ≡ kind.Grid) (sym (c.in_ok-wide.ensures.below c.args.query (sym c.as_slice-reps.ensures) refl (ap (λ (q : Query). needs_inline q.ask) c.requires.query)).walk.bare_same) (c.subgrids_are_grids.ensures (lent_fit (sight_at (bare c.args.tree.now.tree) c.args.id) c.args.query (ap (λ (q : Query). q.ask) c.requires.query) c.requires.fits))
+walk::rows_anew-lent_rows-requires-clause-kind g t c =
+    subst (λ (z : BareTrees). (sight_at z c.args.id).label.kind ≡ kind.Grid) (sym (c.in_ok-wide.ensures.below c.args.query (sym c.as_slice-reps.ensures) refl (ap (λ (q : Query). needs_inline q.ask) c.requires.query)).walk.bare_same)
+    (c.subgrids_are_grids.ensures (lent_fit (sight_at (bare c.args.tree.now.tree) c.args.id) c.args.query (ap (λ (q : Query). q.ask) c.requires.query) c.requires.fits))
 
 pub walk::rows_anew-lent_rows-requires-clause-wide : goal.walk::rows_anew-lent_rows-requires-clause-wide
-walk::rows_anew-lent_rows-requires-clause-wide g t c = subst (λ (z : BareTrees). IsWide z c.args.id c.as_slice-reps.result.now c.args.query.inline c.in_ok-wide.wide) (sym (c.in_ok-wide.ensures.below c.args.query (sym c.as_slice-reps.ensures) refl (ap (λ (q : Query). needs_inline q.ask) c.requires.query)).walk.bare_same) c.in_ok-wide.ensures.value
+walk::rows_anew-lent_rows-requires-clause-wide g t c =
+    subst (λ (z : BareTrees). IsWide z c.args.id c.as_slice-reps.result.now c.args.query.inline c.in_ok-wide.wide) (sym (c.in_ok-wide.ensures.below c.args.query (sym c.as_slice-reps.ensures) refl (ap (λ (q : Query). needs_inline q.ask) c.requires.query)).walk.bare_same)
+    c.in_ok-wide.ensures.value
 
 pub walk::rows_anew-put-requires-clause-quiet : goal.walk::rows_anew-put-requires-clause-quiet
-walk::rows_anew-put-requires-clause-quiet g t c = grid_quiet (bare c.wide_at.new.tree.tree) c.args.id c.args.query (subst (λ (z : BareTrees). (sight_at z c.args.id).label.kind ≡ kind.Grid) (sym (c.in_ok-wide.ensures.below c.args.query (sym c.as_slice-reps.ensures) refl (ap (λ (q : Query). needs_inline q.ask) c.requires.query)).walk.bare_same) (c.subgrids_are_grids.ensures (lent_fit (sight_at (bare c.args.tree.now.tree) c.args.id) c.args.query (ap (λ (q : Query). q.ask) c.requires.query) c.requires.fits)))
+walk::rows_anew-put-requires-clause-quiet g t c =
+    grid_quiet (bare c.wide_at.new.tree.tree) c.args.id c.args.query
+    (subst (λ (z : BareTrees). (sight_at z c.args.id).label.kind ≡ kind.Grid) (sym (c.in_ok-wide.ensures.below c.args.query (sym c.as_slice-reps.ensures) refl (ap (λ (q : Query). needs_inline q.ask) c.requires.query)).walk.bare_same)
+    (c.subgrids_are_grids.ensures (lent_fit (sight_at (bare c.args.tree.now.tree) c.args.id) c.args.query (ap (λ (q : Query). q.ask) c.requires.query) c.requires.fits)))
 
 pub walk::rows_anew-put-requires-clause-live : goal.walk::rows_anew-put-requires-clause-live
 walk::rows_anew-put-requires-clause-live g t c = subst (λ (z : BareTrees). IsLive z c.args.id) (sym (c.in_ok-wide.ensures.below c.args.query (sym c.as_slice-reps.ensures) refl (ap (λ (q : Query). needs_inline q.ask) c.requires.query)).walk.bare_same) c.requires.live
@@ -552,12 +703,17 @@ walk::rows_anew-put-requires-clause-fits g t c = subst (λ (z : BareTrees). Fits
 pub walk::rows_anew-put-requires-clause-value : goal.walk::rows_anew-put-requires-clause-value
 walk::rows_anew-put-requires-clause-value g t c =
     ap lent_items (c.in_ok-items.ensures ∙ ap (λ (r : List Pair). grid_lends_rows (grid_seen (bare c.wide_at.new.tree.tree) c.args.id r c.args.query.inline) (rows_seen (bare c.wide_at.new.tree.tree) c.args.id r c.args.query.inline)) c.as_slice-reps.ensures)
-    ∙ lent_answer (bare c.wide_at.new.tree.tree) c.args.id c.args.query (subst (λ (z : BareTrees). (sight_at z c.args.id).label.kind ≡ kind.Grid) (sym (c.in_ok-wide.ensures.below c.args.query (sym c.as_slice-reps.ensures) refl (ap (λ (q : Query). needs_inline q.ask) c.requires.query)).walk.bare_same) (c.subgrids_are_grids.ensures (lent_fit (sight_at (bare c.args.tree.now.tree) c.args.id) c.args.query (ap (λ (q : Query). q.ask) c.requires.query) c.requires.fits))) (ap (λ (q : Query). q.ask) c.requires.query)
+    ∙ lent_answer (bare c.wide_at.new.tree.tree) c.args.id c.args.query
+    (subst (λ (z : BareTrees). (sight_at z c.args.id).label.kind ≡ kind.Grid) (sym (c.in_ok-wide.ensures.below c.args.query (sym c.as_slice-reps.ensures) refl (ap (λ (q : Query). needs_inline q.ask) c.requires.query)).walk.bare_same)
+    (c.subgrids_are_grids.ensures (lent_fit (sight_at (bare c.args.tree.now.tree) c.args.id) c.args.query (ap (λ (q : Query). q.ask) c.requires.query) c.requires.fits))) (ap (λ (q : Query). q.ask) c.requires.query)
 
 pub walk::rows_anew-returns-clause-value : goal.walk::rows_anew-returns-clause-value
 walk::rows_anew-returns-clause-value g t c =
-    ap lent_items (c.in_ok-lent.ensures ∙ c.as_slice.ensures) ∙ ap lent_items (c.in_ok-items.ensures ∙ ap (λ (r : List Pair). grid_lends_rows (grid_seen (bare c.wide_at.new.tree.tree) c.args.id r c.args.query.inline) (rows_seen (bare c.wide_at.new.tree.tree) c.args.id r c.args.query.inline)) c.as_slice-reps.ensures)
-    ∙ lent_answer (bare c.wide_at.new.tree.tree) c.args.id c.args.query (subst (λ (z : BareTrees). (sight_at z c.args.id).label.kind ≡ kind.Grid) (sym (c.in_ok-wide.ensures.below c.args.query (sym c.as_slice-reps.ensures) refl (ap (λ (q : Query). needs_inline q.ask) c.requires.query)).walk.bare_same) (c.subgrids_are_grids.ensures (lent_fit (sight_at (bare c.args.tree.now.tree) c.args.id) c.args.query (ap (λ (q : Query). q.ask) c.requires.query) c.requires.fits))) (ap (λ (q : Query). q.ask) c.requires.query)
+    ap lent_items (c.in_ok-lent.ensures ∙ c.as_slice.ensures) ∙
+    ap lent_items (c.in_ok-items.ensures ∙ ap (λ (r : List Pair). grid_lends_rows (grid_seen (bare c.wide_at.new.tree.tree) c.args.id r c.args.query.inline) (rows_seen (bare c.wide_at.new.tree.tree) c.args.id r c.args.query.inline)) c.as_slice-reps.ensures)
+    ∙ lent_answer (bare c.wide_at.new.tree.tree) c.args.id c.args.query
+    (subst (λ (z : BareTrees). (sight_at z c.args.id).label.kind ≡ kind.Grid) (sym (c.in_ok-wide.ensures.below c.args.query (sym c.as_slice-reps.ensures) refl (ap (λ (q : Query). needs_inline q.ask) c.requires.query)).walk.bare_same)
+    (c.subgrids_are_grids.ensures (lent_fit (sight_at (bare c.args.tree.now.tree) c.args.id) c.args.query (ap (λ (q : Query). q.ask) c.requires.query) c.requires.fits))) (ap (λ (q : Query). q.ask) c.requires.query)
     ∙ ap (λ (z : BareTrees). answer_of (sight_at z c.args.id) c.args.query) (c.in_ok-wide.ensures.below c.args.query (sym c.as_slice-reps.ensures) refl (ap (λ (q : Query). needs_inline q.ask) c.requires.query)).walk.bare_same
 
 pub walk::rows_anew-returns-in_err-wide-clause-stopped : goal.walk::rows_anew-returns-in_err-wide-clause-stopped
@@ -586,15 +742,25 @@ pub walk::row_anew-row_size-requires-clause-readable : goal.walk::row_anew-row_s
 walk::row_anew-row_size-requires-clause-readable g t c = subst AreReadable (sym (c.in_ok-parts.ensures.below c.args.query (sym c.size_of-width.ensures) (ap (λ (q : Query). needs_inline q.ask) c.requires.query)).walk.bare_same) c.requires.readable
 
 pub walk::row_anew-row_size-requires-clause-row : goal.walk::row_anew-row_size-requires-clause-row
-walk::row_anew-row_size-requires-clause-row g t c = subst (λ (z : BareTrees). IsRow z c.args.id c.size_of-width.result c.in_ok-parts.parts) (sym (c.in_ok-parts.ensures.below c.args.query (sym c.size_of-width.ensures) (ap (λ (q : Query). needs_inline q.ask) c.requires.query)).walk.bare_same) c.in_ok-parts.ensures.value
+walk::row_anew-row_size-requires-clause-row g t c =
+    subst (λ (z : BareTrees). IsRow z c.args.id c.size_of-width.result c.in_ok-parts.parts) (sym (c.in_ok-parts.ensures.below c.args.query (sym c.size_of-width.ensures) (ap (λ (q : Query). needs_inline q.ask) c.requires.query)).walk.bare_same) c.in_ok-parts.ensures.value
 
 pub walk::row_anew-put-requires-clause-value : goal.walk::row_anew-put-requires-clause-value
 walk::row_anew-put-requires-clause-value g t c =
-    ap block_size (c.in_ok-size.ensures ∙ ap (λ (w : ℤ). rules.row_block (flex_seen (bare c.row_at.new.tree.tree) c.args.id) (rules.row_lines (flex_seen (bare c.row_at.new.tree.tree) c.args.id) w) (rules.row_settled (flex_seen (bare c.row_at.new.tree.tree) c.args.id) (rules.row_lines (flex_seen (bare c.row_at.new.tree.tree) c.args.id) w))) c.size_of-width.ensures)
-    ∙ row_answer (bare c.row_at.new.tree.tree) c.args.id c.args.query (subst (λ (z : BareTrees). (sight_at z c.args.id).label.kind ≡ kind.Flex) (sym (c.in_ok-parts.ensures.below c.args.query (sym c.size_of-width.ensures) (ap (λ (q : Query). needs_inline q.ask) c.requires.query)).walk.bare_same) c.requires.flex) (subst (λ (z : BareTrees). (sight_at z c.args.id).label.content.column ≡ false) (sym (c.in_ok-parts.ensures.below c.args.query (sym c.size_of-width.ensures) (ap (λ (q : Query). needs_inline q.ask) c.requires.query)).walk.bare_same) c.requires.direction) (ap (λ (q : Query). q.ask) c.requires.query)
+    ap block_size
+    (c.in_ok-size.ensures ∙
+    ap
+    (λ (w : ℤ). rules.row_block (flex_seen (bare c.row_at.new.tree.tree) c.args.id) (rules.row_lines (flex_seen (bare c.row_at.new.tree.tree) c.args.id) w)
+    (rules.row_settled (flex_seen (bare c.row_at.new.tree.tree) c.args.id) (rules.row_lines (flex_seen (bare c.row_at.new.tree.tree) c.args.id) w))) c.size_of-width.ensures)
+    ∙ row_answer (bare c.row_at.new.tree.tree) c.args.id c.args.query
+    (subst (λ (z : BareTrees). (sight_at z c.args.id).label.kind ≡ kind.Flex) (sym (c.in_ok-parts.ensures.below c.args.query (sym c.size_of-width.ensures) (ap (λ (q : Query). needs_inline q.ask) c.requires.query)).walk.bare_same) c.requires.flex)
+    (subst (λ (z : BareTrees). (sight_at z c.args.id).label.content.column ≡ false) (sym (c.in_ok-parts.ensures.below c.args.query (sym c.size_of-width.ensures) (ap (λ (q : Query). needs_inline q.ask) c.requires.query)).walk.bare_same) c.requires.direction)
+    (ap (λ (q : Query). q.ask) c.requires.query)
 
 pub walk::row_anew-put-requires-clause-quiet : goal.walk::row_anew-put-requires-clause-quiet
-walk::row_anew-put-requires-clause-quiet g t c = flex_quiet (bare c.row_at.new.tree.tree) c.args.id c.args.query (subst (λ (z : BareTrees). (sight_at z c.args.id).label.kind ≡ kind.Flex) (sym (c.in_ok-parts.ensures.below c.args.query (sym c.size_of-width.ensures) (ap (λ (q : Query). needs_inline q.ask) c.requires.query)).walk.bare_same) c.requires.flex)
+walk::row_anew-put-requires-clause-quiet g t c =
+    flex_quiet (bare c.row_at.new.tree.tree) c.args.id c.args.query
+    (subst (λ (z : BareTrees). (sight_at z c.args.id).label.kind ≡ kind.Flex) (sym (c.in_ok-parts.ensures.below c.args.query (sym c.size_of-width.ensures) (ap (λ (q : Query). needs_inline q.ask) c.requires.query)).walk.bare_same) c.requires.flex)
 
 pub walk::row_anew-put-requires-clause-live : goal.walk::row_anew-put-requires-clause-live
 walk::row_anew-put-requires-clause-live g t c = subst (λ (z : BareTrees). IsLive z c.args.id) (sym (c.in_ok-parts.ensures.below c.args.query (sym c.size_of-width.ensures) (ap (λ (q : Query). needs_inline q.ask) c.requires.query)).walk.bare_same) c.requires.live
@@ -607,8 +773,15 @@ walk::row_anew-put-requires-clause-fits g t c = subst (λ (z : BareTrees). Fits 
 
 pub walk::row_anew-returns-clause-value : goal.walk::row_anew-returns-clause-value
 walk::row_anew-returns-clause-value g t c =
-    ap block_size (c.in_ok-size.ensures ∙ ap (λ (w : ℤ). rules.row_block (flex_seen (bare c.row_at.new.tree.tree) c.args.id) (rules.row_lines (flex_seen (bare c.row_at.new.tree.tree) c.args.id) w) (rules.row_settled (flex_seen (bare c.row_at.new.tree.tree) c.args.id) (rules.row_lines (flex_seen (bare c.row_at.new.tree.tree) c.args.id) w))) c.size_of-width.ensures)
-    ∙ row_answer (bare c.row_at.new.tree.tree) c.args.id c.args.query (subst (λ (z : BareTrees). (sight_at z c.args.id).label.kind ≡ kind.Flex) (sym (c.in_ok-parts.ensures.below c.args.query (sym c.size_of-width.ensures) (ap (λ (q : Query). needs_inline q.ask) c.requires.query)).walk.bare_same) c.requires.flex) (subst (λ (z : BareTrees). (sight_at z c.args.id).label.content.column ≡ false) (sym (c.in_ok-parts.ensures.below c.args.query (sym c.size_of-width.ensures) (ap (λ (q : Query). needs_inline q.ask) c.requires.query)).walk.bare_same) c.requires.direction) (ap (λ (q : Query). q.ask) c.requires.query)
+    ap block_size
+    (c.in_ok-size.ensures ∙
+    ap
+    (λ (w : ℤ). rules.row_block (flex_seen (bare c.row_at.new.tree.tree) c.args.id) (rules.row_lines (flex_seen (bare c.row_at.new.tree.tree) c.args.id) w)
+    (rules.row_settled (flex_seen (bare c.row_at.new.tree.tree) c.args.id) (rules.row_lines (flex_seen (bare c.row_at.new.tree.tree) c.args.id) w))) c.size_of-width.ensures)
+    ∙ row_answer (bare c.row_at.new.tree.tree) c.args.id c.args.query
+    (subst (λ (z : BareTrees). (sight_at z c.args.id).label.kind ≡ kind.Flex) (sym (c.in_ok-parts.ensures.below c.args.query (sym c.size_of-width.ensures) (ap (λ (q : Query). needs_inline q.ask) c.requires.query)).walk.bare_same) c.requires.flex)
+    (subst (λ (z : BareTrees). (sight_at z c.args.id).label.content.column ≡ false) (sym (c.in_ok-parts.ensures.below c.args.query (sym c.size_of-width.ensures) (ap (λ (q : Query). needs_inline q.ask) c.requires.query)).walk.bare_same) c.requires.direction)
+    (ap (λ (q : Query). q.ask) c.requires.query)
     ∙ ap (λ (z : BareTrees). answer_of (sight_at z c.args.id) c.args.query) (c.in_ok-parts.ensures.below c.args.query (sym c.size_of-width.ensures) (ap (λ (q : Query). needs_inline q.ask) c.requires.query)).walk.bare_same
 
 pub walk::row_anew-returns-in_err-parts-clause-stopped : goal.walk::row_anew-returns-in_err-parts-clause-stopped
@@ -633,15 +806,21 @@ pub walk::column_anew-column_size-requires-clause-readable : goal.walk::column_a
 walk::column_anew-column_size-requires-clause-readable g t c = subst AreReadable (sym (c.in_ok-parts.ensures.below c.args.query (sym c.size_of-width.ensures) (ap (λ (q : Query). needs_inline q.ask) c.requires.query)).walk.bare_same) c.requires.readable
 
 pub walk::column_anew-column_size-requires-clause-column : goal.walk::column_anew-column_size-requires-clause-column
-walk::column_anew-column_size-requires-clause-column g t c = subst (λ (z : BareTrees). IsColumn z c.args.id c.size_of-width.result c.in_ok-parts.parts) (sym (c.in_ok-parts.ensures.below c.args.query (sym c.size_of-width.ensures) (ap (λ (q : Query). needs_inline q.ask) c.requires.query)).walk.bare_same) c.in_ok-parts.ensures.value
+walk::column_anew-column_size-requires-clause-column g t c =
+    subst (λ (z : BareTrees). IsColumn z c.args.id c.size_of-width.result c.in_ok-parts.parts) (sym (c.in_ok-parts.ensures.below c.args.query (sym c.size_of-width.ensures) (ap (λ (q : Query). needs_inline q.ask) c.requires.query)).walk.bare_same) c.in_ok-parts.ensures.value
 
 pub walk::column_anew-put-requires-clause-value : goal.walk::column_anew-put-requires-clause-value
 walk::column_anew-put-requires-clause-value g t c =
     ap block_size (c.in_ok-size.ensures ∙ ap (λ (w : ℤ). rules.column_block (flex_seen (bare c.column_at.new.tree.tree) c.args.id) (rules.column_settled (flex_seen (bare c.column_at.new.tree.tree) c.args.id) w)) c.size_of-width.ensures)
-    ∙ column_answer (bare c.column_at.new.tree.tree) c.args.id c.args.query (subst (λ (z : BareTrees). (sight_at z c.args.id).label.kind ≡ kind.Flex) (sym (c.in_ok-parts.ensures.below c.args.query (sym c.size_of-width.ensures) (ap (λ (q : Query). needs_inline q.ask) c.requires.query)).walk.bare_same) c.requires.flex) (subst (λ (z : BareTrees). (sight_at z c.args.id).label.content.column ≡ true) (sym (c.in_ok-parts.ensures.below c.args.query (sym c.size_of-width.ensures) (ap (λ (q : Query). needs_inline q.ask) c.requires.query)).walk.bare_same) c.requires.direction) (ap (λ (q : Query). q.ask) c.requires.query)
+    ∙ column_answer (bare c.column_at.new.tree.tree) c.args.id c.args.query
+    (subst (λ (z : BareTrees). (sight_at z c.args.id).label.kind ≡ kind.Flex) (sym (c.in_ok-parts.ensures.below c.args.query (sym c.size_of-width.ensures) (ap (λ (q : Query). needs_inline q.ask) c.requires.query)).walk.bare_same) c.requires.flex)
+    (subst (λ (z : BareTrees). (sight_at z c.args.id).label.content.column ≡ true) (sym (c.in_ok-parts.ensures.below c.args.query (sym c.size_of-width.ensures) (ap (λ (q : Query). needs_inline q.ask) c.requires.query)).walk.bare_same) c.requires.direction)
+    (ap (λ (q : Query). q.ask) c.requires.query)
 
 pub walk::column_anew-put-requires-clause-quiet : goal.walk::column_anew-put-requires-clause-quiet
-walk::column_anew-put-requires-clause-quiet g t c = flex_quiet (bare c.column_at.new.tree.tree) c.args.id c.args.query (subst (λ (z : BareTrees). (sight_at z c.args.id).label.kind ≡ kind.Flex) (sym (c.in_ok-parts.ensures.below c.args.query (sym c.size_of-width.ensures) (ap (λ (q : Query). needs_inline q.ask) c.requires.query)).walk.bare_same) c.requires.flex)
+walk::column_anew-put-requires-clause-quiet g t c =
+    flex_quiet (bare c.column_at.new.tree.tree) c.args.id c.args.query
+    (subst (λ (z : BareTrees). (sight_at z c.args.id).label.kind ≡ kind.Flex) (sym (c.in_ok-parts.ensures.below c.args.query (sym c.size_of-width.ensures) (ap (λ (q : Query). needs_inline q.ask) c.requires.query)).walk.bare_same) c.requires.flex)
 
 pub walk::column_anew-put-requires-clause-live : goal.walk::column_anew-put-requires-clause-live
 walk::column_anew-put-requires-clause-live g t c = subst (λ (z : BareTrees). IsLive z c.args.id) (sym (c.in_ok-parts.ensures.below c.args.query (sym c.size_of-width.ensures) (ap (λ (q : Query). needs_inline q.ask) c.requires.query)).walk.bare_same) c.requires.live
@@ -655,7 +834,10 @@ walk::column_anew-put-requires-clause-fits g t c = subst (λ (z : BareTrees). Fi
 pub walk::column_anew-returns-clause-value : goal.walk::column_anew-returns-clause-value
 walk::column_anew-returns-clause-value g t c =
     ap block_size (c.in_ok-size.ensures ∙ ap (λ (w : ℤ). rules.column_block (flex_seen (bare c.column_at.new.tree.tree) c.args.id) (rules.column_settled (flex_seen (bare c.column_at.new.tree.tree) c.args.id) w)) c.size_of-width.ensures)
-    ∙ column_answer (bare c.column_at.new.tree.tree) c.args.id c.args.query (subst (λ (z : BareTrees). (sight_at z c.args.id).label.kind ≡ kind.Flex) (sym (c.in_ok-parts.ensures.below c.args.query (sym c.size_of-width.ensures) (ap (λ (q : Query). needs_inline q.ask) c.requires.query)).walk.bare_same) c.requires.flex) (subst (λ (z : BareTrees). (sight_at z c.args.id).label.content.column ≡ true) (sym (c.in_ok-parts.ensures.below c.args.query (sym c.size_of-width.ensures) (ap (λ (q : Query). needs_inline q.ask) c.requires.query)).walk.bare_same) c.requires.direction) (ap (λ (q : Query). q.ask) c.requires.query)
+    ∙ column_answer (bare c.column_at.new.tree.tree) c.args.id c.args.query
+    (subst (λ (z : BareTrees). (sight_at z c.args.id).label.kind ≡ kind.Flex) (sym (c.in_ok-parts.ensures.below c.args.query (sym c.size_of-width.ensures) (ap (λ (q : Query). needs_inline q.ask) c.requires.query)).walk.bare_same) c.requires.flex)
+    (subst (λ (z : BareTrees). (sight_at z c.args.id).label.content.column ≡ true) (sym (c.in_ok-parts.ensures.below c.args.query (sym c.size_of-width.ensures) (ap (λ (q : Query). needs_inline q.ask) c.requires.query)).walk.bare_same) c.requires.direction)
+    (ap (λ (q : Query). q.ask) c.requires.query)
     ∙ ap (λ (z : BareTrees). answer_of (sight_at z c.args.id) c.args.query) (c.in_ok-parts.ensures.below c.args.query (sym c.size_of-width.ensures) (ap (λ (q : Query). needs_inline q.ask) c.requires.query)).walk.bare_same
 
 pub walk::column_anew-returns-in_err-parts-clause-stopped : goal.walk::column_anew-returns-in_err-parts-clause-stopped
@@ -680,11 +862,13 @@ pub walk::row_at-items_in_row-requires-clause-readable : goal.walk::row_at-items
 walk::row_at-items_in_row-requires-clause-readable g t c = subst AreReadable (sym (c.in_ok-parts.ensures.below (inline_query false [])).walk.bare_same) c.requires.readable
 
 pub walk::row_at-items_in_row-requires-clause-members : goal.walk::row_at-items_in_row-requires-clause-members
-walk::row_at-items_in_row-requires-clause-members g t c = subst (AreMembers (bare c.flex_at.new.tree.tree) c.args.id) (sym c.as_slice.ensures) (subst (λ (z : BareTrees). AreMembers z c.args.id c.in_ok-parts.parts.members) (sym (c.in_ok-parts.ensures.below (inline_query false [])).walk.bare_same) c.in_ok-parts.ensures.value)
+walk::row_at-items_in_row-requires-clause-members g t c =
+    subst (AreMembers (bare c.flex_at.new.tree.tree) c.args.id) (sym c.as_slice.ensures) (subst (λ (z : BareTrees). AreMembers z c.args.id c.in_ok-parts.parts.members) (sym (c.in_ok-parts.ensures.below (inline_query false [])).walk.bare_same) c.in_ok-parts.ensures.value)
 
 pub walk::row_at-returns-in_err-parts-clause-stopped : goal.walk::row_at-returns-in_err-parts-clause-stopped
 walk::row_at-returns-in_err-parts-clause-stopped g t c =
-    let all : (q : Query) → given_size q.inline ≡ c.args.width → needs_inline q.ask ≡ true → Stopped c.args.id q (state c.args.tree.now c.args.tally.now c.args.passes.now (g.R.Ruler.log c.args.ruler.now)) (state c.flex_at.new.tree c.flex_at.new.tally c.flex_at.new.passes (g.R.Ruler.log c.flex_at.new.ruler)) = λ q w n. c.in_err-parts.ensures.stopped q in
+    let all : (q : Query) → given_size q.inline ≡ c.args.width → needs_inline q.ask ≡ true →
+    Stopped c.args.id q (state c.args.tree.now c.args.tally.now c.args.passes.now (g.R.Ruler.log c.args.ruler.now)) (state c.flex_at.new.tree c.flex_at.new.tally c.flex_at.new.passes (g.R.Ruler.log c.flex_at.new.ruler)) = λ q w n. c.in_err-parts.ensures.stopped q in
     on_err _ _ all
 
 pub walk::column_at-boxes_in_column-requires-clause-live : goal.walk::column_at-boxes_in_column-requires-clause-live
@@ -694,15 +878,18 @@ pub walk::column_at-boxes_in_column-requires-clause-readable : goal.walk::column
 walk::column_at-boxes_in_column-requires-clause-readable g t c = subst AreReadable (sym (c.in_ok-parts.ensures.below (inline_query false [])).walk.bare_same) c.requires.readable
 
 pub walk::column_at-boxes_in_column-requires-clause-members : goal.walk::column_at-boxes_in_column-requires-clause-members
-walk::column_at-boxes_in_column-requires-clause-members g t c = subst (AreMembers (bare c.flex_at.new.tree.tree) c.args.id) (sym c.as_slice.ensures) (subst (λ (z : BareTrees). AreMembers z c.args.id c.in_ok-parts.parts.members) (sym (c.in_ok-parts.ensures.below (inline_query false [])).walk.bare_same) c.in_ok-parts.ensures.value)
+walk::column_at-boxes_in_column-requires-clause-members g t c =
+    subst (AreMembers (bare c.flex_at.new.tree.tree) c.args.id) (sym c.as_slice.ensures) (subst (λ (z : BareTrees). AreMembers z c.args.id c.in_ok-parts.parts.members) (sym (c.in_ok-parts.ensures.below (inline_query false [])).walk.bare_same) c.in_ok-parts.ensures.value)
 
 pub walk::column_at-returns-in_err-parts-clause-stopped : goal.walk::column_at-returns-in_err-parts-clause-stopped
 walk::column_at-returns-in_err-parts-clause-stopped g t c =
-    let all : (q : Query) → given_size q.inline ≡ c.args.width → needs_inline q.ask ≡ true → Stopped c.args.id q (state c.args.tree.now c.args.tally.now c.args.passes.now (g.R.Ruler.log c.args.ruler.now)) (state c.flex_at.new.tree c.flex_at.new.tally c.flex_at.new.passes (g.R.Ruler.log c.flex_at.new.ruler)) = λ q w n. c.in_err-parts.ensures.stopped q in
+    let all : (q : Query) → given_size q.inline ≡ c.args.width → needs_inline q.ask ≡ true →
+    Stopped c.args.id q (state c.args.tree.now c.args.tally.now c.args.passes.now (g.R.Ruler.log c.args.ruler.now)) (state c.flex_at.new.tree c.flex_at.new.tally c.flex_at.new.passes (g.R.Ruler.log c.flex_at.new.ruler)) = λ q w n. c.in_err-parts.ensures.stopped q in
     on_err _ _ all
 
 pub walk::row_at-row_lines-requires : goal.walk::row_at-row_lines-requires
-walk::row_at-row_lines-requires g t c = record { few = items_few (bare c.flex_at.new.tree.tree) c.args.id c.args.width c.deref.result.now (subst AreReadable (sym (c.in_ok-parts.ensures.below (inline_query false [])).walk.bare_same) c.requires.readable) (c.deref.ensures.value ∙ c.in_ok-items.ensures.value) }
+walk::row_at-row_lines-requires g t c = record
+    { few = items_few (bare c.flex_at.new.tree.tree) c.args.id c.args.width c.deref.result.now (subst AreReadable (sym (c.in_ok-parts.ensures.below (inline_query false [])).walk.bare_same) c.requires.readable) (c.deref.ensures.value ∙ c.in_ok-items.ensures.value) }
 
 pub walk::row_at-ask_members-requires : goal.walk::row_at-ask_members-requires
 walk::row_at-ask_members-requires g t c =
@@ -711,34 +898,65 @@ walk::row_at-ask_members-requires g t c =
     let readable : AreReadable (bare c.flex_at.new.tree.tree) = subst AreReadable back c.requires.readable in
     let flex : (sight_at (bare c.flex_at.new.tree.tree) c.args.id).label.kind ≡ kind.Flex = subst (λ (z : BareTrees). (sight_at z c.args.id).label.kind ≡ kind.Flex) back c.requires.flex in
     let members : AreMembers (bare c.flex_at.new.tree.tree) c.args.id c.as_slice-2.result.now = subst (AreMembers (bare c.flex_at.new.tree.tree) c.args.id) (sym c.as_slice-2.ensures) (subst (λ (z : BareTrees). AreMembers z c.args.id c.in_ok-parts.parts.members) back c.in_ok-parts.ensures.value) in
-    let roomy : AreRoomy (flex_seen (bare c.flex_at.new.tree.tree) c.args.id).members c.as_slice-3.result.now = subst (AreRoomy (flex_seen (bare c.flex_at.new.tree.tree) c.args.id).members) (sym c.as_slice-3.ensures) (covering_roomy c.args.width (flex_seen (bare c.flex_at.new.tree.tree) c.args.id).members c.in_ok-lines.lines.mains (subst (λ (l : List FlexItem). AreCovering l c.in_ok-lines.lines.mains) (c.deref.ensures.value ∙ c.in_ok-items.ensures.value) (c.in_ok-lines.ensures.cover (subst HaveInner (sym c.deref.ensures.value) c.in_ok-items.ensures.inner)))) in
+    let roomy : AreRoomy (flex_seen (bare c.flex_at.new.tree.tree) c.args.id).members c.as_slice-3.result.now = subst (AreRoomy (flex_seen (bare c.flex_at.new.tree.tree) c.args.id).members) (sym c.as_slice-3.ensures)
+    (covering_roomy c.args.width (flex_seen (bare c.flex_at.new.tree.tree) c.args.id).members c.in_ok-lines.lines.mains
+    (subst (λ (l : List FlexItem). AreCovering l c.in_ok-lines.lines.mains) (c.deref.ensures.value ∙ c.in_ok-items.ensures.value) (c.in_ok-lines.ensures.cover (subst HaveInner (sym c.deref.ensures.value) c.in_ok-items.ensures.inner)))) in
     let small : 16 * size_at (bare c.flex_at.new.tree.tree) c.args.id + 0 < 16 * size_at (bare c.args.tree.now.tree) c.args.id + 1 = omega (arith, ap (λ (z : BareTrees). size_at z c.args.id) (c.in_ok-parts.ensures.below (inline_query false [])).walk.bare_same) in
     search rules
 
 pub walk::row_at-returns-in_err-items-clause-stopped : goal.walk::row_at-returns-in_err-items-clause-stopped
 walk::row_at-returns-in_err-items-clause-stopped g t c =
-    let all : (q : Query) → given_size q.inline ≡ c.args.width → needs_inline q.ask ≡ true → Stopped c.args.id q (state c.args.tree.now c.args.tally.now c.args.passes.now (g.R.Ruler.log c.args.ruler.now)) (state c.flex_at.new.tree c.flex_at.new.tally c.flex_at.new.passes (g.R.Ruler.log c.flex_at.new.ruler)) = λ q w n. stopped c.args.id q 0 (state c.args.tree.now c.args.tally.now c.args.passes.now (g.R.Ruler.log c.args.ruler.now)) (state c.flex_at.new.tree c.flex_at.new.tally c.flex_at.new.passes (g.R.Ruler.log c.flex_at.new.ruler)) (c.in_ok-parts.ensures.below q) in
+    let all : (q : Query) → given_size q.inline ≡ c.args.width → needs_inline q.ask ≡ true →
+    Stopped c.args.id q (state c.args.tree.now c.args.tally.now c.args.passes.now (g.R.Ruler.log c.args.ruler.now)) (state c.flex_at.new.tree c.flex_at.new.tally c.flex_at.new.passes (g.R.Ruler.log c.flex_at.new.ruler)) = λ q w n. stopped c.args.id q 0
+    (state c.args.tree.now c.args.tally.now c.args.passes.now (g.R.Ruler.log c.args.ruler.now)) (state c.flex_at.new.tree c.flex_at.new.tally c.flex_at.new.passes (g.R.Ruler.log c.flex_at.new.ruler)) (c.in_ok-parts.ensures.below q) in
     on_err _ _ all
 
 pub walk::row_at-returns-in_err-lines-clause-stopped : goal.walk::row_at-returns-in_err-lines-clause-stopped
 walk::row_at-returns-in_err-lines-clause-stopped g t c =
-    let all : (q : Query) → given_size q.inline ≡ c.args.width → needs_inline q.ask ≡ true → Stopped c.args.id q (state c.args.tree.now c.args.tally.now c.args.passes.now (g.R.Ruler.log c.args.ruler.now)) (state c.flex_at.new.tree c.flex_at.new.tally c.row_lines.new.passes (g.R.Ruler.log c.flex_at.new.ruler)) = λ q w n. stopped c.args.id q 1 (state c.args.tree.now c.args.tally.now c.args.passes.now (g.R.Ruler.log c.args.ruler.now)) (state c.flex_at.new.tree c.flex_at.new.tally c.row_lines.new.passes (g.R.Ruler.log c.flex_at.new.ruler)) (ticked c.args.id q 0 1 (state c.args.tree.now c.args.tally.now c.args.passes.now (g.R.Ruler.log c.args.ruler.now)) (state c.flex_at.new.tree c.flex_at.new.tally c.flex_at.new.passes (g.R.Ruler.log c.flex_at.new.ruler)) c.row_lines.new.passes c.row_lines.ensures.ticks (c.in_ok-parts.ensures.below q)) in
+    let all : (q : Query) → given_size q.inline ≡ c.args.width → needs_inline q.ask ≡ true →
+    Stopped c.args.id q (state c.args.tree.now c.args.tally.now c.args.passes.now (g.R.Ruler.log c.args.ruler.now)) (state c.flex_at.new.tree c.flex_at.new.tally c.row_lines.new.passes (g.R.Ruler.log c.flex_at.new.ruler)) = λ q w n. stopped c.args.id q 1
+    (state c.args.tree.now c.args.tally.now c.args.passes.now (g.R.Ruler.log c.args.ruler.now)) (state c.flex_at.new.tree c.flex_at.new.tally c.row_lines.new.passes (g.R.Ruler.log c.flex_at.new.ruler))
+    (ticked c.args.id q 0 1 (state c.args.tree.now c.args.tally.now c.args.passes.now (g.R.Ruler.log c.args.ruler.now)) (state c.flex_at.new.tree c.flex_at.new.tally c.flex_at.new.passes (g.R.Ruler.log c.flex_at.new.ruler)) c.row_lines.new.passes c.row_lines.ensures.ticks
+    (c.in_ok-parts.ensures.below q)) in
     on_err _ _ all
 
 pub walk::row_at-returns-in_err-blocks-clause-stopped : goal.walk::row_at-returns-in_err-blocks-clause-stopped
 walk::row_at-returns-in_err-blocks-clause-stopped g t c =
-    let all : (q : Query) → given_size q.inline ≡ c.args.width → needs_inline q.ask ≡ true → Stopped c.args.id q (state c.args.tree.now c.args.tally.now c.args.passes.now (g.R.Ruler.log c.args.ruler.now)) (state c.ask_members.new.tree c.ask_members.new.tally c.ask_members.new.passes (g.R.Ruler.log c.ask_members.new.ruler)) = λ q w n. joined_stopped c.args.id q 1 (state c.args.tree.now c.args.tally.now c.args.passes.now (g.R.Ruler.log c.args.ruler.now)) (state c.flex_at.new.tree c.flex_at.new.tally c.row_lines.new.passes (g.R.Ruler.log c.flex_at.new.ruler)) (state c.ask_members.new.tree c.ask_members.new.tally c.ask_members.new.passes (g.R.Ruler.log c.ask_members.new.ruler)) (ticked c.args.id q 0 1 (state c.args.tree.now c.args.tally.now c.args.passes.now (g.R.Ruler.log c.args.ruler.now)) (state c.flex_at.new.tree c.flex_at.new.tally c.flex_at.new.passes (g.R.Ruler.log c.flex_at.new.ruler)) c.row_lines.new.passes c.row_lines.ensures.ticks (c.in_ok-parts.ensures.below q)) (c.in_err-blocks.ensures.stopped q (row_leads (bare c.flex_at.new.tree.tree) c.args.id c.args.width q c.as_slice-3.result.now (subst (λ (z : BareTrees). (sight_at z c.args.id).label.kind ≡ kind.Flex) (sym (c.in_ok-parts.ensures.below (inline_query false [])).walk.bare_same) c.requires.flex) (subst (λ (z : BareTrees). (sight_at z c.args.id).label.content.column ≡ false) (sym (c.in_ok-parts.ensures.below (inline_query false [])).walk.bare_same) c.requires.direction) w n (c.as_slice-3.ensures ∙ ap (λ (l : rules.Lines). l.mains) (lines_made (bare c.flex_at.new.tree.tree) c.args.id c.args.width c.node_at.result.now.style c.deref.result.now c.in_ok-lines.lines c.node_at.ensures.grid c.node_at.ensures.content (c.deref.ensures.value ∙ c.in_ok-items.ensures.value) c.in_ok-lines.ensures.value)))) in
+    let all : (q : Query) → given_size q.inline ≡ c.args.width → needs_inline q.ask ≡ true →
+    Stopped c.args.id q (state c.args.tree.now c.args.tally.now c.args.passes.now (g.R.Ruler.log c.args.ruler.now)) (state c.ask_members.new.tree c.ask_members.new.tally c.ask_members.new.passes (g.R.Ruler.log c.ask_members.new.ruler)) = λ q w n. joined_stopped c.args.id q 1
+    (state c.args.tree.now c.args.tally.now c.args.passes.now (g.R.Ruler.log c.args.ruler.now)) (state c.flex_at.new.tree c.flex_at.new.tally c.row_lines.new.passes (g.R.Ruler.log c.flex_at.new.ruler))
+    (state c.ask_members.new.tree c.ask_members.new.tally c.ask_members.new.passes (g.R.Ruler.log c.ask_members.new.ruler))
+    (ticked c.args.id q 0 1 (state c.args.tree.now c.args.tally.now c.args.passes.now (g.R.Ruler.log c.args.ruler.now)) (state c.flex_at.new.tree c.flex_at.new.tally c.flex_at.new.passes (g.R.Ruler.log c.flex_at.new.ruler)) c.row_lines.new.passes c.row_lines.ensures.ticks
+    (c.in_ok-parts.ensures.below q))
+    (c.in_err-blocks.ensures.stopped q
+    (row_leads (bare c.flex_at.new.tree.tree) c.args.id c.args.width q c.as_slice-3.result.now (subst (λ (z : BareTrees). (sight_at z c.args.id).label.kind ≡ kind.Flex) (sym (c.in_ok-parts.ensures.below (inline_query false [])).walk.bare_same) c.requires.flex)
+    (subst (λ (z : BareTrees). (sight_at z c.args.id).label.content.column ≡ false) (sym (c.in_ok-parts.ensures.below (inline_query false [])).walk.bare_same) c.requires.direction) w n
+    (c.as_slice-3.ensures ∙
+    ap (λ (l : rules.Lines). l.mains)
+    (lines_made (bare c.flex_at.new.tree.tree) c.args.id c.args.width c.node_at.result.now.style c.deref.result.now c.in_ok-lines.lines c.node_at.ensures.grid c.node_at.ensures.content (c.deref.ensures.value ∙ c.in_ok-items.ensures.value)
+    c.in_ok-lines.ensures.value)))) in
     on_err _ _ all
 
 pub walk::row_at-returns-clause-below : goal.walk::row_at-returns-clause-below
 walk::row_at-returns-clause-below g t c =
-    λ q w n. joined_below c.args.id q 1 (state c.args.tree.now c.args.tally.now c.args.passes.now (g.R.Ruler.log c.args.ruler.now)) (state c.flex_at.new.tree c.flex_at.new.tally c.row_lines.new.passes (g.R.Ruler.log c.flex_at.new.ruler)) (state c.ask_members.new.tree c.ask_members.new.tally c.ask_members.new.passes (g.R.Ruler.log c.ask_members.new.ruler)) (ticked c.args.id q 0 1 (state c.args.tree.now c.args.tally.now c.args.passes.now (g.R.Ruler.log c.args.ruler.now)) (state c.flex_at.new.tree c.flex_at.new.tally c.flex_at.new.passes (g.R.Ruler.log c.flex_at.new.ruler)) c.row_lines.new.passes c.row_lines.ensures.ticks (c.in_ok-parts.ensures.below q)) (c.in_ok-blocks.ensures.below q (row_leads (bare c.flex_at.new.tree.tree) c.args.id c.args.width q c.as_slice-3.result.now (subst (λ (z : BareTrees). (sight_at z c.args.id).label.kind ≡ kind.Flex) (sym (c.in_ok-parts.ensures.below (inline_query false [])).walk.bare_same) c.requires.flex) (subst (λ (z : BareTrees). (sight_at z c.args.id).label.content.column ≡ false) (sym (c.in_ok-parts.ensures.below (inline_query false [])).walk.bare_same) c.requires.direction) w n (c.as_slice-3.ensures ∙ ap (λ (l : rules.Lines). l.mains) (lines_made (bare c.flex_at.new.tree.tree) c.args.id c.args.width c.node_at.result.now.style c.deref.result.now c.in_ok-lines.lines c.node_at.ensures.grid c.node_at.ensures.content (c.deref.ensures.value ∙ c.in_ok-items.ensures.value) c.in_ok-lines.ensures.value))))
+    λ q w n. joined_below c.args.id q 1 (state c.args.tree.now c.args.tally.now c.args.passes.now (g.R.Ruler.log c.args.ruler.now)) (state c.flex_at.new.tree c.flex_at.new.tally c.row_lines.new.passes (g.R.Ruler.log c.flex_at.new.ruler))
+    (state c.ask_members.new.tree c.ask_members.new.tally c.ask_members.new.passes (g.R.Ruler.log c.ask_members.new.ruler))
+    (ticked c.args.id q 0 1 (state c.args.tree.now c.args.tally.now c.args.passes.now (g.R.Ruler.log c.args.ruler.now)) (state c.flex_at.new.tree c.flex_at.new.tally c.flex_at.new.passes (g.R.Ruler.log c.flex_at.new.ruler)) c.row_lines.new.passes c.row_lines.ensures.ticks
+    (c.in_ok-parts.ensures.below q))
+    (c.in_ok-blocks.ensures.below q
+    (row_leads (bare c.flex_at.new.tree.tree) c.args.id c.args.width q c.as_slice-3.result.now (subst (λ (z : BareTrees). (sight_at z c.args.id).label.kind ≡ kind.Flex) (sym (c.in_ok-parts.ensures.below (inline_query false [])).walk.bare_same) c.requires.flex)
+    (subst (λ (z : BareTrees). (sight_at z c.args.id).label.content.column ≡ false) (sym (c.in_ok-parts.ensures.below (inline_query false [])).walk.bare_same) c.requires.direction) w n
+    (c.as_slice-3.ensures ∙
+    ap (λ (l : rules.Lines). l.mains)
+    (lines_made (bare c.flex_at.new.tree.tree) c.args.id c.args.width c.node_at.result.now.style c.deref.result.now c.in_ok-lines.lines c.node_at.ensures.grid c.node_at.ensures.content (c.deref.ensures.value ∙ c.in_ok-items.ensures.value) c.in_ok-lines.ensures.value))))
 
 pub walk::row_at-returns-clause-value : goal.walk::row_at-returns-clause-value
 walk::row_at-returns-clause-value g t c =
     record {
       children = c.in_ok-parts.ensures.value;
-      along = (lines_made (bare c.flex_at.new.tree.tree) c.args.id c.args.width c.node_at.result.now.style c.deref.result.now c.in_ok-lines.lines c.node_at.ensures.grid c.node_at.ensures.content (c.deref.ensures.value ∙ c.in_ok-items.ensures.value) c.in_ok-lines.ensures.value) ∙ ap (λ (z : BareTrees). rules.row_lines (flex_seen z c.args.id) c.args.width) (c.in_ok-parts.ensures.below (inline_query false [])).walk.bare_same;
+      along =
+          (lines_made (bare c.flex_at.new.tree.tree) c.args.id c.args.width c.node_at.result.now.style c.deref.result.now c.in_ok-lines.lines c.node_at.ensures.grid c.node_at.ensures.content (c.deref.ensures.value ∙ c.in_ok-items.ensures.value) c.in_ok-lines.ensures.value) ∙
+          ap (λ (z : BareTrees). rules.row_lines (flex_seen z c.args.id) c.args.width) (c.in_ok-parts.ensures.below (inline_query false [])).walk.bare_same;
       ranges = subst (λ (k : ℕ). AreRanges k c.in_ok-lines.lines.ranges) (ap length (c.deref.ensures.value ∙ c.in_ok-items.ensures.value) ∙ map_length (λ (m : rules.Member). rules.flex_item false (Some c.args.width) m.kid.label m.inline) (flex_seen (bare c.flex_at.new.tree.tree) c.args.id).members
           ∙ ap (λ (z : BareTrees). length (flex_seen z c.args.id).members) (c.in_ok-parts.ensures.below (inline_query false [])).walk.bare_same ∙ seen_length (bare c.args.tree.now.tree) c.args.id c.in_ok-parts.parts.members c.in_ok-parts.ensures.value.same) c.in_ok-lines.ensures.ranges;
       across = c.in_ok-blocks.ensures.value ∙ (λ i. map block_of (settled_seen ((c.in_ok-parts.ensures.below (inline_query false [])).walk.bare_same i) c.args.id (c.as_slice-3.ensures i)));
@@ -757,17 +975,29 @@ walk::column_at-ask_members-requires g t c =
 
 pub walk::column_at-returns-in_err-boxes-clause-stopped : goal.walk::column_at-returns-in_err-boxes-clause-stopped
 walk::column_at-returns-in_err-boxes-clause-stopped g t c =
-    let all : (q : Query) → given_size q.inline ≡ c.args.width → needs_inline q.ask ≡ true → Stopped c.args.id q (state c.args.tree.now c.args.tally.now c.args.passes.now (g.R.Ruler.log c.args.ruler.now)) (state c.flex_at.new.tree c.flex_at.new.tally c.flex_at.new.passes (g.R.Ruler.log c.flex_at.new.ruler)) = λ q w n. stopped c.args.id q 0 (state c.args.tree.now c.args.tally.now c.args.passes.now (g.R.Ruler.log c.args.ruler.now)) (state c.flex_at.new.tree c.flex_at.new.tally c.flex_at.new.passes (g.R.Ruler.log c.flex_at.new.ruler)) (c.in_ok-parts.ensures.below q) in
+    let all : (q : Query) → given_size q.inline ≡ c.args.width → needs_inline q.ask ≡ true →
+    Stopped c.args.id q (state c.args.tree.now c.args.tally.now c.args.passes.now (g.R.Ruler.log c.args.ruler.now)) (state c.flex_at.new.tree c.flex_at.new.tally c.flex_at.new.passes (g.R.Ruler.log c.flex_at.new.ruler)) = λ q w n. stopped c.args.id q 0
+    (state c.args.tree.now c.args.tally.now c.args.passes.now (g.R.Ruler.log c.args.ruler.now)) (state c.flex_at.new.tree c.flex_at.new.tally c.flex_at.new.passes (g.R.Ruler.log c.flex_at.new.ruler)) (c.in_ok-parts.ensures.below q) in
     on_err _ _ all
 
 pub walk::column_at-returns-in_err-blocks-clause-stopped : goal.walk::column_at-returns-in_err-blocks-clause-stopped
 walk::column_at-returns-in_err-blocks-clause-stopped g t c =
-    let all : (q : Query) → given_size q.inline ≡ c.args.width → needs_inline q.ask ≡ true → Stopped c.args.id q (state c.args.tree.now c.args.tally.now c.args.passes.now (g.R.Ruler.log c.args.ruler.now)) (state c.ask_members.new.tree c.ask_members.new.tally c.ask_members.new.passes (g.R.Ruler.log c.ask_members.new.ruler)) = λ q w n. joined_stopped c.args.id q 0 (state c.args.tree.now c.args.tally.now c.args.passes.now (g.R.Ruler.log c.args.ruler.now)) (state c.flex_at.new.tree c.flex_at.new.tally c.flex_at.new.passes (g.R.Ruler.log c.flex_at.new.ruler)) (state c.ask_members.new.tree c.ask_members.new.tally c.ask_members.new.passes (g.R.Ruler.log c.ask_members.new.ruler)) (c.in_ok-parts.ensures.below q) (c.in_err-blocks.ensures.stopped q (column_leads (bare c.flex_at.new.tree.tree) c.args.id c.args.width q c.as_slice-3.result.now (subst (λ (z : BareTrees). (sight_at z c.args.id).label.kind ≡ kind.Flex) (sym (c.in_ok-parts.ensures.below (inline_query false [])).walk.bare_same) c.requires.flex) (subst (λ (z : BareTrees). (sight_at z c.args.id).label.content.column ≡ true) (sym (c.in_ok-parts.ensures.below (inline_query false [])).walk.bare_same) c.requires.direction) w n (c.as_slice-3.ensures ∙ c.in_ok-boxes.ensures.value))) in
+    let all : (q : Query) → given_size q.inline ≡ c.args.width → needs_inline q.ask ≡ true →
+    Stopped c.args.id q (state c.args.tree.now c.args.tally.now c.args.passes.now (g.R.Ruler.log c.args.ruler.now)) (state c.ask_members.new.tree c.ask_members.new.tally c.ask_members.new.passes (g.R.Ruler.log c.ask_members.new.ruler)) = λ q w n. joined_stopped c.args.id q 0
+    (state c.args.tree.now c.args.tally.now c.args.passes.now (g.R.Ruler.log c.args.ruler.now)) (state c.flex_at.new.tree c.flex_at.new.tally c.flex_at.new.passes (g.R.Ruler.log c.flex_at.new.ruler))
+    (state c.ask_members.new.tree c.ask_members.new.tally c.ask_members.new.passes (g.R.Ruler.log c.ask_members.new.ruler)) (c.in_ok-parts.ensures.below q)
+    (c.in_err-blocks.ensures.stopped q
+    (column_leads (bare c.flex_at.new.tree.tree) c.args.id c.args.width q c.as_slice-3.result.now (subst (λ (z : BareTrees). (sight_at z c.args.id).label.kind ≡ kind.Flex) (sym (c.in_ok-parts.ensures.below (inline_query false [])).walk.bare_same) c.requires.flex)
+    (subst (λ (z : BareTrees). (sight_at z c.args.id).label.content.column ≡ true) (sym (c.in_ok-parts.ensures.below (inline_query false [])).walk.bare_same) c.requires.direction) w n (c.as_slice-3.ensures ∙ c.in_ok-boxes.ensures.value))) in
     on_err _ _ all
 
 pub walk::column_at-returns-clause-below : goal.walk::column_at-returns-clause-below
 walk::column_at-returns-clause-below g t c =
-    λ q w n. joined_below c.args.id q 0 (state c.args.tree.now c.args.tally.now c.args.passes.now (g.R.Ruler.log c.args.ruler.now)) (state c.flex_at.new.tree c.flex_at.new.tally c.flex_at.new.passes (g.R.Ruler.log c.flex_at.new.ruler)) (state c.ask_members.new.tree c.ask_members.new.tally c.ask_members.new.passes (g.R.Ruler.log c.ask_members.new.ruler)) (c.in_ok-parts.ensures.below q) (c.in_ok-blocks.ensures.below q (column_leads (bare c.flex_at.new.tree.tree) c.args.id c.args.width q c.as_slice-3.result.now (subst (λ (z : BareTrees). (sight_at z c.args.id).label.kind ≡ kind.Flex) (sym (c.in_ok-parts.ensures.below (inline_query false [])).walk.bare_same) c.requires.flex) (subst (λ (z : BareTrees). (sight_at z c.args.id).label.content.column ≡ true) (sym (c.in_ok-parts.ensures.below (inline_query false [])).walk.bare_same) c.requires.direction) w n (c.as_slice-3.ensures ∙ c.in_ok-boxes.ensures.value)))
+    λ q w n. joined_below c.args.id q 0 (state c.args.tree.now c.args.tally.now c.args.passes.now (g.R.Ruler.log c.args.ruler.now)) (state c.flex_at.new.tree c.flex_at.new.tally c.flex_at.new.passes (g.R.Ruler.log c.flex_at.new.ruler))
+    (state c.ask_members.new.tree c.ask_members.new.tally c.ask_members.new.passes (g.R.Ruler.log c.ask_members.new.ruler)) (c.in_ok-parts.ensures.below q)
+    (c.in_ok-blocks.ensures.below q
+    (column_leads (bare c.flex_at.new.tree.tree) c.args.id c.args.width q c.as_slice-3.result.now (subst (λ (z : BareTrees). (sight_at z c.args.id).label.kind ≡ kind.Flex) (sym (c.in_ok-parts.ensures.below (inline_query false [])).walk.bare_same) c.requires.flex)
+    (subst (λ (z : BareTrees). (sight_at z c.args.id).label.content.column ≡ true) (sym (c.in_ok-parts.ensures.below (inline_query false [])).walk.bare_same) c.requires.direction) w n (c.as_slice-3.ensures ∙ c.in_ok-boxes.ensures.value)))
 
 pub walk::column_at-returns-clause-value : goal.walk::column_at-returns-clause-value
 walk::column_at-returns-clause-value g t c =
@@ -826,13 +1056,15 @@ walk::ask_members-given_box-width-requires g t c =
 pub walk::ask_members-block_at-requires : goal.walk::ask_members-block_at-requires
 walk::ask_members-block_at-requires g t c =
     let turn_now : IsAsked (bare c.args.tree.now.tree) (bare c.loop-index.tree.tree) c.args.id c.args.boxes.now c.loop-index.index c.member_at-member.result c.box_at.result =
-    asked_turn (bare c.args.tree.now.tree) (bare c.loop-index.tree.tree) c.args.id c.args.members.now c.args.boxes.now c.loop-index.index c.member_at-member.result c.box_at.result c.loop-index.invariant.same c.root.ensures.tree c.requires.members c.requires.roomy c.requires.flex (omega (arith, c.loop-index-test.true)) c.member_at-member.ensures c.box_at.ensures in
+    asked_turn (bare c.args.tree.now.tree) (bare c.loop-index.tree.tree) c.args.id c.args.members.now c.args.boxes.now c.loop-index.index c.member_at-member.result c.box_at.result c.loop-index.invariant.same c.root.ensures.tree c.requires.members c.requires.roomy c.requires.flex
+    (omega (arith, c.loop-index-test.true)) c.member_at-member.ensures c.box_at.ensures in
     let given : IsGivenFor true false 0 c.given_box-width.result =
     c.given_box-width.ensures.fits (subst (λ (s : GridStyle). inner s.columns ≤ℤ c.box_at.result) (sym c.node_at.ensures.grid) turn_now.room) in
     let live : IsLive (bare c.loop-index.tree.tree) c.member_at-member.result.child = turn_now.live in
     let readable : AreReadable (bare c.loop-index.tree.tree) = subst AreReadable (sym c.loop-index.invariant.same) c.requires.readable in
     let fits : Fits (sight_at (bare c.loop-index.tree.tree) c.member_at-member.result.child) (block_query false [] c.given_box-width.result) = fits_block (sight_at (bare c.loop-index.tree.tree) c.member_at-member.result.child) c.given_box-width.result turn_now.none given in
-    let seat : IsSeat (sight_at (bare c.loop-index.tree.tree) c.member_at-member.result.child) [] above.Nothing (record { columns = record { start = pos 0; end = pos 0 }; rows = record { start = pos 0; end = pos 0 } }) = alone_there (bare c.loop-index.tree.tree) c.member_at-member.result.child _ (ap has_chain turn_now.none) in
+    let seat : IsSeat (sight_at (bare c.loop-index.tree.tree) c.member_at-member.result.child) [] above.Nothing (record { columns = record { start = pos 0; end = pos 0 }; rows = record { start = pos 0; end = pos 0 } }) = alone_there (bare c.loop-index.tree.tree)
+    c.member_at-member.result.child _ (ap has_chain turn_now.none) in
     let apart : IsSpread (farthest (level_at (bare c.loop-index.tree.tree) c.member_at-member.result.child)) c.given_box-width.result = spread_none (farthest (level_at (bare c.loop-index.tree.tree) c.member_at-member.result.child)) c.given_box-width.result given in
     let small : 16 * size_at (bare c.loop-index.tree.tree) c.member_at-member.result.child + 6 < 16 * size_at (bare c.args.tree.now.tree) c.args.id + 0 = omega (arith, turn_now.small) in
     search rules
@@ -840,25 +1072,34 @@ walk::ask_members-block_at-requires g t c =
 pub walk::ask_members-returns-in_err-block-clause-stopped : goal.walk::ask_members-returns-in_err-block-clause-stopped
 walk::ask_members-returns-in_err-block-clause-stopped g t c =
     let turn_now : IsAsked (bare c.args.tree.now.tree) (bare c.loop-index.tree.tree) c.args.id c.args.boxes.now c.loop-index.index c.member_at-member.result c.box_at.result =
-    asked_turn (bare c.args.tree.now.tree) (bare c.loop-index.tree.tree) c.args.id c.args.members.now c.args.boxes.now c.loop-index.index c.member_at-member.result c.box_at.result c.loop-index.invariant.same c.root.ensures.tree c.requires.members c.requires.roomy c.requires.flex (omega (arith, c.loop-index-test.true)) c.member_at-member.ensures c.box_at.ensures in
-    on_err _ _ (member_stops (bare c.args.tree.now.tree) (bare c.loop-index.tree.tree) c.loop-index.invariant.same c.args.id c.args.boxes.now c.loop-index.index c.member_at-member.result c.box_at.result turn_now c.root.ensures.steps (grid_of c.node_at.result.now.style) c.given_box-width.result c.node_at.ensures.grid c.given_box-width.ensures.value _ _ _ refl c.loop-index.invariant.walked c.in_err-block.ensures.stopped)
+    asked_turn (bare c.args.tree.now.tree) (bare c.loop-index.tree.tree) c.args.id c.args.members.now c.args.boxes.now c.loop-index.index c.member_at-member.result c.box_at.result c.loop-index.invariant.same c.root.ensures.tree c.requires.members c.requires.roomy c.requires.flex
+    (omega (arith, c.loop-index-test.true)) c.member_at-member.ensures c.box_at.ensures in
+    on_err _ _
+    (member_stops (bare c.args.tree.now.tree) (bare c.loop-index.tree.tree) c.loop-index.invariant.same c.args.id c.args.boxes.now c.loop-index.index c.member_at-member.result c.box_at.result turn_now c.root.ensures.steps (grid_of c.node_at.result.now.style)
+    c.given_box-width.result c.node_at.ensures.grid c.given_box-width.ensures.value _ _ _ refl c.loop-index.invariant.walked c.in_err-block.ensures.stopped)
 
 pub walk::ask_members-returns-in_err-push-clause-stopped : goal.walk::ask_members-returns-in_err-push-clause-stopped
 walk::ask_members-returns-in_err-push-clause-stopped g t c =
     let turn_now : IsAsked (bare c.args.tree.now.tree) (bare c.loop-index.tree.tree) c.args.id c.args.boxes.now c.loop-index.index c.member_at-member.result c.box_at.result =
-    asked_turn (bare c.args.tree.now.tree) (bare c.loop-index.tree.tree) c.args.id c.args.members.now c.args.boxes.now c.loop-index.index c.member_at-member.result c.box_at.result c.loop-index.invariant.same c.root.ensures.tree c.requires.members c.requires.roomy c.requires.flex (omega (arith, c.loop-index-test.true)) c.member_at-member.ensures c.box_at.ensures in
-    on_err _ _ (member_ends (bare c.args.tree.now.tree) (bare c.loop-index.tree.tree) c.loop-index.invariant.same c.args.id c.args.boxes.now c.loop-index.index c.member_at-member.result c.box_at.result turn_now c.root.ensures.steps (grid_of c.node_at.result.now.style) c.given_box-width.result c.node_at.ensures.grid c.given_box-width.ensures.value _ _ _ refl c.loop-index.invariant.walked c.in_ok-block.ensures.walked)
+    asked_turn (bare c.args.tree.now.tree) (bare c.loop-index.tree.tree) c.args.id c.args.members.now c.args.boxes.now c.loop-index.index c.member_at-member.result c.box_at.result c.loop-index.invariant.same c.root.ensures.tree c.requires.members c.requires.roomy c.requires.flex
+    (omega (arith, c.loop-index-test.true)) c.member_at-member.ensures c.box_at.ensures in
+    on_err _ _
+    (member_ends (bare c.args.tree.now.tree) (bare c.loop-index.tree.tree) c.loop-index.invariant.same c.args.id c.args.boxes.now c.loop-index.index c.member_at-member.result c.box_at.result turn_now c.root.ensures.steps (grid_of c.node_at.result.now.style) c.given_box-width.result
+    c.node_at.ensures.grid c.given_box-width.ensures.value _ _ _ refl c.loop-index.invariant.walked c.in_ok-block.ensures.walked)
 
 pub walk::ask_members-loop-index-preserved : goal.walk::ask_members-loop-index-preserved
 walk::ask_members-loop-index-preserved g t c =
     let turn_now : IsAsked (bare c.args.tree.now.tree) (bare c.loop-index.tree.tree) c.args.id c.args.boxes.now c.loop-index.index c.member_at-member.result c.box_at.result =
-    asked_turn (bare c.args.tree.now.tree) (bare c.loop-index.tree.tree) c.args.id c.args.members.now c.args.boxes.now c.loop-index.index c.member_at-member.result c.box_at.result c.loop-index.invariant.same c.root.ensures.tree c.requires.members c.requires.roomy c.requires.flex (omega (arith, c.loop-index-test.true)) c.member_at-member.ensures c.box_at.ensures in
+    asked_turn (bare c.args.tree.now.tree) (bare c.loop-index.tree.tree) c.args.id c.args.members.now c.args.boxes.now c.loop-index.index c.member_at-member.result c.box_at.result c.loop-index.invariant.same c.root.ensures.tree c.requires.members c.requires.roomy c.requires.flex
+    (omega (arith, c.loop-index-test.true)) c.member_at-member.ensures c.box_at.ensures in
     let width_now : c.given_box-width.result ≡ (settled_at (member_of (bare c.args.tree.now.tree) c.member_at-member.result) c.box_at.result).inline =
     width_is (bare c.args.tree.now.tree) (bare c.loop-index.tree.tree) c.member_at-member.result c.box_at.result (grid_of c.node_at.result.now.style) c.given_box-width.result c.loop-index.invariant.same c.node_at.ensures.grid c.given_box-width.ensures.value in
     record {
       right = c.block_at.ensures.right;
       same = c.in_ok-block.ensures.walked.walk.bare_same ∙ c.loop-index.invariant.same;
-      walked = member_below (bare c.args.tree.now.tree) (bare c.loop-index.tree.tree) c.loop-index.invariant.same c.args.id c.args.boxes.now c.loop-index.index c.member_at-member.result c.box_at.result turn_now c.root.ensures.steps (grid_of c.node_at.result.now.style) c.given_box-width.result c.node_at.ensures.grid c.given_box-width.ensures.value _ _ _ refl c.loop-index.invariant.walked c.in_ok-block.ensures.walked;
+      walked =
+          member_below (bare c.args.tree.now.tree) (bare c.loop-index.tree.tree) c.loop-index.invariant.same c.args.id c.args.boxes.now c.loop-index.index c.member_at-member.result c.box_at.result turn_now c.root.ensures.steps (grid_of c.node_at.result.now.style)
+          c.given_box-width.result c.node_at.ensures.grid c.given_box-width.ensures.value _ _ _ refl c.loop-index.invariant.walked c.in_ok-block.ensures.walked;
       blocks = blocks_more (settled_seen (bare c.args.tree.now.tree) c.args.id c.args.boxes.now) c.loop-index.index (settled_at (member_of (bare c.args.tree.now.tree) c.member_at-member.result) c.box_at.result) c.loop-index.blocks _ _ c.in_ok-block.block turn_now.next c.in_ok-push.ensures.ok
           (block_is (bare c.args.tree.now.tree) (bare c.loop-index.tree.tree) c.member_at-member.result c.box_at.result c.in_ok-block.block c.given_box-width.result c.loop-index.invariant.same width_now (size_is _ _ c.in_ok-block.ensures.value)) c.loop-index.invariant.blocks;
     }
@@ -866,7 +1107,8 @@ walk::ask_members-loop-index-preserved g t c =
 pub walk::ask_members-returns-clause-value : goal.walk::ask_members-returns-clause-value
 walk::ask_members-returns-clause-value g t c =
     let settled = settled_seen (bare c.args.tree.now.tree) c.args.id c.args.boxes.now in
-    let few : length settled ≤ c.loop-index.index = omega (arith, c.loop-index-test.false, settled_length (bare c.args.tree.now.tree) c.args.id c.args.members.now c.args.boxes.now c.requires.members.same (boxes_counted (bare c.args.tree.now.tree) c.args.id c.args.members.now c.args.boxes.now c.requires.members c.requires.roomy)) in
+    let few : length settled ≤ c.loop-index.index = omega
+    (arith, c.loop-index-test.false, settled_length (bare c.args.tree.now.tree) c.args.id c.args.members.now c.args.boxes.now c.requires.members.same (boxes_counted (bare c.args.tree.now.tree) c.args.id c.args.members.now c.args.boxes.now c.requires.members c.requires.roomy)) in
     all_there (map block_of) settled c.loop-index.index c.loop-index.blocks (map block_of settled) refl few c.loop-index.invariant.blocks
 
 pub walk::ask_members-returns-clause-right : goal.walk::ask_members-returns-clause-right

@@ -9,5 +9,6 @@ use Rattle.block_sizes.proofs.again.past_for.Goals as goal
 
 pub returns : goal.returns
 returns c =
-    past_in (bare c.args.tree.now.tree) c.args.id c.args.reps.now c.args.width.now c.args.parts.now c.args.columns.now c.in_ok-past.past c.requires.grid (subst (λ (o : Option PastRows). IfSome o (IsPastRows (bare c.args.tree.now.tree) c.args.id)) c.in_ok-past.was c.requires.past) (c.serves.ensures.pairs c.if-not-serves.false)
+    past_in (bare c.args.tree.now.tree) c.args.id c.args.reps.now c.args.width.now c.args.parts.now c.args.columns.now c.in_ok-past.past c.requires.grid (subst (λ (o : Option PastRows). IfSome o (IsPastRows (bare c.args.tree.now.tree) c.args.id)) c.in_ok-past.was c.requires.past)
+    (c.serves.ensures.pairs c.if-not-serves.false)
     (c.serves.ensures.columns c.if-not-serves.false) (c.serves.ensures.align c.if-not-serves.false ∙ c.items-align.ensures ∙ ap (λ (x : ContentStyle). x.inline.items) c.node_at.ensures.content)

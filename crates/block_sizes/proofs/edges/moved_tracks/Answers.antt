@@ -41,7 +41,8 @@ loop-at-preserved c =
     let rest = edges_from (moved_by c.args.moving.now) c.args.gap (l.number + 1) c.next_place-place.result (drop (l.at + 1) rules) (drop (l.at + 1) sizes) in
     record {
       so_far = ap (λ es. es ++ rest) made
-          ∙ open_step (moved_by c.args.moving.now) c.args.gap l.number l.place c.next_place-place.result rules sizes l.at rule c.index-sizes-at.result track l.edges _ c.loop-at-test.true c.requires.sizes open_rule c.index-sizes-at.is c.moved_track.ensures.value c.next_place-place.ensures.value l.invariant.so_far;
+          ∙ open_step (moved_by c.args.moving.now) c.args.gap l.number l.place c.next_place-place.result rules sizes l.at rule c.index-sizes-at.result track l.edges _ c.loop-at-test.true c.requires.sizes open_rule c.index-sizes-at.is c.moved_track.ensures.value
+          c.next_place-place.ensures.value l.invariant.so_far;
       made = ap length made ∙ length-append l.edges (track ∷ []) ∙ omega (arith, l.invariant.made);
       between = subst (AreBetween first_place last_place) (sym made) (between_more first_place last_place l.edges track l.invariant.between c.moved_track.ensures.range);
       counted = omega (arith, l.invariant.counted, counted_next rules l.at rule c.loop-at-test.true open_rule);

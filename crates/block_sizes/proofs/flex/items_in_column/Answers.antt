@@ -10,7 +10,16 @@ use Rattle.block_sizes.proofs.flex.items_in_column.Goals as goal
 pub bounds-as_slice-index : goal.bounds-as_slice-index
 bounds-as_slice-index c =
     let settled = settled_seen (bare c.args.tree.now.tree) c.args.id c.args.parts.now.boxes in
-    omega (arith, c.loop-index-test.true, ap length c.as_slice-members.ensures, ap length c.as_slice.ensures, ap length c.requires.blocks, map_length block_of settled, settled_length (bare c.args.tree.now.tree) c.args.id c.args.parts.now.members c.args.parts.now.boxes c.requires.members.same c.requires.counted)
+    omega (
+      arith,
+      c.loop-index-test.true,
+      ap length c.as_slice-members.ensures,
+      ap length c.as_slice.ensures,
+      ap length c.requires.blocks,
+      map_length block_of settled,
+      settled_length (bare c.args.tree.now.tree) c.args.id c.args.parts.now.members c.args.parts.now.boxes
+          c.requires.members.same c.requires.counted,
+    )
 
 pub loop-index-preserved : goal.loop-index-preserved
 loop-index-preserved c =

@@ -26,5 +26,6 @@ pub returns : goal.returns
 returns c =
     let style = c.node_at.result.now.style in
     subst (λ (z : ℤ). IfOk c.row_block.result (λ size. size ≡ z))
-    (row_made (bare c.args.tree.now.tree) c.args.id c.args.width (grid_of style) (content_of style) c.deref.result.now c.as_slice-ranges.result.now c.args.parts.now.lines c.node_at.ensures.grid c.node_at.ensures.content (c.deref.ensures.value ∙ c.in_ok-outers.ensures) c.as_slice-ranges.ensures c.requires.row.along)
+    (row_made (bare c.args.tree.now.tree) c.args.id c.args.width (grid_of style) (content_of style) c.deref.result.now c.as_slice-ranges.result.now c.args.parts.now.lines c.node_at.ensures.grid c.node_at.ensures.content (c.deref.ensures.value ∙ c.in_ok-outers.ensures)
+    c.as_slice-ranges.ensures c.requires.row.along)
     c.row_block.ensures.value

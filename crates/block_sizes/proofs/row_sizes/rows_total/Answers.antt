@@ -15,7 +15,8 @@ pub lasting_for-requires : goal.lasting_for-requires
 lasting_for-requires g c =
     subst (λ (items : List Item). CanSize 1 c.node_at.result.now.style c.grid-base.result.now.placed.rows items) (sym c.as_slice-2.ensures)
     (rows_can_size (bare c.args.tree.now.tree) c.args.id c.args.reps.now c.args.width.now (record c.args.wide.now { parts = record c.args.wide.now.parts { base = c.grid-base.result.now } })
-    (read_wide (bare c.args.tree.now.tree) c.args.id c.args.reps.now c.args.width.now c.args.wide.now c.grid-base.result.now c.grid-base.ensures c.requires.wide) c.node_at.result.now.style c.requires.readable c.requires.live c.node_at.ensures.grid c.requires.own (c.items_lie_in_their_tracks.ensures.items c.args.reps.now c.args.width.now))
+    (read_wide (bare c.args.tree.now.tree) c.args.id c.args.reps.now c.args.width.now c.args.wide.now c.grid-base.result.now c.grid-base.ensures c.requires.wide) c.node_at.result.now.style c.requires.readable c.requires.live c.node_at.ensures.grid c.requires.own
+    (c.items_lie_in_their_tracks.ensures.items c.args.reps.now c.args.width.now))
 
 pub rows_at-requires-clause-few : goal.rows_at-requires-clause-few
 rows_at-requires-clause-few g c =
@@ -43,7 +44,8 @@ pub returns-clause-rows : goal.returns-clause-rows
 returns-clause-rows g c =
     subst (λ (base : GridBase). HoldsRows (rows_seen (bare c.args.tree.now.tree) c.args.id c.args.reps.now c.args.width.now) base.placed.rows c.in_ok-rows.rows) c.grid-base.ensures
     (rows_hold (bare c.args.tree.now.tree) c.args.id c.args.reps.now c.args.width.now (record c.args.wide.now { parts = record c.args.wide.now.parts { base = c.grid-base.result.now } })
-    (read_wide (bare c.args.tree.now.tree) c.args.id c.args.reps.now c.args.width.now c.args.wide.now c.grid-base.result.now c.grid-base.ensures c.requires.wide) c.node_at.result.now.style c.in_ok-pair.pair c.deref.result.now c.as_slice-2.result.now c.in_ok-made.made.tracks c.in_ok-made.made.total c.in_ok-rows.rows
+    (read_wide (bare c.args.tree.now.tree) c.args.id c.args.reps.now c.args.width.now c.args.wide.now c.grid-base.result.now c.grid-base.ensures c.requires.wide) c.node_at.result.now.style c.in_ok-pair.pair c.deref.result.now c.as_slice-2.result.now c.in_ok-made.made.tracks
+    c.in_ok-made.made.total c.in_ok-rows.rows
     c.node_at.ensures.grid c.node_at.ensures.content c.in_ok-pair.ensures
     (c.deref.ensures.value ∙ c.in_ok-spans.ensures ∙ ap (map (λ (e : NodeId × Area). e.1.rows)) c.as_slice.ensures)
     c.as_slice-2.ensures c.in_ok-made.ensures.counted (c.in_ok-made.ensures.lasting c.if-not-made.false) c.in_ok-rows.ensures.size c.in_ok-rows.ensures.view c.in_ok-rows.ensures.counted c.in_ok-rows.ensures.spread)

@@ -23,7 +23,8 @@ returns-clause-value c =
 pub returns-clause-fits : goal.returns-clause-fits
 returns-clause-fits c =
     child_fits (bare c.args.tree.now.tree) c.args.id c.args.base.now c.args.entry c.requires.entry _
-    (subst (λ (t : Bool). IsGivenFor true t (above_zero ((from_first c.args.base.now.placed.columns c.args.entry.area.columns).end -ℤ (from_first c.args.base.now.placed.columns c.args.entry.area.columns).start)) c.in_ok-inline.inline.1) (c.shares-shared.ensures ∙ sym (columns_told (bare c.args.tree.now.tree) c.args.id c.args.base.now c.args.entry c.requires.entry))
+    (subst (λ (t : Bool). IsGivenFor true t (above_zero ((from_first c.args.base.now.placed.columns c.args.entry.area.columns).end -ℤ (from_first c.args.base.now.placed.columns c.args.entry.area.columns).start)) c.in_ok-inline.inline.1)
+    (c.shares-shared.ensures ∙ sym (columns_told (bare c.args.tree.now.tree) c.args.id c.args.base.now c.args.entry c.requires.entry))
     (subst (λ (s : Span). IsGivenFor true c.shares-shared.result (above_zero (s.end -ℤ s.start)) c.in_ok-inline.inline.1) c.from_first-span.ensures.value c.in_ok-inline.ensures.fits))
 
 pub returns-clause-spread : goal.returns-clause-spread

@@ -21,7 +21,9 @@ loop-index-preserved c =
     let within : c.entry-child.result.number < length c.loop-index.areas = omega (arith, c.loop-index.invariant.counted, number_there (bare c.args.tree.now.tree) c.args.id c.entry-child.result.child c.entry-child.result.number c.root.ensures.tree c.entry-child.ensures.child) in
     record {
       counted = ap length c.set.ensures ∙ length-set c.loop-index.areas c.entry-child.result.number c.entry-child.result.area ∙ c.loop-index.invariant.counted;
-      coming = λ number small. coming_next (bare c.args.tree.now.tree) c.args.id c.args.placed.now c.loop-index.areas c.set.new.self c.loop-index.index c.entry-child.result c.entry-child.ensures.next c.set.ensures within c.entry-child.ensures.child c.entry-child.ensures.seat number (c.loop-index.invariant.coming number small);
+      coming =
+          λ number small. coming_next (bare c.args.tree.now.tree) c.args.id c.args.placed.now c.loop-index.areas c.set.new.self c.loop-index.index c.entry-child.result c.entry-child.ensures.next c.set.ensures within c.entry-child.ensures.child c.entry-child.ensures.seat number
+          (c.loop-index.invariant.coming number small);
     }
 
 pub returns-clause-areas : goal.returns-clause-areas

@@ -41,5 +41,6 @@ returns-clause-value g c = λ boxes e.
     let items : List FlexItem = map (rules.column_item (Some height)) (settled_by b members boxes) in
     let items_is : c.deref.result.now ≡ items = c.deref.ensures.value ∙ c.in_ok-items.ensures ∙ ap (zipped (member_item b height) members) e ∙ items_alike b height members boxes in
     subst (λ (l : rules.Lines). IfOk c.lines_by.result (λ lines. lines_of lines ≡ l))
-    (by_style f style x has ∙ ap (λ z. rules.lines_by x height z c.deref.result.now) c.column_gap-gap.ensures ∙ ap (rules.lines_by x height (gap_by (Some height) (pos 0) x.grid.rows.gap)) items_is ∙ ap (λ (y : Label). rules.lines_by y height (gap_by (Some height) (pos 0) y.grid.rows.gap) items) (flex_label b n))
+    (by_style f style x has ∙ ap (λ z. rules.lines_by x height z c.deref.result.now) c.column_gap-gap.ensures ∙ ap (rules.lines_by x height (gap_by (Some height) (pos 0) x.grid.rows.gap)) items_is ∙
+    ap (λ (y : Label). rules.lines_by y height (gap_by (Some height) (pos 0) y.grid.rows.gap) items) (flex_label b n))
     c.lines_by.ensures.value

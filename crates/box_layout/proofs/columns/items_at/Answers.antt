@@ -15,4 +15,5 @@ member_item-item-requires-clause-child c =
 pub loop-index-preserved : goal.loop-index-preserved
 loop-index-preserved c =
     let f = member_item (bare c.args.tree.now.tree) c.args.height in
-    pair_step _ _ f c.args.members.now c.args.blocks.now c.loop-index.index c.index-members-index.result c.index-blocks-index.result c.member_item-item.result c.loop-index.items.items c.extend_from_slice.new.self.items (zipped f c.args.members.now c.args.blocks.now) c.loop-index-test.true c.requires.counted c.index-members-index.is c.index-blocks-index.is c.member_item-item.ensures c.in_ok-extend_from_slice.ensures.items c.loop-index.invariant
+    pair_step _ _ f c.args.members.now c.args.blocks.now c.loop-index.index c.index-members-index.result c.index-blocks-index.result c.member_item-item.result c.loop-index.items.items c.extend_from_slice.new.self.items (zipped f c.args.members.now c.args.blocks.now)
+    c.loop-index-test.true c.requires.counted c.index-members-index.is c.index-blocks-index.is c.member_item-item.ensures c.in_ok-extend_from_slice.ensures.items c.loop-index.invariant

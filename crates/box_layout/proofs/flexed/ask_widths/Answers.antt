@@ -33,7 +33,8 @@ block_at-requires g c =
     let b = bare c.args.tree.now.tree in
     let d = bare c.loop-index.tree.tree in
     let f = c.index-frames-index.result in
-    let turn : IsWidened b d c.args.id c.args.width c.args.height c.loop-index.index f = widened b d c.args.id c.args.width c.args.height c.args.frames.now c.loop-index.index f c.loop-index.invariant.same c.root.ensures.tree c.requires.flex c.requires.grids c.requires.frames (omega (arith, c.loop-index-test.true)) c.index-frames-index.is in
+    let turn : IsWidened b d c.args.id c.args.width c.args.height c.loop-index.index f = widened b d c.args.id c.args.width c.args.height c.args.frames.now c.loop-index.index f c.loop-index.invariant.same c.root.ensures.tree c.requires.flex c.requires.grids c.requires.frames
+    (omega (arith, c.loop-index-test.true)) c.index-frames-index.is in
     let live : IsLive d f.child = turn.live in
     let readable : AreReadable d = subst AreReadable (sym c.loop-index.invariant.same) c.requires.readable in
     let fits : Fits (sight_at d f.child) (block_query false [] f.inline) = fits_block (sight_at d f.child) f.inline turn.none turn.given in
@@ -46,7 +47,8 @@ loop-index-preserved g c =
     let b = bare c.args.tree.now.tree in
     let d = bare c.loop-index.tree.tree in
     let f = c.index-frames-index.result in
-    let turn : IsWidened b d c.args.id c.args.width c.args.height c.loop-index.index f = widened b d c.args.id c.args.width c.args.height c.args.frames.now c.loop-index.index f c.loop-index.invariant.same c.root.ensures.tree c.requires.flex c.requires.grids c.requires.frames (omega (arith, c.loop-index-test.true)) c.index-frames-index.is in
+    let turn : IsWidened b d c.args.id c.args.width c.args.height c.loop-index.index f = widened b d c.args.id c.args.width c.args.height c.args.frames.now c.loop-index.index f c.loop-index.invariant.same c.root.ensures.tree c.requires.flex c.requires.grids c.requires.frames
+    (omega (arith, c.loop-index-test.true)) c.index-frames-index.is in
     record {
       right = c.block_at.ensures.right;
       same = c.in_ok-block_at.ensures.walked.walk.bare_same ∙ c.loop-index.invariant.same;
@@ -60,7 +62,8 @@ returns-in_err-block_at-clause-stopped g c =
     let b = bare c.args.tree.now.tree in
     let d = bare c.loop-index.tree.tree in
     let f = c.index-frames-index.result in
-    let turn : IsWidened b d c.args.id c.args.width c.args.height c.loop-index.index f = widened b d c.args.id c.args.width c.args.height c.args.frames.now c.loop-index.index f c.loop-index.invariant.same c.root.ensures.tree c.requires.flex c.requires.grids c.requires.frames (omega (arith, c.loop-index-test.true)) c.index-frames-index.is in
+    let turn : IsWidened b d c.args.id c.args.width c.args.height c.loop-index.index f = widened b d c.args.id c.args.width c.args.height c.args.frames.now c.loop-index.index f c.loop-index.invariant.same c.root.ensures.tree c.requires.flex c.requires.grids c.requires.frames
+    (omega (arith, c.loop-index-test.true)) c.index-frames-index.is in
     let all : (q : Query) → AsksWidths c.args.width c.args.height q → Stopped c.args.id q (state c.args.tree.now c.args.tally.now c.args.passes.now (g.R.Ruler.log c.args.ruler.now)) (state c.block_at.new.tree c.block_at.new.tally c.block_at.new.passes (g.R.Ruler.log c.block_at.new.ruler)) =
     λ q asks. (c.root.ensures.steps c.args.id f.child c.loop-index.index turn.number).stops q (block_query false [] f.inline) 0 _ _ _
     (subst (λ (w : Given). Contains (uses_at b c.args.id q) (c.loop-index.index, block_query false [] w)) (sym turn.inline) (widths_lead b c.args.id q c.args.width c.args.height c.loop-index.index turn.framed c.requires.flex c.requires.direction asks turn.next))

@@ -26,7 +26,8 @@ column_lines-requires-clause-readable g c = subst AreReadable (sym (c.in_ok-colu
 
 pub column_lines-requires-clause-members : goal.column_lines-requires-clause-members
 column_lines-requires-clause-members g c =
-    subst (AreMembers (bare c.column_at.new.tree.tree) c.args.id) (sym c.as_slice-members.ensures) (subst (λ (z : BareTrees). AreMembers z c.args.id c.in_ok-column.column.members) (sym (c.in_ok-column.ensures.below (block_query false [] (given.Size c.args.width)) refl refl).walk.bare_same) c.in_ok-column.ensures.value.children)
+    subst (AreMembers (bare c.column_at.new.tree.tree) c.args.id) (sym c.as_slice-members.ensures)
+    (subst (λ (z : BareTrees). AreMembers z c.args.id c.in_ok-column.column.members) (sym (c.in_ok-column.ensures.below (block_query false [] (given.Size c.args.width)) refl refl).walk.bare_same) c.in_ok-column.ensures.value.children)
 
 pub column_lines-requires-clause-counted : goal.column_lines-requires-clause-counted
 column_lines-requires-clause-counted g c =
@@ -69,7 +70,9 @@ pub ask_widths-requires-clause-direction : goal.ask_widths-requires-clause-direc
 ask_widths-requires-clause-direction g c = subst (λ (z : BareTrees). (sight_at z c.args.id).label.content.column ≡ true) (sym (c.in_ok-column.ensures.below (block_query false [] (given.Size c.args.width)) refl refl).walk.bare_same) c.requires.direction
 
 pub ask_widths-requires-clause-grids : goal.ask_widths-requires-clause-grids
-ask_widths-requires-clause-grids g c = subst (λ (z : BareTrees). AreStyled (flex_seen z c.args.id).members) (sym (c.in_ok-column.ensures.below (block_query false [] (given.Size c.args.width)) refl refl).walk.bare_same) (all_styled (bare c.args.tree.now.tree) c.args.id c.in_ok-column.column.members c.requires.readable c.in_ok-column.ensures.value.children)
+ask_widths-requires-clause-grids g c =
+    subst (λ (z : BareTrees). AreStyled (flex_seen z c.args.id).members) (sym (c.in_ok-column.ensures.below (block_query false [] (given.Size c.args.width)) refl refl).walk.bare_same)
+    (all_styled (bare c.args.tree.now.tree) c.args.id c.in_ok-column.column.members c.requires.readable c.in_ok-column.ensures.value.children)
 
 pub ask_widths-requires-clause-frames : goal.ask_widths-requires-clause-frames
 ask_widths-requires-clause-frames g c =
@@ -80,24 +83,43 @@ pub returns-clause-value : goal.returns-clause-value
 returns-clause-value g c = subst (λ (z : BareTrees). AreFrames z c.args.id (column_seen z c.args.id c.args.width c.args.height) c.in_ok-frames.frames) (c.in_ok-column.ensures.below (block_query false [] (given.Size c.args.width)) refl refl).walk.bare_same c.in_ok-frames.ensures
 
 pub returns-clause-below : goal.returns-clause-below
-returns-clause-below g c = λ q asks. chained c.args.id q 1 (state c.args.tree.now c.args.tally.now c.args.passes.now (g.R.Ruler.log c.args.ruler.now)) (state c.column_at.new.tree c.column_at.new.tally c.column_lines.new.passes (g.R.Ruler.log c.column_at.new.ruler)) (state c.ask_widths.new.tree c.ask_widths.new.tally c.ask_widths.new.passes (g.R.Ruler.log c.ask_widths.new.ruler)) (ticked c.args.id q 0 1 (state c.args.tree.now c.args.tally.now c.args.passes.now (g.R.Ruler.log c.args.ruler.now)) (state c.column_at.new.tree c.column_at.new.tally c.column_at.new.passes (g.R.Ruler.log c.column_at.new.ruler)) c.column_lines.new.passes c.column_lines.ensures.ticks (c.in_ok-column.ensures.below q asks.inline (ap needs_inline asks.asked))) (c.in_ok-ask_widths.ensures.below q asks)
+returns-clause-below g c =
+    λ q asks. chained c.args.id q 1 (state c.args.tree.now c.args.tally.now c.args.passes.now (g.R.Ruler.log c.args.ruler.now)) (state c.column_at.new.tree c.column_at.new.tally c.column_lines.new.passes (g.R.Ruler.log c.column_at.new.ruler))
+    (state c.ask_widths.new.tree c.ask_widths.new.tally c.ask_widths.new.passes (g.R.Ruler.log c.ask_widths.new.ruler))
+    (ticked c.args.id q 0 1 (state c.args.tree.now c.args.tally.now c.args.passes.now (g.R.Ruler.log c.args.ruler.now)) (state c.column_at.new.tree c.column_at.new.tally c.column_at.new.passes (g.R.Ruler.log c.column_at.new.ruler)) c.column_lines.new.passes c.column_lines.ensures.ticks
+    (c.in_ok-column.ensures.below q asks.inline (ap needs_inline asks.asked))) (c.in_ok-ask_widths.ensures.below q asks)
 
 pub returns-in_err-column-clause-stopped : goal.returns-in_err-column-clause-stopped
 returns-in_err-column-clause-stopped g c =
-    let all : (q : Query) → AsksWidths c.args.width c.args.height q → Stopped c.args.id q (state c.args.tree.now c.args.tally.now c.args.passes.now (g.R.Ruler.log c.args.ruler.now)) (state c.column_at.new.tree c.column_at.new.tally c.column_at.new.passes (g.R.Ruler.log c.column_at.new.ruler)) = λ q asks. c.in_err-column.ensures.stopped q asks.inline (ap needs_inline asks.asked) in
+    let all : (q : Query) → AsksWidths c.args.width c.args.height q →
+    Stopped c.args.id q (state c.args.tree.now c.args.tally.now c.args.passes.now (g.R.Ruler.log c.args.ruler.now)) (state c.column_at.new.tree c.column_at.new.tally c.column_at.new.passes (g.R.Ruler.log c.column_at.new.ruler)) = λ q asks. c.in_err-column.ensures.stopped q
+    asks.inline (ap needs_inline asks.asked) in
     on_err _ _ all
 
 pub returns-in_err-lines-clause-stopped : goal.returns-in_err-lines-clause-stopped
 returns-in_err-lines-clause-stopped g c =
-    let all : (q : Query) → AsksWidths c.args.width c.args.height q → Stopped c.args.id q (state c.args.tree.now c.args.tally.now c.args.passes.now (g.R.Ruler.log c.args.ruler.now)) (state c.column_at.new.tree c.column_at.new.tally c.column_lines.new.passes (g.R.Ruler.log c.column_at.new.ruler)) = λ q asks. stopped c.args.id q 1 (state c.args.tree.now c.args.tally.now c.args.passes.now (g.R.Ruler.log c.args.ruler.now)) (state c.column_at.new.tree c.column_at.new.tally c.column_lines.new.passes (g.R.Ruler.log c.column_at.new.ruler)) (ticked c.args.id q 0 1 (state c.args.tree.now c.args.tally.now c.args.passes.now (g.R.Ruler.log c.args.ruler.now)) (state c.column_at.new.tree c.column_at.new.tally c.column_at.new.passes (g.R.Ruler.log c.column_at.new.ruler)) c.column_lines.new.passes c.column_lines.ensures.ticks (c.in_ok-column.ensures.below q asks.inline (ap needs_inline asks.asked))) in
+    let all : (q : Query) → AsksWidths c.args.width c.args.height q →
+    Stopped c.args.id q (state c.args.tree.now c.args.tally.now c.args.passes.now (g.R.Ruler.log c.args.ruler.now)) (state c.column_at.new.tree c.column_at.new.tally c.column_lines.new.passes (g.R.Ruler.log c.column_at.new.ruler)) = λ q asks. stopped c.args.id q 1
+    (state c.args.tree.now c.args.tally.now c.args.passes.now (g.R.Ruler.log c.args.ruler.now)) (state c.column_at.new.tree c.column_at.new.tally c.column_lines.new.passes (g.R.Ruler.log c.column_at.new.ruler))
+    (ticked c.args.id q 0 1 (state c.args.tree.now c.args.tally.now c.args.passes.now (g.R.Ruler.log c.args.ruler.now)) (state c.column_at.new.tree c.column_at.new.tally c.column_at.new.passes (g.R.Ruler.log c.column_at.new.ruler)) c.column_lines.new.passes
+    c.column_lines.ensures.ticks (c.in_ok-column.ensures.below q asks.inline (ap needs_inline asks.asked))) in
     on_err _ _ all
 
 pub returns-in_err-frames-clause-stopped : goal.returns-in_err-frames-clause-stopped
 returns-in_err-frames-clause-stopped g c =
-    let all : (q : Query) → AsksWidths c.args.width c.args.height q → Stopped c.args.id q (state c.args.tree.now c.args.tally.now c.args.passes.now (g.R.Ruler.log c.args.ruler.now)) (state c.column_at.new.tree c.column_at.new.tally c.column_lines.new.passes (g.R.Ruler.log c.column_at.new.ruler)) = λ q asks. stopped c.args.id q 1 (state c.args.tree.now c.args.tally.now c.args.passes.now (g.R.Ruler.log c.args.ruler.now)) (state c.column_at.new.tree c.column_at.new.tally c.column_lines.new.passes (g.R.Ruler.log c.column_at.new.ruler)) (ticked c.args.id q 0 1 (state c.args.tree.now c.args.tally.now c.args.passes.now (g.R.Ruler.log c.args.ruler.now)) (state c.column_at.new.tree c.column_at.new.tally c.column_at.new.passes (g.R.Ruler.log c.column_at.new.ruler)) c.column_lines.new.passes c.column_lines.ensures.ticks (c.in_ok-column.ensures.below q asks.inline (ap needs_inline asks.asked))) in
+    let all : (q : Query) → AsksWidths c.args.width c.args.height q →
+    Stopped c.args.id q (state c.args.tree.now c.args.tally.now c.args.passes.now (g.R.Ruler.log c.args.ruler.now)) (state c.column_at.new.tree c.column_at.new.tally c.column_lines.new.passes (g.R.Ruler.log c.column_at.new.ruler)) = λ q asks. stopped c.args.id q 1
+    (state c.args.tree.now c.args.tally.now c.args.passes.now (g.R.Ruler.log c.args.ruler.now)) (state c.column_at.new.tree c.column_at.new.tally c.column_lines.new.passes (g.R.Ruler.log c.column_at.new.ruler))
+    (ticked c.args.id q 0 1 (state c.args.tree.now c.args.tally.now c.args.passes.now (g.R.Ruler.log c.args.ruler.now)) (state c.column_at.new.tree c.column_at.new.tally c.column_at.new.passes (g.R.Ruler.log c.column_at.new.ruler)) c.column_lines.new.passes
+    c.column_lines.ensures.ticks (c.in_ok-column.ensures.below q asks.inline (ap needs_inline asks.asked))) in
     on_err _ _ all
 
 pub returns-in_err-ask_widths-clause-stopped : goal.returns-in_err-ask_widths-clause-stopped
 returns-in_err-ask_widths-clause-stopped g c =
-    let all : (q : Query) → AsksWidths c.args.width c.args.height q → Stopped c.args.id q (state c.args.tree.now c.args.tally.now c.args.passes.now (g.R.Ruler.log c.args.ruler.now)) (state c.ask_widths.new.tree c.ask_widths.new.tally c.ask_widths.new.passes (g.R.Ruler.log c.ask_widths.new.ruler)) = λ q asks. chained_stopped c.args.id q 1 (state c.args.tree.now c.args.tally.now c.args.passes.now (g.R.Ruler.log c.args.ruler.now)) (state c.column_at.new.tree c.column_at.new.tally c.column_lines.new.passes (g.R.Ruler.log c.column_at.new.ruler)) (state c.ask_widths.new.tree c.ask_widths.new.tally c.ask_widths.new.passes (g.R.Ruler.log c.ask_widths.new.ruler)) (ticked c.args.id q 0 1 (state c.args.tree.now c.args.tally.now c.args.passes.now (g.R.Ruler.log c.args.ruler.now)) (state c.column_at.new.tree c.column_at.new.tally c.column_at.new.passes (g.R.Ruler.log c.column_at.new.ruler)) c.column_lines.new.passes c.column_lines.ensures.ticks (c.in_ok-column.ensures.below q asks.inline (ap needs_inline asks.asked))) (c.in_err-ask_widths.ensures.stopped q asks) in
+    let all : (q : Query) → AsksWidths c.args.width c.args.height q →
+    Stopped c.args.id q (state c.args.tree.now c.args.tally.now c.args.passes.now (g.R.Ruler.log c.args.ruler.now)) (state c.ask_widths.new.tree c.ask_widths.new.tally c.ask_widths.new.passes (g.R.Ruler.log c.ask_widths.new.ruler)) = λ q asks. chained_stopped c.args.id q 1
+    (state c.args.tree.now c.args.tally.now c.args.passes.now (g.R.Ruler.log c.args.ruler.now)) (state c.column_at.new.tree c.column_at.new.tally c.column_lines.new.passes (g.R.Ruler.log c.column_at.new.ruler))
+    (state c.ask_widths.new.tree c.ask_widths.new.tally c.ask_widths.new.passes (g.R.Ruler.log c.ask_widths.new.ruler))
+    (ticked c.args.id q 0 1 (state c.args.tree.now c.args.tally.now c.args.passes.now (g.R.Ruler.log c.args.ruler.now)) (state c.column_at.new.tree c.column_at.new.tally c.column_at.new.passes (g.R.Ruler.log c.column_at.new.ruler)) c.column_lines.new.passes
+    c.column_lines.ensures.ticks (c.in_ok-column.ensures.below q asks.inline (ap needs_inline asks.asked))) (c.in_err-ask_widths.ensures.stopped q asks) in
     on_err _ _ all

@@ -51,5 +51,6 @@ returns c =
     let column = c.args.column.now in
     let same : length (kids_at b n) ≡ length (children_at b n) = sym c.count.ensures.kids ∙ c.count.ensures.children in
     IfOk-weaker c.frames_in_lines.result _ (AreFrames b n (column_seen b n c.args.width c.args.height))
-    (λ frames is. column_made b n c.args.width c.args.height column.members column.boxes (lines_of c.args.lines.now) frames same c.requires.column.children.same c.requires.column.across c.requires.lines (is ∙ (λ i. flex_told (numbered b n) true (flex_seen b n) c.args.height c.args.width (record { ranges = c.as_slice-ranges.ensures i; mains = c.as_slice-mains.ensures i }) (settled_by b (c.as_slice-members.ensures i) (c.as_slice-boxes.ensures i)))))
+    (λ frames is. column_made b n c.args.width c.args.height column.members column.boxes (lines_of c.args.lines.now) frames same c.requires.column.children.same c.requires.column.across c.requires.lines
+    (is ∙ (λ i. flex_told (numbered b n) true (flex_seen b n) c.args.height c.args.width (record { ranges = c.as_slice-ranges.ensures i; mains = c.as_slice-mains.ensures i }) (settled_by b (c.as_slice-members.ensures i) (c.as_slice-boxes.ensures i)))))
     c.frames_in_lines.ensures

@@ -47,5 +47,6 @@ returns c =
     let row = c.args.row.now in
     let same : length (kids_at b n) ≡ length (children_at b n) = sym c.count.ensures.kids ∙ c.count.ensures.children in
     IfOk-weaker c.frames_in_lines.result _ (AreFrames b n (row_seen b n c.args.width c.args.height))
-    (λ frames is. row_made b n c.args.width c.args.height row.members (lines_of row.lines) frames same c.requires.row.children.same c.requires.row.along (is ∙ (λ i. flex_told (numbered b n) false (flex_seen b n) c.args.width c.args.height (record { ranges = c.as_slice-ranges.ensures i; mains = c.as_slice-mains.ensures i }) (settled_by b (c.as_slice-members.ensures i) (c.as_slice-mains.ensures i)))))
+    (λ frames is. row_made b n c.args.width c.args.height row.members (lines_of row.lines) frames same c.requires.row.children.same c.requires.row.along
+    (is ∙ (λ i. flex_told (numbered b n) false (flex_seen b n) c.args.width c.args.height (record { ranges = c.as_slice-ranges.ensures i; mains = c.as_slice-mains.ensures i }) (settled_by b (c.as_slice-members.ensures i) (c.as_slice-mains.ensures i)))))
     c.frames_in_lines.ensures

@@ -33,5 +33,7 @@ returns-in_err-row-clause-stopped g c = on_err _ _ c.in_err-row.ensures.stopped
 
 pub returns-in_err-frames-clause-stopped : goal.returns-in_err-frames-clause-stopped
 returns-in_err-frames-clause-stopped g c =
-    let all : (q : Query) → given_size q.inline ≡ c.args.width → needs_inline q.ask ≡ true → Stopped c.args.id q (state c.args.tree.now c.args.tally.now c.args.passes.now (g.R.Ruler.log c.args.ruler.now)) (state c.row_at.new.tree c.row_at.new.tally c.row_at.new.passes (g.R.Ruler.log c.row_at.new.ruler)) = λ q w n. stopped c.args.id q 1 _ _ (c.in_ok-row.ensures.below q w n) in
+    let all : (q : Query) → given_size q.inline ≡ c.args.width → needs_inline q.ask ≡ true →
+    Stopped c.args.id q (state c.args.tree.now c.args.tally.now c.args.passes.now (g.R.Ruler.log c.args.ruler.now)) (state c.row_at.new.tree c.row_at.new.tally c.row_at.new.passes (g.R.Ruler.log c.row_at.new.ruler)) = λ q w n. stopped c.args.id q 1 _ _
+    (c.in_ok-row.ensures.below q w n) in
     on_err _ _ all

@@ -27,7 +27,9 @@ own_outers-requires-clause-counted c =
 pub line_sizes-requires-clause-ranges : goal.line_sizes-requires-clause-ranges
 line_sizes-requires-clause-ranges c =
     let b = bare c.args.tree.now.tree in
-    let owns : length c.deref.result.now ≡ length c.args.members.now = ap length (c.deref.ensures.value ∙ c.in_ok-own.ensures) ∙ triple_count (member_cross b c.args.column c.args.cross) c.args.members.now c.args.boxes.now c.args.blocks.now c.requires.boxes (blocks_count b c.args.members.now c.args.boxes.now c.args.blocks.now c.requires.boxes c.requires.blocks) in
+    let owns : length c.deref.result.now ≡
+    length c.args.members.now = ap length (c.deref.ensures.value ∙ c.in_ok-own.ensures) ∙
+    triple_count (member_cross b c.args.column c.args.cross) c.args.members.now c.args.boxes.now c.args.blocks.now c.requires.boxes (blocks_count b c.args.members.now c.args.boxes.now c.args.blocks.now c.requires.boxes c.requires.blocks) in
     let count : length c.deref-2.result.now ≡ length c.args.members.now = ap length (c.deref-2.ensures.value ∙ c.in_ok-outers.ensures) ∙ pair_count (member_outer b c.args.column) c.args.members.now c.deref.result.now owns in
     subst (λ (k : ℕ). AreRanges k c.args.ranges.now) (sym count) c.requires.ranges
 
@@ -39,8 +41,12 @@ sittings-requires-clause-counted c =
 pub flex_frames-requires-clause-few : goal.flex_frames-requires-clause-few
 flex_frames-requires-clause-few c =
     let b = bare c.args.tree.now.tree in
-    let owns : length c.deref-3.result.now ≡ length c.args.members.now = ap length (c.deref-3.ensures.value ∙ c.in_ok-own.ensures) ∙ triple_count (member_cross b c.args.column c.args.cross) c.args.members.now c.args.boxes.now c.args.blocks.now c.requires.boxes (blocks_count b c.args.members.now c.args.boxes.now c.args.blocks.now c.requires.boxes c.requires.blocks) in
-    let count : length c.deref-4.result.now ≡ length c.args.members.now = ap length (c.deref-4.ensures.value ∙ c.in_ok-children.ensures.value) ∙ triple_count (member_sitting b c.args.id c.flex_of-flex.result.column c.flex_of-flex.result.cross) c.args.members.now c.args.mains.now c.deref-3.result.now c.requires.mains owns in
+    let owns : length c.deref-3.result.now ≡
+    length c.args.members.now = ap length (c.deref-3.ensures.value ∙ c.in_ok-own.ensures) ∙
+    triple_count (member_cross b c.args.column c.args.cross) c.args.members.now c.args.boxes.now c.args.blocks.now c.requires.boxes (blocks_count b c.args.members.now c.args.boxes.now c.args.blocks.now c.requires.boxes c.requires.blocks) in
+    let count : length c.deref-4.result.now ≡
+    length c.args.members.now = ap length (c.deref-4.ensures.value ∙ c.in_ok-children.ensures.value) ∙
+    triple_count (member_sitting b c.args.id c.flex_of-flex.result.column c.flex_of-flex.result.cross) c.args.members.now c.args.mains.now c.deref-3.result.now c.requires.mains owns in
     omega (arith, count, members_few b c.args.id c.args.members.now c.requires.members (c.requires.readable.children c.args.id))
 
 pub flex_frames-requires-clause-lines : goal.flex_frames-requires-clause-lines
@@ -57,8 +63,12 @@ flex_frames-requires-clause-same c =
 pub flex_frames-requires-clause-ranges : goal.flex_frames-requires-clause-ranges
 flex_frames-requires-clause-ranges c =
     let b = bare c.args.tree.now.tree in
-    let owns : length c.deref-3.result.now ≡ length c.args.members.now = ap length (c.deref-3.ensures.value ∙ c.in_ok-own.ensures) ∙ triple_count (member_cross b c.args.column c.args.cross) c.args.members.now c.args.boxes.now c.args.blocks.now c.requires.boxes (blocks_count b c.args.members.now c.args.boxes.now c.args.blocks.now c.requires.boxes c.requires.blocks) in
-    let count : length c.deref-4.result.now ≡ length c.args.members.now = ap length (c.deref-4.ensures.value ∙ c.in_ok-children.ensures.value) ∙ triple_count (member_sitting b c.args.id c.flex_of-flex.result.column c.flex_of-flex.result.cross) c.args.members.now c.args.mains.now c.deref-3.result.now c.requires.mains owns in
+    let owns : length c.deref-3.result.now ≡
+    length c.args.members.now = ap length (c.deref-3.ensures.value ∙ c.in_ok-own.ensures) ∙
+    triple_count (member_cross b c.args.column c.args.cross) c.args.members.now c.args.boxes.now c.args.blocks.now c.requires.boxes (blocks_count b c.args.members.now c.args.boxes.now c.args.blocks.now c.requires.boxes c.requires.blocks) in
+    let count : length c.deref-4.result.now ≡
+    length c.args.members.now = ap length (c.deref-4.ensures.value ∙ c.in_ok-children.ensures.value) ∙
+    triple_count (member_sitting b c.args.id c.flex_of-flex.result.column c.flex_of-flex.result.cross) c.args.members.now c.args.mains.now c.deref-3.result.now c.requires.mains owns in
     subst (λ (k : ℕ). AreRanges k c.args.ranges.now) (sym count) c.requires.ranges
 
 pub returns : goal.returns

@@ -14,4 +14,5 @@ member_cross-size-requires-clause-child c =
 pub loop-index-preserved : goal.loop-index-preserved
 loop-index-preserved c =
     let f = member_cross (bare c.args.tree.now.tree) c.args.column c.args.cross in
-    triple_step _ _ _ f c.args.members.now c.args.boxes.now c.args.blocks.now c.loop-index.index c.index-members-index.result c.index-boxes-index.result c.index-blocks-index.result c.member_cross-size.result c.loop-index.sizes.items c.push.new.self.items (zipped3 f c.args.members.now c.args.boxes.now c.args.blocks.now) c.loop-index-test.true c.requires.boxes c.requires.blocks c.index-members-index.is c.index-boxes-index.is c.index-blocks-index.is c.member_cross-size.ensures c.in_ok-push.ensures.items c.loop-index.invariant
+    triple_step _ _ _ f c.args.members.now c.args.boxes.now c.args.blocks.now c.loop-index.index c.index-members-index.result c.index-boxes-index.result c.index-blocks-index.result c.member_cross-size.result c.loop-index.sizes.items c.push.new.self.items
+    (zipped3 f c.args.members.now c.args.boxes.now c.args.blocks.now) c.loop-index-test.true c.requires.boxes c.requires.blocks c.index-members-index.is c.index-boxes-index.is c.index-blocks-index.is c.member_cross-size.ensures c.in_ok-push.ensures.items c.loop-index.invariant

@@ -15,4 +15,5 @@ member_outer-size-requires-clause-child c =
 pub loop-index-preserved : goal.loop-index-preserved
 loop-index-preserved c =
     let f = member_outer (bare c.args.tree.now.tree) c.args.column in
-    pair_step _ _ f c.args.members.now c.args.crosses.now c.loop-index.index c.index-members-index.result c.index-crosses-index.result c.member_outer-size.result c.loop-index.sizes.items c.push.new.self.items (zipped f c.args.members.now c.args.crosses.now) c.loop-index-test.true c.requires.counted c.index-members-index.is c.index-crosses-index.is c.member_outer-size.ensures c.in_ok-push.ensures.items c.loop-index.invariant
+    pair_step _ _ f c.args.members.now c.args.crosses.now c.loop-index.index c.index-members-index.result c.index-crosses-index.result c.member_outer-size.result c.loop-index.sizes.items c.push.new.self.items (zipped f c.args.members.now c.args.crosses.now) c.loop-index-test.true
+    c.requires.counted c.index-members-index.is c.index-crosses-index.is c.member_outer-size.ensures c.in_ok-push.ensures.items c.loop-index.invariant

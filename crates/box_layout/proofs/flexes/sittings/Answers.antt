@@ -15,6 +15,9 @@ pub loop-index-preserved : goal.loop-index-preserved
 loop-index-preserved c =
     let f = member_sitting (bare c.args.tree.now.tree) c.args.id c.args.flex.now.column c.args.flex.now.cross in
     record {
-      so_far = triple_step _ _ _ f c.args.members.now c.args.mains.now c.args.crosses.now c.loop-index.index c.index-members-index.result c.index-mains-index.result c.index-crosses-index.result c.member_sitting-child.result c.loop-index.children.items c.extend_from_slice.new.self.items (zipped3 f c.args.members.now c.args.mains.now c.args.crosses.now) c.loop-index-test.true c.requires.mains c.requires.counted c.index-members-index.is c.index-mains-index.is c.index-crosses-index.is c.member_sitting-child.ensures.value c.in_ok-extend_from_slice.ensures.items c.loop-index.invariant.so_far;
+      so_far =
+          triple_step _ _ _ f c.args.members.now c.args.mains.now c.args.crosses.now c.loop-index.index c.index-members-index.result c.index-mains-index.result c.index-crosses-index.result c.member_sitting-child.result c.loop-index.children.items c.extend_from_slice.new.self.items
+          (zipped3 f c.args.members.now c.args.mains.now c.args.crosses.now) c.loop-index-test.true c.requires.mains c.requires.counted c.index-members-index.is c.index-mains-index.is c.index-crosses-index.is c.member_sitting-child.ensures.value c.in_ok-extend_from_slice.ensures.items
+          c.loop-index.invariant.so_far;
       units = units_step _ c.args.mains.now c.loop-index.index c.index-mains-index.result (omega (arith, c.loop-index-test.true, c.requires.mains)) c.index-mains-index.is c.loop-index.invariant.units c.member_sitting-child.ensures.units;
     }

@@ -25,9 +25,12 @@ returns-in_err-above-clause-stopped g c = on_err _ _ (stopped c.args.id _ 0 _ _ 
 
 pub returns-in-Some-clause-leaves : goal.returns-in-Some-clause-leaves
 returns-in-Some-clause-leaves g c =
-    let all : MeasuresLeaves (bare c.args.tree.now.tree) c.args.id (frames_asked c.args.reps.now c.args.inline.now c.args.block.now) (state c.args.tree.now c.args.tally.now c.args.passes.now (g.R.Ruler.log c.args.ruler.now)) (state c.args.tree.now c.args.tally.now c.args.passes.now (g.R.Ruler.log c.args.ruler.now)) = λ grid none. known _ (sym c.in-Some.ensures.kept ∙ none) in
+    let all : MeasuresLeaves (bare c.args.tree.now.tree) c.args.id (frames_asked c.args.reps.now c.args.inline.now c.args.block.now) (state c.args.tree.now c.args.tally.now c.args.passes.now (g.R.Ruler.log c.args.ruler.now))
+    (state c.args.tree.now c.args.tally.now c.args.passes.now (g.R.Ruler.log c.args.ruler.now)) = λ grid none. known _ (sym c.in-Some.ensures.kept ∙ none) in
     on_ok _ _ all
 
 pub returns-clause-leaves : goal.returns-clause-leaves
 returns-clause-leaves g c =
-    ok_then c.frames_anew.result _ _ (λ held grid none. subst (λ (q : Query). AreLeavesKept (bare c.args.tree.now.tree) c.args.id q (state c.frames_anew.new.tree c.frames_anew.new.tally c.frames_anew.new.passes (g.R.Ruler.log c.frames_anew.new.ruler))) c.in_ok-query.ensures (held grid)) c.frames_anew.ensures.leaves
+    ok_then c.frames_anew.result _ _
+    (λ held grid none. subst (λ (q : Query). AreLeavesKept (bare c.args.tree.now.tree) c.args.id q (state c.frames_anew.new.tree c.frames_anew.new.tally c.frames_anew.new.passes (g.R.Ruler.log c.frames_anew.new.ruler))) c.in_ok-query.ensures (held grid))
+    c.frames_anew.ensures.leaves

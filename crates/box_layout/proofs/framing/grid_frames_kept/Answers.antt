@@ -11,20 +11,35 @@ use Rattle.box_layout.proofs.framing.grid_frames_kept.Goals as goal
 pub ask_leaves-requires : goal.ask_leaves-requires
 ask_leaves-requires g c =
     let readable : AreReadable (bare c.grid_frames_anew.new.tree.tree) = subst AreReadable (sym c.in_ok-frames.ensures.walked.walk.bare_same) c.requires.readable in
-    let frames : AreLeafFrames (bare c.grid_frames_anew.new.tree.tree) c.args.id c.as_slice-listed.result.now = subst (λ (z : BareTrees). AreLeafFrames z c.args.id c.as_slice-listed.result.now) (sym c.in_ok-frames.ensures.walked.walk.bare_same) (subst (AreLeafFrames (bare c.args.tree.now.tree) c.args.id) (sym c.as_slice-listed.ensures) (leaf_frames c.args.tree.now.tree c.args.id c.requires.readable c.stands.ensures.numbered c.root.ensures.tree c.args.query c.requires.grid c.requires.query c.requires.fits c.in_ok-frames.frames c.in_ok-frames.ensures.value c.in_ok-frames.ensures.children)) in
+    let frames : AreLeafFrames (bare c.grid_frames_anew.new.tree.tree) c.args.id c.as_slice-listed.result.now = subst (λ (z : BareTrees). AreLeafFrames z c.args.id c.as_slice-listed.result.now) (sym c.in_ok-frames.ensures.walked.walk.bare_same)
+    (subst (AreLeafFrames (bare c.args.tree.now.tree) c.args.id) (sym c.as_slice-listed.ensures)
+    (leaf_frames c.args.tree.now.tree c.args.id c.requires.readable c.stands.ensures.numbered c.root.ensures.tree c.args.query c.requires.grid c.requires.query c.requires.fits c.in_ok-frames.frames c.in_ok-frames.ensures.value c.in_ok-frames.ensures.children)) in
     search rules
 
 pub returns-clause-walked : goal.returns-clause-walked
-returns-clause-walked g c = c.in_ok-ask_leaves.ensures.walked c.args.query (state c.args.tree.now c.args.tally.now c.args.passes.now (g.R.Ruler.log c.args.ruler.now)) (subst (λ (z : BareTrees). UsesLeaves z c.args.id c.args.query c.as_slice-listed.result.now) (sym c.in_ok-frames.ensures.walked.walk.bare_same) (subst (UsesLeaves (bare c.args.tree.now.tree) c.args.id c.args.query) (sym c.as_slice-listed.ensures) (leaf_uses c.args.tree.now.tree c.args.id c.requires.readable c.stands.ensures.numbered c.root.ensures.tree c.args.query c.requires.grid c.requires.query c.requires.fits c.in_ok-frames.frames c.in_ok-frames.ensures.value c.in_ok-frames.ensures.children))) (sym c.in_ok-frames.ensures.walked.walk.bare_same) c.in_ok-frames.ensures.walked
+returns-clause-walked g c =
+    c.in_ok-ask_leaves.ensures.walked c.args.query (state c.args.tree.now c.args.tally.now c.args.passes.now (g.R.Ruler.log c.args.ruler.now))
+    (subst (λ (z : BareTrees). UsesLeaves z c.args.id c.args.query c.as_slice-listed.result.now) (sym c.in_ok-frames.ensures.walked.walk.bare_same)
+    (subst (UsesLeaves (bare c.args.tree.now.tree) c.args.id c.args.query) (sym c.as_slice-listed.ensures)
+    (leaf_uses c.args.tree.now.tree c.args.id c.requires.readable c.stands.ensures.numbered c.root.ensures.tree c.args.query c.requires.grid c.requires.query c.requires.fits c.in_ok-frames.frames c.in_ok-frames.ensures.value c.in_ok-frames.ensures.children)))
+    (sym c.in_ok-frames.ensures.walked.walk.bare_same) c.in_ok-frames.ensures.walked
 
 pub returns-clause-own : goal.returns-clause-own
 returns-clause-own g c = c.in_ok-ask_leaves.ensures.own ∙ c.in_ok-frames.ensures.own
 
 pub returns-clause-leaves : goal.returns-clause-leaves
 returns-clause-leaves g c =
-    λ grid. leaves_kept c.args.tree.now.tree c.args.id c.requires.readable c.stands.ensures.numbered c.root.ensures.tree c.args.query c.requires.grid c.requires.query c.requires.fits c.in_ok-frames.frames c.in_ok-frames.ensures.value c.in_ok-frames.ensures.children (state c.ask_leaves.new.tree c.ask_leaves.new.tally c.ask_leaves.new.passes (g.R.Ruler.log c.ask_leaves.new.ruler))
+    λ grid. leaves_kept c.args.tree.now.tree c.args.id c.requires.readable c.stands.ensures.numbered c.root.ensures.tree c.args.query c.requires.grid c.requires.query c.requires.fits c.in_ok-frames.frames c.in_ok-frames.ensures.value c.in_ok-frames.ensures.children
+    (state c.ask_leaves.new.tree c.ask_leaves.new.tally c.ask_leaves.new.passes (g.R.Ruler.log c.ask_leaves.new.ruler))
     (subst (λ (l : List NodeFrame). HoldLeaves (bare c.args.tree.now.tree) (length l) l (state c.ask_leaves.new.tree c.ask_leaves.new.tally c.ask_leaves.new.passes (g.R.Ruler.log c.ask_leaves.new.ruler))) c.as_slice-listed.ensures
-    (subst (λ (z : BareTrees). HoldLeaves z (length c.as_slice-listed.result.now) c.as_slice-listed.result.now (state c.ask_leaves.new.tree c.ask_leaves.new.tally c.ask_leaves.new.passes (g.R.Ruler.log c.ask_leaves.new.ruler))) c.in_ok-frames.ensures.walked.walk.bare_same c.in_ok-ask_leaves.ensures.held))
+    (subst (λ (z : BareTrees). HoldLeaves z (length c.as_slice-listed.result.now) c.as_slice-listed.result.now (state c.ask_leaves.new.tree c.ask_leaves.new.tally c.ask_leaves.new.passes (g.R.Ruler.log c.ask_leaves.new.ruler))) c.in_ok-frames.ensures.walked.walk.bare_same
+    c.in_ok-ask_leaves.ensures.held))
 
 pub returns-in_err-ask_leaves-clause-stopped : goal.returns-in_err-ask_leaves-clause-stopped
-returns-in_err-ask_leaves-clause-stopped g c = on_err _ _ (c.in_err-ask_leaves.ensures.stopped c.args.query (state c.args.tree.now c.args.tally.now c.args.passes.now (g.R.Ruler.log c.args.ruler.now)) (subst (λ (z : BareTrees). UsesLeaves z c.args.id c.args.query c.as_slice-listed.result.now) (sym c.in_ok-frames.ensures.walked.walk.bare_same) (subst (UsesLeaves (bare c.args.tree.now.tree) c.args.id c.args.query) (sym c.as_slice-listed.ensures) (leaf_uses c.args.tree.now.tree c.args.id c.requires.readable c.stands.ensures.numbered c.root.ensures.tree c.args.query c.requires.grid c.requires.query c.requires.fits c.in_ok-frames.frames c.in_ok-frames.ensures.value c.in_ok-frames.ensures.children))) (sym c.in_ok-frames.ensures.walked.walk.bare_same) c.in_ok-frames.ensures.walked)
+returns-in_err-ask_leaves-clause-stopped g c =
+    on_err _ _
+    (c.in_err-ask_leaves.ensures.stopped c.args.query (state c.args.tree.now c.args.tally.now c.args.passes.now (g.R.Ruler.log c.args.ruler.now))
+    (subst (λ (z : BareTrees). UsesLeaves z c.args.id c.args.query c.as_slice-listed.result.now) (sym c.in_ok-frames.ensures.walked.walk.bare_same)
+    (subst (UsesLeaves (bare c.args.tree.now.tree) c.args.id c.args.query) (sym c.as_slice-listed.ensures)
+    (leaf_uses c.args.tree.now.tree c.args.id c.requires.readable c.stands.ensures.numbered c.root.ensures.tree c.args.query c.requires.grid c.requires.query c.requires.fits c.in_ok-frames.frames c.in_ok-frames.ensures.value c.in_ok-frames.ensures.children)))
+    (sym c.in_ok-frames.ensures.walked.walk.bare_same) c.in_ok-frames.ensures.walked)

@@ -21,4 +21,7 @@ pub loop-at-preserved : goal.loop-at-preserved
 loop-at-preserved c = (c.in_ok-frame_again.ensures.frames, c.in_ok-frame_again.ensures.last)
 
 pub returns : goal.returns
-returns c = again_end (bare c.args.tree.now.tree) c.args.id (map (grid_child (grid_seen (bare c.args.tree.now.tree) c.args.id c.args.reps.now c.args.width.now) (columns_seen (bare c.args.tree.now.tree) c.args.id c.args.reps.now c.args.width.now) c.args.rows.now) (wides_seen (bare c.args.tree.now.tree) c.args.id c.args.reps.now c.args.width.now)) c.args.places.now c.args.fresh.now c.loop-at.at c.loop-at.frames c.loop-at.invariant.0 (omega (arith, c.loop-at-test.false))
+returns c =
+    again_end (bare c.args.tree.now.tree) c.args.id
+    (map (grid_child (grid_seen (bare c.args.tree.now.tree) c.args.id c.args.reps.now c.args.width.now) (columns_seen (bare c.args.tree.now.tree) c.args.id c.args.reps.now c.args.width.now) c.args.rows.now)
+    (wides_seen (bare c.args.tree.now.tree) c.args.id c.args.reps.now c.args.width.now)) c.args.places.now c.args.fresh.now c.loop-at.at c.loop-at.frames c.loop-at.invariant.0 (omega (arith, c.loop-at-test.false))

@@ -29,24 +29,30 @@ framed_children-requires-clause-places c =
 
 pub returns-in-Some-clause-value : goal.returns-in-Some-clause-value
 returns-in-Some-clause-value c =
-    value_ok (bare c.args.tree.now.tree) c.args.id c.args.reps.now c.args.width.now c.args.wide.now c.requires.wide c.args.rows.now c.framed_again.result c.deref.result.now (c.deref.ensures.value ∙ c.in_ok-places.ensures ∙ ap turns (c.as_slice.ensures ∙ ap (λ (base : GridBase). base.placed.numbers) c.grid-base.ensures)) c.framed_again.ensures
+    value_ok (bare c.args.tree.now.tree) c.args.id c.args.reps.now c.args.width.now c.args.wide.now c.requires.wide c.args.rows.now c.framed_again.result c.deref.result.now
+    (c.deref.ensures.value ∙ c.in_ok-places.ensures ∙ ap turns (c.as_slice.ensures ∙ ap (λ (base : GridBase). base.placed.numbers) c.grid-base.ensures)) c.framed_again.ensures
 
 pub returns-in-Some-clause-children : goal.returns-in-Some-clause-children
 returns-in-Some-clause-children c =
-    children_ok (bare c.args.tree.now.tree) c.args.id c.args.reps.now c.args.width.now c.args.wide.now c.requires.wide c.args.rows.now c.framed_again.result c.deref.result.now c.root.ensures.tree (sym c.count.ensures.kids ∙ c.count.ensures.children) (c.deref.ensures.value ∙ c.in_ok-places.ensures ∙ ap turns (c.as_slice.ensures ∙ ap (λ (base : GridBase). base.placed.numbers) c.grid-base.ensures)) c.framed_again.ensures
+    children_ok (bare c.args.tree.now.tree) c.args.id c.args.reps.now c.args.width.now c.args.wide.now c.requires.wide c.args.rows.now c.framed_again.result c.deref.result.now c.root.ensures.tree (sym c.count.ensures.kids ∙ c.count.ensures.children)
+    (c.deref.ensures.value ∙ c.in_ok-places.ensures ∙ ap turns (c.as_slice.ensures ∙ ap (λ (base : GridBase). base.placed.numbers) c.grid-base.ensures)) c.framed_again.ensures
 
 pub returns-in-Some-clause-frames : goal.returns-in-Some-clause-frames
 returns-in-Some-clause-frames c =
-    told_ok (bare c.args.tree.now.tree) c.args.id c.args.reps.now c.args.width.now c.args.wide.now c.requires.wide c.args.rows.now c.root.ensures.tree c.framed_again.result c.deref.result.now (c.deref.ensures.value ∙ c.in_ok-places.ensures ∙ ap turns (c.as_slice.ensures ∙ ap (λ (base : GridBase). base.placed.numbers) c.grid-base.ensures)) c.framed_again.ensures
+    told_ok (bare c.args.tree.now.tree) c.args.id c.args.reps.now c.args.width.now c.args.wide.now c.requires.wide c.args.rows.now c.root.ensures.tree c.framed_again.result c.deref.result.now
+    (c.deref.ensures.value ∙ c.in_ok-places.ensures ∙ ap turns (c.as_slice.ensures ∙ ap (λ (base : GridBase). base.placed.numbers) c.grid-base.ensures)) c.framed_again.ensures
 
 pub returns-clause-value : goal.returns-clause-value
 returns-clause-value c =
-    value_ok (bare c.args.tree.now.tree) c.args.id c.args.reps.now c.args.width.now c.args.wide.now c.requires.wide c.args.rows.now c.framed_children.result c.deref-2.result.now (c.deref-2.ensures.value ∙ c.in_ok-places.ensures ∙ ap turns (c.as_slice.ensures ∙ ap (λ (base : GridBase). base.placed.numbers) c.grid-base.ensures)) c.framed_children.ensures
+    value_ok (bare c.args.tree.now.tree) c.args.id c.args.reps.now c.args.width.now c.args.wide.now c.requires.wide c.args.rows.now c.framed_children.result c.deref-2.result.now
+    (c.deref-2.ensures.value ∙ c.in_ok-places.ensures ∙ ap turns (c.as_slice.ensures ∙ ap (λ (base : GridBase). base.placed.numbers) c.grid-base.ensures)) c.framed_children.ensures
 
 pub returns-clause-children : goal.returns-clause-children
 returns-clause-children c =
-    children_ok (bare c.args.tree.now.tree) c.args.id c.args.reps.now c.args.width.now c.args.wide.now c.requires.wide c.args.rows.now c.framed_children.result c.deref-2.result.now c.root.ensures.tree (sym c.count.ensures.kids ∙ c.count.ensures.children) (c.deref-2.ensures.value ∙ c.in_ok-places.ensures ∙ ap turns (c.as_slice.ensures ∙ ap (λ (base : GridBase). base.placed.numbers) c.grid-base.ensures)) c.framed_children.ensures
+    children_ok (bare c.args.tree.now.tree) c.args.id c.args.reps.now c.args.width.now c.args.wide.now c.requires.wide c.args.rows.now c.framed_children.result c.deref-2.result.now c.root.ensures.tree (sym c.count.ensures.kids ∙ c.count.ensures.children)
+    (c.deref-2.ensures.value ∙ c.in_ok-places.ensures ∙ ap turns (c.as_slice.ensures ∙ ap (λ (base : GridBase). base.placed.numbers) c.grid-base.ensures)) c.framed_children.ensures
 
 pub returns-clause-frames : goal.returns-clause-frames
 returns-clause-frames c =
-    told_ok (bare c.args.tree.now.tree) c.args.id c.args.reps.now c.args.width.now c.args.wide.now c.requires.wide c.args.rows.now c.root.ensures.tree c.framed_children.result c.deref-2.result.now (c.deref-2.ensures.value ∙ c.in_ok-places.ensures ∙ ap turns (c.as_slice.ensures ∙ ap (λ (base : GridBase). base.placed.numbers) c.grid-base.ensures)) c.framed_children.ensures
+    told_ok (bare c.args.tree.now.tree) c.args.id c.args.reps.now c.args.width.now c.args.wide.now c.requires.wide c.args.rows.now c.root.ensures.tree c.framed_children.result c.deref-2.result.now
+    (c.deref-2.ensures.value ∙ c.in_ok-places.ensures ∙ ap turns (c.as_slice.ensures ∙ ap (λ (base : GridBase). base.placed.numbers) c.grid-base.ensures)) c.framed_children.ensures

@@ -13,8 +13,10 @@ moved_by-moved-requires-clause-y g c = long_moved_down c.args.y c.args.boxes.now
 
 pub loop-index-preserved : goal.loop-index-preserved
 loop-index-preserved g c =
-    moved_more g.T.BoxSink.adds g.met.T.BoxSink.adds_both c.args.x c.args.y c.requires.x c.requires.y c.args.told.now c.loop-index.told c.tell.new.told c.args.few.now c.loop-index.few c.tell.new.few c.args.boxes.now c.loop-index.index c.index-boxes-index.result c.index-boxes-index.result.0 c.moved_by-moved.result
-    c.loop-index.invariant (omega (arith, c.loop-index-test.true)) c.index-boxes-index.is refl c.moved_by-moved.ensures (close_there c.args.boxes.now c.loop-index.index c.index-boxes-index.result (omega (arith, c.loop-index-test.true)) c.index-boxes-index.is c.requires.close) c.in_ok-tell.ensures.value c.in_ok-tell.ensures.few
+    moved_more g.T.BoxSink.adds g.met.T.BoxSink.adds_both c.args.x c.args.y c.requires.x c.requires.y c.args.told.now c.loop-index.told c.tell.new.told c.args.few.now c.loop-index.few c.tell.new.few c.args.boxes.now c.loop-index.index c.index-boxes-index.result
+    c.index-boxes-index.result.0 c.moved_by-moved.result
+    c.loop-index.invariant (omega (arith, c.loop-index-test.true)) c.index-boxes-index.is refl c.moved_by-moved.ensures (close_there c.args.boxes.now c.loop-index.index c.index-boxes-index.result (omega (arith, c.loop-index-test.true)) c.index-boxes-index.is c.requires.close)
+    c.in_ok-tell.ensures.value c.in_ok-tell.ensures.few
 
 pub returns-clause-value : goal.returns-clause-value
 returns-clause-value g c = (all_moved g.T.BoxSink.adds c.args.told.now c.loop-index.told c.args.few.now c.loop-index.few (c.args.x, c.args.y) c.args.boxes.now c.loop-index.index (omega (arith, c.loop-index-test.false)) c.loop-index.invariant).added

@@ -19,7 +19,9 @@ use Rattle.box_layout.proofs.RootBoxes.{first_of_root, level_some, quiet_all, va
 use Rattle.box_layout.proofs.layout.boxes_of_tree.Goals as goal
 
 pub returns-in_err-frame-clause-quiet : goal.returns-in_err-frame-clause-quiet
-returns-in_err-frame-clause-quiet g c = (λ (kept : IsAllKept (bare c.args.tree.now.tree) c.args.width c.args.height (state c.args.tree.now c.args.tally.now c.args.passes.now (g.R.Ruler.log c.args.ruler.now))). c.root_frame.ensures.quiet (kept.inline c.root-id.result c.root-id.ensures.root) (kept.block c.root-id.result c.root-id.ensures.root))
+returns-in_err-frame-clause-quiet g c =
+    (λ (kept : IsAllKept (bare c.args.tree.now.tree) c.args.width c.args.height (state c.args.tree.now c.args.tally.now c.args.passes.now (g.R.Ruler.log c.args.ruler.now))). c.root_frame.ensures.quiet (kept.inline c.root-id.result c.root-id.ensures.root)
+    (kept.block c.root-id.result c.root-id.ensures.root))
 
 pub boxes_of-requires-clause-level : goal.boxes_of-requires-clause-level
 boxes_of-requires-clause-level g c = subst (λ (z : BareTrees). 1 ≤ level_at z c.root-id.result) (sym c.root_frame.ensures.bare) (level_some (bare c.args.tree.now.tree) c.root-id.result c.root-id.ensures.root)
@@ -31,50 +33,80 @@ boxes_of-requires-clause-near g c =
     (subst (λ (z : ℤ). IsNearAt (level_at (bare c.root_frame.new.tree.tree) c.root-id.result) (pos 0) z (frame_of c.in_ok-frame.frame)) (sym c.of-y.ensures) (c.in_ok-frame.ensures.near (level_at (bare c.root_frame.new.tree.tree) c.root-id.result) level))
 
 pub returns-in_err-boxes_of-clause-bare : goal.returns-in_err-boxes_of-clause-bare
-returns-in_err-boxes_of-clause-bare g c = part_same (bare c.root_frame.new.tree.tree) c.root-id.result (frames_asked [] c.in_ok-frame.frame.inline c.in_ok-frame.frame.block) (state c.root_frame.new.tree c.root_frame.new.tally c.root_frame.new.passes (g.R.Ruler.log c.root_frame.new.ruler)) (state c.boxes_of.new.tree c.boxes_of.new.tally c.boxes_of.new.passes (g.R.Ruler.log c.boxes_of.new.ruler)) c.in_err-boxes_of.ensures.part ∙ c.root_frame.ensures.bare
+returns-in_err-boxes_of-clause-bare g c =
+    part_same (bare c.root_frame.new.tree.tree) c.root-id.result (frames_asked [] c.in_ok-frame.frame.inline c.in_ok-frame.frame.block) (state c.root_frame.new.tree c.root_frame.new.tally c.root_frame.new.passes (g.R.Ruler.log c.root_frame.new.ruler))
+    (state c.boxes_of.new.tree c.boxes_of.new.tally c.boxes_of.new.passes (g.R.Ruler.log c.boxes_of.new.ruler)) c.in_err-boxes_of.ensures.part ∙ c.root_frame.ensures.bare
 
 pub returns-in_err-boxes_of-clause-cut : goal.returns-in_err-boxes_of-clause-cut
 returns-in_err-boxes_of-clause-cut g c =
-    on_err _ _ (cut_boxes c.args.width c.args.height c.root-id.result (state c.args.tree.now c.args.tally.now c.args.passes.now (g.R.Ruler.log c.args.ruler.now)) c.root-id.ensures.root (state c.root_frame.new.tree c.root_frame.new.tally c.root_frame.new.passes (g.R.Ruler.log c.root_frame.new.ruler)) c.in_ok-frame.ensures.laid (frames_asked [] c.in_ok-frame.frame.inline c.in_ok-frame.frame.block) (λ k. first_of_root (bare c.args.tree.now.tree) c.root-id.result c.args.width c.args.height (frame_of c.in_ok-frame.frame) k c.in_ok-frame.ensures.value) (state c.boxes_of.new.tree c.boxes_of.new.tally c.boxes_of.new.passes (g.R.Ruler.log c.boxes_of.new.ruler))
-    (subst (λ (z : BareTrees). IsChildPart z c.root-id.result (frames_asked [] c.in_ok-frame.frame.inline c.in_ok-frame.frame.block) (state c.root_frame.new.tree c.root_frame.new.tally c.root_frame.new.passes (g.R.Ruler.log c.root_frame.new.ruler)) (state c.boxes_of.new.tree c.boxes_of.new.tally c.boxes_of.new.passes (g.R.Ruler.log c.boxes_of.new.ruler))) c.root_frame.ensures.bare c.in_err-boxes_of.ensures.part))
+    on_err _ _
+    (cut_boxes c.args.width c.args.height c.root-id.result (state c.args.tree.now c.args.tally.now c.args.passes.now (g.R.Ruler.log c.args.ruler.now)) c.root-id.ensures.root
+    (state c.root_frame.new.tree c.root_frame.new.tally c.root_frame.new.passes (g.R.Ruler.log c.root_frame.new.ruler)) c.in_ok-frame.ensures.laid (frames_asked [] c.in_ok-frame.frame.inline c.in_ok-frame.frame.block)
+    (λ k. first_of_root (bare c.args.tree.now.tree) c.root-id.result c.args.width c.args.height (frame_of c.in_ok-frame.frame) k c.in_ok-frame.ensures.value) (state c.boxes_of.new.tree c.boxes_of.new.tally c.boxes_of.new.passes (g.R.Ruler.log c.boxes_of.new.ruler))
+    (subst
+    (λ (z : BareTrees). IsChildPart z c.root-id.result (frames_asked [] c.in_ok-frame.frame.inline c.in_ok-frame.frame.block) (state c.root_frame.new.tree c.root_frame.new.tally c.root_frame.new.passes (g.R.Ruler.log c.root_frame.new.ruler))
+    (state c.boxes_of.new.tree c.boxes_of.new.tally c.boxes_of.new.passes (g.R.Ruler.log c.boxes_of.new.ruler))) c.root_frame.ensures.bare c.in_err-boxes_of.ensures.part))
 
 pub returns-in_err-boxes_of-clause-quiet : goal.returns-in_err-boxes_of-clause-quiet
 returns-in_err-boxes_of-clause-quiet g c =
-    quiet_all (bare c.args.tree.now.tree) (bare c.root_frame.new.tree.tree) c.root-id.result c.args.width c.args.height (frame_of c.in_ok-frame.frame) (state c.args.tree.now c.args.tally.now c.args.passes.now (g.R.Ruler.log c.args.ruler.now)) (state c.root_frame.new.tree c.root_frame.new.tally c.root_frame.new.passes (g.R.Ruler.log c.root_frame.new.ruler)) (state c.boxes_of.new.tree c.boxes_of.new.tally c.boxes_of.new.passes (g.R.Ruler.log c.boxes_of.new.ruler)) c.root_frame.ensures.bare c.root-id.ensures.root c.in_ok-frame.ensures.value (λ (kept : IsAllKept (bare c.args.tree.now.tree) c.args.width c.args.height (state c.args.tree.now c.args.tally.now c.args.passes.now (g.R.Ruler.log c.args.ruler.now))). c.root_frame.ensures.quiet (kept.inline c.root-id.result c.root-id.ensures.root) (kept.block c.root-id.result c.root-id.ensures.root)) c.boxes_of.ensures.quiet
+    quiet_all (bare c.args.tree.now.tree) (bare c.root_frame.new.tree.tree) c.root-id.result c.args.width c.args.height (frame_of c.in_ok-frame.frame) (state c.args.tree.now c.args.tally.now c.args.passes.now (g.R.Ruler.log c.args.ruler.now))
+    (state c.root_frame.new.tree c.root_frame.new.tally c.root_frame.new.passes (g.R.Ruler.log c.root_frame.new.ruler)) (state c.boxes_of.new.tree c.boxes_of.new.tally c.boxes_of.new.passes (g.R.Ruler.log c.boxes_of.new.ruler)) c.root_frame.ensures.bare c.root-id.ensures.root
+    c.in_ok-frame.ensures.value
+    (λ (kept : IsAllKept (bare c.args.tree.now.tree) c.args.width c.args.height (state c.args.tree.now c.args.tally.now c.args.passes.now (g.R.Ruler.log c.args.ruler.now))). c.root_frame.ensures.quiet (kept.inline c.root-id.result c.root-id.ensures.root)
+    (kept.block c.root-id.result c.root-id.ensures.root)) c.boxes_of.ensures.quiet
 
 pub returns-clause-value : goal.returns-clause-value
 returns-clause-value g c =
     subst (g.T.BoxSink.adds c.args.told.now c.boxes_of.new.told)
-    (value_all (bare c.args.tree.now.tree) (bare c.root_frame.new.tree.tree) c.root-id.result c.args.width c.args.height [] (frame_of c.in_ok-frame.frame) c.of-x.result c.of-y.result [] _ c.root_frame.ensures.bare c.root-id.ensures.root c.root-id.ensures.top refl c.of-x.ensures c.of-y.ensures refl c.in_ok-frame.ensures.value refl)
+    (value_all (bare c.args.tree.now.tree) (bare c.root_frame.new.tree.tree) c.root-id.result c.args.width c.args.height [] (frame_of c.in_ok-frame.frame) c.of-x.result c.of-y.result [] _ c.root_frame.ensures.bare c.root-id.ensures.root c.root-id.ensures.top refl c.of-x.ensures
+    c.of-y.ensures refl c.in_ok-frame.ensures.value refl)
     (g.met.T.BoxSink.adds_both c.args.told.now c.make_room.new.self c.boxes_of.new.told [] _ c.make_room.ensures c.in_ok-boxes_of.ensures.value)
 
 pub returns-clause-near : goal.returns-clause-near
 returns-clause-near g c =
     subst AreNear
-    (value_all (bare c.args.tree.now.tree) (bare c.root_frame.new.tree.tree) c.root-id.result c.args.width c.args.height [] (frame_of c.in_ok-frame.frame) c.of-x.result c.of-y.result [] _ c.root_frame.ensures.bare c.root-id.ensures.root c.root-id.ensures.top refl c.of-x.ensures c.of-y.ensures refl c.in_ok-frame.ensures.value refl)
+    (value_all (bare c.args.tree.now.tree) (bare c.root_frame.new.tree.tree) c.root-id.result c.args.width c.args.height [] (frame_of c.in_ok-frame.frame) c.of-x.result c.of-y.result [] _ c.root_frame.ensures.bare c.root-id.ensures.root c.root-id.ensures.top refl c.of-x.ensures
+    c.of-y.ensures refl c.in_ok-frame.ensures.value refl)
     c.in_ok-boxes_of.ensures.near
 
 pub returns-clause-bare : goal.returns-clause-bare
-returns-clause-bare g c = child_same (bare c.root_frame.new.tree.tree) c.root-id.result (frames_asked [] c.in_ok-frame.frame.inline c.in_ok-frame.frame.block) (state c.root_frame.new.tree c.root_frame.new.tally c.root_frame.new.passes (g.R.Ruler.log c.root_frame.new.ruler)) (state c.boxes_of.new.tree c.boxes_of.new.tally c.boxes_of.new.passes (g.R.Ruler.log c.boxes_of.new.ruler)) c.in_ok-boxes_of.ensures.laid ∙ c.root_frame.ensures.bare
+returns-clause-bare g c =
+    child_same (bare c.root_frame.new.tree.tree) c.root-id.result (frames_asked [] c.in_ok-frame.frame.inline c.in_ok-frame.frame.block) (state c.root_frame.new.tree c.root_frame.new.tally c.root_frame.new.passes (g.R.Ruler.log c.root_frame.new.ruler))
+    (state c.boxes_of.new.tree c.boxes_of.new.tally c.boxes_of.new.passes (g.R.Ruler.log c.boxes_of.new.ruler)) c.in_ok-boxes_of.ensures.laid ∙ c.root_frame.ensures.bare
 
 pub returns-clause-laid : goal.returns-clause-laid
 returns-clause-laid g c =
-    walk_boxes c.args.width c.args.height c.root-id.result (state c.args.tree.now c.args.tally.now c.args.passes.now (g.R.Ruler.log c.args.ruler.now)) c.root-id.ensures.root (state c.root_frame.new.tree c.root_frame.new.tally c.root_frame.new.passes (g.R.Ruler.log c.root_frame.new.ruler)) c.in_ok-frame.ensures.laid (frames_asked [] c.in_ok-frame.frame.inline c.in_ok-frame.frame.block) (λ k. first_of_root (bare c.args.tree.now.tree) c.root-id.result c.args.width c.args.height (frame_of c.in_ok-frame.frame) k c.in_ok-frame.ensures.value) (state c.boxes_of.new.tree c.boxes_of.new.tally c.boxes_of.new.passes (g.R.Ruler.log c.boxes_of.new.ruler))
-    (subst (λ (z : BareTrees). IsChildLaid z c.root-id.result (frames_asked [] c.in_ok-frame.frame.inline c.in_ok-frame.frame.block) (state c.root_frame.new.tree c.root_frame.new.tally c.root_frame.new.passes (g.R.Ruler.log c.root_frame.new.ruler)) (state c.boxes_of.new.tree c.boxes_of.new.tally c.boxes_of.new.passes (g.R.Ruler.log c.boxes_of.new.ruler))) c.root_frame.ensures.bare c.in_ok-boxes_of.ensures.laid)
+    walk_boxes c.args.width c.args.height c.root-id.result (state c.args.tree.now c.args.tally.now c.args.passes.now (g.R.Ruler.log c.args.ruler.now)) c.root-id.ensures.root
+    (state c.root_frame.new.tree c.root_frame.new.tally c.root_frame.new.passes (g.R.Ruler.log c.root_frame.new.ruler)) c.in_ok-frame.ensures.laid (frames_asked [] c.in_ok-frame.frame.inline c.in_ok-frame.frame.block)
+    (λ k. first_of_root (bare c.args.tree.now.tree) c.root-id.result c.args.width c.args.height (frame_of c.in_ok-frame.frame) k c.in_ok-frame.ensures.value) (state c.boxes_of.new.tree c.boxes_of.new.tally c.boxes_of.new.passes (g.R.Ruler.log c.boxes_of.new.ruler))
+    (subst
+    (λ (z : BareTrees). IsChildLaid z c.root-id.result (frames_asked [] c.in_ok-frame.frame.inline c.in_ok-frame.frame.block) (state c.root_frame.new.tree c.root_frame.new.tally c.root_frame.new.passes (g.R.Ruler.log c.root_frame.new.ruler))
+    (state c.boxes_of.new.tree c.boxes_of.new.tally c.boxes_of.new.passes (g.R.Ruler.log c.boxes_of.new.ruler))) c.root_frame.ensures.bare c.in_ok-boxes_of.ensures.laid)
 
 pub returns-clause-quiet : goal.returns-clause-quiet
 returns-clause-quiet g c =
-    quiet_all (bare c.args.tree.now.tree) (bare c.root_frame.new.tree.tree) c.root-id.result c.args.width c.args.height (frame_of c.in_ok-frame.frame) (state c.args.tree.now c.args.tally.now c.args.passes.now (g.R.Ruler.log c.args.ruler.now)) (state c.root_frame.new.tree c.root_frame.new.tally c.root_frame.new.passes (g.R.Ruler.log c.root_frame.new.ruler)) (state c.boxes_of.new.tree c.boxes_of.new.tally c.boxes_of.new.passes (g.R.Ruler.log c.boxes_of.new.ruler)) c.root_frame.ensures.bare c.root-id.ensures.root c.in_ok-frame.ensures.value (λ (kept : IsAllKept (bare c.args.tree.now.tree) c.args.width c.args.height (state c.args.tree.now c.args.tally.now c.args.passes.now (g.R.Ruler.log c.args.ruler.now))). c.root_frame.ensures.quiet (kept.inline c.root-id.result c.root-id.ensures.root) (kept.block c.root-id.result c.root-id.ensures.root)) c.boxes_of.ensures.quiet
+    quiet_all (bare c.args.tree.now.tree) (bare c.root_frame.new.tree.tree) c.root-id.result c.args.width c.args.height (frame_of c.in_ok-frame.frame) (state c.args.tree.now c.args.tally.now c.args.passes.now (g.R.Ruler.log c.args.ruler.now))
+    (state c.root_frame.new.tree c.root_frame.new.tally c.root_frame.new.passes (g.R.Ruler.log c.root_frame.new.ruler)) (state c.boxes_of.new.tree c.boxes_of.new.tally c.boxes_of.new.passes (g.R.Ruler.log c.boxes_of.new.ruler)) c.root_frame.ensures.bare c.root-id.ensures.root
+    c.in_ok-frame.ensures.value
+    (λ (kept : IsAllKept (bare c.args.tree.now.tree) c.args.width c.args.height (state c.args.tree.now c.args.tally.now c.args.passes.now (g.R.Ruler.log c.args.ruler.now))). c.root_frame.ensures.quiet (kept.inline c.root-id.result c.root-id.ensures.root)
+    (kept.block c.root-id.result c.root-id.ensures.root)) c.boxes_of.ensures.quiet
 
 pub returns-clause-paths : goal.returns-clause-paths
 returns-clause-paths g c =
     path_of_root (bare c.args.tree.now.tree) c.root-id.result c.args.width c.args.height (frame_of c.in_ok-frame.frame) (state c.boxes_of.new.tree c.boxes_of.new.tally c.boxes_of.new.passes (g.R.Ruler.log c.boxes_of.new.ruler)) c.root-id.ensures.root c.in_ok-frame.ensures.value
-    (subst (λ (z : BareTrees). is_container (sight_at z c.root-id.result).label.kind ≡ true → AreKeptBelow z c.root-id.result (frames_asked [] c.in_ok-frame.frame.inline c.in_ok-frame.frame.block) (state c.boxes_of.new.tree c.boxes_of.new.tally c.boxes_of.new.passes (g.R.Ruler.log c.boxes_of.new.ruler))) c.root_frame.ensures.bare c.in_ok-boxes_of.ensures.paths)
+    (subst
+    (λ (z : BareTrees). is_container (sight_at z c.root-id.result).label.kind ≡ true →
+    AreKeptBelow z c.root-id.result (frames_asked [] c.in_ok-frame.frame.inline c.in_ok-frame.frame.block) (state c.boxes_of.new.tree c.boxes_of.new.tally c.boxes_of.new.passes (g.R.Ruler.log c.boxes_of.new.ruler))) c.root_frame.ensures.bare c.in_ok-boxes_of.ensures.paths)
 
 pub returns-clause-leaves : goal.returns-clause-leaves
 returns-clause-leaves g c =
-    measured_root (bare c.args.tree.now.tree) c.root-id.result c.args.width c.args.height (frame_of c.in_ok-frame.frame) (state c.args.tree.now c.args.tally.now c.args.passes.now (g.R.Ruler.log c.args.ruler.now)) (state c.root_frame.new.tree c.root_frame.new.tally c.root_frame.new.passes (g.R.Ruler.log c.root_frame.new.ruler)) (state c.boxes_of.new.tree c.boxes_of.new.tally c.boxes_of.new.passes (g.R.Ruler.log c.boxes_of.new.ruler)) c.root-id.ensures.root c.in_ok-frame.ensures.value c.in_ok-frame.ensures.frames
-    (subst (λ (z : BareTrees). is_container (sight_at z c.root-id.result).label.kind ≡ true → MeasuresBelow z c.root-id.result (frames_asked [] c.in_ok-frame.frame.inline c.in_ok-frame.frame.block) (state c.root_frame.new.tree c.root_frame.new.tally c.root_frame.new.passes (g.R.Ruler.log c.root_frame.new.ruler)) (state c.boxes_of.new.tree c.boxes_of.new.tally c.boxes_of.new.passes (g.R.Ruler.log c.boxes_of.new.ruler))) c.root_frame.ensures.bare c.in_ok-boxes_of.ensures.leaves)
+    measured_root (bare c.args.tree.now.tree) c.root-id.result c.args.width c.args.height (frame_of c.in_ok-frame.frame) (state c.args.tree.now c.args.tally.now c.args.passes.now (g.R.Ruler.log c.args.ruler.now))
+    (state c.root_frame.new.tree c.root_frame.new.tally c.root_frame.new.passes (g.R.Ruler.log c.root_frame.new.ruler)) (state c.boxes_of.new.tree c.boxes_of.new.tally c.boxes_of.new.passes (g.R.Ruler.log c.boxes_of.new.ruler)) c.root-id.ensures.root c.in_ok-frame.ensures.value
+    c.in_ok-frame.ensures.frames
+    (subst
+    (λ (z : BareTrees). is_container (sight_at z c.root-id.result).label.kind ≡ true →
+    MeasuresBelow z c.root-id.result (frames_asked [] c.in_ok-frame.frame.inline c.in_ok-frame.frame.block) (state c.root_frame.new.tree c.root_frame.new.tally c.root_frame.new.passes (g.R.Ruler.log c.root_frame.new.ruler))
+    (state c.boxes_of.new.tree c.boxes_of.new.tally c.boxes_of.new.passes (g.R.Ruler.log c.boxes_of.new.ruler))) c.root_frame.ensures.bare c.in_ok-boxes_of.ensures.leaves)
 
 pub boxes_of-requires-clause-last : goal.boxes_of-requires-clause-last
 boxes_of-requires-clause-last g c =

@@ -31,10 +31,13 @@ returns-clause-asked g c =
     inr (leaf, c.in_ok-block_of.ensures.walked)
 
 pub returns-clause-held : goal.returns-clause-held
-returns-clause-held g c = λ leaf. sized_kept c.args.frame.now.child (block_query false [] c.args.frame.now.inline) (state c.args.tree.now c.args.tally.now c.args.passes.now (g.R.Ruler.log c.args.ruler.now)) (state c.block_of.new.tree c.block_of.new.tally c.block_of.new.passes (g.R.Ruler.log c.block_of.new.ruler)) _ c.block_of.ensures.found c.in_ok-block_of.ensures.own
+returns-clause-held g c =
+    λ leaf. sized_kept c.args.frame.now.child (block_query false [] c.args.frame.now.inline) (state c.args.tree.now c.args.tally.now c.args.passes.now (g.R.Ruler.log c.args.ruler.now))
+    (state c.block_of.new.tree c.block_of.new.tally c.block_of.new.passes (g.R.Ruler.log c.block_of.new.ruler)) _ c.block_of.ensures.found c.in_ok-block_of.ensures.own
 
 pub returns-in_err-block_of-clause-stopped : goal.returns-in_err-block_of-clause-stopped
 returns-in_err-block_of-clause-stopped g c =
     let leaf : is_leaf (sight_at (bare c.args.tree.now.tree) c.args.frame.now.child).label.kind ≡ true = ap is_leaf (sym c.node_at.ensures.kind) ∙ sym c.is_leaf.ensures ∙ c.if-not-is_leaf.false in
-    let all : IsLeafStopped (bare c.args.tree.now.tree) c.args.frame.now (state c.args.tree.now c.args.tally.now c.args.passes.now (g.R.Ruler.log c.args.ruler.now)) (state c.block_of.new.tree c.block_of.new.tally c.block_of.new.passes (g.R.Ruler.log c.block_of.new.ruler)) = record { leaf = leaf; stopped = c.in_err-block_of.ensures.stopped } in
+    let all : IsLeafStopped (bare c.args.tree.now.tree) c.args.frame.now (state c.args.tree.now c.args.tally.now c.args.passes.now (g.R.Ruler.log c.args.ruler.now)) (state c.block_of.new.tree c.block_of.new.tally c.block_of.new.passes (g.R.Ruler.log c.block_of.new.ruler)) = record
+    { leaf = leaf; stopped = c.in_err-block_of.ensures.stopped } in
     on_err _ _ all

@@ -32,8 +32,11 @@ ask_leaf-requires g c =
     let next : IsNext b c.args.id c.loop-index.index f.child = next_leaf b (distinct_bare c.args.tree.now.tree c.stands.ensures.distinct) c.args.id c.args.frames.now c.requires.frames c.root.ensures.tree c.loop-index.index f at in
     let live : IsLive d f.child = subst (λ z. IsLive z f.child) (sym c.loop-index.invariant.same) next.live in
     let readable : AreReadable d = subst AreReadable (sym c.loop-index.invariant.same) c.requires.readable in
-    let alone : is_leaf (sight_at d f.child).label.kind ≡ true → (sight_at d f.child).chain ≡ [] = subst (λ z. is_leaf (sight_at z f.child).label.kind ≡ true → (sight_at z f.child).chain ≡ []) (sym c.loop-index.invariant.same) (λ leaf. next.chain ∙ leaf_chain _ c.loop-index.index (sight_at b f.child).label leaf) in
-    let given : is_leaf (sight_at d f.child).label.kind ≡ true → IsGivenFor true false 0 f.inline = subst (λ z. is_leaf (sight_at z f.child).label.kind ≡ true → IsGivenFor true false 0 f.inline) (sym c.loop-index.invariant.same) (λ leaf. (c.requires.frames.leaf c.loop-index.index f (drop (c.loop-index.index + 1) c.args.frames.now) at leaf).given) in
+    let alone : is_leaf (sight_at d f.child).label.kind ≡ true →
+    (sight_at d f.child).chain ≡ [] = subst (λ z. is_leaf (sight_at z f.child).label.kind ≡ true → (sight_at z f.child).chain ≡ []) (sym c.loop-index.invariant.same) (λ leaf. next.chain ∙ leaf_chain _ c.loop-index.index (sight_at b f.child).label leaf) in
+    let given : is_leaf (sight_at d f.child).label.kind ≡ true →
+    IsGivenFor true false 0 f.inline = subst (λ z. is_leaf (sight_at z f.child).label.kind ≡ true → IsGivenFor true false 0 f.inline) (sym c.loop-index.invariant.same)
+    (λ leaf. (c.requires.frames.leaf c.loop-index.index f (drop (c.loop-index.index + 1) c.args.frames.now) at leaf).given) in
     search rules
 
 pub loop-index-preserved : goal.loop-index-preserved

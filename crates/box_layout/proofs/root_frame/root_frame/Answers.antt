@@ -53,13 +53,15 @@ block_of-requires g c =
     let live : IsLive (bare c.inline_of.new.tree.tree) c.args.id = subst (λ (z : BareTrees). IsLive z c.args.id) (sym c.in_ok-sizes.ensures.walked.walk.bare_same) c.requires.live in
     let readable : AreReadable (bare c.inline_of.new.tree.tree) = subst AreReadable (sym c.in_ok-sizes.ensures.walked.walk.bare_same) c.requires.readable in
     let alone : (sight_at (bare c.inline_of.new.tree.tree) c.args.id).chain ≡ [] = subst (λ (z : BareTrees). (sight_at z c.args.id).chain ≡ []) (sym c.in_ok-sizes.ensures.walked.walk.bare_same) c.requires.alone in
-    let fits : Fits (sight_at (bare c.inline_of.new.tree.tree) c.args.id) (block_query false [] c.root_given-inline.result) = block_fits (sight_at (bare c.inline_of.new.tree.tree) c.args.id) alone c.root_box-across.result c.root_given-inline.result (content_some (inner (sight_at (bare c.inline_of.new.tree.tree) c.args.id).label.grid.columns) c.root_box-across.result c.root_box-across.ensures.least) c.root_given-inline.ensures in
+    let fits : Fits (sight_at (bare c.inline_of.new.tree.tree) c.args.id) (block_query false [] c.root_given-inline.result) = block_fits (sight_at (bare c.inline_of.new.tree.tree) c.args.id) alone c.root_box-across.result c.root_given-inline.result
+    (content_some (inner (sight_at (bare c.inline_of.new.tree.tree) c.args.id).label.grid.columns) c.root_box-across.result c.root_box-across.ensures.least) c.root_given-inline.ensures in
     let spread : IsSpread (farthest (level_at (bare c.inline_of.new.tree.tree) c.args.id)) c.root_given-inline.result = subst (IsSpread (farthest (level_at (bare c.inline_of.new.tree.tree) c.args.id))) (sym c.root_given-inline.ensures) tt in
     search rules
 
 pub returns-clause-value : goal.returns-clause-value
 returns-clause-value g c =
-    framed_root (bare c.args.tree.now.tree) (bare c.inline_of.new.tree.tree) (bare c.block_of.new.tree.tree) c.args.id c.in_ok-sizes.ensures.walked.walk.bare_same c.in_ok-content.ensures.walked.walk.bare_same c.requires.alone c.args.width c.args.height c.in_ok-sizes.sizes c.root_box-across.result c.in_ok-sizes.ensures.value c.root_box-across.ensures.value c.root_given-inline.result c.root_given-inline.ensures c.in_ok-content.content c.in_ok-content.ensures.value (frame_of c.root_placed.result) c.root_placed.ensures.value
+    framed_root (bare c.args.tree.now.tree) (bare c.inline_of.new.tree.tree) (bare c.block_of.new.tree.tree) c.args.id c.in_ok-sizes.ensures.walked.walk.bare_same c.in_ok-content.ensures.walked.walk.bare_same c.requires.alone c.args.width c.args.height c.in_ok-sizes.sizes
+    c.root_box-across.result c.in_ok-sizes.ensures.value c.root_box-across.ensures.value c.root_given-inline.result c.root_given-inline.ensures c.in_ok-content.content c.in_ok-content.ensures.value (frame_of c.root_placed.result) c.root_placed.ensures.value
 
 pub returns-clause-fits : goal.returns-clause-fits
 returns-clause-fits g c =
@@ -70,7 +72,8 @@ returns-clause-fits g c =
 pub returns-clause-near : goal.returns-clause-near
 returns-clause-near g c =
     λ level h. near_root c.args.width c.args.height (root_of (sight_at (bare c.args.tree.now.tree) c.args.id).label (sight_at (bare c.args.tree.now.tree) c.args.id).below) level (frame_of c.root_placed.result)
-    (framed_root (bare c.args.tree.now.tree) (bare c.inline_of.new.tree.tree) (bare c.block_of.new.tree.tree) c.args.id c.in_ok-sizes.ensures.walked.walk.bare_same c.in_ok-content.ensures.walked.walk.bare_same c.requires.alone c.args.width c.args.height c.in_ok-sizes.sizes c.root_box-across.result c.in_ok-sizes.ensures.value c.root_box-across.ensures.value c.root_given-inline.result c.root_given-inline.ensures c.in_ok-content.content c.in_ok-content.ensures.value (frame_of c.root_placed.result) c.root_placed.ensures.value)
+    (framed_root (bare c.args.tree.now.tree) (bare c.inline_of.new.tree.tree) (bare c.block_of.new.tree.tree) c.args.id c.in_ok-sizes.ensures.walked.walk.bare_same c.in_ok-content.ensures.walked.walk.bare_same c.requires.alone c.args.width c.args.height c.in_ok-sizes.sizes
+    c.root_box-across.result c.in_ok-sizes.ensures.value c.root_box-across.ensures.value c.root_given-inline.result c.root_given-inline.ensures c.in_ok-content.content c.in_ok-content.ensures.value (frame_of c.root_placed.result) c.root_placed.ensures.value)
     h c.root_placed.ensures.x c.root_placed.ensures.y
 
 pub returns-clause-bare : goal.returns-clause-bare
@@ -79,11 +82,17 @@ returns-clause-bare g c =
 
 pub returns-clause-laid : goal.returns-clause-laid
 returns-clause-laid g c =
-    both_walked c.args.width c.args.height c.args.id (state c.args.tree.now c.args.tally.now c.args.passes.now (g.R.Ruler.log c.args.ruler.now)) (state c.inline_of.new.tree c.inline_of.new.tally c.inline_of.new.passes (g.R.Ruler.log c.inline_of.new.ruler)) c.requires.top c.requires.right c.in_ok-sizes.ensures.walked (state c.block_of.new.tree c.block_of.new.tally c.block_of.new.passes (g.R.Ruler.log c.block_of.new.ruler)) c.root_given-inline.result (given_root (bare c.args.tree.now.tree) (bare c.inline_of.new.tree.tree) c.args.id c.in_ok-sizes.ensures.walked.walk.bare_same c.requires.alone c.args.width c.in_ok-sizes.sizes c.root_box-across.result c.in_ok-sizes.ensures.value c.root_box-across.ensures.value c.root_given-inline.result c.root_given-inline.ensures) c.in_ok-content.ensures.walked
+    both_walked c.args.width c.args.height c.args.id (state c.args.tree.now c.args.tally.now c.args.passes.now (g.R.Ruler.log c.args.ruler.now)) (state c.inline_of.new.tree c.inline_of.new.tally c.inline_of.new.passes (g.R.Ruler.log c.inline_of.new.ruler)) c.requires.top
+    c.requires.right c.in_ok-sizes.ensures.walked (state c.block_of.new.tree c.block_of.new.tally c.block_of.new.passes (g.R.Ruler.log c.block_of.new.ruler)) c.root_given-inline.result
+    (given_root (bare c.args.tree.now.tree) (bare c.inline_of.new.tree.tree) c.args.id c.in_ok-sizes.ensures.walked.walk.bare_same c.requires.alone c.args.width c.in_ok-sizes.sizes c.root_box-across.result c.in_ok-sizes.ensures.value c.root_box-across.ensures.value
+    c.root_given-inline.result c.root_given-inline.ensures) c.in_ok-content.ensures.walked
 
 pub returns-clause-quiet : goal.returns-clause-quiet
 returns-clause-quiet g c =
-    both_quiet c.args.id (state c.args.tree.now c.args.tally.now c.args.passes.now (g.R.Ruler.log c.args.ruler.now)) (state c.inline_of.new.tree c.inline_of.new.tally c.inline_of.new.passes (g.R.Ruler.log c.inline_of.new.ruler)) (state c.block_of.new.tree c.block_of.new.tally c.block_of.new.passes (g.R.Ruler.log c.block_of.new.ruler)) c.root_given-inline.result _ (given_root (bare c.args.tree.now.tree) (bare c.inline_of.new.tree.tree) c.args.id c.in_ok-sizes.ensures.walked.walk.bare_same c.requires.alone c.args.width c.in_ok-sizes.sizes c.root_box-across.result c.in_ok-sizes.ensures.value c.root_box-across.ensures.value c.root_given-inline.result c.root_given-inline.ensures) c.in_ok-sizes.ensures.found c.in_ok-content.ensures.found
+    both_quiet c.args.id (state c.args.tree.now c.args.tally.now c.args.passes.now (g.R.Ruler.log c.args.ruler.now)) (state c.inline_of.new.tree c.inline_of.new.tally c.inline_of.new.passes (g.R.Ruler.log c.inline_of.new.ruler))
+    (state c.block_of.new.tree c.block_of.new.tally c.block_of.new.passes (g.R.Ruler.log c.block_of.new.ruler)) c.root_given-inline.result _
+    (given_root (bare c.args.tree.now.tree) (bare c.inline_of.new.tree.tree) c.args.id c.in_ok-sizes.ensures.walked.walk.bare_same c.requires.alone c.args.width c.in_ok-sizes.sizes c.root_box-across.result c.in_ok-sizes.ensures.value c.root_box-across.ensures.value
+    c.root_given-inline.result c.root_given-inline.ensures) c.in_ok-sizes.ensures.found c.in_ok-content.ensures.found
 
 pub returns-in_err-sizes-clause-bare : goal.returns-in_err-sizes-clause-bare
 returns-in_err-sizes-clause-bare g c =
@@ -91,7 +100,9 @@ returns-in_err-sizes-clause-bare g c =
 
 pub returns-in_err-sizes-clause-cut : goal.returns-in_err-sizes-clause-cut
 returns-in_err-sizes-clause-cut g c =
-    on_err _ _ (first_cut c.args.width c.args.height c.args.id (state c.args.tree.now c.args.tally.now c.args.passes.now (g.R.Ruler.log c.args.ruler.now)) (state c.inline_of.new.tree c.inline_of.new.tally c.inline_of.new.passes (g.R.Ruler.log c.inline_of.new.ruler)) c.requires.top c.requires.right c.in_err-sizes.ensures.stopped)
+    on_err _ _
+    (first_cut c.args.width c.args.height c.args.id (state c.args.tree.now c.args.tally.now c.args.passes.now (g.R.Ruler.log c.args.ruler.now)) (state c.inline_of.new.tree c.inline_of.new.tally c.inline_of.new.passes (g.R.Ruler.log c.inline_of.new.ruler)) c.requires.top
+    c.requires.right c.in_err-sizes.ensures.stopped)
 
 pub returns-in_err-sizes-clause-quiet : goal.returns-in_err-sizes-clause-quiet
 returns-in_err-sizes-clause-quiet g c =
@@ -103,12 +114,22 @@ returns-in_err-content-clause-bare g c =
 
 pub returns-in_err-content-clause-cut : goal.returns-in_err-content-clause-cut
 returns-in_err-content-clause-cut g c =
-    on_err _ _ (second_cut c.args.width c.args.height c.args.id (state c.args.tree.now c.args.tally.now c.args.passes.now (g.R.Ruler.log c.args.ruler.now)) (state c.inline_of.new.tree c.inline_of.new.tally c.inline_of.new.passes (g.R.Ruler.log c.inline_of.new.ruler)) c.requires.top c.requires.right c.in_ok-sizes.ensures.walked (state c.block_of.new.tree c.block_of.new.tally c.block_of.new.passes (g.R.Ruler.log c.block_of.new.ruler)) c.root_given-inline.result (given_root (bare c.args.tree.now.tree) (bare c.inline_of.new.tree.tree) c.args.id c.in_ok-sizes.ensures.walked.walk.bare_same c.requires.alone c.args.width c.in_ok-sizes.sizes c.root_box-across.result c.in_ok-sizes.ensures.value c.root_box-across.ensures.value c.root_given-inline.result c.root_given-inline.ensures) c.in_err-content.ensures.stopped)
+    on_err _ _
+    (second_cut c.args.width c.args.height c.args.id (state c.args.tree.now c.args.tally.now c.args.passes.now (g.R.Ruler.log c.args.ruler.now)) (state c.inline_of.new.tree c.inline_of.new.tally c.inline_of.new.passes (g.R.Ruler.log c.inline_of.new.ruler)) c.requires.top
+    c.requires.right c.in_ok-sizes.ensures.walked (state c.block_of.new.tree c.block_of.new.tally c.block_of.new.passes (g.R.Ruler.log c.block_of.new.ruler)) c.root_given-inline.result
+    (given_root (bare c.args.tree.now.tree) (bare c.inline_of.new.tree.tree) c.args.id c.in_ok-sizes.ensures.walked.walk.bare_same c.requires.alone c.args.width c.in_ok-sizes.sizes c.root_box-across.result c.in_ok-sizes.ensures.value c.root_box-across.ensures.value
+    c.root_given-inline.result c.root_given-inline.ensures) c.in_err-content.ensures.stopped)
 
 pub returns-in_err-content-clause-quiet : goal.returns-in_err-content-clause-quiet
 returns-in_err-content-clause-quiet g c =
-    both_quiet c.args.id (state c.args.tree.now c.args.tally.now c.args.passes.now (g.R.Ruler.log c.args.ruler.now)) (state c.inline_of.new.tree c.inline_of.new.tally c.inline_of.new.passes (g.R.Ruler.log c.inline_of.new.ruler)) (state c.block_of.new.tree c.block_of.new.tally c.block_of.new.passes (g.R.Ruler.log c.block_of.new.ruler)) c.root_given-inline.result _ (given_root (bare c.args.tree.now.tree) (bare c.inline_of.new.tree.tree) c.args.id c.in_ok-sizes.ensures.walked.walk.bare_same c.requires.alone c.args.width c.in_ok-sizes.sizes c.root_box-across.result c.in_ok-sizes.ensures.value c.root_box-across.ensures.value c.root_given-inline.result c.root_given-inline.ensures) c.in_ok-sizes.ensures.found c.in_err-content.ensures.found
+    both_quiet c.args.id (state c.args.tree.now c.args.tally.now c.args.passes.now (g.R.Ruler.log c.args.ruler.now)) (state c.inline_of.new.tree c.inline_of.new.tally c.inline_of.new.passes (g.R.Ruler.log c.inline_of.new.ruler))
+    (state c.block_of.new.tree c.block_of.new.tally c.block_of.new.passes (g.R.Ruler.log c.block_of.new.ruler)) c.root_given-inline.result _
+    (given_root (bare c.args.tree.now.tree) (bare c.inline_of.new.tree.tree) c.args.id c.in_ok-sizes.ensures.walked.walk.bare_same c.requires.alone c.args.width c.in_ok-sizes.sizes c.root_box-across.result c.in_ok-sizes.ensures.value c.root_box-across.ensures.value
+    c.root_given-inline.result c.root_given-inline.ensures) c.in_ok-sizes.ensures.found c.in_err-content.ensures.found
 
 pub returns-clause-frames : goal.returns-clause-frames
 returns-clause-frames g c =
-    λ m p framed none. sizes_only c.args.id (block_query false [] c.root_given-inline.result) (state c.inline_of.new.tree c.inline_of.new.tally c.inline_of.new.passes (g.R.Ruler.log c.inline_of.new.ruler)) (state c.block_of.new.tree c.block_of.new.tally c.block_of.new.passes (g.R.Ruler.log c.block_of.new.ruler)) c.in_ok-content.ensures.walked refl m p framed (sizes_only c.args.id (inline_query false []) (state c.args.tree.now c.args.tally.now c.args.passes.now (g.R.Ruler.log c.args.ruler.now)) (state c.inline_of.new.tree c.inline_of.new.tally c.inline_of.new.passes (g.R.Ruler.log c.inline_of.new.ruler)) c.in_ok-sizes.ensures.walked refl m p framed none)
+    λ m p framed none. sizes_only c.args.id (block_query false [] c.root_given-inline.result) (state c.inline_of.new.tree c.inline_of.new.tally c.inline_of.new.passes (g.R.Ruler.log c.inline_of.new.ruler))
+    (state c.block_of.new.tree c.block_of.new.tally c.block_of.new.passes (g.R.Ruler.log c.block_of.new.ruler)) c.in_ok-content.ensures.walked refl m p framed
+    (sizes_only c.args.id (inline_query false []) (state c.args.tree.now c.args.tally.now c.args.passes.now (g.R.Ruler.log c.args.ruler.now)) (state c.inline_of.new.tree c.inline_of.new.tally c.inline_of.new.passes (g.R.Ruler.log c.inline_of.new.ruler)) c.in_ok-sizes.ensures.walked
+    refl m p framed none)

@@ -16,7 +16,8 @@ pub view_by-requires : goal.view_by-requires
 view_by-requires g c =
     let input : CanSizeFor c.args.height.now 1 c.node_at.result.now.style c.grid-base.result.now.placed.rows c.as_slice-2.result.now =
     can_be (bare c.args.tree.now.tree) c.args.id c.args.reps.now c.args.width.now (record c.args.wide.now { parts = record c.args.wide.now.parts { base = c.grid-base.result.now } })
-    (read_wide (bare c.args.tree.now.tree) c.args.id c.args.reps.now c.args.width.now c.args.wide.now c.grid-base.result.now c.grid-base.ensures c.requires.wide) c.args.height.now c.node_at.result.now.style c.as_slice-2.result.now c.requires.readable c.requires.live c.node_at.ensures.grid c.as_slice-2.ensures
+    (read_wide (bare c.args.tree.now.tree) c.args.id c.args.reps.now c.args.width.now c.args.wide.now c.grid-base.result.now c.grid-base.ensures c.requires.wide) c.args.height.now c.node_at.result.now.style c.as_slice-2.result.now c.requires.readable c.requires.live
+    c.node_at.ensures.grid c.as_slice-2.ensures
     (c.items_lie_in_their_tracks.ensures.items c.args.reps.now c.args.width.now) c.requires.block in
     let few : track_count c.grid-base.result.now.placed.rows ≤ 131072 = few_rows (bare c.args.tree.now.tree) c.args.id c.args.reps.now c.args.width.now (record c.args.wide.now { parts = record c.args.wide.now.parts { base = c.grid-base.result.now } })
     (read_wide (bare c.args.tree.now.tree) c.args.id c.args.reps.now c.args.width.now c.args.wide.now c.grid-base.result.now c.grid-base.ensures c.requires.wide) (c.items_lie_in_their_tracks.ensures.items c.args.reps.now c.args.width.now) in

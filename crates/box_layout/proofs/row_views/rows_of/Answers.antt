@@ -17,7 +17,8 @@ returns-in-Some-clause-value g c =
 pub returns-in-Some-clause-tracks : goal.returns-in-Some-clause-tracks
 returns-in-Some-clause-tracks g c =
     IfOk-weaker c.copied_rows.result _ (λ (view : View 1). AreTracks c.args.wide.now.parts.base.placed.rows view.edges)
-    (λ view is. held_tracks (bare c.args.tree.now.tree) c.args.id c.args.reps.now c.args.width.now c.args.wide.now c.requires.wide c.in-Some.rows.now view (level_at (bare c.args.tree.now.tree) c.args.id) (c.root.ensures.tree.level c.args.id) (c.rows_reach.ensures.zero c.args.reps.now c.args.width.now) c.in-Some.ensures.rows is) c.copied_rows.ensures
+    (λ view is. held_tracks (bare c.args.tree.now.tree) c.args.id c.args.reps.now c.args.width.now c.args.wide.now c.requires.wide c.in-Some.rows.now view (level_at (bare c.args.tree.now.tree) c.args.id) (c.root.ensures.tree.level c.args.id)
+    (c.rows_reach.ensures.zero c.args.reps.now c.args.width.now) c.in-Some.ensures.rows is) c.copied_rows.ensures
 
 pub returns-in-Some-clause-gap : goal.returns-in-Some-clause-gap
 returns-in-Some-clause-gap g c =

@@ -47,20 +47,32 @@ child_boxes-moved_by-rect-requires-clause-y g t c = long (level_at (bare c.args.
 
 pub child_boxes-returns-in-Some-clause-value : goal.child_boxes-returns-in-Some-clause-value
 child_boxes-returns-in-Some-clause-value g t c =
-    let found : IsFound (bare c.args.tree.now.tree) (kept_at c.args.tree.now.tree) (record { id = c.args.id; query = frames_asked c.pairs_for-reps.result.now c.args.frame.now.inline c.args.frame.now.block; boxes = c.in-Some.boxes.now }) = c.requires.last c.in-Some.ensures.lasts _ c.in-Some.ensures.found c.requires.live in
-    let same : boxes_now c.in-Some.boxes.now c.moved_by-rect.result ≡ boxes_with (bare c.args.tree.now.tree) c.args.id (pairs_to c.args.seats.now (frame_of c.args.frame.now)) (frame_of c.args.frame.now) (c.args.x, c.args.y) = boxes_again c.boxes_move_along.ensures (bare c.args.tree.now.tree) (kept_at c.args.tree.now.tree) c.args.id c.pairs_for-reps.result.now (pairs_to c.args.seats.now (frame_of c.args.frame.now)) (to_pairs c.args.seats.now (frame_of c.args.frame.now) c.is_lower-lower.result c.is_lower-lower.ensures c.pairs_for-reps.result.now c.pairs_for-reps.ensures) (frame_of c.args.frame.now) (c.args.x, c.args.y) c.in-Some.boxes.now c.moved_by-rect.result c.moved_by-rect.ensures found in
+    let found : IsFound (bare c.args.tree.now.tree) (kept_at c.args.tree.now.tree) (record { id = c.args.id; query = frames_asked c.pairs_for-reps.result.now c.args.frame.now.inline c.args.frame.now.block; boxes = c.in-Some.boxes.now }) = c.requires.last c.in-Some.ensures.lasts _
+    c.in-Some.ensures.found c.requires.live in
+    let same : boxes_now c.in-Some.boxes.now c.moved_by-rect.result ≡
+    boxes_with (bare c.args.tree.now.tree) c.args.id (pairs_to c.args.seats.now (frame_of c.args.frame.now)) (frame_of c.args.frame.now) (c.args.x, c.args.y) = boxes_again c.boxes_move_along.ensures (bare c.args.tree.now.tree) (kept_at c.args.tree.now.tree) c.args.id
+    c.pairs_for-reps.result.now (pairs_to c.args.seats.now (frame_of c.args.frame.now)) (to_pairs c.args.seats.now (frame_of c.args.frame.now) c.is_lower-lower.result c.is_lower-lower.ensures c.pairs_for-reps.result.now c.pairs_for-reps.ensures) (frame_of c.args.frame.now)
+    (c.args.x, c.args.y) c.in-Some.boxes.now c.moved_by-rect.result c.moved_by-rect.ensures found in
     ok_then c.hand_over.result _ _ (subst (g.T.BoxSink.adds c.args.told.now c.hand_over.new.told) same) c.hand_over.ensures.value
 
 pub child_boxes-returns-in-Some-clause-near : goal.child_boxes-returns-in-Some-clause-near
 child_boxes-returns-in-Some-clause-near g t c =
-    let found : IsFound (bare c.args.tree.now.tree) (kept_at c.args.tree.now.tree) (record { id = c.args.id; query = frames_asked c.pairs_for-reps.result.now c.args.frame.now.inline c.args.frame.now.block; boxes = c.in-Some.boxes.now }) = c.requires.last c.in-Some.ensures.lasts _ c.in-Some.ensures.found c.requires.live in
-    let same : boxes_now c.in-Some.boxes.now c.moved_by-rect.result ≡ boxes_with (bare c.args.tree.now.tree) c.args.id (pairs_to c.args.seats.now (frame_of c.args.frame.now)) (frame_of c.args.frame.now) (c.args.x, c.args.y) = boxes_again c.boxes_move_along.ensures (bare c.args.tree.now.tree) (kept_at c.args.tree.now.tree) c.args.id c.pairs_for-reps.result.now (pairs_to c.args.seats.now (frame_of c.args.frame.now)) (to_pairs c.args.seats.now (frame_of c.args.frame.now) c.is_lower-lower.result c.is_lower-lower.ensures c.pairs_for-reps.result.now c.pairs_for-reps.ensures) (frame_of c.args.frame.now) (c.args.x, c.args.y) c.in-Some.boxes.now c.moved_by-rect.result c.moved_by-rect.ensures found in
+    let found : IsFound (bare c.args.tree.now.tree) (kept_at c.args.tree.now.tree) (record { id = c.args.id; query = frames_asked c.pairs_for-reps.result.now c.args.frame.now.inline c.args.frame.now.block; boxes = c.in-Some.boxes.now }) = c.requires.last c.in-Some.ensures.lasts _
+    c.in-Some.ensures.found c.requires.live in
+    let same : boxes_now c.in-Some.boxes.now c.moved_by-rect.result ≡
+    boxes_with (bare c.args.tree.now.tree) c.args.id (pairs_to c.args.seats.now (frame_of c.args.frame.now)) (frame_of c.args.frame.now) (c.args.x, c.args.y) = boxes_again c.boxes_move_along.ensures (bare c.args.tree.now.tree) (kept_at c.args.tree.now.tree) c.args.id
+    c.pairs_for-reps.result.now (pairs_to c.args.seats.now (frame_of c.args.frame.now)) (to_pairs c.args.seats.now (frame_of c.args.frame.now) c.is_lower-lower.result c.is_lower-lower.ensures c.pairs_for-reps.result.now c.pairs_for-reps.ensures) (frame_of c.args.frame.now)
+    (c.args.x, c.args.y) c.in-Some.boxes.now c.moved_by-rect.result c.moved_by-rect.ensures found in
     ok_then c.hand_over.result _ _ (subst (AreNear) same) c.hand_over.ensures.near
 
 pub child_boxes-returns-in-Some-clause-few : goal.child_boxes-returns-in-Some-clause-few
 child_boxes-returns-in-Some-clause-few g t c =
-    let found : IsFound (bare c.args.tree.now.tree) (kept_at c.args.tree.now.tree) (record { id = c.args.id; query = frames_asked c.pairs_for-reps.result.now c.args.frame.now.inline c.args.frame.now.block; boxes = c.in-Some.boxes.now }) = c.requires.last c.in-Some.ensures.lasts _ c.in-Some.ensures.found c.requires.live in
-    let same : boxes_now c.in-Some.boxes.now c.moved_by-rect.result ≡ boxes_with (bare c.args.tree.now.tree) c.args.id (pairs_to c.args.seats.now (frame_of c.args.frame.now)) (frame_of c.args.frame.now) (c.args.x, c.args.y) = boxes_again c.boxes_move_along.ensures (bare c.args.tree.now.tree) (kept_at c.args.tree.now.tree) c.args.id c.pairs_for-reps.result.now (pairs_to c.args.seats.now (frame_of c.args.frame.now)) (to_pairs c.args.seats.now (frame_of c.args.frame.now) c.is_lower-lower.result c.is_lower-lower.ensures c.pairs_for-reps.result.now c.pairs_for-reps.ensures) (frame_of c.args.frame.now) (c.args.x, c.args.y) c.in-Some.boxes.now c.moved_by-rect.result c.moved_by-rect.ensures found in
+    let found : IsFound (bare c.args.tree.now.tree) (kept_at c.args.tree.now.tree) (record { id = c.args.id; query = frames_asked c.pairs_for-reps.result.now c.args.frame.now.inline c.args.frame.now.block; boxes = c.in-Some.boxes.now }) = c.requires.last c.in-Some.ensures.lasts _
+    c.in-Some.ensures.found c.requires.live in
+    let same : boxes_now c.in-Some.boxes.now c.moved_by-rect.result ≡
+    boxes_with (bare c.args.tree.now.tree) c.args.id (pairs_to c.args.seats.now (frame_of c.args.frame.now)) (frame_of c.args.frame.now) (c.args.x, c.args.y) = boxes_again c.boxes_move_along.ensures (bare c.args.tree.now.tree) (kept_at c.args.tree.now.tree) c.args.id
+    c.pairs_for-reps.result.now (pairs_to c.args.seats.now (frame_of c.args.frame.now)) (to_pairs c.args.seats.now (frame_of c.args.frame.now) c.is_lower-lower.result c.is_lower-lower.ensures c.pairs_for-reps.result.now c.pairs_for-reps.ensures) (frame_of c.args.frame.now)
+    (c.args.x, c.args.y) c.in-Some.boxes.now c.moved_by-rect.result c.moved_by-rect.ensures found in
     ok_then c.hand_over.result _ _ (subst (λ (l : List Box). AddsFew l c.args.few.now c.hand_over.new.few) same) c.hand_over.ensures.few
 
 pub child_boxes-returns-in-Some-clause-laid : goal.child_boxes-returns-in-Some-clause-laid
@@ -73,35 +85,58 @@ child_boxes-returns-in-Some-clause-part g t c =
 
 pub child_boxes-returns-in-Some-clause-paths : goal.child_boxes-returns-in-Some-clause-paths
 child_boxes-returns-in-Some-clause-paths g t c =
-    let found : IsFound (bare c.args.tree.now.tree) (kept_at c.args.tree.now.tree) (record { id = c.args.id; query = frames_asked c.pairs_for-reps.result.now c.args.frame.now.inline c.args.frame.now.block; boxes = c.in-Some.boxes.now }) = c.requires.last c.in-Some.ensures.lasts _ c.in-Some.ensures.found c.requires.live in
-    let all : is_container (sight_at (bare c.args.tree.now.tree) c.args.id).label.kind ≡ true → AreKeptBelow (bare c.args.tree.now.tree) c.args.id (frames_asked (pairs_to c.args.seats.now (frame_of c.args.frame.now)) c.args.frame.now.inline c.args.frame.now.block) (state c.args.tree.now c.args.tally.now c.args.passes.now (g.R.Ruler.log c.args.ruler.now)) = λ container. kept_again (bare c.args.tree.now.tree) (state c.args.tree.now c.args.tally.now c.args.passes.now (g.R.Ruler.log c.args.ruler.now)) c.args.id c.pairs_for-reps.result.now (pairs_to c.args.seats.now (frame_of c.args.frame.now)) (to_pairs c.args.seats.now (frame_of c.args.frame.now) c.is_lower-lower.result c.is_lower-lower.ensures c.pairs_for-reps.result.now c.pairs_for-reps.ensures) (frame_of c.args.frame.now) c.in-Some.boxes.now found in
+    let found : IsFound (bare c.args.tree.now.tree) (kept_at c.args.tree.now.tree) (record { id = c.args.id; query = frames_asked c.pairs_for-reps.result.now c.args.frame.now.inline c.args.frame.now.block; boxes = c.in-Some.boxes.now }) = c.requires.last c.in-Some.ensures.lasts _
+    c.in-Some.ensures.found c.requires.live in
+    let all : is_container (sight_at (bare c.args.tree.now.tree) c.args.id).label.kind ≡ true →
+    AreKeptBelow (bare c.args.tree.now.tree) c.args.id (frames_asked (pairs_to c.args.seats.now (frame_of c.args.frame.now)) c.args.frame.now.inline c.args.frame.now.block) (state c.args.tree.now c.args.tally.now c.args.passes.now (g.R.Ruler.log c.args.ruler.now)) = λ container.
+    kept_again (bare c.args.tree.now.tree) (state c.args.tree.now c.args.tally.now c.args.passes.now (g.R.Ruler.log c.args.ruler.now)) c.args.id c.pairs_for-reps.result.now (pairs_to c.args.seats.now (frame_of c.args.frame.now))
+    (to_pairs c.args.seats.now (frame_of c.args.frame.now) c.is_lower-lower.result c.is_lower-lower.ensures c.pairs_for-reps.result.now c.pairs_for-reps.ensures) (frame_of c.args.frame.now) c.in-Some.boxes.now found in
     on_ok _ _ all
 
 pub child_boxes-returns-in-Some-clause-leaves : goal.child_boxes-returns-in-Some-clause-leaves
 child_boxes-returns-in-Some-clause-leaves g t c =
-    let found : IsFound (bare c.args.tree.now.tree) (kept_at c.args.tree.now.tree) (record { id = c.args.id; query = frames_asked c.pairs_for-reps.result.now c.args.frame.now.inline c.args.frame.now.block; boxes = c.in-Some.boxes.now }) = c.requires.last c.in-Some.ensures.lasts _ c.in-Some.ensures.found c.requires.live in
-    let all : is_container (sight_at (bare c.args.tree.now.tree) c.args.id).label.kind ≡ true → MeasuresBelow (bare c.args.tree.now.tree) c.args.id (frames_asked (pairs_to c.args.seats.now (frame_of c.args.frame.now)) c.args.frame.now.inline c.args.frame.now.block) (state c.args.tree.now c.args.tally.now c.args.passes.now (g.R.Ruler.log c.args.ruler.now)) (state c.args.tree.now c.args.tally.now c.args.passes.now (g.R.Ruler.log c.args.ruler.now)) = λ container. measured_again (bare c.args.tree.now.tree) c.args.id (frames_asked (pairs_to c.args.seats.now (frame_of c.args.frame.now)) c.args.frame.now.inline c.args.frame.now.block) (state c.args.tree.now c.args.tally.now c.args.passes.now (g.R.Ruler.log c.args.ruler.now)) (kept_again (bare c.args.tree.now.tree) (state c.args.tree.now c.args.tally.now c.args.passes.now (g.R.Ruler.log c.args.ruler.now)) c.args.id c.pairs_for-reps.result.now (pairs_to c.args.seats.now (frame_of c.args.frame.now)) (to_pairs c.args.seats.now (frame_of c.args.frame.now) c.is_lower-lower.result c.is_lower-lower.ensures c.pairs_for-reps.result.now c.pairs_for-reps.ensures) (frame_of c.args.frame.now) c.in-Some.boxes.now found) in
+    let found : IsFound (bare c.args.tree.now.tree) (kept_at c.args.tree.now.tree) (record { id = c.args.id; query = frames_asked c.pairs_for-reps.result.now c.args.frame.now.inline c.args.frame.now.block; boxes = c.in-Some.boxes.now }) = c.requires.last c.in-Some.ensures.lasts _
+    c.in-Some.ensures.found c.requires.live in
+    let all : is_container (sight_at (bare c.args.tree.now.tree) c.args.id).label.kind ≡ true →
+    MeasuresBelow (bare c.args.tree.now.tree) c.args.id (frames_asked (pairs_to c.args.seats.now (frame_of c.args.frame.now)) c.args.frame.now.inline c.args.frame.now.block) (state c.args.tree.now c.args.tally.now c.args.passes.now (g.R.Ruler.log c.args.ruler.now))
+    (state c.args.tree.now c.args.tally.now c.args.passes.now (g.R.Ruler.log c.args.ruler.now)) = λ container. measured_again (bare c.args.tree.now.tree) c.args.id
+    (frames_asked (pairs_to c.args.seats.now (frame_of c.args.frame.now)) c.args.frame.now.inline c.args.frame.now.block) (state c.args.tree.now c.args.tally.now c.args.passes.now (g.R.Ruler.log c.args.ruler.now))
+    (kept_again (bare c.args.tree.now.tree) (state c.args.tree.now c.args.tally.now c.args.passes.now (g.R.Ruler.log c.args.ruler.now)) c.args.id c.pairs_for-reps.result.now (pairs_to c.args.seats.now (frame_of c.args.frame.now))
+    (to_pairs c.args.seats.now (frame_of c.args.frame.now) c.is_lower-lower.result c.is_lower-lower.ensures c.pairs_for-reps.result.now c.pairs_for-reps.ensures) (frame_of c.args.frame.now) c.in-Some.boxes.now found) in
     on_ok _ _ all
 
 -- ---- else
 
 pub child_boxes-returns-then-not-container-clause-value : goal.child_boxes-returns-then-not-container-clause-value
 child_boxes-returns-then-not-container-clause-value g t c =
-    subst (g.T.BoxSink.adds c.args.told.now c.tell.new.told) (leaf_told (bare c.args.tree.now.tree) c.args.id (pairs_to c.args.seats.now (frame_of c.args.frame.now)) (frame_of c.args.frame.now) (c.args.x, c.args.y) c.node_at-node.result.now.name c.moved_by-rect.result (kind_is c.node_at-node.result.now.kind (sight_at (bare c.args.tree.now.tree) c.args.id).label.kind c.is_container-container.result c.node_at-node.ensures.kind c.is_container-container.ensures ∙ c.if-not-container.true) c.node_at-node.ensures.name c.moved_by-rect.ensures) c.in_ok-tell.ensures.value
+    subst (g.T.BoxSink.adds c.args.told.now c.tell.new.told)
+    (leaf_told (bare c.args.tree.now.tree) c.args.id (pairs_to c.args.seats.now (frame_of c.args.frame.now)) (frame_of c.args.frame.now) (c.args.x, c.args.y) c.node_at-node.result.now.name c.moved_by-rect.result
+    (kind_is c.node_at-node.result.now.kind (sight_at (bare c.args.tree.now.tree) c.args.id).label.kind c.is_container-container.result c.node_at-node.ensures.kind c.is_container-container.ensures ∙ c.if-not-container.true) c.node_at-node.ensures.name c.moved_by-rect.ensures)
+    c.in_ok-tell.ensures.value
 
 pub child_boxes-returns-then-not-container-clause-near : goal.child_boxes-returns-then-not-container-clause-near
 child_boxes-returns-then-not-container-clause-near g t c =
-    subst AreNear (leaf_told (bare c.args.tree.now.tree) c.args.id (pairs_to c.args.seats.now (frame_of c.args.frame.now)) (frame_of c.args.frame.now) (c.args.x, c.args.y) c.node_at-node.result.now.name c.moved_by-rect.result (kind_is c.node_at-node.result.now.kind (sight_at (bare c.args.tree.now.tree) c.args.id).label.kind c.is_container-container.result c.node_at-node.ensures.kind c.is_container-container.ensures ∙ c.if-not-container.true) c.node_at-node.ensures.name c.moved_by-rect.ensures) ((near_told (level_at (bare c.args.tree.now.tree) c.args.id) c.args.x c.args.y (frame_of c.args.frame.now) c.moved_by-rect.result c.moved_by-rect.ensures c.requires.near), tt)
+    subst AreNear
+    (leaf_told (bare c.args.tree.now.tree) c.args.id (pairs_to c.args.seats.now (frame_of c.args.frame.now)) (frame_of c.args.frame.now) (c.args.x, c.args.y) c.node_at-node.result.now.name c.moved_by-rect.result
+    (kind_is c.node_at-node.result.now.kind (sight_at (bare c.args.tree.now.tree) c.args.id).label.kind c.is_container-container.result c.node_at-node.ensures.kind c.is_container-container.ensures ∙ c.if-not-container.true) c.node_at-node.ensures.name c.moved_by-rect.ensures)
+    ((near_told (level_at (bare c.args.tree.now.tree) c.args.id) c.args.x c.args.y (frame_of c.args.frame.now) c.moved_by-rect.result c.moved_by-rect.ensures c.requires.near), tt)
 
 pub child_boxes-returns-then-not-container-clause-few : goal.child_boxes-returns-then-not-container-clause-few
 child_boxes-returns-then-not-container-clause-few g t c =
-    subst (λ (l : List Box). AddsFew l c.args.few.now c.tell.new.few) (leaf_told (bare c.args.tree.now.tree) c.args.id (pairs_to c.args.seats.now (frame_of c.args.frame.now)) (frame_of c.args.frame.now) (c.args.x, c.args.y) c.node_at-node.result.now.name c.moved_by-rect.result (kind_is c.node_at-node.result.now.kind (sight_at (bare c.args.tree.now.tree) c.args.id).label.kind c.is_container-container.result c.node_at-node.ensures.kind c.is_container-container.ensures ∙ c.if-not-container.true) c.node_at-node.ensures.name c.moved_by-rect.ensures) c.in_ok-tell.ensures.few
+    subst (λ (l : List Box). AddsFew l c.args.few.now c.tell.new.few)
+    (leaf_told (bare c.args.tree.now.tree) c.args.id (pairs_to c.args.seats.now (frame_of c.args.frame.now)) (frame_of c.args.frame.now) (c.args.x, c.args.y) c.node_at-node.result.now.name c.moved_by-rect.result
+    (kind_is c.node_at-node.result.now.kind (sight_at (bare c.args.tree.now.tree) c.args.id).label.kind c.is_container-container.result c.node_at-node.ensures.kind c.is_container-container.ensures ∙ c.if-not-container.true) c.node_at-node.ensures.name c.moved_by-rect.ensures)
+    c.in_ok-tell.ensures.few
 
 pub child_boxes-boxes_below-requires : goal.child_boxes-boxes_below-requires
 child_boxes-boxes_below-requires g t c =
-    let container : is_container (sight_at (bare c.args.tree.now.tree) c.args.id).label.kind ≡ true = kind_is c.node_at-node.result.now.kind (sight_at (bare c.args.tree.now.tree) c.args.id).label.kind c.is_container-container.result c.node_at-node.ensures.kind c.is_container-container.ensures ∙ c.if-not-container.false in
-    let fits : Fits (sight_at (bare c.args.tree.now.tree) c.args.id) (frames_asked c.pairs_for-reps.result.now c.args.frame.now.inline c.args.frame.now.block) = subst (λ (r : List Pair). Fits (sight_at (bare c.args.tree.now.tree) c.args.id) (frames_asked r c.args.frame.now.inline c.args.frame.now.block)) (sym (to_pairs c.args.seats.now (frame_of c.args.frame.now) c.is_lower-lower.result c.is_lower-lower.ensures c.pairs_for-reps.result.now c.pairs_for-reps.ensures)) (c.requires.fits container) in
-    let seat : IsSeat (sight_at (bare c.args.tree.now.tree) c.args.id) c.pairs_for-reps.result.now c.above_for.result.now c.area_for.result = seat_to c.args.seats.now (frame_of c.args.frame.now) c.is_lower-lower.result c.is_lower-lower.ensures c.pairs_for-reps.result.now c.pairs_for-reps.ensures (bare c.args.tree.now.tree) c.args.id c.args.index c.requires.seat c.above_for.result.now c.above_for.ensures c.area_for.result c.area_for.ensures in
+    let container : is_container (sight_at (bare c.args.tree.now.tree) c.args.id).label.kind ≡
+    true = kind_is c.node_at-node.result.now.kind (sight_at (bare c.args.tree.now.tree) c.args.id).label.kind c.is_container-container.result c.node_at-node.ensures.kind c.is_container-container.ensures ∙ c.if-not-container.false in
+    let fits : Fits (sight_at (bare c.args.tree.now.tree) c.args.id) (frames_asked c.pairs_for-reps.result.now c.args.frame.now.inline c.args.frame.now.block) = subst
+    (λ (r : List Pair). Fits (sight_at (bare c.args.tree.now.tree) c.args.id) (frames_asked r c.args.frame.now.inline c.args.frame.now.block))
+    (sym (to_pairs c.args.seats.now (frame_of c.args.frame.now) c.is_lower-lower.result c.is_lower-lower.ensures c.pairs_for-reps.result.now c.pairs_for-reps.ensures)) (c.requires.fits container) in
+    let seat : IsSeat (sight_at (bare c.args.tree.now.tree) c.args.id) c.pairs_for-reps.result.now c.above_for.result.now c.area_for.result = seat_to c.args.seats.now (frame_of c.args.frame.now) c.is_lower-lower.result c.is_lower-lower.ensures c.pairs_for-reps.result.now
+    c.pairs_for-reps.ensures (bare c.args.tree.now.tree) c.args.id c.args.index c.requires.seat c.above_for.result.now c.above_for.ensures c.area_for.result c.area_for.ensures in
     let level : 1 ≤ level_at (bare c.args.tree.now.tree) c.args.id = c.requires.level in
     let columns : IsGivenNear (level_at (bare c.args.tree.now.tree) c.args.id) c.args.frame.now.inline = c.requires.near.inline in
     let rows : IsGivenNear (level_at (bare c.args.tree.now.tree) c.args.id) c.args.frame.now.block = c.requires.near.block in
@@ -114,47 +149,83 @@ child_boxes-boxes_below-requires g t c =
 
 pub child_boxes-returns-clause-near : goal.child_boxes-returns-clause-near
 child_boxes-returns-clause-near g t c =
-    subst AreNear (below_told (bare c.args.tree.now.tree) c.args.id c.pairs_for-reps.result.now (pairs_to c.args.seats.now (frame_of c.args.frame.now)) (to_pairs c.args.seats.now (frame_of c.args.frame.now) c.is_lower-lower.result c.is_lower-lower.ensures c.pairs_for-reps.result.now c.pairs_for-reps.ensures) (frame_of c.args.frame.now) (c.args.x, c.args.y) c.node_at-node.result.now.name c.moved_by-rect.result c.node_at-node.ensures.name c.moved_by-rect.ensures) ((near_told (level_at (bare c.args.tree.now.tree) c.args.id) c.args.x c.args.y (frame_of c.args.frame.now) c.moved_by-rect.result c.moved_by-rect.ensures c.requires.near), c.in_ok-boxes_below.ensures.near)
+    subst AreNear
+    (below_told (bare c.args.tree.now.tree) c.args.id c.pairs_for-reps.result.now (pairs_to c.args.seats.now (frame_of c.args.frame.now))
+    (to_pairs c.args.seats.now (frame_of c.args.frame.now) c.is_lower-lower.result c.is_lower-lower.ensures c.pairs_for-reps.result.now c.pairs_for-reps.ensures) (frame_of c.args.frame.now) (c.args.x, c.args.y) c.node_at-node.result.now.name c.moved_by-rect.result
+    c.node_at-node.ensures.name c.moved_by-rect.ensures) ((near_told (level_at (bare c.args.tree.now.tree) c.args.id) c.args.x c.args.y (frame_of c.args.frame.now) c.moved_by-rect.result c.moved_by-rect.ensures c.requires.near), c.in_ok-boxes_below.ensures.near)
 
 pub child_boxes-returns-clause-value : goal.child_boxes-returns-clause-value
 child_boxes-returns-clause-value g t c =
-    subst (g.T.BoxSink.adds c.args.told.now c.boxes_below.new.told) (below_told (bare c.args.tree.now.tree) c.args.id c.pairs_for-reps.result.now (pairs_to c.args.seats.now (frame_of c.args.frame.now)) (to_pairs c.args.seats.now (frame_of c.args.frame.now) c.is_lower-lower.result c.is_lower-lower.ensures c.pairs_for-reps.result.now c.pairs_for-reps.ensures) (frame_of c.args.frame.now) (c.args.x, c.args.y) c.node_at-node.result.now.name c.moved_by-rect.result c.node_at-node.ensures.name c.moved_by-rect.ensures)
-    (g.met.T.BoxSink.adds_both c.args.told.now c.tell.new.told c.boxes_below.new.told ((c.node_at-node.result.now.name, c.moved_by-rect.result) ∷ []) (boxes_seen (bare c.args.tree.now.tree) c.args.id (frames_asked c.pairs_for-reps.result.now c.args.frame.now.inline c.args.frame.now.block) (c.moved_by-rect.result.x, c.moved_by-rect.result.y)) c.in_ok-tell.ensures.value c.in_ok-boxes_below.ensures.value)
+    subst (g.T.BoxSink.adds c.args.told.now c.boxes_below.new.told)
+    (below_told (bare c.args.tree.now.tree) c.args.id c.pairs_for-reps.result.now (pairs_to c.args.seats.now (frame_of c.args.frame.now))
+    (to_pairs c.args.seats.now (frame_of c.args.frame.now) c.is_lower-lower.result c.is_lower-lower.ensures c.pairs_for-reps.result.now c.pairs_for-reps.ensures) (frame_of c.args.frame.now) (c.args.x, c.args.y) c.node_at-node.result.now.name c.moved_by-rect.result
+    c.node_at-node.ensures.name c.moved_by-rect.ensures)
+    (g.met.T.BoxSink.adds_both c.args.told.now c.tell.new.told c.boxes_below.new.told ((c.node_at-node.result.now.name, c.moved_by-rect.result) ∷ [])
+    (boxes_seen (bare c.args.tree.now.tree) c.args.id (frames_asked c.pairs_for-reps.result.now c.args.frame.now.inline c.args.frame.now.block) (c.moved_by-rect.result.x, c.moved_by-rect.result.y)) c.in_ok-tell.ensures.value c.in_ok-boxes_below.ensures.value)
 
 pub child_boxes-returns-clause-laid : goal.child_boxes-returns-clause-laid
 child_boxes-returns-clause-laid g t c =
-    subst (λ (r : List Pair). IsChildLaid (bare c.args.tree.now.tree) c.args.id (frames_asked r c.args.frame.now.inline c.args.frame.now.block) (state c.args.tree.now c.args.tally.now c.args.passes.now (g.R.Ruler.log c.args.ruler.now)) (state c.boxes_below.new.tree c.boxes_below.new.tally c.boxes_below.new.passes (g.R.Ruler.log c.boxes_below.new.ruler))) (to_pairs c.args.seats.now (frame_of c.args.frame.now) c.is_lower-lower.result c.is_lower-lower.ensures c.pairs_for-reps.result.now c.pairs_for-reps.ensures) (inr ((kind_is c.node_at-node.result.now.kind (sight_at (bare c.args.tree.now.tree) c.args.id).label.kind c.is_container-container.result c.node_at-node.ensures.kind c.is_container-container.ensures ∙ c.if-not-container.false), c.in_ok-boxes_below.ensures.laid))
+    subst
+    (λ (r : List Pair). IsChildLaid (bare c.args.tree.now.tree) c.args.id (frames_asked r c.args.frame.now.inline c.args.frame.now.block) (state c.args.tree.now c.args.tally.now c.args.passes.now (g.R.Ruler.log c.args.ruler.now))
+    (state c.boxes_below.new.tree c.boxes_below.new.tally c.boxes_below.new.passes (g.R.Ruler.log c.boxes_below.new.ruler)))
+    (to_pairs c.args.seats.now (frame_of c.args.frame.now) c.is_lower-lower.result c.is_lower-lower.ensures c.pairs_for-reps.result.now c.pairs_for-reps.ensures)
+    (inr ((kind_is c.node_at-node.result.now.kind (sight_at (bare c.args.tree.now.tree) c.args.id).label.kind c.is_container-container.result c.node_at-node.ensures.kind c.is_container-container.ensures ∙ c.if-not-container.false), c.in_ok-boxes_below.ensures.laid))
 
 pub child_boxes-returns-in_err-boxes_below-clause-part : goal.child_boxes-returns-in_err-boxes_below-clause-part
 child_boxes-returns-in_err-boxes_below-clause-part g t c =
-    on_err _ _ (subst (λ (r : List Pair). IsChildPart (bare c.args.tree.now.tree) c.args.id (frames_asked r c.args.frame.now.inline c.args.frame.now.block) (state c.args.tree.now c.args.tally.now c.args.passes.now (g.R.Ruler.log c.args.ruler.now)) (state c.boxes_below.new.tree c.boxes_below.new.tally c.boxes_below.new.passes (g.R.Ruler.log c.boxes_below.new.ruler))) (to_pairs c.args.seats.now (frame_of c.args.frame.now) c.is_lower-lower.result c.is_lower-lower.ensures c.pairs_for-reps.result.now c.pairs_for-reps.ensures) (inr ((kind_is c.node_at-node.result.now.kind (sight_at (bare c.args.tree.now.tree) c.args.id).label.kind c.is_container-container.result c.node_at-node.ensures.kind c.is_container-container.ensures ∙ c.if-not-container.false), c.in_err-boxes_below.ensures.part)))
+    on_err _ _
+    (subst
+    (λ (r : List Pair). IsChildPart (bare c.args.tree.now.tree) c.args.id (frames_asked r c.args.frame.now.inline c.args.frame.now.block) (state c.args.tree.now c.args.tally.now c.args.passes.now (g.R.Ruler.log c.args.ruler.now))
+    (state c.boxes_below.new.tree c.boxes_below.new.tally c.boxes_below.new.passes (g.R.Ruler.log c.boxes_below.new.ruler)))
+    (to_pairs c.args.seats.now (frame_of c.args.frame.now) c.is_lower-lower.result c.is_lower-lower.ensures c.pairs_for-reps.result.now c.pairs_for-reps.ensures)
+    (inr ((kind_is c.node_at-node.result.now.kind (sight_at (bare c.args.tree.now.tree) c.args.id).label.kind c.is_container-container.result c.node_at-node.ensures.kind c.is_container-container.ensures ∙ c.if-not-container.false), c.in_err-boxes_below.ensures.part)))
 
 pub child_boxes-returns-clause-paths : goal.child_boxes-returns-clause-paths
 child_boxes-returns-clause-paths g t c =
-    λ container. subst (λ (r : List Pair). AreKeptBelow (bare c.args.tree.now.tree) c.args.id (frames_asked r c.args.frame.now.inline c.args.frame.now.block) (state c.boxes_below.new.tree c.boxes_below.new.tally c.boxes_below.new.passes (g.R.Ruler.log c.boxes_below.new.ruler))) (to_pairs c.args.seats.now (frame_of c.args.frame.now) c.is_lower-lower.result c.is_lower-lower.ensures c.pairs_for-reps.result.now c.pairs_for-reps.ensures) c.in_ok-boxes_below.ensures.paths
+    λ container. subst (λ (r : List Pair). AreKeptBelow (bare c.args.tree.now.tree) c.args.id (frames_asked r c.args.frame.now.inline c.args.frame.now.block) (state c.boxes_below.new.tree c.boxes_below.new.tally c.boxes_below.new.passes (g.R.Ruler.log c.boxes_below.new.ruler)))
+    (to_pairs c.args.seats.now (frame_of c.args.frame.now) c.is_lower-lower.result c.is_lower-lower.ensures c.pairs_for-reps.result.now c.pairs_for-reps.ensures) c.in_ok-boxes_below.ensures.paths
 
 pub child_boxes-returns-clause-leaves : goal.child_boxes-returns-clause-leaves
 child_boxes-returns-clause-leaves g t c =
-    λ container. subst (λ (r : List Pair). MeasuresBelow (bare c.args.tree.now.tree) c.args.id (frames_asked r c.args.frame.now.inline c.args.frame.now.block) (state c.args.tree.now c.args.tally.now c.args.passes.now (g.R.Ruler.log c.args.ruler.now)) (state c.boxes_below.new.tree c.boxes_below.new.tally c.boxes_below.new.passes (g.R.Ruler.log c.boxes_below.new.ruler))) (to_pairs c.args.seats.now (frame_of c.args.frame.now) c.is_lower-lower.result c.is_lower-lower.ensures c.pairs_for-reps.result.now c.pairs_for-reps.ensures) c.in_ok-boxes_below.ensures.leaves
+    λ container. subst
+    (λ (r : List Pair). MeasuresBelow (bare c.args.tree.now.tree) c.args.id (frames_asked r c.args.frame.now.inline c.args.frame.now.block) (state c.args.tree.now c.args.tally.now c.args.passes.now (g.R.Ruler.log c.args.ruler.now))
+    (state c.boxes_below.new.tree c.boxes_below.new.tally c.boxes_below.new.passes (g.R.Ruler.log c.boxes_below.new.ruler)))
+    (to_pairs c.args.seats.now (frame_of c.args.frame.now) c.is_lower-lower.result c.is_lower-lower.ensures c.pairs_for-reps.result.now c.pairs_for-reps.ensures) c.in_ok-boxes_below.ensures.leaves
 
 pub child_boxes-returns-clause-quiet : goal.child_boxes-returns-clause-quiet
 child_boxes-returns-clause-quiet g t c =
-    λ kept. c.boxes_below.ensures.quiet (subst (λ (r : List Pair). AreKeptBelow (bare c.args.tree.now.tree) c.args.id (frames_asked r c.args.frame.now.inline c.args.frame.now.block) (state c.args.tree.now c.args.tally.now c.args.passes.now (g.R.Ruler.log c.args.ruler.now))) (sym (to_pairs c.args.seats.now (frame_of c.args.frame.now) c.is_lower-lower.result c.is_lower-lower.ensures c.pairs_for-reps.result.now c.pairs_for-reps.ensures)) (kept (kind_is c.node_at-node.result.now.kind (sight_at (bare c.args.tree.now.tree) c.args.id).label.kind c.is_container-container.result c.node_at-node.ensures.kind c.is_container-container.ensures ∙ c.if-not-container.false)))
+    λ kept. c.boxes_below.ensures.quiet
+    (subst (λ (r : List Pair). AreKeptBelow (bare c.args.tree.now.tree) c.args.id (frames_asked r c.args.frame.now.inline c.args.frame.now.block) (state c.args.tree.now c.args.tally.now c.args.passes.now (g.R.Ruler.log c.args.ruler.now)))
+    (sym (to_pairs c.args.seats.now (frame_of c.args.frame.now) c.is_lower-lower.result c.is_lower-lower.ensures c.pairs_for-reps.result.now c.pairs_for-reps.ensures))
+    (kept (kind_is c.node_at-node.result.now.kind (sight_at (bare c.args.tree.now.tree) c.args.id).label.kind c.is_container-container.result c.node_at-node.ensures.kind c.is_container-container.ensures ∙ c.if-not-container.false)))
 
 pub child_boxes-returns-in_err-boxes_below-clause-quiet : goal.child_boxes-returns-in_err-boxes_below-clause-quiet
 child_boxes-returns-in_err-boxes_below-clause-quiet g t c =
-    λ kept. c.boxes_below.ensures.quiet (subst (λ (r : List Pair). AreKeptBelow (bare c.args.tree.now.tree) c.args.id (frames_asked r c.args.frame.now.inline c.args.frame.now.block) (state c.args.tree.now c.args.tally.now c.args.passes.now (g.R.Ruler.log c.args.ruler.now))) (sym (to_pairs c.args.seats.now (frame_of c.args.frame.now) c.is_lower-lower.result c.is_lower-lower.ensures c.pairs_for-reps.result.now c.pairs_for-reps.ensures)) (kept (kind_is c.node_at-node.result.now.kind (sight_at (bare c.args.tree.now.tree) c.args.id).label.kind c.is_container-container.result c.node_at-node.ensures.kind c.is_container-container.ensures ∙ c.if-not-container.false)))
+    λ kept. c.boxes_below.ensures.quiet
+    (subst (λ (r : List Pair). AreKeptBelow (bare c.args.tree.now.tree) c.args.id (frames_asked r c.args.frame.now.inline c.args.frame.now.block) (state c.args.tree.now c.args.tally.now c.args.passes.now (g.R.Ruler.log c.args.ruler.now)))
+    (sym (to_pairs c.args.seats.now (frame_of c.args.frame.now) c.is_lower-lower.result c.is_lower-lower.ensures c.pairs_for-reps.result.now c.pairs_for-reps.ensures))
+    (kept (kind_is c.node_at-node.result.now.kind (sight_at (bare c.args.tree.now.tree) c.args.id).label.kind c.is_container-container.result c.node_at-node.ensures.kind c.is_container-container.ensures ∙ c.if-not-container.false)))
 
 pub child_boxes-returns-clause-few : goal.child_boxes-returns-clause-few
 child_boxes-returns-clause-few g t c =
-    let seen : AddsFew (boxes_seen (bare c.args.tree.now.tree) c.args.id (frames_asked c.pairs_for-reps.result.now c.args.frame.now.inline c.args.frame.now.block) (c.moved_by-rect.result.x, c.moved_by-rect.result.y)) (Some []) c.boxes_below.new.few = subst (λ (o : Option (List Box)). AddsFew (boxes_seen (bare c.args.tree.now.tree) c.args.id (frames_asked c.pairs_for-reps.result.now c.args.frame.now.inline c.args.frame.now.block) (c.moved_by-rect.result.x, c.moved_by-rect.result.y)) o c.boxes_below.new.few) c.new-own.ensures c.in_ok-boxes_below.ensures.few in
-    subst (λ (l : List Box). AddsFew l c.args.few.now c.add.new.self) (below_told (bare c.args.tree.now.tree) c.args.id c.pairs_for-reps.result.now (pairs_to c.args.seats.now (frame_of c.args.frame.now)) (to_pairs c.args.seats.now (frame_of c.args.frame.now) c.is_lower-lower.result c.is_lower-lower.ensures c.pairs_for-reps.result.now c.pairs_for-reps.ensures) (frame_of c.args.frame.now) (c.args.x, c.args.y) c.node_at-node.result.now.name c.moved_by-rect.result c.node_at-node.ensures.name c.moved_by-rect.ensures)
-    (few_both ((c.node_at-node.result.now.name, c.moved_by-rect.result) ∷ []) (boxes_seen (bare c.args.tree.now.tree) c.args.id (frames_asked c.pairs_for-reps.result.now c.args.frame.now.inline c.args.frame.now.block) (c.moved_by-rect.result.x, c.moved_by-rect.result.y)) c.args.few.now c.tell.new.few c.add.new.self c.in_ok-tell.ensures.few (c.add.ensures (boxes_seen (bare c.args.tree.now.tree) c.args.id (frames_asked c.pairs_for-reps.result.now c.args.frame.now.inline c.args.frame.now.block) (c.moved_by-rect.result.x, c.moved_by-rect.result.y)) seen))
+    let seen : AddsFew (boxes_seen (bare c.args.tree.now.tree) c.args.id (frames_asked c.pairs_for-reps.result.now c.args.frame.now.inline c.args.frame.now.block) (c.moved_by-rect.result.x, c.moved_by-rect.result.y)) (Some []) c.boxes_below.new.few = subst
+    (λ (o : Option (List Box)). AddsFew (boxes_seen (bare c.args.tree.now.tree) c.args.id (frames_asked c.pairs_for-reps.result.now c.args.frame.now.inline c.args.frame.now.block) (c.moved_by-rect.result.x, c.moved_by-rect.result.y)) o c.boxes_below.new.few) c.new-own.ensures
+    c.in_ok-boxes_below.ensures.few in
+    subst (λ (l : List Box). AddsFew l c.args.few.now c.add.new.self)
+    (below_told (bare c.args.tree.now.tree) c.args.id c.pairs_for-reps.result.now (pairs_to c.args.seats.now (frame_of c.args.frame.now))
+    (to_pairs c.args.seats.now (frame_of c.args.frame.now) c.is_lower-lower.result c.is_lower-lower.ensures c.pairs_for-reps.result.now c.pairs_for-reps.ensures) (frame_of c.args.frame.now) (c.args.x, c.args.y) c.node_at-node.result.now.name c.moved_by-rect.result
+    c.node_at-node.ensures.name c.moved_by-rect.ensures)
+    (few_both ((c.node_at-node.result.now.name, c.moved_by-rect.result) ∷ []) (boxes_seen (bare c.args.tree.now.tree) c.args.id (frames_asked c.pairs_for-reps.result.now c.args.frame.now.inline c.args.frame.now.block) (c.moved_by-rect.result.x, c.moved_by-rect.result.y)) c.args.few.now
+    c.tell.new.few c.add.new.self c.in_ok-tell.ensures.few (c.add.ensures (boxes_seen (bare c.args.tree.now.tree) c.args.id (frames_asked c.pairs_for-reps.result.now c.args.frame.now.inline c.args.frame.now.block) (c.moved_by-rect.result.x, c.moved_by-rect.result.y)) seen))
 
 pub child_boxes-returns-clause-last : goal.child_boxes-returns-clause-last
 child_boxes-returns-clause-last g t c =
-    let seen : AddsFew (boxes_seen (bare c.args.tree.now.tree) c.args.id (frames_asked c.pairs_for-reps.result.now c.args.frame.now.inline c.args.frame.now.block) (c.moved_by-rect.result.x, c.moved_by-rect.result.y)) (Some []) c.boxes_below.new.few = subst (λ (o : Option (List Box)). AddsFew (boxes_seen (bare c.args.tree.now.tree) c.args.id (frames_asked c.pairs_for-reps.result.now c.args.frame.now.inline c.args.frame.now.block) (c.moved_by-rect.result.x, c.moved_by-rect.result.y)) o c.boxes_below.new.few) c.new-own.ensures c.in_ok-boxes_below.ensures.few in
-    λ none. found_more (bare c.args.tree.now.tree) (kept_at c.boxes_below.new.tree.tree) c.args.id (frames_asked c.pairs_for-reps.result.now c.args.frame.now.inline c.args.frame.now.block) c.node_at-node.result.now.name c.moved_by-rect.result c.boxes_below.new.few c.boxes_below.new.last c.keep.new.self (kind_is c.node_at-node.result.now.kind (sight_at (bare c.args.tree.now.tree) c.args.id).label.kind c.is_container-container.result c.node_at-node.ensures.kind c.is_container-container.ensures ∙ c.if-not-container.false) c.node_at-node.ensures.name seen c.in_ok-boxes_below.ensures.paths c.keep.ensures (c.boxes_below.ensures.last none)
+    let seen : AddsFew (boxes_seen (bare c.args.tree.now.tree) c.args.id (frames_asked c.pairs_for-reps.result.now c.args.frame.now.inline c.args.frame.now.block) (c.moved_by-rect.result.x, c.moved_by-rect.result.y)) (Some []) c.boxes_below.new.few = subst
+    (λ (o : Option (List Box)). AddsFew (boxes_seen (bare c.args.tree.now.tree) c.args.id (frames_asked c.pairs_for-reps.result.now c.args.frame.now.inline c.args.frame.now.block) (c.moved_by-rect.result.x, c.moved_by-rect.result.y)) o c.boxes_below.new.few) c.new-own.ensures
+    c.in_ok-boxes_below.ensures.few in
+    λ none. found_more (bare c.args.tree.now.tree) (kept_at c.boxes_below.new.tree.tree) c.args.id (frames_asked c.pairs_for-reps.result.now c.args.frame.now.inline c.args.frame.now.block) c.node_at-node.result.now.name c.moved_by-rect.result c.boxes_below.new.few
+    c.boxes_below.new.last c.keep.new.self (kind_is c.node_at-node.result.now.kind (sight_at (bare c.args.tree.now.tree) c.args.id).label.kind c.is_container-container.result c.node_at-node.ensures.kind c.is_container-container.ensures ∙ c.if-not-container.false)
+    c.node_at-node.ensures.name seen c.in_ok-boxes_below.ensures.paths c.keep.ensures (c.boxes_below.ensures.last none)
 
 -- ---- below a container
 
@@ -224,20 +295,30 @@ boxes_below-loop-index-init g t c =
         tree = c.root.ensures.tree;
         seen = frames_told (bare c.args.tree.now.tree) c.args.id c.args.reps.now c.args.inline.now c.args.block.now c.in_ok-frames.frames c.in_ok-frames.ensures.value ∙ ap (map frame_of) (sym c.as_slice-listed.ensures);
         counted = frames_counted (bare c.args.tree.now.tree) c.args.id c.in_ok-frames.frames c.as_slice-listed.result.now c.in_ok-frames.ensures.children c.as_slice-listed.ensures;
-        stand = stand_seen (bare c.args.tree.now.tree) c.args.id (level_at (bare c.args.tree.now.tree) c.args.id) c.args.reps.now c.args.inline.now c.args.block.now (c.frames_stand_near.ensures (level_at (bare c.args.tree.now.tree) c.args.id) c.args.reps.now c.args.inline.now c.args.block.now (c.root.ensures.tree.level c.args.id) c.requires.columns c.requires.rows);
+        stand =
+            stand_seen (bare c.args.tree.now.tree) c.args.id (level_at (bare c.args.tree.now.tree) c.args.id) c.args.reps.now c.args.inline.now c.args.block.now
+            (c.frames_stand_near.ensures (level_at (bare c.args.tree.now.tree) c.args.id) c.args.reps.now c.args.inline.now c.args.block.now (c.root.ensures.tree.level c.args.id) c.requires.columns c.requires.rows);
         fit = fit_seen (bare c.args.tree.now.tree) c.args.id c.args.reps.now c.args.inline.now c.args.block.now (c.frames_fit_below.ensures c.args.reps.now c.args.inline.now c.args.block.now c.requires.fits);
         tell = tell_seen (bare c.args.tree.now.tree) c.args.id c.args.reps.now c.args.inline.now c.args.block.now (c.frames_tell_subgrids.ensures c.args.reps.now c.args.inline.now c.args.block.now c.requires.fits);
         seated = subst (λ (z : BareTrees). AreSeats z c.args.id c.in_ok-seats.seats) c.in_ok-frames.ensures.walked.walk.bare_same c.in_ok-seats.ensures.seats;
-        pairs = subst (λ (z : BareTrees). HasPairs z c.args.id (frames_asked c.args.reps.now c.args.inline.now c.args.block.now) c.in_ok-seats.seats) c.in_ok-frames.ensures.walked.walk.bare_same (c.in_ok-seats.ensures.pairs (frames_asked c.args.reps.now c.args.inline.now c.args.block.now) refl refl);
+        pairs =
+            subst (λ (z : BareTrees). HasPairs z c.args.id (frames_asked c.args.reps.now c.args.inline.now c.args.block.now) c.in_ok-seats.seats) c.in_ok-frames.ensures.walked.walk.bare_same
+            (c.in_ok-seats.ensures.pairs (frames_asked c.args.reps.now c.args.inline.now c.args.block.now) refl refl);
         some = c.requires.level;
         place_x = c.requires.x;
         place_y = c.requires.y;
       };
-      own = asked_kept c.args.id (frames_asked c.args.reps.now c.args.inline.now c.args.block.now) (state c.args.tree.now c.args.tally.now c.args.passes.now (g.R.Ruler.log c.args.ruler.now)) (state c.frames_at.new.tree c.frames_at.new.tally c.frames_at.new.passes (g.R.Ruler.log c.frames_at.new.ruler)) _ c.frames_at.ensures.found c.in_ok-frames.ensures.own;
+      own =
+          asked_kept c.args.id (frames_asked c.args.reps.now c.args.inline.now c.args.block.now) (state c.args.tree.now c.args.tally.now c.args.passes.now (g.R.Ruler.log c.args.ruler.now))
+          (state c.frames_at.new.tree c.frames_at.new.tally c.frames_at.new.passes (g.R.Ruler.log c.frames_at.new.ruler)) _ c.frames_at.ensures.found c.in_ok-frames.ensures.own;
       done = none_done (bare c.args.tree.now.tree) c.args.id (frames_asked c.args.reps.now c.args.inline.now c.args.block.now) (state c.frames_at.new.tree c.frames_at.new.tally c.frames_at.new.passes (g.R.Ruler.log c.frames_at.new.ruler));
       leaves = c.in_ok-frames.ensures.leaves;
-      measured = none_measured (bare c.args.tree.now.tree) c.args.id (frames_asked c.args.reps.now c.args.inline.now c.args.block.now) (state c.args.tree.now c.args.tally.now c.args.passes.now (g.R.Ruler.log c.args.ruler.now)) (state c.frames_at.new.tree c.frames_at.new.tally c.frames_at.new.passes (g.R.Ruler.log c.frames_at.new.ruler));
-      absent = all_absent (bare c.args.tree.now.tree) c.differ.ensures c.args.id (frames_asked c.args.reps.now c.args.inline.now c.args.block.now) (state c.args.tree.now c.args.tally.now c.args.passes.now (g.R.Ruler.log c.args.ruler.now)) (state c.frames_at.new.tree c.frames_at.new.tally c.frames_at.new.passes (g.R.Ruler.log c.frames_at.new.ruler)) c.in_ok-frames.ensures.walked;
+      measured =
+          none_measured (bare c.args.tree.now.tree) c.args.id (frames_asked c.args.reps.now c.args.inline.now c.args.block.now) (state c.args.tree.now c.args.tally.now c.args.passes.now (g.R.Ruler.log c.args.ruler.now))
+          (state c.frames_at.new.tree c.frames_at.new.tally c.frames_at.new.passes (g.R.Ruler.log c.frames_at.new.ruler));
+      absent =
+          all_absent (bare c.args.tree.now.tree) c.differ.ensures c.args.id (frames_asked c.args.reps.now c.args.inline.now c.args.block.now) (state c.args.tree.now c.args.tally.now c.args.passes.now (g.R.Ruler.log c.args.ruler.now))
+          (state c.frames_at.new.tree c.frames_at.new.tally c.frames_at.new.passes (g.R.Ruler.log c.frames_at.new.ruler)) c.in_ok-frames.ensures.walked;
       last = still_found (bare c.args.tree.now.tree) c.args.last.now _ _ c.in_ok-frames.ensures.walked.walk c.requires.last;
       quiet = λ kept. c.frames_at.ensures.found (kept c.args.id (frames_asked c.args.reps.now c.args.inline.now c.args.block.now) (its_own c.args.id (frames_asked c.args.reps.now c.args.inline.now c.args.block.now)));
     }
@@ -251,37 +332,57 @@ boxes_below-child_of_frame-child-requires-clause-children g t c =
 
 pub boxes_below-child_boxes-requires : goal.boxes_below-child_boxes-requires
 boxes_below-child_boxes-requires g t c =
-    let turn : IsTurn (bare c.loop-index.tree.tree) c.args.id (frames_asked c.args.reps.now c.args.inline.now c.args.block.now) c.args.x c.args.y c.loop-index.index c.child_of_frame-child.result (pairs_to c.in_ok-seats.seats (frame_of c.index-listed-index.result)) (above_to c.in_ok-seats.seats (frame_of c.index-listed-index.result)) (get_or c.in_ok-seats.seats.areas c.loop-index.index c.args.area) c.index-listed-index.result = turn_of (bare c.loop-index.tree.tree) c.args.id c.args.reps.now c.args.inline.now c.args.block.now c.as_slice-listed.result.now c.in_ok-seats.seats c.args.x c.args.y
-    (subst (λ (z : BareTrees). IsBelow z c.args.id (frames_asked c.args.reps.now c.args.inline.now c.args.block.now) c.as_slice-listed.result.now c.in_ok-seats.seats c.args.x c.args.y) (sym c.loop-index.invariant.same) c.loop-index.invariant.below) c.loop-index.index c.child_of_frame-child.result c.child_of_frame-child.ensures
+    let turn : IsTurn (bare c.loop-index.tree.tree) c.args.id (frames_asked c.args.reps.now c.args.inline.now c.args.block.now) c.args.x c.args.y c.loop-index.index c.child_of_frame-child.result (pairs_to c.in_ok-seats.seats (frame_of c.index-listed-index.result))
+    (above_to c.in_ok-seats.seats (frame_of c.index-listed-index.result)) (get_or c.in_ok-seats.seats.areas c.loop-index.index c.args.area) c.index-listed-index.result = turn_of (bare c.loop-index.tree.tree) c.args.id c.args.reps.now c.args.inline.now c.args.block.now
+    c.as_slice-listed.result.now c.in_ok-seats.seats c.args.x c.args.y
+    (subst (λ (z : BareTrees). IsBelow z c.args.id (frames_asked c.args.reps.now c.args.inline.now c.args.block.now) c.as_slice-listed.result.now c.in_ok-seats.seats c.args.x c.args.y) (sym c.loop-index.invariant.same) c.loop-index.invariant.below) c.loop-index.index
+    c.child_of_frame-child.result c.child_of_frame-child.ensures
     (omega (arith, c.loop-index-test.true)) c.index-listed-index.result c.index-listed-index.is c.args.area in
     let live : IsLive (bare c.loop-index.tree.tree) c.child_of_frame-child.result = turn.next.live in
     let right : IsRight c.loop-index.tree.tree = c.loop-index.invariant.right in
     let readable : AreReadable (bare c.loop-index.tree.tree) = subst AreReadable (sym c.loop-index.invariant.same) c.requires.readable in
     let reps : length (pairs_to c.in_ok-seats.seats (frame_of c.index-listed-index.result)) ≡ length (sight_at (bare c.loop-index.tree.tree) c.child_of_frame-child.result).chain = turn.counts in
-    let seat : IsSeatTo (bare c.loop-index.tree.tree) c.child_of_frame-child.result c.in_ok-seats.seats c.loop-index.index (frame_of c.index-listed-index.result) = seat_of (bare c.loop-index.tree.tree) c.args.id c.args.reps.now c.args.inline.now c.args.block.now c.as_slice-listed.result.now c.in_ok-seats.seats c.args.x c.args.y
-    (subst (λ (z : BareTrees). IsBelow z c.args.id (frames_asked c.args.reps.now c.args.inline.now c.args.block.now) c.as_slice-listed.result.now c.in_ok-seats.seats c.args.x c.args.y) (sym c.loop-index.invariant.same) c.loop-index.invariant.below) c.loop-index.index c.child_of_frame-child.result c.child_of_frame-child.ensures
+    let seat : IsSeatTo (bare c.loop-index.tree.tree) c.child_of_frame-child.result c.in_ok-seats.seats c.loop-index.index (frame_of c.index-listed-index.result) = seat_of (bare c.loop-index.tree.tree) c.args.id c.args.reps.now c.args.inline.now c.args.block.now
+    c.as_slice-listed.result.now c.in_ok-seats.seats c.args.x c.args.y
+    (subst (λ (z : BareTrees). IsBelow z c.args.id (frames_asked c.args.reps.now c.args.inline.now c.args.block.now) c.as_slice-listed.result.now c.in_ok-seats.seats c.args.x c.args.y) (sym c.loop-index.invariant.same) c.loop-index.invariant.below) c.loop-index.index
+    c.child_of_frame-child.result c.child_of_frame-child.ensures
     (omega (arith, c.loop-index-test.true)) c.index-listed-index.result c.index-listed-index.is in
-    let fits : is_container (sight_at (bare c.loop-index.tree.tree) c.child_of_frame-child.result).label.kind ≡ true → Fits (sight_at (bare c.loop-index.tree.tree) c.child_of_frame-child.result) (frames_asked (pairs_to c.in_ok-seats.seats (frame_of c.index-listed-index.result)) c.index-listed-index.result.inline c.index-listed-index.result.block) = turn.fits in
+    let fits : is_container (sight_at (bare c.loop-index.tree.tree) c.child_of_frame-child.result).label.kind ≡ true →
+    Fits (sight_at (bare c.loop-index.tree.tree) c.child_of_frame-child.result) (frames_asked (pairs_to c.in_ok-seats.seats (frame_of c.index-listed-index.result)) c.index-listed-index.result.inline c.index-listed-index.result.block) = turn.fits in
     let level : 1 ≤ level_at (bare c.loop-index.tree.tree) c.child_of_frame-child.result = turn.level in
     let near : IsNearAt (level_at (bare c.loop-index.tree.tree) c.child_of_frame-child.result) c.args.x c.args.y (frame_of c.index-listed-index.result) = turn.near in
     let nothing : c.args.nothing.now ≡ above.Nothing = c.requires.nothing in
-    let last : c.loop-index.tally.lost ≡ false → AreFound (bare c.loop-index.tree.tree) (kept_at c.loop-index.tree.tree) c.loop-index.last = λ none. subst (λ (z : BareTrees). AreFound z (kept_at c.loop-index.tree.tree) c.loop-index.last) (sym c.loop-index.invariant.same) (c.loop-index.invariant.last none) in
+    let last : c.loop-index.tally.lost ≡ false →
+    AreFound (bare c.loop-index.tree.tree) (kept_at c.loop-index.tree.tree) c.loop-index.last = λ none. subst (λ (z : BareTrees). AreFound z (kept_at c.loop-index.tree.tree) c.loop-index.last) (sym c.loop-index.invariant.same) (c.loop-index.invariant.last none) in
     let small : 2 * size_at (bare c.loop-index.tree.tree) c.child_of_frame-child.result + 1 < 2 * size_at (bare c.args.tree.now.tree) c.args.id = omega (arith, turn.next.smaller, ap (λ (z : BareTrees). size_at z c.args.id) c.loop-index.invariant.same) in
     search rules
 
 pub boxes_below-returns-in_err-child_boxes-clause-part : goal.boxes_below-returns-in_err-child_boxes-clause-part
 boxes_below-returns-in_err-child_boxes-clause-part g t c =
-    let turn : IsTurn (bare c.loop-index.tree.tree) c.args.id (frames_asked c.args.reps.now c.args.inline.now c.args.block.now) c.args.x c.args.y c.loop-index.index c.child_of_frame-child.result (pairs_to c.in_ok-seats.seats (frame_of c.index-listed-index.result)) (above_to c.in_ok-seats.seats (frame_of c.index-listed-index.result)) (get_or c.in_ok-seats.seats.areas c.loop-index.index c.args.area) c.index-listed-index.result = turn_of (bare c.loop-index.tree.tree) c.args.id c.args.reps.now c.args.inline.now c.args.block.now c.as_slice-listed.result.now c.in_ok-seats.seats c.args.x c.args.y
-    (subst (λ (z : BareTrees). IsBelow z c.args.id (frames_asked c.args.reps.now c.args.inline.now c.args.block.now) c.as_slice-listed.result.now c.in_ok-seats.seats c.args.x c.args.y) (sym c.loop-index.invariant.same) c.loop-index.invariant.below) c.loop-index.index c.child_of_frame-child.result c.child_of_frame-child.ensures
+    let turn : IsTurn (bare c.loop-index.tree.tree) c.args.id (frames_asked c.args.reps.now c.args.inline.now c.args.block.now) c.args.x c.args.y c.loop-index.index c.child_of_frame-child.result (pairs_to c.in_ok-seats.seats (frame_of c.index-listed-index.result))
+    (above_to c.in_ok-seats.seats (frame_of c.index-listed-index.result)) (get_or c.in_ok-seats.seats.areas c.loop-index.index c.args.area) c.index-listed-index.result = turn_of (bare c.loop-index.tree.tree) c.args.id c.args.reps.now c.args.inline.now c.args.block.now
+    c.as_slice-listed.result.now c.in_ok-seats.seats c.args.x c.args.y
+    (subst (λ (z : BareTrees). IsBelow z c.args.id (frames_asked c.args.reps.now c.args.inline.now c.args.block.now) c.as_slice-listed.result.now c.in_ok-seats.seats c.args.x c.args.y) (sym c.loop-index.invariant.same) c.loop-index.invariant.below) c.loop-index.index
+    c.child_of_frame-child.result c.child_of_frame-child.ensures
     (omega (arith, c.loop-index-test.true)) c.index-listed-index.result c.index-listed-index.is c.args.area in
-    on_err _ _ (part_next (bare c.args.tree.now.tree) (bare c.loop-index.tree.tree) c.loop-index.invariant.same c.args.id (frames_asked c.args.reps.now c.args.inline.now c.args.block.now) c.args.x c.args.y c.loop-index.index c.child_of_frame-child.result (pairs_to c.in_ok-seats.seats (frame_of c.index-listed-index.result)) (above_to c.in_ok-seats.seats (frame_of c.index-listed-index.result)) (get_or c.in_ok-seats.seats.areas c.loop-index.index c.args.area) c.index-listed-index.result turn (state c.args.tree.now c.args.tally.now c.args.passes.now (g.R.Ruler.log c.args.ruler.now)) (state c.loop-index.tree c.loop-index.tally c.loop-index.passes (g.R.Ruler.log c.loop-index.ruler)) (state c.child_boxes.new.tree c.child_boxes.new.tally c.child_boxes.new.passes (g.R.Ruler.log c.child_boxes.new.ruler)) refl c.loop-index.invariant.laid c.in_err-child_boxes.ensures.part)
+    on_err _ _
+    (part_next (bare c.args.tree.now.tree) (bare c.loop-index.tree.tree) c.loop-index.invariant.same c.args.id (frames_asked c.args.reps.now c.args.inline.now c.args.block.now) c.args.x c.args.y c.loop-index.index c.child_of_frame-child.result
+    (pairs_to c.in_ok-seats.seats (frame_of c.index-listed-index.result)) (above_to c.in_ok-seats.seats (frame_of c.index-listed-index.result)) (get_or c.in_ok-seats.seats.areas c.loop-index.index c.args.area) c.index-listed-index.result turn
+    (state c.args.tree.now c.args.tally.now c.args.passes.now (g.R.Ruler.log c.args.ruler.now)) (state c.loop-index.tree c.loop-index.tally c.loop-index.passes (g.R.Ruler.log c.loop-index.ruler))
+    (state c.child_boxes.new.tree c.child_boxes.new.tally c.child_boxes.new.passes (g.R.Ruler.log c.child_boxes.new.ruler)) refl c.loop-index.invariant.laid c.in_err-child_boxes.ensures.part)
 
 pub boxes_below-returns-in_err-child_boxes-clause-quiet : goal.boxes_below-returns-in_err-child_boxes-clause-quiet
 boxes_below-returns-in_err-child_boxes-clause-quiet g t c =
-    let turn : IsTurn (bare c.loop-index.tree.tree) c.args.id (frames_asked c.args.reps.now c.args.inline.now c.args.block.now) c.args.x c.args.y c.loop-index.index c.child_of_frame-child.result (pairs_to c.in_ok-seats.seats (frame_of c.index-listed-index.result)) (above_to c.in_ok-seats.seats (frame_of c.index-listed-index.result)) (get_or c.in_ok-seats.seats.areas c.loop-index.index c.args.area) c.index-listed-index.result = turn_of (bare c.loop-index.tree.tree) c.args.id c.args.reps.now c.args.inline.now c.args.block.now c.as_slice-listed.result.now c.in_ok-seats.seats c.args.x c.args.y
-    (subst (λ (z : BareTrees). IsBelow z c.args.id (frames_asked c.args.reps.now c.args.inline.now c.args.block.now) c.as_slice-listed.result.now c.in_ok-seats.seats c.args.x c.args.y) (sym c.loop-index.invariant.same) c.loop-index.invariant.below) c.loop-index.index c.child_of_frame-child.result c.child_of_frame-child.ensures
+    let turn : IsTurn (bare c.loop-index.tree.tree) c.args.id (frames_asked c.args.reps.now c.args.inline.now c.args.block.now) c.args.x c.args.y c.loop-index.index c.child_of_frame-child.result (pairs_to c.in_ok-seats.seats (frame_of c.index-listed-index.result))
+    (above_to c.in_ok-seats.seats (frame_of c.index-listed-index.result)) (get_or c.in_ok-seats.seats.areas c.loop-index.index c.args.area) c.index-listed-index.result = turn_of (bare c.loop-index.tree.tree) c.args.id c.args.reps.now c.args.inline.now c.args.block.now
+    c.as_slice-listed.result.now c.in_ok-seats.seats c.args.x c.args.y
+    (subst (λ (z : BareTrees). IsBelow z c.args.id (frames_asked c.args.reps.now c.args.inline.now c.args.block.now) c.as_slice-listed.result.now c.in_ok-seats.seats c.args.x c.args.y) (sym c.loop-index.invariant.same) c.loop-index.invariant.below) c.loop-index.index
+    c.child_of_frame-child.result c.child_of_frame-child.ensures
     (omega (arith, c.loop-index-test.true)) c.index-listed-index.result c.index-listed-index.is c.args.area in
-    quiet_next (bare c.args.tree.now.tree) (bare c.loop-index.tree.tree) c.loop-index.invariant.same c.args.id (frames_asked c.args.reps.now c.args.inline.now c.args.block.now) c.args.x c.args.y c.loop-index.index c.child_of_frame-child.result (pairs_to c.in_ok-seats.seats (frame_of c.index-listed-index.result)) (above_to c.in_ok-seats.seats (frame_of c.index-listed-index.result)) (get_or c.in_ok-seats.seats.areas c.loop-index.index c.args.area) c.index-listed-index.result turn (state c.args.tree.now c.args.tally.now c.args.passes.now (g.R.Ruler.log c.args.ruler.now)) (state c.loop-index.tree c.loop-index.tally c.loop-index.passes (g.R.Ruler.log c.loop-index.ruler)) (state c.child_boxes.new.tree c.child_boxes.new.tally c.child_boxes.new.passes (g.R.Ruler.log c.child_boxes.new.ruler)) c.loop-index.invariant.quiet c.child_boxes.ensures.quiet
+    quiet_next (bare c.args.tree.now.tree) (bare c.loop-index.tree.tree) c.loop-index.invariant.same c.args.id (frames_asked c.args.reps.now c.args.inline.now c.args.block.now) c.args.x c.args.y c.loop-index.index c.child_of_frame-child.result
+    (pairs_to c.in_ok-seats.seats (frame_of c.index-listed-index.result)) (above_to c.in_ok-seats.seats (frame_of c.index-listed-index.result)) (get_or c.in_ok-seats.seats.areas c.loop-index.index c.args.area) c.index-listed-index.result turn
+    (state c.args.tree.now c.args.tally.now c.args.passes.now (g.R.Ruler.log c.args.ruler.now)) (state c.loop-index.tree c.loop-index.tally c.loop-index.passes (g.R.Ruler.log c.loop-index.ruler))
+    (state c.child_boxes.new.tree c.child_boxes.new.tally c.child_boxes.new.passes (g.R.Ruler.log c.child_boxes.new.ruler)) c.loop-index.invariant.quiet c.child_boxes.ensures.quiet
 
 pub boxes_below-returns-in_err-child_boxes-clause-last : goal.boxes_below-returns-in_err-child_boxes-clause-last
 boxes_below-returns-in_err-child_boxes-clause-last g t c =
@@ -289,46 +390,142 @@ boxes_below-returns-in_err-child_boxes-clause-last g t c =
 
 pub boxes_below-loop-index-preserved : goal.boxes_below-loop-index-preserved
 boxes_below-loop-index-preserved g t c =
-    let turn : IsTurn (bare c.loop-index.tree.tree) c.args.id (frames_asked c.args.reps.now c.args.inline.now c.args.block.now) c.args.x c.args.y c.loop-index.index c.child_of_frame-child.result (pairs_to c.in_ok-seats.seats (frame_of c.index-listed-index.result)) (above_to c.in_ok-seats.seats (frame_of c.index-listed-index.result)) (get_or c.in_ok-seats.seats.areas c.loop-index.index c.args.area) c.index-listed-index.result = turn_of (bare c.loop-index.tree.tree) c.args.id c.args.reps.now c.args.inline.now c.args.block.now c.as_slice-listed.result.now c.in_ok-seats.seats c.args.x c.args.y
-    (subst (λ (z : BareTrees). IsBelow z c.args.id (frames_asked c.args.reps.now c.args.inline.now c.args.block.now) c.as_slice-listed.result.now c.in_ok-seats.seats c.args.x c.args.y) (sym c.loop-index.invariant.same) c.loop-index.invariant.below) c.loop-index.index c.child_of_frame-child.result c.child_of_frame-child.ensures
+    let turn : IsTurn (bare c.loop-index.tree.tree) c.args.id (frames_asked c.args.reps.now c.args.inline.now c.args.block.now) c.args.x c.args.y c.loop-index.index c.child_of_frame-child.result (pairs_to c.in_ok-seats.seats (frame_of c.index-listed-index.result))
+    (above_to c.in_ok-seats.seats (frame_of c.index-listed-index.result)) (get_or c.in_ok-seats.seats.areas c.loop-index.index c.args.area) c.index-listed-index.result = turn_of (bare c.loop-index.tree.tree) c.args.id c.args.reps.now c.args.inline.now c.args.block.now
+    c.as_slice-listed.result.now c.in_ok-seats.seats c.args.x c.args.y
+    (subst (λ (z : BareTrees). IsBelow z c.args.id (frames_asked c.args.reps.now c.args.inline.now c.args.block.now) c.as_slice-listed.result.now c.in_ok-seats.seats c.args.x c.args.y) (sym c.loop-index.invariant.same) c.loop-index.invariant.below) c.loop-index.index
+    c.child_of_frame-child.result c.child_of_frame-child.ensures
     (omega (arith, c.loop-index-test.true)) c.index-listed-index.result c.index-listed-index.is c.args.area in
     record {
       right = c.child_boxes.ensures.right;
       same = child_same (bare c.loop-index.tree.tree) c.child_of_frame-child.result _ _ _ c.in_ok-child_boxes.ensures.laid ∙ c.loop-index.invariant.same;
-      laid = laid_next (bare c.args.tree.now.tree) (bare c.loop-index.tree.tree) c.loop-index.invariant.same c.args.id (frames_asked c.args.reps.now c.args.inline.now c.args.block.now) c.args.x c.args.y c.loop-index.index c.child_of_frame-child.result (pairs_to c.in_ok-seats.seats (frame_of c.index-listed-index.result)) (above_to c.in_ok-seats.seats (frame_of c.index-listed-index.result)) (get_or c.in_ok-seats.seats.areas c.loop-index.index c.args.area) c.index-listed-index.result turn (state c.args.tree.now c.args.tally.now c.args.passes.now (g.R.Ruler.log c.args.ruler.now)) (state c.loop-index.tree c.loop-index.tally c.loop-index.passes (g.R.Ruler.log c.loop-index.ruler)) (state c.child_boxes.new.tree c.child_boxes.new.tally c.child_boxes.new.passes (g.R.Ruler.log c.child_boxes.new.ruler)) refl c.loop-index.invariant.laid c.in_ok-child_boxes.ensures.laid;
+      laid =
+          laid_next (bare c.args.tree.now.tree) (bare c.loop-index.tree.tree) c.loop-index.invariant.same c.args.id (frames_asked c.args.reps.now c.args.inline.now c.args.block.now) c.args.x c.args.y c.loop-index.index c.child_of_frame-child.result
+          (pairs_to c.in_ok-seats.seats (frame_of c.index-listed-index.result)) (above_to c.in_ok-seats.seats (frame_of c.index-listed-index.result)) (get_or c.in_ok-seats.seats.areas c.loop-index.index c.args.area) c.index-listed-index.result turn
+          (state c.args.tree.now c.args.tally.now c.args.passes.now (g.R.Ruler.log c.args.ruler.now)) (state c.loop-index.tree c.loop-index.tally c.loop-index.passes (g.R.Ruler.log c.loop-index.ruler))
+          (state c.child_boxes.new.tree c.child_boxes.new.tally c.child_boxes.new.passes (g.R.Ruler.log c.child_boxes.new.ruler)) refl c.loop-index.invariant.laid c.in_ok-child_boxes.ensures.laid;
       value = record {
         part = c.loop-index.invariant.value.part ++ (boxes_with (bare c.loop-index.tree.tree) c.child_of_frame-child.result (pairs_to c.in_ok-seats.seats (frame_of c.index-listed-index.result)) (frame_of c.index-listed-index.result) (c.args.x, c.args.y));
-        added = g.met.T.BoxSink.adds_both c.args.told.now c.loop-index.told c.child_boxes.new.told c.loop-index.invariant.value.part (boxes_with (bare c.loop-index.tree.tree) c.child_of_frame-child.result (pairs_to c.in_ok-seats.seats (frame_of c.index-listed-index.result)) (frame_of c.index-listed-index.result) (c.args.x, c.args.y)) c.loop-index.invariant.value.added c.in_ok-child_boxes.ensures.value;
-        few = few_both c.loop-index.invariant.value.part (boxes_with (bare c.loop-index.tree.tree) c.child_of_frame-child.result (pairs_to c.in_ok-seats.seats (frame_of c.index-listed-index.result)) (frame_of c.index-listed-index.result) (c.args.x, c.args.y)) c.args.few.now c.loop-index.few c.child_boxes.new.few c.loop-index.invariant.value.few c.in_ok-child_boxes.ensures.few;
-        whole = value_next (bare c.args.tree.now.tree) (bare c.loop-index.tree.tree) c.loop-index.invariant.same c.args.id (frames_asked c.args.reps.now c.args.inline.now c.args.block.now) c.args.x c.args.y c.loop-index.index c.child_of_frame-child.result (pairs_to c.in_ok-seats.seats (frame_of c.index-listed-index.result)) (above_to c.in_ok-seats.seats (frame_of c.index-listed-index.result)) (get_or c.in_ok-seats.seats.areas c.loop-index.index c.args.area) c.index-listed-index.result turn c.loop-index.invariant.value.part (c.loop-index.invariant.value.part ++ (boxes_with (bare c.loop-index.tree.tree) c.child_of_frame-child.result (pairs_to c.in_ok-seats.seats (frame_of c.index-listed-index.result)) (frame_of c.index-listed-index.result) (c.args.x, c.args.y))) _ refl c.loop-index.invariant.value.whole;
-        near = near_both c.loop-index.invariant.value.part (boxes_with (bare c.loop-index.tree.tree) c.child_of_frame-child.result (pairs_to c.in_ok-seats.seats (frame_of c.index-listed-index.result)) (frame_of c.index-listed-index.result) (c.args.x, c.args.y)) c.loop-index.invariant.value.near c.in_ok-child_boxes.ensures.near;
+        added =
+            g.met.T.BoxSink.adds_both c.args.told.now c.loop-index.told c.child_boxes.new.told c.loop-index.invariant.value.part
+            (boxes_with (bare c.loop-index.tree.tree) c.child_of_frame-child.result (pairs_to c.in_ok-seats.seats (frame_of c.index-listed-index.result)) (frame_of c.index-listed-index.result) (c.args.x, c.args.y)) c.loop-index.invariant.value.added c.in_ok-child_boxes.ensures.value;
+        few =
+            few_both c.loop-index.invariant.value.part (boxes_with (bare c.loop-index.tree.tree) c.child_of_frame-child.result (pairs_to c.in_ok-seats.seats (frame_of c.index-listed-index.result)) (frame_of c.index-listed-index.result) (c.args.x, c.args.y)) c.args.few.now
+            c.loop-index.few c.child_boxes.new.few c.loop-index.invariant.value.few c.in_ok-child_boxes.ensures.few;
+        whole =
+            value_next (bare c.args.tree.now.tree) (bare c.loop-index.tree.tree) c.loop-index.invariant.same c.args.id (frames_asked c.args.reps.now c.args.inline.now c.args.block.now) c.args.x c.args.y c.loop-index.index c.child_of_frame-child.result
+            (pairs_to c.in_ok-seats.seats (frame_of c.index-listed-index.result)) (above_to c.in_ok-seats.seats (frame_of c.index-listed-index.result)) (get_or c.in_ok-seats.seats.areas c.loop-index.index c.args.area) c.index-listed-index.result turn c.loop-index.invariant.value.part
+            (c.loop-index.invariant.value.part ++ (boxes_with (bare c.loop-index.tree.tree) c.child_of_frame-child.result (pairs_to c.in_ok-seats.seats (frame_of c.index-listed-index.result)) (frame_of c.index-listed-index.result) (c.args.x, c.args.y))) _ refl
+            c.loop-index.invariant.value.whole;
+        near =
+            near_both c.loop-index.invariant.value.part (boxes_with (bare c.loop-index.tree.tree) c.child_of_frame-child.result (pairs_to c.in_ok-seats.seats (frame_of c.index-listed-index.result)) (frame_of c.index-listed-index.result) (c.args.x, c.args.y))
+            c.loop-index.invariant.value.near c.in_ok-child_boxes.ensures.near;
       };
       below = c.loop-index.invariant.below;
-      own = own_next (bare c.args.tree.now.tree) c.differ.ensures c.args.id c.args.reps.now c.args.inline.now c.args.block.now c.args.x c.args.y c.loop-index.index c.child_of_frame-child.result (pairs_to c.in_ok-seats.seats (frame_of c.index-listed-index.result)) (above_to c.in_ok-seats.seats (frame_of c.index-listed-index.result)) (get_or c.in_ok-seats.seats.areas c.loop-index.index c.args.area) c.index-listed-index.result (subst (λ (z : BareTrees). IsTurn z c.args.id (frames_asked c.args.reps.now c.args.inline.now c.args.block.now) c.args.x c.args.y c.loop-index.index c.child_of_frame-child.result (pairs_to c.in_ok-seats.seats (frame_of c.index-listed-index.result)) (above_to c.in_ok-seats.seats (frame_of c.index-listed-index.result)) (get_or c.in_ok-seats.seats.areas c.loop-index.index c.args.area) c.index-listed-index.result) c.loop-index.invariant.same turn) (state c.loop-index.tree c.loop-index.tally c.loop-index.passes (g.R.Ruler.log c.loop-index.ruler)) (state c.child_boxes.new.tree c.child_boxes.new.tally c.child_boxes.new.passes (g.R.Ruler.log c.child_boxes.new.ruler)) (outside_same (bare c.args.tree.now.tree) c.child_of_frame-child.result (frames_asked (pairs_to c.in_ok-seats.seats (frame_of c.index-listed-index.result)) c.index-listed-index.result.inline c.index-listed-index.result.block) (state c.loop-index.tree c.loop-index.tally c.loop-index.passes (g.R.Ruler.log c.loop-index.ruler)) (state c.child_boxes.new.tree c.child_boxes.new.tally c.child_boxes.new.passes (g.R.Ruler.log c.child_boxes.new.ruler)) c.loop-index.invariant.same (subst (λ (z : BareTrees). IsChildLaid z c.child_of_frame-child.result (frames_asked (pairs_to c.in_ok-seats.seats (frame_of c.index-listed-index.result)) c.index-listed-index.result.inline c.index-listed-index.result.block) (state c.loop-index.tree c.loop-index.tally c.loop-index.passes (g.R.Ruler.log c.loop-index.ruler)) (state c.child_boxes.new.tree c.child_boxes.new.tally c.child_boxes.new.passes (g.R.Ruler.log c.child_boxes.new.ruler))) c.loop-index.invariant.same c.in_ok-child_boxes.ensures.laid)) (frames_asked c.args.reps.now c.args.inline.now c.args.block.now) c.loop-index.invariant.own;
-      done = done_next (bare c.args.tree.now.tree) c.differ.ensures c.args.id c.args.reps.now c.args.inline.now c.args.block.now c.args.x c.args.y c.loop-index.index c.child_of_frame-child.result (pairs_to c.in_ok-seats.seats (frame_of c.index-listed-index.result)) (above_to c.in_ok-seats.seats (frame_of c.index-listed-index.result)) (get_or c.in_ok-seats.seats.areas c.loop-index.index c.args.area) c.index-listed-index.result (subst (λ (z : BareTrees). IsTurn z c.args.id (frames_asked c.args.reps.now c.args.inline.now c.args.block.now) c.args.x c.args.y c.loop-index.index c.child_of_frame-child.result (pairs_to c.in_ok-seats.seats (frame_of c.index-listed-index.result)) (above_to c.in_ok-seats.seats (frame_of c.index-listed-index.result)) (get_or c.in_ok-seats.seats.areas c.loop-index.index c.args.area) c.index-listed-index.result) c.loop-index.invariant.same turn) (state c.loop-index.tree c.loop-index.tally c.loop-index.passes (g.R.Ruler.log c.loop-index.ruler)) (state c.child_boxes.new.tree c.child_boxes.new.tally c.child_boxes.new.passes (g.R.Ruler.log c.child_boxes.new.ruler)) (outside_same (bare c.args.tree.now.tree) c.child_of_frame-child.result (frames_asked (pairs_to c.in_ok-seats.seats (frame_of c.index-listed-index.result)) c.index-listed-index.result.inline c.index-listed-index.result.block) (state c.loop-index.tree c.loop-index.tally c.loop-index.passes (g.R.Ruler.log c.loop-index.ruler)) (state c.child_boxes.new.tree c.child_boxes.new.tally c.child_boxes.new.passes (g.R.Ruler.log c.child_boxes.new.ruler)) c.loop-index.invariant.same (subst (λ (z : BareTrees). IsChildLaid z c.child_of_frame-child.result (frames_asked (pairs_to c.in_ok-seats.seats (frame_of c.index-listed-index.result)) c.index-listed-index.result.inline c.index-listed-index.result.block) (state c.loop-index.tree c.loop-index.tally c.loop-index.passes (g.R.Ruler.log c.loop-index.ruler)) (state c.child_boxes.new.tree c.child_boxes.new.tally c.child_boxes.new.passes (g.R.Ruler.log c.child_boxes.new.ruler))) c.loop-index.invariant.same c.in_ok-child_boxes.ensures.laid)) c.loop-index.invariant.done
+      own =
+          own_next (bare c.args.tree.now.tree) c.differ.ensures c.args.id c.args.reps.now c.args.inline.now c.args.block.now c.args.x c.args.y c.loop-index.index c.child_of_frame-child.result (pairs_to c.in_ok-seats.seats (frame_of c.index-listed-index.result))
+          (above_to c.in_ok-seats.seats (frame_of c.index-listed-index.result)) (get_or c.in_ok-seats.seats.areas c.loop-index.index c.args.area) c.index-listed-index.result
+          (subst
+          (λ (z : BareTrees). IsTurn z c.args.id (frames_asked c.args.reps.now c.args.inline.now c.args.block.now) c.args.x c.args.y c.loop-index.index c.child_of_frame-child.result (pairs_to c.in_ok-seats.seats (frame_of c.index-listed-index.result))
+          (above_to c.in_ok-seats.seats (frame_of c.index-listed-index.result)) (get_or c.in_ok-seats.seats.areas c.loop-index.index c.args.area) c.index-listed-index.result) c.loop-index.invariant.same turn)
+          (state c.loop-index.tree c.loop-index.tally c.loop-index.passes (g.R.Ruler.log c.loop-index.ruler)) (state c.child_boxes.new.tree c.child_boxes.new.tally c.child_boxes.new.passes (g.R.Ruler.log c.child_boxes.new.ruler))
+          (outside_same (bare c.args.tree.now.tree) c.child_of_frame-child.result (frames_asked (pairs_to c.in_ok-seats.seats (frame_of c.index-listed-index.result)) c.index-listed-index.result.inline c.index-listed-index.result.block)
+          (state c.loop-index.tree c.loop-index.tally c.loop-index.passes (g.R.Ruler.log c.loop-index.ruler)) (state c.child_boxes.new.tree c.child_boxes.new.tally c.child_boxes.new.passes (g.R.Ruler.log c.child_boxes.new.ruler)) c.loop-index.invariant.same
+          (subst
+          (λ (z : BareTrees). IsChildLaid z c.child_of_frame-child.result (frames_asked (pairs_to c.in_ok-seats.seats (frame_of c.index-listed-index.result)) c.index-listed-index.result.inline c.index-listed-index.result.block)
+          (state c.loop-index.tree c.loop-index.tally c.loop-index.passes (g.R.Ruler.log c.loop-index.ruler)) (state c.child_boxes.new.tree c.child_boxes.new.tally c.child_boxes.new.passes (g.R.Ruler.log c.child_boxes.new.ruler))) c.loop-index.invariant.same
+          c.in_ok-child_boxes.ensures.laid)) (frames_asked c.args.reps.now c.args.inline.now c.args.block.now) c.loop-index.invariant.own;
+      done =
+          done_next (bare c.args.tree.now.tree) c.differ.ensures c.args.id c.args.reps.now c.args.inline.now c.args.block.now c.args.x c.args.y c.loop-index.index c.child_of_frame-child.result (pairs_to c.in_ok-seats.seats (frame_of c.index-listed-index.result))
+          (above_to c.in_ok-seats.seats (frame_of c.index-listed-index.result)) (get_or c.in_ok-seats.seats.areas c.loop-index.index c.args.area) c.index-listed-index.result
+          (subst
+          (λ (z : BareTrees). IsTurn z c.args.id (frames_asked c.args.reps.now c.args.inline.now c.args.block.now) c.args.x c.args.y c.loop-index.index c.child_of_frame-child.result (pairs_to c.in_ok-seats.seats (frame_of c.index-listed-index.result))
+          (above_to c.in_ok-seats.seats (frame_of c.index-listed-index.result)) (get_or c.in_ok-seats.seats.areas c.loop-index.index c.args.area) c.index-listed-index.result) c.loop-index.invariant.same turn)
+          (state c.loop-index.tree c.loop-index.tally c.loop-index.passes (g.R.Ruler.log c.loop-index.ruler)) (state c.child_boxes.new.tree c.child_boxes.new.tally c.child_boxes.new.passes (g.R.Ruler.log c.child_boxes.new.ruler))
+          (outside_same (bare c.args.tree.now.tree) c.child_of_frame-child.result (frames_asked (pairs_to c.in_ok-seats.seats (frame_of c.index-listed-index.result)) c.index-listed-index.result.inline c.index-listed-index.result.block)
+          (state c.loop-index.tree c.loop-index.tally c.loop-index.passes (g.R.Ruler.log c.loop-index.ruler)) (state c.child_boxes.new.tree c.child_boxes.new.tally c.child_boxes.new.passes (g.R.Ruler.log c.child_boxes.new.ruler)) c.loop-index.invariant.same
+          (subst
+          (λ (z : BareTrees). IsChildLaid z c.child_of_frame-child.result (frames_asked (pairs_to c.in_ok-seats.seats (frame_of c.index-listed-index.result)) c.index-listed-index.result.inline c.index-listed-index.result.block)
+          (state c.loop-index.tree c.loop-index.tally c.loop-index.passes (g.R.Ruler.log c.loop-index.ruler)) (state c.child_boxes.new.tree c.child_boxes.new.tally c.child_boxes.new.passes (g.R.Ruler.log c.child_boxes.new.ruler))) c.loop-index.invariant.same
+          c.in_ok-child_boxes.ensures.laid)) c.loop-index.invariant.done
           (subst (λ (z : BareTrees). is_container (sight_at z c.child_of_frame-child.result).label.kind ≡ true → AreKeptBelow z c.child_of_frame-child.result (frames_asked (pairs_to c.in_ok-seats.seats (frame_of c.index-listed-index.result)) c.index-listed-index.result.inline c.index-listed-index.result.block) (state c.child_boxes.new.tree c.child_boxes.new.tally c.child_boxes.new.passes (g.R.Ruler.log c.child_boxes.new.ruler))) c.loop-index.invariant.same c.in_ok-child_boxes.ensures.paths);
-      leaves = own_measured (bare c.args.tree.now.tree) c.differ.ensures c.args.id c.args.reps.now c.args.inline.now c.args.block.now c.args.x c.args.y c.loop-index.index c.child_of_frame-child.result (pairs_to c.in_ok-seats.seats (frame_of c.index-listed-index.result)) (above_to c.in_ok-seats.seats (frame_of c.index-listed-index.result)) (get_or c.in_ok-seats.seats.areas c.loop-index.index c.args.area) c.index-listed-index.result (subst (λ (z : BareTrees). IsTurn z c.args.id (frames_asked c.args.reps.now c.args.inline.now c.args.block.now) c.args.x c.args.y c.loop-index.index c.child_of_frame-child.result (pairs_to c.in_ok-seats.seats (frame_of c.index-listed-index.result)) (above_to c.in_ok-seats.seats (frame_of c.index-listed-index.result)) (get_or c.in_ok-seats.seats.areas c.loop-index.index c.args.area) c.index-listed-index.result) c.loop-index.invariant.same turn) (state c.args.tree.now c.args.tally.now c.args.passes.now (g.R.Ruler.log c.args.ruler.now)) (state c.loop-index.tree c.loop-index.tally c.loop-index.passes (g.R.Ruler.log c.loop-index.ruler)) (state c.child_boxes.new.tree c.child_boxes.new.tally c.child_boxes.new.passes (g.R.Ruler.log c.child_boxes.new.ruler)) (outside_same (bare c.args.tree.now.tree) c.child_of_frame-child.result (frames_asked (pairs_to c.in_ok-seats.seats (frame_of c.index-listed-index.result)) c.index-listed-index.result.inline c.index-listed-index.result.block) (state c.loop-index.tree c.loop-index.tally c.loop-index.passes (g.R.Ruler.log c.loop-index.ruler)) (state c.child_boxes.new.tree c.child_boxes.new.tally c.child_boxes.new.passes (g.R.Ruler.log c.child_boxes.new.ruler)) c.loop-index.invariant.same (subst (λ (z : BareTrees). IsChildLaid z c.child_of_frame-child.result (frames_asked (pairs_to c.in_ok-seats.seats (frame_of c.index-listed-index.result)) c.index-listed-index.result.inline c.index-listed-index.result.block) (state c.loop-index.tree c.loop-index.tally c.loop-index.passes (g.R.Ruler.log c.loop-index.ruler)) (state c.child_boxes.new.tree c.child_boxes.new.tally c.child_boxes.new.passes (g.R.Ruler.log c.child_boxes.new.ruler))) c.loop-index.invariant.same c.in_ok-child_boxes.ensures.laid)) (untold (bare c.args.tree.now.tree) c.child_of_frame-child.result (frames_asked (pairs_to c.in_ok-seats.seats (frame_of c.index-listed-index.result)) c.index-listed-index.result.inline c.index-listed-index.result.block) (state c.loop-index.tree c.loop-index.tally c.loop-index.passes (g.R.Ruler.log c.loop-index.ruler)) (state c.child_boxes.new.tree c.child_boxes.new.tally c.child_boxes.new.passes (g.R.Ruler.log c.child_boxes.new.ruler)) (subst (λ (z : BareTrees). IsChildLaid z c.child_of_frame-child.result (frames_asked (pairs_to c.in_ok-seats.seats (frame_of c.index-listed-index.result)) c.index-listed-index.result.inline c.index-listed-index.result.block) (state c.loop-index.tree c.loop-index.tally c.loop-index.passes (g.R.Ruler.log c.loop-index.ruler)) (state c.child_boxes.new.tree c.child_boxes.new.tally c.child_boxes.new.passes (g.R.Ruler.log c.child_boxes.new.ruler))) c.loop-index.invariant.same c.in_ok-child_boxes.ensures.laid)) c.loop-index.invariant.leaves;
-      measured = measured_next (bare c.args.tree.now.tree) c.differ.ensures c.args.id c.args.reps.now c.args.inline.now c.args.block.now c.args.x c.args.y c.loop-index.index c.child_of_frame-child.result (pairs_to c.in_ok-seats.seats (frame_of c.index-listed-index.result)) (above_to c.in_ok-seats.seats (frame_of c.index-listed-index.result)) (get_or c.in_ok-seats.seats.areas c.loop-index.index c.args.area) c.index-listed-index.result (subst (λ (z : BareTrees). IsTurn z c.args.id (frames_asked c.args.reps.now c.args.inline.now c.args.block.now) c.args.x c.args.y c.loop-index.index c.child_of_frame-child.result (pairs_to c.in_ok-seats.seats (frame_of c.index-listed-index.result)) (above_to c.in_ok-seats.seats (frame_of c.index-listed-index.result)) (get_or c.in_ok-seats.seats.areas c.loop-index.index c.args.area) c.index-listed-index.result) c.loop-index.invariant.same turn) (state c.args.tree.now c.args.tally.now c.args.passes.now (g.R.Ruler.log c.args.ruler.now)) (state c.loop-index.tree c.loop-index.tally c.loop-index.passes (g.R.Ruler.log c.loop-index.ruler)) (state c.child_boxes.new.tree c.child_boxes.new.tally c.child_boxes.new.passes (g.R.Ruler.log c.child_boxes.new.ruler)) (outside_same (bare c.args.tree.now.tree) c.child_of_frame-child.result (frames_asked (pairs_to c.in_ok-seats.seats (frame_of c.index-listed-index.result)) c.index-listed-index.result.inline c.index-listed-index.result.block) (state c.loop-index.tree c.loop-index.tally c.loop-index.passes (g.R.Ruler.log c.loop-index.ruler)) (state c.child_boxes.new.tree c.child_boxes.new.tally c.child_boxes.new.passes (g.R.Ruler.log c.child_boxes.new.ruler)) c.loop-index.invariant.same (subst (λ (z : BareTrees). IsChildLaid z c.child_of_frame-child.result (frames_asked (pairs_to c.in_ok-seats.seats (frame_of c.index-listed-index.result)) c.index-listed-index.result.inline c.index-listed-index.result.block) (state c.loop-index.tree c.loop-index.tally c.loop-index.passes (g.R.Ruler.log c.loop-index.ruler)) (state c.child_boxes.new.tree c.child_boxes.new.tally c.child_boxes.new.passes (g.R.Ruler.log c.child_boxes.new.ruler))) c.loop-index.invariant.same c.in_ok-child_boxes.ensures.laid)) c.loop-index.invariant.measured c.loop-index.invariant.absent
+      leaves =
+          own_measured (bare c.args.tree.now.tree) c.differ.ensures c.args.id c.args.reps.now c.args.inline.now c.args.block.now c.args.x c.args.y c.loop-index.index c.child_of_frame-child.result (pairs_to c.in_ok-seats.seats (frame_of c.index-listed-index.result))
+          (above_to c.in_ok-seats.seats (frame_of c.index-listed-index.result)) (get_or c.in_ok-seats.seats.areas c.loop-index.index c.args.area) c.index-listed-index.result
+          (subst
+          (λ (z : BareTrees). IsTurn z c.args.id (frames_asked c.args.reps.now c.args.inline.now c.args.block.now) c.args.x c.args.y c.loop-index.index c.child_of_frame-child.result (pairs_to c.in_ok-seats.seats (frame_of c.index-listed-index.result))
+          (above_to c.in_ok-seats.seats (frame_of c.index-listed-index.result)) (get_or c.in_ok-seats.seats.areas c.loop-index.index c.args.area) c.index-listed-index.result) c.loop-index.invariant.same turn)
+          (state c.args.tree.now c.args.tally.now c.args.passes.now (g.R.Ruler.log c.args.ruler.now)) (state c.loop-index.tree c.loop-index.tally c.loop-index.passes (g.R.Ruler.log c.loop-index.ruler))
+          (state c.child_boxes.new.tree c.child_boxes.new.tally c.child_boxes.new.passes (g.R.Ruler.log c.child_boxes.new.ruler))
+          (outside_same (bare c.args.tree.now.tree) c.child_of_frame-child.result (frames_asked (pairs_to c.in_ok-seats.seats (frame_of c.index-listed-index.result)) c.index-listed-index.result.inline c.index-listed-index.result.block)
+          (state c.loop-index.tree c.loop-index.tally c.loop-index.passes (g.R.Ruler.log c.loop-index.ruler)) (state c.child_boxes.new.tree c.child_boxes.new.tally c.child_boxes.new.passes (g.R.Ruler.log c.child_boxes.new.ruler)) c.loop-index.invariant.same
+          (subst
+          (λ (z : BareTrees). IsChildLaid z c.child_of_frame-child.result (frames_asked (pairs_to c.in_ok-seats.seats (frame_of c.index-listed-index.result)) c.index-listed-index.result.inline c.index-listed-index.result.block)
+          (state c.loop-index.tree c.loop-index.tally c.loop-index.passes (g.R.Ruler.log c.loop-index.ruler)) (state c.child_boxes.new.tree c.child_boxes.new.tally c.child_boxes.new.passes (g.R.Ruler.log c.child_boxes.new.ruler))) c.loop-index.invariant.same
+          c.in_ok-child_boxes.ensures.laid))
+          (untold (bare c.args.tree.now.tree) c.child_of_frame-child.result (frames_asked (pairs_to c.in_ok-seats.seats (frame_of c.index-listed-index.result)) c.index-listed-index.result.inline c.index-listed-index.result.block)
+          (state c.loop-index.tree c.loop-index.tally c.loop-index.passes (g.R.Ruler.log c.loop-index.ruler)) (state c.child_boxes.new.tree c.child_boxes.new.tally c.child_boxes.new.passes (g.R.Ruler.log c.child_boxes.new.ruler))
+          (subst
+          (λ (z : BareTrees). IsChildLaid z c.child_of_frame-child.result (frames_asked (pairs_to c.in_ok-seats.seats (frame_of c.index-listed-index.result)) c.index-listed-index.result.inline c.index-listed-index.result.block)
+          (state c.loop-index.tree c.loop-index.tally c.loop-index.passes (g.R.Ruler.log c.loop-index.ruler)) (state c.child_boxes.new.tree c.child_boxes.new.tally c.child_boxes.new.passes (g.R.Ruler.log c.child_boxes.new.ruler))) c.loop-index.invariant.same
+          c.in_ok-child_boxes.ensures.laid)) c.loop-index.invariant.leaves;
+      measured =
+          measured_next (bare c.args.tree.now.tree) c.differ.ensures c.args.id c.args.reps.now c.args.inline.now c.args.block.now c.args.x c.args.y c.loop-index.index c.child_of_frame-child.result (pairs_to c.in_ok-seats.seats (frame_of c.index-listed-index.result))
+          (above_to c.in_ok-seats.seats (frame_of c.index-listed-index.result)) (get_or c.in_ok-seats.seats.areas c.loop-index.index c.args.area) c.index-listed-index.result
+          (subst
+          (λ (z : BareTrees). IsTurn z c.args.id (frames_asked c.args.reps.now c.args.inline.now c.args.block.now) c.args.x c.args.y c.loop-index.index c.child_of_frame-child.result (pairs_to c.in_ok-seats.seats (frame_of c.index-listed-index.result))
+          (above_to c.in_ok-seats.seats (frame_of c.index-listed-index.result)) (get_or c.in_ok-seats.seats.areas c.loop-index.index c.args.area) c.index-listed-index.result) c.loop-index.invariant.same turn)
+          (state c.args.tree.now c.args.tally.now c.args.passes.now (g.R.Ruler.log c.args.ruler.now)) (state c.loop-index.tree c.loop-index.tally c.loop-index.passes (g.R.Ruler.log c.loop-index.ruler))
+          (state c.child_boxes.new.tree c.child_boxes.new.tally c.child_boxes.new.passes (g.R.Ruler.log c.child_boxes.new.ruler))
+          (outside_same (bare c.args.tree.now.tree) c.child_of_frame-child.result (frames_asked (pairs_to c.in_ok-seats.seats (frame_of c.index-listed-index.result)) c.index-listed-index.result.inline c.index-listed-index.result.block)
+          (state c.loop-index.tree c.loop-index.tally c.loop-index.passes (g.R.Ruler.log c.loop-index.ruler)) (state c.child_boxes.new.tree c.child_boxes.new.tally c.child_boxes.new.passes (g.R.Ruler.log c.child_boxes.new.ruler)) c.loop-index.invariant.same
+          (subst
+          (λ (z : BareTrees). IsChildLaid z c.child_of_frame-child.result (frames_asked (pairs_to c.in_ok-seats.seats (frame_of c.index-listed-index.result)) c.index-listed-index.result.inline c.index-listed-index.result.block)
+          (state c.loop-index.tree c.loop-index.tally c.loop-index.passes (g.R.Ruler.log c.loop-index.ruler)) (state c.child_boxes.new.tree c.child_boxes.new.tally c.child_boxes.new.passes (g.R.Ruler.log c.child_boxes.new.ruler))) c.loop-index.invariant.same
+          c.in_ok-child_boxes.ensures.laid)) c.loop-index.invariant.measured c.loop-index.invariant.absent
           (subst (λ (z : BareTrees). is_container (sight_at z c.child_of_frame-child.result).label.kind ≡ true → MeasuresBelow z c.child_of_frame-child.result (frames_asked (pairs_to c.in_ok-seats.seats (frame_of c.index-listed-index.result)) c.index-listed-index.result.inline c.index-listed-index.result.block) (state c.loop-index.tree c.loop-index.tally c.loop-index.passes (g.R.Ruler.log c.loop-index.ruler)) (state c.child_boxes.new.tree c.child_boxes.new.tally c.child_boxes.new.passes (g.R.Ruler.log c.child_boxes.new.ruler))) c.loop-index.invariant.same c.in_ok-child_boxes.ensures.leaves);
-      absent = absent_next (bare c.args.tree.now.tree) c.differ.ensures c.args.id c.args.reps.now c.args.inline.now c.args.block.now c.args.x c.args.y c.loop-index.index c.child_of_frame-child.result (pairs_to c.in_ok-seats.seats (frame_of c.index-listed-index.result)) (above_to c.in_ok-seats.seats (frame_of c.index-listed-index.result)) (get_or c.in_ok-seats.seats.areas c.loop-index.index c.args.area) c.index-listed-index.result (subst (λ (z : BareTrees). IsTurn z c.args.id (frames_asked c.args.reps.now c.args.inline.now c.args.block.now) c.args.x c.args.y c.loop-index.index c.child_of_frame-child.result (pairs_to c.in_ok-seats.seats (frame_of c.index-listed-index.result)) (above_to c.in_ok-seats.seats (frame_of c.index-listed-index.result)) (get_or c.in_ok-seats.seats.areas c.loop-index.index c.args.area) c.index-listed-index.result) c.loop-index.invariant.same turn) (state c.args.tree.now c.args.tally.now c.args.passes.now (g.R.Ruler.log c.args.ruler.now)) (state c.loop-index.tree c.loop-index.tally c.loop-index.passes (g.R.Ruler.log c.loop-index.ruler)) (state c.child_boxes.new.tree c.child_boxes.new.tally c.child_boxes.new.passes (g.R.Ruler.log c.child_boxes.new.ruler)) (outside_same (bare c.args.tree.now.tree) c.child_of_frame-child.result (frames_asked (pairs_to c.in_ok-seats.seats (frame_of c.index-listed-index.result)) c.index-listed-index.result.inline c.index-listed-index.result.block) (state c.loop-index.tree c.loop-index.tally c.loop-index.passes (g.R.Ruler.log c.loop-index.ruler)) (state c.child_boxes.new.tree c.child_boxes.new.tally c.child_boxes.new.passes (g.R.Ruler.log c.child_boxes.new.ruler)) c.loop-index.invariant.same (subst (λ (z : BareTrees). IsChildLaid z c.child_of_frame-child.result (frames_asked (pairs_to c.in_ok-seats.seats (frame_of c.index-listed-index.result)) c.index-listed-index.result.inline c.index-listed-index.result.block) (state c.loop-index.tree c.loop-index.tally c.loop-index.passes (g.R.Ruler.log c.loop-index.ruler)) (state c.child_boxes.new.tree c.child_boxes.new.tally c.child_boxes.new.passes (g.R.Ruler.log c.child_boxes.new.ruler))) c.loop-index.invariant.same c.in_ok-child_boxes.ensures.laid)) c.loop-index.invariant.absent;
+      absent =
+          absent_next (bare c.args.tree.now.tree) c.differ.ensures c.args.id c.args.reps.now c.args.inline.now c.args.block.now c.args.x c.args.y c.loop-index.index c.child_of_frame-child.result (pairs_to c.in_ok-seats.seats (frame_of c.index-listed-index.result))
+          (above_to c.in_ok-seats.seats (frame_of c.index-listed-index.result)) (get_or c.in_ok-seats.seats.areas c.loop-index.index c.args.area) c.index-listed-index.result
+          (subst
+          (λ (z : BareTrees). IsTurn z c.args.id (frames_asked c.args.reps.now c.args.inline.now c.args.block.now) c.args.x c.args.y c.loop-index.index c.child_of_frame-child.result (pairs_to c.in_ok-seats.seats (frame_of c.index-listed-index.result))
+          (above_to c.in_ok-seats.seats (frame_of c.index-listed-index.result)) (get_or c.in_ok-seats.seats.areas c.loop-index.index c.args.area) c.index-listed-index.result) c.loop-index.invariant.same turn)
+          (state c.args.tree.now c.args.tally.now c.args.passes.now (g.R.Ruler.log c.args.ruler.now)) (state c.loop-index.tree c.loop-index.tally c.loop-index.passes (g.R.Ruler.log c.loop-index.ruler))
+          (state c.child_boxes.new.tree c.child_boxes.new.tally c.child_boxes.new.passes (g.R.Ruler.log c.child_boxes.new.ruler))
+          (outside_same (bare c.args.tree.now.tree) c.child_of_frame-child.result (frames_asked (pairs_to c.in_ok-seats.seats (frame_of c.index-listed-index.result)) c.index-listed-index.result.inline c.index-listed-index.result.block)
+          (state c.loop-index.tree c.loop-index.tally c.loop-index.passes (g.R.Ruler.log c.loop-index.ruler)) (state c.child_boxes.new.tree c.child_boxes.new.tally c.child_boxes.new.passes (g.R.Ruler.log c.child_boxes.new.ruler)) c.loop-index.invariant.same
+          (subst
+          (λ (z : BareTrees). IsChildLaid z c.child_of_frame-child.result (frames_asked (pairs_to c.in_ok-seats.seats (frame_of c.index-listed-index.result)) c.index-listed-index.result.inline c.index-listed-index.result.block)
+          (state c.loop-index.tree c.loop-index.tally c.loop-index.passes (g.R.Ruler.log c.loop-index.ruler)) (state c.child_boxes.new.tree c.child_boxes.new.tally c.child_boxes.new.passes (g.R.Ruler.log c.child_boxes.new.ruler))) c.loop-index.invariant.same
+          c.in_ok-child_boxes.ensures.laid)) c.loop-index.invariant.absent;
       last = λ none. subst (λ (z : BareTrees). AreFound z (kept_at c.child_boxes.new.tree.tree) c.child_boxes.new.last) c.loop-index.invariant.same (c.child_boxes.ensures.last none);
-      quiet = quiet_next (bare c.args.tree.now.tree) (bare c.loop-index.tree.tree) c.loop-index.invariant.same c.args.id (frames_asked c.args.reps.now c.args.inline.now c.args.block.now) c.args.x c.args.y c.loop-index.index c.child_of_frame-child.result (pairs_to c.in_ok-seats.seats (frame_of c.index-listed-index.result)) (above_to c.in_ok-seats.seats (frame_of c.index-listed-index.result)) (get_or c.in_ok-seats.seats.areas c.loop-index.index c.args.area) c.index-listed-index.result turn (state c.args.tree.now c.args.tally.now c.args.passes.now (g.R.Ruler.log c.args.ruler.now)) (state c.loop-index.tree c.loop-index.tally c.loop-index.passes (g.R.Ruler.log c.loop-index.ruler)) (state c.child_boxes.new.tree c.child_boxes.new.tally c.child_boxes.new.passes (g.R.Ruler.log c.child_boxes.new.ruler)) c.loop-index.invariant.quiet c.child_boxes.ensures.quiet;
+      quiet =
+          quiet_next (bare c.args.tree.now.tree) (bare c.loop-index.tree.tree) c.loop-index.invariant.same c.args.id (frames_asked c.args.reps.now c.args.inline.now c.args.block.now) c.args.x c.args.y c.loop-index.index c.child_of_frame-child.result
+          (pairs_to c.in_ok-seats.seats (frame_of c.index-listed-index.result)) (above_to c.in_ok-seats.seats (frame_of c.index-listed-index.result)) (get_or c.in_ok-seats.seats.areas c.loop-index.index c.args.area) c.index-listed-index.result turn
+          (state c.args.tree.now c.args.tally.now c.args.passes.now (g.R.Ruler.log c.args.ruler.now)) (state c.loop-index.tree c.loop-index.tally c.loop-index.passes (g.R.Ruler.log c.loop-index.ruler))
+          (state c.child_boxes.new.tree c.child_boxes.new.tally c.child_boxes.new.passes (g.R.Ruler.log c.child_boxes.new.ruler)) c.loop-index.invariant.quiet c.child_boxes.ensures.quiet;
     }
 
 pub boxes_below-returns-clause-value : goal.boxes_below-returns-clause-value
 boxes_below-returns-clause-value g t c =
     let few : length (frames_seen (bare c.args.tree.now.tree) c.args.id (frames_asked c.args.reps.now c.args.inline.now c.args.block.now)) ≤ c.loop-index.index = omega (arith, ap length c.loop-index.invariant.below.seen, length-map c.as_slice-listed.result.now frame_of, c.loop-index-test.false) in
-    subst (g.T.BoxSink.adds c.args.told.now c.loop-index.told) (boxes_all (pairs_seen (bare c.args.tree.now.tree) c.args.id (frames_asked c.args.reps.now c.args.inline.now c.args.block.now)) (c.args.x, c.args.y) (kids_at (bare c.args.tree.now.tree) c.args.id) (frames_seen (bare c.args.tree.now.tree) c.args.id (frames_asked c.args.reps.now c.args.inline.now c.args.block.now)) c.loop-index.index c.loop-index.invariant.value.part _ few c.loop-index.invariant.value.whole) c.loop-index.invariant.value.added
+    subst (g.T.BoxSink.adds c.args.told.now c.loop-index.told)
+    (boxes_all (pairs_seen (bare c.args.tree.now.tree) c.args.id (frames_asked c.args.reps.now c.args.inline.now c.args.block.now)) (c.args.x, c.args.y) (kids_at (bare c.args.tree.now.tree) c.args.id)
+    (frames_seen (bare c.args.tree.now.tree) c.args.id (frames_asked c.args.reps.now c.args.inline.now c.args.block.now)) c.loop-index.index c.loop-index.invariant.value.part _ few c.loop-index.invariant.value.whole) c.loop-index.invariant.value.added
 
 pub boxes_below-returns-clause-near : goal.boxes_below-returns-clause-near
 boxes_below-returns-clause-near g t c =
     let few : length (frames_seen (bare c.args.tree.now.tree) c.args.id (frames_asked c.args.reps.now c.args.inline.now c.args.block.now)) ≤ c.loop-index.index = omega (arith, ap length c.loop-index.invariant.below.seen, length-map c.as_slice-listed.result.now frame_of, c.loop-index-test.false) in
-    subst AreNear (boxes_all (pairs_seen (bare c.args.tree.now.tree) c.args.id (frames_asked c.args.reps.now c.args.inline.now c.args.block.now)) (c.args.x, c.args.y) (kids_at (bare c.args.tree.now.tree) c.args.id) (frames_seen (bare c.args.tree.now.tree) c.args.id (frames_asked c.args.reps.now c.args.inline.now c.args.block.now)) c.loop-index.index c.loop-index.invariant.value.part _ few c.loop-index.invariant.value.whole) c.loop-index.invariant.value.near
+    subst AreNear
+    (boxes_all (pairs_seen (bare c.args.tree.now.tree) c.args.id (frames_asked c.args.reps.now c.args.inline.now c.args.block.now)) (c.args.x, c.args.y) (kids_at (bare c.args.tree.now.tree) c.args.id)
+    (frames_seen (bare c.args.tree.now.tree) c.args.id (frames_asked c.args.reps.now c.args.inline.now c.args.block.now)) c.loop-index.index c.loop-index.invariant.value.part _ few c.loop-index.invariant.value.whole) c.loop-index.invariant.value.near
 
 pub boxes_below-returns-clause-few : goal.boxes_below-returns-clause-few
 boxes_below-returns-clause-few g t c =
     let ended : length (frames_seen (bare c.args.tree.now.tree) c.args.id (frames_asked c.args.reps.now c.args.inline.now c.args.block.now)) ≤ c.loop-index.index = omega (arith, ap length c.loop-index.invariant.below.seen, length-map c.as_slice-listed.result.now frame_of, c.loop-index-test.false) in
-    subst (λ (l : List Box). AddsFew l c.args.few.now c.loop-index.few) (boxes_all (pairs_seen (bare c.args.tree.now.tree) c.args.id (frames_asked c.args.reps.now c.args.inline.now c.args.block.now)) (c.args.x, c.args.y) (kids_at (bare c.args.tree.now.tree) c.args.id) (frames_seen (bare c.args.tree.now.tree) c.args.id (frames_asked c.args.reps.now c.args.inline.now c.args.block.now)) c.loop-index.index c.loop-index.invariant.value.part _ ended c.loop-index.invariant.value.whole) c.loop-index.invariant.value.few
+    subst (λ (l : List Box). AddsFew l c.args.few.now c.loop-index.few)
+    (boxes_all (pairs_seen (bare c.args.tree.now.tree) c.args.id (frames_asked c.args.reps.now c.args.inline.now c.args.block.now)) (c.args.x, c.args.y) (kids_at (bare c.args.tree.now.tree) c.args.id)
+    (frames_seen (bare c.args.tree.now.tree) c.args.id (frames_asked c.args.reps.now c.args.inline.now c.args.block.now)) c.loop-index.index c.loop-index.invariant.value.part _ ended c.loop-index.invariant.value.whole) c.loop-index.invariant.value.few
 
 pub boxes_below-returns-clause-last : goal.boxes_below-returns-clause-last
 boxes_below-returns-clause-last g t c = c.loop-index.invariant.last
@@ -353,7 +550,8 @@ child_boxes-returns-then-not-container-clause-paths g t c =
 
 pub boxes_below-returns-clause-leaves : goal.boxes_below-returns-clause-leaves
 boxes_below-returns-clause-leaves g t c =
-    all_measured (bare c.args.tree.now.tree) c.args.id (frames_asked c.args.reps.now c.args.inline.now c.args.block.now) (state c.args.tree.now c.args.tally.now c.args.passes.now (g.R.Ruler.log c.args.ruler.now)) (state c.loop-index.tree c.loop-index.tally c.loop-index.passes (g.R.Ruler.log c.loop-index.ruler)) c.loop-index.invariant.leaves
+    all_measured (bare c.args.tree.now.tree) c.args.id (frames_asked c.args.reps.now c.args.inline.now c.args.block.now) (state c.args.tree.now c.args.tally.now c.args.passes.now (g.R.Ruler.log c.args.ruler.now))
+    (state c.loop-index.tree c.loop-index.tally c.loop-index.passes (g.R.Ruler.log c.loop-index.ruler)) c.loop-index.invariant.leaves
     (λ k e r child passed. c.loop-index.invariant.measured k e r (omega (arith, number_there (bare c.args.tree.now.tree) c.args.id e k c.root.ensures.tree child, c.loop-index.invariant.below.counted, c.loop-index-test.false)) child passed)
 
 pub child_boxes-returns-then-not-container-clause-leaves : goal.child_boxes-returns-then-not-container-clause-leaves

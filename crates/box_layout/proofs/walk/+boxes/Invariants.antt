@@ -28,7 +28,8 @@ invariant-boxes_below-loop-index g l =
       right : IsRight l.tree.tree;
       same : bare l.tree.tree ≡ bare l.fn.tree.tree;
       laid : IsLaidOut l.id (frames_asked l.reps l.inline l.block) (state l.fn.tree l.fn.tally l.fn.passes (g.R.Ruler.log l.fn.ruler)) (state l.tree l.tally l.passes (g.R.Ruler.log l.ruler));
-      value : HasTaken g.T.BoxSink.adds l.fn.told l.told l.fn.few l.few (boxes_from (pairs_seen (bare l.fn.tree.tree) l.id (frames_asked l.reps l.inline l.block)) (l.x, l.y) (drop l.index (kids_at (bare l.fn.tree.tree) l.id)) (drop l.index (frames_seen (bare l.fn.tree.tree) l.id (frames_asked l.reps l.inline l.block))))
+      value : HasTaken g.T.BoxSink.adds l.fn.told l.told l.fn.few l.few
+          (boxes_from (pairs_seen (bare l.fn.tree.tree) l.id (frames_asked l.reps l.inline l.block)) (l.x, l.y) (drop l.index (kids_at (bare l.fn.tree.tree) l.id)) (drop l.index (frames_seen (bare l.fn.tree.tree) l.id (frames_asked l.reps l.inline l.block))))
           (boxes_seen (bare l.fn.tree.tree) l.id (frames_asked l.reps l.inline l.block) (l.x, l.y));
       below : IsBelow (bare l.fn.tree.tree) l.id (frames_asked l.reps l.inline l.block) l.listed l.seats l.x l.y;
       own : IsSome (answer_to (frames_asked l.reps l.inline l.block) (kept_in (state l.tree l.tally l.passes (g.R.Ruler.log l.ruler)) l.id));

@@ -21,7 +21,9 @@ loop-place-preserved c =
     let size = c.index-sizes-place.result in
     let test : stops c.args.sum one size ≡ true = sym c.stops.ensures ∙ c.if-not-stops.false in
     record {
-      so_far = omega (arith, ints, c.add-held.ensures, c.add.ensures, c.wide.ensures.value, c.wide-in-loop-place.ensures.value, c.stopped.ensures, c.loop-place.invariant.so_far, held_next c.args.sum c.args.flexible.now c.args.sizes.now c.loop-place.place one size c.loop-place-test.true c.requires.length c.index-flexible-place.is c.index-sizes-place.is test);
+      so_far =
+          omega
+          (arith, ints, c.add-held.ensures, c.add.ensures, c.wide.ensures.value, c.wide-in-loop-place.ensures.value, c.stopped.ensures, c.loop-place.invariant.so_far, held_next c.args.sum c.args.flexible.now c.args.sizes.now c.loop-place.place one size c.loop-place-test.true c.requires.length c.index-flexible-place.is c.index-sizes-place.is test);
       low = omega (arith, ints, c.add-held.ensures, c.add.ensures, c.wide.ensures.range.0, c.wide-in-loop-place.ensures.range.0, c.loop-place.invariant.low);
       high = omega (arith, ints, c.add-held.ensures, c.add.ensures, c.wide.ensures.range.1, c.wide-in-loop-place.ensures.range.1, c.loop-place.invariant.high);
     }

@@ -16,6 +16,7 @@ pub sub-requires : goal.sub-requires
 sub-requires c =
     let units : IsUnits c.args.fraction.space = (omega (arith, ints), omega (arith, ints)) in
     let more : c.wide.result *ℤ pos c.weight_in.result ≡ c.args.fraction.space *ℤ pos c.weight_in.result = ap (λ (z : ℤ). z *ℤ pos c.weight_in.result) c.wide.ensures.value in
-    let product : c.add-product.result ≡ c.args.fraction.space *ℤ pos (c.loop-row.invariant.before + c.weight_in.result) = omega (arith, ints, more, c.add-product.ensures, c.times.ensures, c.loop-row.invariant.product_is, times-add c.args.fraction.space c.loop-row.invariant.before c.weight_in.result) in
+    let product : c.add-product.result ≡
+    c.args.fraction.space *ℤ pos (c.loop-row.invariant.before + c.weight_in.result) = omega (arith, ints, more, c.add-product.ensures, c.times.ensures, c.loop-row.invariant.product_is, times-add c.args.fraction.space c.loop-row.invariant.before c.weight_in.result) in
     difference_fits c.args.fraction.space c.loop-row.lower c.floor_div-upper.result c.args.fraction.weight c.loop-row.invariant.before (c.loop-row.invariant.before + c.weight_in.result) units c.requires (omega arith) (omega arith)
     (c.floor_div-upper.ensures.value ∙ ap (λ (z : ℤ). floor_div z c.args.fraction.weight) product) c.loop-row.invariant.lower_is

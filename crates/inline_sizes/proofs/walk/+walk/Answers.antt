@@ -95,21 +95,24 @@ ask_children-ask_child-requires g t c =
 
 pub ask_children-returns-in_err-sizes-clause-stopped : goal.ask_children-returns-in_err-sizes-clause-stopped
 ask_children-returns-in_err-sizes-clause-stopped g t c =
-    let all : (q : Query) → LeadsOn (bare c.args.tree.now.tree) c.args.id c.args.base.now q → Stopped c.args.id q (state c.args.tree.now c.args.tally.now c.args.passes.now (g.R.Ruler.log c.args.ruler.now)) (state c.ask_child.new.tree c.ask_child.new.tally c.ask_child.new.passes (g.R.Ruler.log c.ask_child.new.ruler)) =
+    let all : (q : Query) → LeadsOn (bare c.args.tree.now.tree) c.args.id c.args.base.now q →
+    Stopped c.args.id q (state c.args.tree.now c.args.tally.now c.args.passes.now (g.R.Ruler.log c.args.ruler.now)) (state c.ask_child.new.tree c.ask_child.new.tally c.ask_child.new.passes (g.R.Ruler.log c.ask_child.new.ruler)) =
     λ q leads. stops_then (bare c.args.tree.now.tree) (bare c.loop-index.tree.tree) c.loop-index.invariant.same c.args.id c.args.base.now c.entry-entry.result c.loop-index.index c.entry-entry.ensures.next
     c.root.ensures.steps c.entry-entry.ensures.child q leads _ _ _ refl (c.loop-index.invariant.walked q leads) c.in_err-sizes.ensures.stopped in
     on_err _ _ all
 
 pub ask_children-returns-in_err-push-clause-stopped : goal.ask_children-returns-in_err-push-clause-stopped
 ask_children-returns-in_err-push-clause-stopped g t c =
-    let all : (q : Query) → LeadsOn (bare c.args.tree.now.tree) c.args.id c.args.base.now q → Stopped c.args.id q (state c.args.tree.now c.args.tally.now c.args.passes.now (g.R.Ruler.log c.args.ruler.now)) (state c.ask_child.new.tree c.ask_child.new.tally c.ask_child.new.passes (g.R.Ruler.log c.ask_child.new.ruler)) =
+    let all : (q : Query) → LeadsOn (bare c.args.tree.now.tree) c.args.id c.args.base.now q →
+    Stopped c.args.id q (state c.args.tree.now c.args.tally.now c.args.passes.now (g.R.Ruler.log c.args.ruler.now)) (state c.ask_child.new.tree c.ask_child.new.tally c.ask_child.new.passes (g.R.Ruler.log c.ask_child.new.ruler)) =
     λ q leads. stopped c.args.id q 0 _ _ (below_then (bare c.args.tree.now.tree) (bare c.loop-index.tree.tree) c.loop-index.invariant.same c.args.id c.args.base.now c.entry-entry.result c.loop-index.index c.entry-entry.ensures.next
     c.root.ensures.steps c.entry-entry.ensures.child q leads _ _ _ refl (c.loop-index.invariant.walked q leads) c.in_ok-sizes.ensures.walked) in
     on_err _ _ all
 
 pub ask_children-returns-in_err-push-2-clause-stopped : goal.ask_children-returns-in_err-push-2-clause-stopped
 ask_children-returns-in_err-push-2-clause-stopped g t c =
-    let all : (q : Query) → LeadsOn (bare c.args.tree.now.tree) c.args.id c.args.base.now q → Stopped c.args.id q (state c.args.tree.now c.args.tally.now c.args.passes.now (g.R.Ruler.log c.args.ruler.now)) (state c.ask_child.new.tree c.ask_child.new.tally c.ask_child.new.passes (g.R.Ruler.log c.ask_child.new.ruler)) =
+    let all : (q : Query) → LeadsOn (bare c.args.tree.now.tree) c.args.id c.args.base.now q →
+    Stopped c.args.id q (state c.args.tree.now c.args.tally.now c.args.passes.now (g.R.Ruler.log c.args.ruler.now)) (state c.ask_child.new.tree c.ask_child.new.tally c.ask_child.new.passes (g.R.Ruler.log c.ask_child.new.ruler)) =
     λ q leads. stopped c.args.id q 0 _ _ (below_then (bare c.args.tree.now.tree) (bare c.loop-index.tree.tree) c.loop-index.invariant.same c.args.id c.args.base.now c.entry-entry.result c.loop-index.index c.entry-entry.ensures.next
     c.root.ensures.steps c.entry-entry.ensures.child q leads _ _ _ refl (c.loop-index.invariant.walked q leads) c.in_ok-sizes.ensures.walked) in
     on_err _ _ all
@@ -173,25 +176,34 @@ ask_stale-ask_child-requires g t c =
 
 pub ask_stale-returns-in_err-sizes-clause-stopped : goal.ask_stale-returns-in_err-sizes-clause-stopped
 ask_stale-returns-in_err-sizes-clause-stopped g t c =
-    let all : (q : Query) → LeadsOn (bare c.args.tree.now.tree) c.args.id c.args.base.now q → Stopped c.args.id q (state c.args.tree.now c.args.tally.now c.args.passes.now (g.R.Ruler.log c.args.ruler.now)) (state c.ask_child.new.tree c.ask_child.new.tally c.ask_child.new.passes (g.R.Ruler.log c.ask_child.new.ruler)) =
+    let all : (q : Query) → LeadsOn (bare c.args.tree.now.tree) c.args.id c.args.base.now q →
+    Stopped c.args.id q (state c.args.tree.now c.args.tally.now c.args.passes.now (g.R.Ruler.log c.args.ruler.now)) (state c.ask_child.new.tree c.ask_child.new.tally c.ask_child.new.passes (g.R.Ruler.log c.ask_child.new.ruler)) =
     λ q leads. stops_then (bare c.args.tree.now.tree) (bare c.loop-index.tree.tree) c.loop-index.invariant.same c.args.id c.args.base.now c.entry-entry.result (get_or c.args.stale.now c.loop-index.index-index 0) c.entry-entry.ensures.next
     c.root.ensures.steps c.entry-entry.ensures.child q leads _ _ _ refl (c.loop-index.invariant.walked q leads) c.in_err-sizes.ensures.stopped in
     on_err _ _ all
 
 pub ask_stale-returns-in_err-put_items-clause-stopped : goal.ask_stale-returns-in_err-put_items-clause-stopped
 ask_stale-returns-in_err-put_items-clause-stopped g t c =
-    let all : (q : Query) → LeadsOn (bare c.args.tree.now.tree) c.args.id c.args.base.now q → Stopped c.args.id q (state c.args.tree.now c.args.tally.now c.args.passes.now (g.R.Ruler.log c.args.ruler.now)) (state c.ask_child.new.tree c.ask_child.new.tally c.ask_child.new.passes (g.R.Ruler.log c.ask_child.new.ruler)) =
+    let all : (q : Query) → LeadsOn (bare c.args.tree.now.tree) c.args.id c.args.base.now q →
+    Stopped c.args.id q (state c.args.tree.now c.args.tally.now c.args.passes.now (g.R.Ruler.log c.args.ruler.now)) (state c.ask_child.new.tree c.ask_child.new.tally c.ask_child.new.passes (g.R.Ruler.log c.ask_child.new.ruler)) =
     λ q leads. stopped c.args.id q 0 _ _ (below_then (bare c.args.tree.now.tree) (bare c.loop-index.tree.tree) c.loop-index.invariant.same c.args.id c.args.base.now c.entry-entry.result (get_or c.args.stale.now c.loop-index.index-index 0) c.entry-entry.ensures.next
     c.root.ensures.steps c.entry-entry.ensures.child q leads _ _ _ refl (c.loop-index.invariant.walked q leads) c.in_ok-sizes.ensures.walked) in
     on_err _ _ all
 
 pub ask_stale-put_items-requires-clause-parts : goal.ask_stale-put_items-requires-clause-parts
-ask_stale-put_items-requires-clause-parts g t c = has_parts (AllBut (drop c.loop-index.index-index c.args.stale.now)) (TellsColumns (sight_at (bare c.args.tree.now.tree) c.args.id) (kid_at (bare c.args.tree.now.tree)) c.args.base.now) c.loop-index.inlines c.loop-index.items c.loop-index.ends c.loop-index.invariant.told.told
+ask_stale-put_items-requires-clause-parts g t c =
+    has_parts (AllBut (drop c.loop-index.index-index c.args.stale.now)) (TellsColumns (sight_at (bare c.args.tree.now.tree) c.args.id) (kid_at (bare c.args.tree.now.tree)) c.args.base.now) c.loop-index.inlines c.loop-index.items c.loop-index.ends c.loop-index.invariant.told.told
 
 pub ask_stale-put_items-requires-clause-index : goal.ask_stale-put_items-requires-clause-index
 ask_stale-put_items-requires-clause-index g t c =
     let within : get_or c.args.stale.now c.loop-index.index-index 0 < length c.args.base.now.placed.areas = c.requires.stale c.loop-index.index-index 0 (omega (arith, c.loop-index-test.true)) in
-    omega (arith, within, c.loop-index.invariant.told.counted, ends_length (AllBut (drop c.loop-index.index-index c.args.stale.now)) (TellsColumns (sight_at (bare c.args.tree.now.tree) c.args.id) (kid_at (bare c.args.tree.now.tree)) c.args.base.now) c.loop-index.inlines c.loop-index.items c.loop-index.ends c.loop-index.invariant.told.told)
+    omega (
+      arith,
+      within,
+      c.loop-index.invariant.told.counted,
+      ends_length (AllBut (drop c.loop-index.index-index c.args.stale.now)) (TellsColumns (sight_at (bare c.args.tree.now.tree) c.args.id) (kid_at (bare c.args.tree.now.tree)) c.args.base.now) c.loop-index.inlines
+          c.loop-index.items c.loop-index.ends c.loop-index.invariant.told.told,
+    )
 
 pub ask_stale-set-requires : goal.ask_stale-set-requires
 ask_stale-set-requires g t c =
@@ -208,9 +220,12 @@ ask_stale-loop-index-preserved g t c =
           c.root.ensures.steps c.entry-entry.ensures.child q leads _ _ _ refl (c.loop-index.invariant.walked q leads) c.in_ok-sizes.ensures.walked;
       told = record {
         counted = counted_again c.loop-index.inlines c.set.new.self (get_or c.args.stale.now c.loop-index.index-index 0) c.in_ok-sizes.sizes (length c.args.base.now.placed.areas) c.set.ensures c.loop-index.invariant.told.counted;
-        told = told_again (bare c.args.tree.now.tree) (bare c.loop-index.tree.tree) c.loop-index.invariant.same c.args.id c.args.base.now c.entry-entry.result (get_or c.args.stale.now c.loop-index.index-index 0) c.entry-entry.ensures.told (drop (c.loop-index.index-index + 1) c.args.stale.now) c.loop-index.inlines c.set.new.self
+        told =
+            told_again (bare c.args.tree.now.tree) (bare c.loop-index.tree.tree) c.loop-index.invariant.same c.args.id c.args.base.now c.entry-entry.result (get_or c.args.stale.now c.loop-index.index-index 0) c.entry-entry.ensures.told
+            (drop (c.loop-index.index-index + 1) c.args.stale.now) c.loop-index.inlines c.set.new.self
             c.loop-index.items c.put_items.new.items c.loop-index.ends c.put_items.new.ends c.in_ok-sizes.sizes c.as_slice.result.now (omega (arith, within, c.loop-index.invariant.told.counted))
-            (subst (λ l. AreTold (AllBut l) (TellsColumns (sight_at (bare c.args.tree.now.tree) c.args.id) (kid_at (bare c.args.tree.now.tree)) c.args.base.now) c.loop-index.inlines c.loop-index.items c.loop-index.ends) (next_stale c.args.stale.now c.loop-index.index-index (omega (arith, c.loop-index-test.true))) c.loop-index.invariant.told.told)
+            (subst (λ l. AreTold (AllBut l) (TellsColumns (sight_at (bare c.args.tree.now.tree) c.args.id) (kid_at (bare c.args.tree.now.tree)) c.args.base.now) c.loop-index.inlines c.loop-index.items c.loop-index.ends)
+            (next_stale c.args.stale.now c.loop-index.index-index (omega (arith, c.loop-index-test.true))) c.loop-index.invariant.told.told)
             c.in_ok-sizes.ensures.sizes (c.as_slice.ensures ∙ c.in_ok-sizes.ensures.items ∙ ap (λ l. l ++ items_seen (bare c.loop-index.tree.tree) c.args.id c.args.base.now c.entry-entry.result) c.new-own.ensures) c.in_ok-put_items.ensures.items c.in_ok-put_items.ensures.ends c.set.ensures;
       };
     }
@@ -227,8 +242,10 @@ ask_stale-returns-clause-below g t c = c.loop-index.invariant.walked
 pub ask_needed-ask_again-requires : goal.ask_needed-ask_again-requires
 ask_needed-ask_again-requires g t c =
     let past : IsPastColumns (bare c.args.tree.now.tree) c.args.id c.in-Some.past = subst (λ (o : Option PastColumns). IfSome o (IsPastColumns (bare c.args.tree.now.tree) c.args.id)) c.in-Some.is c.requires.past in
-    let stale : All (λ k. k < length c.args.base.now.placed.areas) c.in-Some.past.stale = past_stale (bare c.args.tree.now.tree) c.args.id c.in-Some.past c.args.base.now past c.requires.places c.as_slice-counts.result.now (c.as_slice-counts.ensures ∙ ap (λ (z : GridBase). z.pairs) c.grid.ensures) c.same_counts.result (c.same_counts.ensures ∙ ap (same_pairs c.as_slice-counts.result.now) c.as_slice.ensures) c.if-not-same_counts.false in
-    let told : HaveTold (bare c.args.tree.now.tree) c.args.id c.args.base.now (AllBut c.in-Some.past.stale) c.in-Some.past.told.parts.inlines c.in-Some.past.told.parts.items c.in-Some.past.told.ends = past_told (bare c.args.tree.now.tree) c.args.id c.in-Some.past c.args.base.now past c.requires.places c.as_slice-counts.result.now (c.as_slice-counts.ensures ∙ ap (λ (z : GridBase). z.pairs) c.grid.ensures) c.same_counts.result (c.same_counts.ensures ∙ ap (same_pairs c.as_slice-counts.result.now) c.as_slice.ensures) c.if-not-same_counts.false in
+    let stale : All (λ k. k < length c.args.base.now.placed.areas) c.in-Some.past.stale = past_stale (bare c.args.tree.now.tree) c.args.id c.in-Some.past c.args.base.now past c.requires.places c.as_slice-counts.result.now
+    (c.as_slice-counts.ensures ∙ ap (λ (z : GridBase). z.pairs) c.grid.ensures) c.same_counts.result (c.same_counts.ensures ∙ ap (same_pairs c.as_slice-counts.result.now) c.as_slice.ensures) c.if-not-same_counts.false in
+    let told : HaveTold (bare c.args.tree.now.tree) c.args.id c.args.base.now (AllBut c.in-Some.past.stale) c.in-Some.past.told.parts.inlines c.in-Some.past.told.parts.items c.in-Some.past.told.ends = past_told (bare c.args.tree.now.tree) c.args.id c.in-Some.past c.args.base.now past
+    c.requires.places c.as_slice-counts.result.now (c.as_slice-counts.ensures ∙ ap (λ (z : GridBase). z.pairs) c.grid.ensures) c.same_counts.result (c.same_counts.ensures ∙ ap (same_pairs c.as_slice-counts.result.now) c.as_slice.ensures) c.if-not-same_counts.false in
     search rules
 
 pub grid_at-returns-in_err-base-clause-stopped : goal.grid_at-returns-in_err-base-clause-stopped
@@ -243,20 +260,27 @@ grid_at-ask_needed-requires g t c =
     let live : IsLive (bare c.shared_base.new.tree.tree) c.args.id = subst (λ (z : BareTrees). IsLive z c.args.id) back c.requires.live in
     let readable : AreReadable (bare c.shared_base.new.tree.tree) = subst AreReadable back c.requires.readable in
     let grid : (sight_at (bare c.shared_base.new.tree.tree) c.args.id).label.kind ≡ kind.Grid = subst (λ (z : BareTrees). (sight_at z c.args.id).label.kind ≡ kind.Grid) back c.requires.grid in
-    let laid : IsLaid (bare c.shared_base.new.tree.tree) c.args.id c.grid.result.now = laid_there (bare c.args.tree.now.tree) (bare c.shared_base.new.tree.tree) c.in_ok-base.ensures.same c.args.id c.args.reps.now c.args.width.now c.in_ok-base.base c.grid.result.now c.grid.ensures c.in_ok-base.ensures.value in
-    let places : HoldsPlaces (sight_at (bare c.shared_base.new.tree.tree) c.args.id) (children_at (bare c.shared_base.new.tree.tree) c.args.id) c.grid.result.now = places_there (bare c.args.tree.now.tree) (bare c.shared_base.new.tree.tree) c.in_ok-base.ensures.same c.args.id c.args.reps.now c.args.width.now c.in_ok-base.base c.grid.result.now c.grid.ensures c.in_ok-base.ensures.value in
+    let laid : IsLaid (bare c.shared_base.new.tree.tree) c.args.id c.grid.result.now = laid_there (bare c.args.tree.now.tree) (bare c.shared_base.new.tree.tree) c.in_ok-base.ensures.same c.args.id c.args.reps.now c.args.width.now c.in_ok-base.base c.grid.result.now c.grid.ensures
+    c.in_ok-base.ensures.value in
+    let places : HoldsPlaces (sight_at (bare c.shared_base.new.tree.tree) c.args.id) (children_at (bare c.shared_base.new.tree.tree) c.args.id) c.grid.result.now = places_there (bare c.args.tree.now.tree) (bare c.shared_base.new.tree.tree) c.in_ok-base.ensures.same c.args.id
+    c.args.reps.now c.args.width.now c.in_ok-base.base c.grid.result.now c.grid.ensures c.in_ok-base.ensures.value in
     let past : IfSome c.args.past (IsPastColumns (bare c.shared_base.new.tree.tree) c.args.id) = subst (λ (z : BareTrees). IfSome c.args.past (IsPastColumns z c.args.id)) back c.requires.past in
     search rules
 
 pub grid_at-returns-in_err-inlines-clause-stopped : goal.grid_at-returns-in_err-inlines-clause-stopped
 grid_at-returns-in_err-inlines-clause-stopped g t c =
-    let all : (q : Query) → q.reps ≡ c.args.reps.now → q.inline ≡ c.args.width.now → Stopped c.args.id q (state c.args.tree.now c.args.tally.now c.args.passes.now (g.R.Ruler.log c.args.ruler.now)) (state c.ask_needed.new.tree c.ask_needed.new.tally c.ask_needed.new.passes (g.R.Ruler.log c.ask_needed.new.ruler)) =
-    λ q r w. c.in_ok-base.ensures.stopped q _ _ _ _ (c.in_err-inlines.ensures.stopped q (leads_there (bare c.args.tree.now.tree) (bare c.shared_base.new.tree.tree) c.in_ok-base.ensures.same c.args.id c.args.reps.now c.args.width.now c.in_ok-base.base c.grid.result.now c.grid.ensures c.in_ok-base.ensures.value c.requires.grid q r w)) in
+    let all : (q : Query) → q.reps ≡ c.args.reps.now → q.inline ≡ c.args.width.now →
+    Stopped c.args.id q (state c.args.tree.now c.args.tally.now c.args.passes.now (g.R.Ruler.log c.args.ruler.now)) (state c.ask_needed.new.tree c.ask_needed.new.tally c.ask_needed.new.passes (g.R.Ruler.log c.ask_needed.new.ruler)) =
+    λ q r w. c.in_ok-base.ensures.stopped q _ _ _ _
+    (c.in_err-inlines.ensures.stopped q
+    (leads_there (bare c.args.tree.now.tree) (bare c.shared_base.new.tree.tree) c.in_ok-base.ensures.same c.args.id c.args.reps.now c.args.width.now c.in_ok-base.base c.grid.result.now c.grid.ensures c.in_ok-base.ensures.value c.requires.grid q r w)) in
     on_err _ _ all
 
 pub grid_at-returns-clause-value : goal.grid_at-returns-clause-value
 grid_at-returns-clause-value g t c =
-    grid_there (bare c.args.tree.now.tree) (bare c.shared_base.new.tree.tree) c.in_ok-base.ensures.same c.args.id c.args.reps.now c.args.width.now c.in_ok-base.base c.grid.result.now c.grid.ensures c.in_ok-base.ensures.value _ _ (answers_there (bare c.args.tree.now.tree) (bare c.shared_base.new.tree.tree) c.in_ok-base.ensures.same c.args.id c.args.reps.now c.args.width.now c.in_ok-base.base c.grid.result.now c.grid.ensures c.in_ok-base.ensures.value _ _ _ c.in_ok-inlines.ensures.told (subst IsTree (sym c.in_ok-base.ensures.same) c.root.ensures.tree))
+    grid_there (bare c.args.tree.now.tree) (bare c.shared_base.new.tree.tree) c.in_ok-base.ensures.same c.args.id c.args.reps.now c.args.width.now c.in_ok-base.base c.grid.result.now c.grid.ensures c.in_ok-base.ensures.value _ _
+    (answers_there (bare c.args.tree.now.tree) (bare c.shared_base.new.tree.tree) c.in_ok-base.ensures.same c.args.id c.args.reps.now c.args.width.now c.in_ok-base.base c.grid.result.now c.grid.ensures c.in_ok-base.ensures.value _ _ _ c.in_ok-inlines.ensures.told
+    (subst IsTree (sym c.in_ok-base.ensures.same) c.root.ensures.tree))
 
 pub grid_at-returns-clause-told : goal.grid_at-returns-clause-told
 grid_at-returns-clause-told g t c = columns_there (bare c.args.tree.now.tree) (bare c.shared_base.new.tree.tree) c.in_ok-base.ensures.same c.args.id c.args.reps.now c.args.width.now c.in_ok-base.base c.grid.result.now c.grid.ensures c.in_ok-base.ensures.value _ _ _ c.in_ok-inlines.ensures.told
@@ -290,7 +314,10 @@ pub grid_anew-returns-clause-own : goal.grid_anew-returns-clause-own
 grid_anew-returns-clause-own g t c = c.in_ok-put.ensures.own ∙ ap (λ l. kept_with l ((c.args.query, answer.Sizes c.in_ok-low.low c.in_ok-low.high) ∷ [])) c.in_ok-low.ensures.below.own
 
 pub grid_sizes-returns-in_err-past-clause-stopped : goal.grid_sizes-returns-in_err-past-clause-stopped
-grid_sizes-returns-in_err-past-clause-stopped g t c = on_err _ _ (from_stopped_alike c.args.tree.now c.take_columns.new.tree c.take_columns.ensures.alike c.args.tally.now c.args.passes.now (g.R.Ruler.log c.args.ruler.now) (state c.take_columns.new.tree c.args.tally.now c.args.passes.now (g.R.Ruler.log c.args.ruler.now)) c.args.id c.args.query.now (stopped c.args.id c.args.query.now 0 _ _ (walked_none c.args.id c.args.query.now (state c.take_columns.new.tree c.args.tally.now c.args.passes.now (g.R.Ruler.log c.args.ruler.now)) c.take_columns.ensures.right)))
+grid_sizes-returns-in_err-past-clause-stopped g t c =
+    on_err _ _
+    (from_stopped_alike c.args.tree.now c.take_columns.new.tree c.take_columns.ensures.alike c.args.tally.now c.args.passes.now (g.R.Ruler.log c.args.ruler.now) (state c.take_columns.new.tree c.args.tally.now c.args.passes.now (g.R.Ruler.log c.args.ruler.now)) c.args.id
+    c.args.query.now (stopped c.args.id c.args.query.now 0 _ _ (walked_none c.args.id c.args.query.now (state c.take_columns.new.tree c.args.tally.now c.args.passes.now (g.R.Ruler.log c.args.ruler.now)) c.take_columns.ensures.right)))
 
 pub grid_sizes-grid_at-requires : goal.grid_sizes-grid_at-requires
 grid_sizes-grid_at-requires g t c =
@@ -299,40 +326,69 @@ grid_sizes-grid_at-requires g t c =
     let readable : AreReadable (bare c.take_columns.new.tree.tree) = subst AreReadable back c.requires.readable in
     let grid : (sight_at (bare c.take_columns.new.tree.tree) c.args.id).label.kind ≡ kind.Grid = subst (λ (z : BareTrees). (sight_at z c.args.id).label.kind ≡ kind.Grid) back c.requires.grid in
     let counts : length c.as_slice-reps.result.now ≡ length (sight_at (bare c.take_columns.new.tree.tree) c.args.id).chain = ap length c.as_slice-reps.ensures ∙ c.requires.fits.reps ∙ ap (λ (z : BareTrees). length (sight_at z c.args.id).chain) back in
-    let seat : IsSeat (sight_at (bare c.take_columns.new.tree.tree) c.args.id) c.as_slice-reps.result.now c.args.above.now c.args.area = subst (λ (z : BareTrees). IsSeat (sight_at z c.args.id) c.as_slice-reps.result.now c.args.above.now c.args.area) back (subst (λ (r : List Pair). IsSeat (sight_at (bare c.args.tree.now.tree) c.args.id) r c.args.above.now c.args.area) (sym c.as_slice-reps.ensures) c.requires.seat) in
+    let seat : IsSeat (sight_at (bare c.take_columns.new.tree.tree) c.args.id) c.as_slice-reps.result.now c.args.above.now c.args.area = subst (λ (z : BareTrees). IsSeat (sight_at z c.args.id) c.as_slice-reps.result.now c.args.above.now c.args.area) back
+    (subst (λ (r : List Pair). IsSeat (sight_at (bare c.args.tree.now.tree) c.args.id) r c.args.above.now c.args.area) (sym c.as_slice-reps.ensures) c.requires.seat) in
     let width : IsGivenSize c.args.query.now.inline = subst IsGivenSize (sym (ap (λ (z : Query). z.inline) c.requires.query)) tt in
     let past : IfSome c.in_ok-past.past (IsPastColumns (bare c.take_columns.new.tree.tree) c.args.id) = subst (λ (z : BareTrees). IfSome c.in_ok-past.past (IsPastColumns z c.args.id)) back c.in_ok-past.ensures.told in
     search rules
 
 pub grid_sizes-returns-in_err-told-clause-stopped : goal.grid_sizes-returns-in_err-told-clause-stopped
-grid_sizes-returns-in_err-told-clause-stopped g t c = on_err _ _ (from_stopped_alike c.args.tree.now c.take_columns.new.tree c.take_columns.ensures.alike c.args.tally.now c.args.passes.now (g.R.Ruler.log c.args.ruler.now) (state c.grid_at.new.tree c.grid_at.new.tally c.grid_at.new.passes (g.R.Ruler.log c.grid_at.new.ruler)) c.args.id c.args.query.now (c.in_err-told.ensures.stopped c.args.query.now (sym c.as_slice-reps.ensures) refl))
+grid_sizes-returns-in_err-told-clause-stopped g t c =
+    on_err _ _
+    (from_stopped_alike c.args.tree.now c.take_columns.new.tree c.take_columns.ensures.alike c.args.tally.now c.args.passes.now (g.R.Ruler.log c.args.ruler.now) (state c.grid_at.new.tree c.grid_at.new.tally c.grid_at.new.passes (g.R.Ruler.log c.grid_at.new.ruler)) c.args.id
+    c.args.query.now (c.in_err-told.ensures.stopped c.args.query.now (sym c.as_slice-reps.ensures) refl))
 
 pub grid_sizes-grid_inline-requires-clause-live : goal.grid_sizes-grid_inline-requires-clause-live
-grid_sizes-grid_inline-requires-clause-live g t c = subst (λ (z : BareTrees). IsLive z c.args.id) (sym (from_alike c.args.tree.now c.take_columns.new.tree c.take_columns.ensures.alike c.args.tally.now c.args.passes.now (g.R.Ruler.log c.args.ruler.now) (state c.grid_at.new.tree c.grid_at.new.tally c.grid_at.new.passes (g.R.Ruler.log c.grid_at.new.ruler)) c.args.id c.args.query.now 0 (c.in_ok-told.ensures.below c.args.query.now (sym c.as_slice-reps.ensures) refl)).walk.bare_same) c.requires.live
+grid_sizes-grid_inline-requires-clause-live g t c =
+    subst (λ (z : BareTrees). IsLive z c.args.id)
+    (sym
+    (from_alike c.args.tree.now c.take_columns.new.tree c.take_columns.ensures.alike c.args.tally.now c.args.passes.now (g.R.Ruler.log c.args.ruler.now) (state c.grid_at.new.tree c.grid_at.new.tally c.grid_at.new.passes (g.R.Ruler.log c.grid_at.new.ruler)) c.args.id c.args.query.now 0 (c.in_ok-told.ensures.below c.args.query.now (sym c.as_slice-reps.ensures) refl)).walk.bare_same)
+    c.requires.live
 
 pub grid_sizes-grid_inline-requires-clause-readable : goal.grid_sizes-grid_inline-requires-clause-readable
-grid_sizes-grid_inline-requires-clause-readable g t c = subst AreReadable (sym (from_alike c.args.tree.now c.take_columns.new.tree c.take_columns.ensures.alike c.args.tally.now c.args.passes.now (g.R.Ruler.log c.args.ruler.now) (state c.grid_at.new.tree c.grid_at.new.tally c.grid_at.new.passes (g.R.Ruler.log c.grid_at.new.ruler)) c.args.id c.args.query.now 0 (c.in_ok-told.ensures.below c.args.query.now (sym c.as_slice-reps.ensures) refl)).walk.bare_same) c.requires.readable
+grid_sizes-grid_inline-requires-clause-readable g t c =
+    subst AreReadable
+    (sym
+    (from_alike c.args.tree.now c.take_columns.new.tree c.take_columns.ensures.alike c.args.tally.now c.args.passes.now (g.R.Ruler.log c.args.ruler.now) (state c.grid_at.new.tree c.grid_at.new.tally c.grid_at.new.passes (g.R.Ruler.log c.grid_at.new.ruler)) c.args.id c.args.query.now 0 (c.in_ok-told.ensures.below c.args.query.now (sym c.as_slice-reps.ensures) refl)).walk.bare_same)
+    c.requires.readable
 
 pub grid_sizes-grid_inline-requires-clause-own : goal.grid_sizes-grid_inline-requires-clause-own
-grid_sizes-grid_inline-requires-clause-own g t c = subst (λ (z : BareTrees). sees_columns (sight_at z c.args.id) ≡ false) (sym (from_alike c.args.tree.now c.take_columns.new.tree c.take_columns.ensures.alike c.args.tally.now c.args.passes.now (g.R.Ruler.log c.args.ruler.now) (state c.grid_at.new.tree c.grid_at.new.tally c.grid_at.new.passes (g.R.Ruler.log c.grid_at.new.ruler)) c.args.id c.args.query.now 0 (c.in_ok-told.ensures.below c.args.query.now (sym c.as_slice-reps.ensures) refl)).walk.bare_same) (sizes_fit (sight_at (bare c.args.tree.now.tree) c.args.id) c.args.query.now (ap (λ (z : Query). z.ask) c.requires.query) c.requires.fits)
+grid_sizes-grid_inline-requires-clause-own g t c =
+    subst (λ (z : BareTrees). sees_columns (sight_at z c.args.id) ≡ false)
+    (sym
+    (from_alike c.args.tree.now c.take_columns.new.tree c.take_columns.ensures.alike c.args.tally.now c.args.passes.now (g.R.Ruler.log c.args.ruler.now) (state c.grid_at.new.tree c.grid_at.new.tally c.grid_at.new.passes (g.R.Ruler.log c.grid_at.new.ruler)) c.args.id c.args.query.now 0 (c.in_ok-told.ensures.below c.args.query.now (sym c.as_slice-reps.ensures) refl)).walk.bare_same)
+    (sizes_fit (sight_at (bare c.args.tree.now.tree) c.args.id) c.args.query.now (ap (λ (z : Query). z.ask) c.requires.query) c.requires.fits)
 
 pub grid_sizes-grid_inline-requires-clause-grid : goal.grid_sizes-grid_inline-requires-clause-grid
 grid_sizes-grid_inline-requires-clause-grid g t c =
     record {
       outer = c.args.query.now.reps;
       width = given.None;
-      grid = subst (λ (z : BareTrees). IsGrid z c.args.id c.args.query.now.reps given.None c.in_ok-told.told.parts) (sym (c.in_ok-told.ensures.below c.args.query.now (sym c.as_slice-reps.ensures) refl).walk.bare_same) (subst (λ (o : List Pair). IsGrid (bare c.take_columns.new.tree.tree) c.args.id o given.None c.in_ok-told.told.parts) c.as_slice-reps.ensures
+      grid =
+          subst (λ (z : BareTrees). IsGrid z c.args.id c.args.query.now.reps given.None c.in_ok-told.told.parts) (sym (c.in_ok-told.ensures.below c.args.query.now (sym c.as_slice-reps.ensures) refl).walk.bare_same)
+          (subst (λ (o : List Pair). IsGrid (bare c.take_columns.new.tree.tree) c.args.id o given.None c.in_ok-told.told.parts) c.as_slice-reps.ensures
           (subst (λ (w : Given). IsGrid (bare c.take_columns.new.tree.tree) c.args.id c.as_slice-reps.result.now w c.in_ok-told.told.parts) (ap (λ (z : Query). z.inline) c.requires.query) c.in_ok-told.ensures.value));
     }
 
 pub grid_sizes-returns-in_err-sizes-clause-stopped : goal.grid_sizes-returns-in_err-sizes-clause-stopped
-grid_sizes-returns-in_err-sizes-clause-stopped g t c = on_err _ _ (stopped c.args.id c.args.query.now 2 _ _ (ticked c.args.id c.args.query.now 0 2 _ _ c.grid_inline.new.passes c.in_err-sizes.ensures.stopped.1 (from_alike c.args.tree.now c.take_columns.new.tree c.take_columns.ensures.alike c.args.tally.now c.args.passes.now (g.R.Ruler.log c.args.ruler.now) (state c.grid_at.new.tree c.grid_at.new.tally c.grid_at.new.passes (g.R.Ruler.log c.grid_at.new.ruler)) c.args.id c.args.query.now 0 (c.in_ok-told.ensures.below c.args.query.now (sym c.as_slice-reps.ensures) refl))))
+grid_sizes-returns-in_err-sizes-clause-stopped g t c =
+    on_err _ _
+    (stopped c.args.id c.args.query.now 2 _ _
+    (ticked c.args.id c.args.query.now 0 2 _ _ c.grid_inline.new.passes c.in_err-sizes.ensures.stopped.1
+    (from_alike c.args.tree.now c.take_columns.new.tree c.take_columns.ensures.alike c.args.tally.now c.args.passes.now (g.R.Ruler.log c.args.ruler.now) (state c.grid_at.new.tree c.grid_at.new.tally c.grid_at.new.passes (g.R.Ruler.log c.grid_at.new.ruler)) c.args.id
+    c.args.query.now 0 (c.in_ok-told.ensures.below c.args.query.now (sym c.as_slice-reps.ensures) refl))))
 
 pub grid_sizes-keep_told-requires-clause-live : goal.grid_sizes-keep_told-requires-clause-live
-grid_sizes-keep_told-requires-clause-live g t c = subst (λ (z : BareTrees). IsLive z c.args.id) (sym (from_alike c.args.tree.now c.take_columns.new.tree c.take_columns.ensures.alike c.args.tally.now c.args.passes.now (g.R.Ruler.log c.args.ruler.now) (state c.grid_at.new.tree c.grid_at.new.tally c.grid_at.new.passes (g.R.Ruler.log c.grid_at.new.ruler)) c.args.id c.args.query.now 0 (c.in_ok-told.ensures.below c.args.query.now (sym c.as_slice-reps.ensures) refl)).walk.bare_same) c.requires.live
+grid_sizes-keep_told-requires-clause-live g t c =
+    subst (λ (z : BareTrees). IsLive z c.args.id)
+    (sym
+    (from_alike c.args.tree.now c.take_columns.new.tree c.take_columns.ensures.alike c.args.tally.now c.args.passes.now (g.R.Ruler.log c.args.ruler.now) (state c.grid_at.new.tree c.grid_at.new.tally c.grid_at.new.passes (g.R.Ruler.log c.grid_at.new.ruler)) c.args.id c.args.query.now 0 (c.in_ok-told.ensures.below c.args.query.now (sym c.as_slice-reps.ensures) refl)).walk.bare_same)
+    c.requires.live
 
 pub grid_sizes-keep_told-requires-clause-places : goal.grid_sizes-keep_told-requires-clause-places
-grid_sizes-keep_told-requires-clause-places g t c = places_held (bare c.grid_at.new.tree.tree) c.args.id c.args.query.now.reps given.None c.in_ok-told.told.parts.base (subst (λ (z : BareTrees). IsGrid z c.args.id c.args.query.now.reps given.None c.in_ok-told.told.parts) (sym (c.in_ok-told.ensures.below c.args.query.now (sym c.as_slice-reps.ensures) refl).walk.bare_same) (subst (λ (o : List Pair). IsGrid (bare c.take_columns.new.tree.tree) c.args.id o given.None c.in_ok-told.told.parts) c.as_slice-reps.ensures
+grid_sizes-keep_told-requires-clause-places g t c =
+    places_held (bare c.grid_at.new.tree.tree) c.args.id c.args.query.now.reps given.None c.in_ok-told.told.parts.base
+    (subst (λ (z : BareTrees). IsGrid z c.args.id c.args.query.now.reps given.None c.in_ok-told.told.parts) (sym (c.in_ok-told.ensures.below c.args.query.now (sym c.as_slice-reps.ensures) refl).walk.bare_same) (subst (λ (o : List Pair). IsGrid (bare c.take_columns.new.tree.tree) c.args.id o given.None c.in_ok-told.told.parts) c.as_slice-reps.ensures
     (subst (λ (w : Given). IsGrid (bare c.take_columns.new.tree.tree) c.args.id c.as_slice-reps.result.now w c.in_ok-told.told.parts) (ap (λ (z : Query). z.inline) c.requires.query) c.in_ok-told.ensures.value))).base
 
 pub grid_sizes-keep_told-requires-clause-told : goal.grid_sizes-keep_told-requires-clause-told
@@ -340,29 +396,50 @@ grid_sizes-keep_told-requires-clause-told g t c = subst (λ (z : BareTrees). Are
 
 pub grid_sizes-returns-clause-value : goal.grid_sizes-returns-clause-value
 grid_sizes-returns-clause-value g t c =
-    ap inline_sizes (c.in_ok-sizes.ensures.value c.args.query.now.reps given.None (subst (λ (z : BareTrees). IsGrid z c.args.id c.args.query.now.reps given.None c.in_ok-told.told.parts) (sym (c.in_ok-told.ensures.below c.args.query.now (sym c.as_slice-reps.ensures) refl).walk.bare_same) (subst (λ (o : List Pair). IsGrid (bare c.take_columns.new.tree.tree) c.args.id o given.None c.in_ok-told.told.parts) c.as_slice-reps.ensures
-    (subst (λ (w : Given). IsGrid (bare c.take_columns.new.tree.tree) c.args.id c.as_slice-reps.result.now w c.in_ok-told.told.parts) (ap (λ (z : Query). z.inline) c.requires.query) c.in_ok-told.ensures.value)))) ∙ grid_answer (bare c.grid_at.new.tree.tree) c.args.id c.args.query.now (subst (λ (z : BareTrees). (sight_at z c.args.id).label.kind ≡ kind.Grid) (sym (from_alike c.args.tree.now c.take_columns.new.tree c.take_columns.ensures.alike c.args.tally.now c.args.passes.now (g.R.Ruler.log c.args.ruler.now) (state c.grid_at.new.tree c.grid_at.new.tally c.grid_at.new.passes (g.R.Ruler.log c.grid_at.new.ruler)) c.args.id c.args.query.now 0 (c.in_ok-told.ensures.below c.args.query.now (sym c.as_slice-reps.ensures) refl)).walk.bare_same) c.requires.grid) (ap (λ (z : Query). z.ask) c.requires.query)
-    ∙ ap (λ (z : BareTrees). answer_of (sight_at z c.args.id) c.args.query.now) (from_alike c.args.tree.now c.take_columns.new.tree c.take_columns.ensures.alike c.args.tally.now c.args.passes.now (g.R.Ruler.log c.args.ruler.now) (state c.grid_at.new.tree c.grid_at.new.tally c.grid_at.new.passes (g.R.Ruler.log c.grid_at.new.ruler)) c.args.id c.args.query.now 0 (c.in_ok-told.ensures.below c.args.query.now (sym c.as_slice-reps.ensures) refl)).walk.bare_same
+    ap inline_sizes
+    (c.in_ok-sizes.ensures.value c.args.query.now.reps given.None (subst (λ (z : BareTrees). IsGrid z c.args.id c.args.query.now.reps given.None c.in_ok-told.told.parts) (sym (c.in_ok-told.ensures.below c.args.query.now (sym c.as_slice-reps.ensures) refl).walk.bare_same) (subst (λ (o : List Pair). IsGrid (bare c.take_columns.new.tree.tree) c.args.id o given.None c.in_ok-told.told.parts) c.as_slice-reps.ensures
+    (subst (λ (w : Given). IsGrid (bare c.take_columns.new.tree.tree) c.args.id c.as_slice-reps.result.now w c.in_ok-told.told.parts) (ap (λ (z : Query). z.inline) c.requires.query) c.in_ok-told.ensures.value)))) ∙ grid_answer (bare c.grid_at.new.tree.tree) c.args.id c.args.query.now (subst (λ (z : BareTrees). (sight_at
+    z c.args.id).label.kind ≡ kind.Grid) (sym (from_alike c.args.tree.now c.take_columns.new.tree c.take_columns.ensures.alike c.args.tally.now c.args.passes.now (g.R.Ruler.log c.args.ruler.now)
+    (state c.grid_at.new.tree c.grid_at.new.tally c.grid_at.new.passes (g.R.Ruler.log c.grid_at.new.ruler)) c.args.id c.args.query.now 0 (c.in_ok-told.ensures.below c.args.query.now (sym c.as_slice-reps.ensures) refl)).walk.bare_same) c.requires.grid) (ap (λ (z :
+    Query). z.ask) c.requires.query)
+    ∙ ap (λ (z : BareTrees). answer_of (sight_at z c.args.id) c.args.query.now)
+    (from_alike c.args.tree.now c.take_columns.new.tree c.take_columns.ensures.alike c.args.tally.now c.args.passes.now (g.R.Ruler.log c.args.ruler.now) (state c.grid_at.new.tree c.grid_at.new.tally c.grid_at.new.passes (g.R.Ruler.log c.grid_at.new.ruler)) c.args.id c.args.query.now 0 (c.in_ok-told.ensures.below c.args.query.now (sym c.as_slice-reps.ensures) refl)).walk.bare_same
 
 pub grid_sizes-returns-clause-below : goal.grid_sizes-returns-clause-below
-grid_sizes-returns-clause-below g t c = then_alike c.grid_at.new.tree c.keep_told.new.tree c.keep_told.ensures.alike c.grid_at.new.tally c.grid_inline.new.passes (g.R.Ruler.log c.grid_at.new.ruler) _ c.args.id c.args.query.now 2 (ticked c.args.id c.args.query.now 0 2 _ _ c.grid_inline.new.passes (omega (arith, c.in_ok-sizes.ensures.step)) (from_alike c.args.tree.now c.take_columns.new.tree c.take_columns.ensures.alike c.args.tally.now c.args.passes.now (g.R.Ruler.log c.args.ruler.now) (state c.grid_at.new.tree c.grid_at.new.tally c.grid_at.new.passes (g.R.Ruler.log c.grid_at.new.ruler)) c.args.id c.args.query.now 0 (c.in_ok-told.ensures.below c.args.query.now (sym c.as_slice-reps.ensures) refl)))
+grid_sizes-returns-clause-below g t c =
+    then_alike c.grid_at.new.tree c.keep_told.new.tree c.keep_told.ensures.alike c.grid_at.new.tally c.grid_inline.new.passes (g.R.Ruler.log c.grid_at.new.ruler) _ c.args.id c.args.query.now 2
+    (ticked c.args.id c.args.query.now 0 2 _ _ c.grid_inline.new.passes (omega (arith, c.in_ok-sizes.ensures.step))
+    (from_alike c.args.tree.now c.take_columns.new.tree c.take_columns.ensures.alike c.args.tally.now c.args.passes.now (g.R.Ruler.log c.args.ruler.now) (state c.grid_at.new.tree c.grid_at.new.tally c.grid_at.new.passes (g.R.Ruler.log c.grid_at.new.ruler)) c.args.id
+    c.args.query.now 0 (c.in_ok-told.ensures.below c.args.query.now (sym c.as_slice-reps.ensures) refl)))
 
 pub grid_sizes-returns-in_err-keep_told-clause-stopped : goal.grid_sizes-returns-in_err-keep_told-clause-stopped
-grid_sizes-returns-in_err-keep_told-clause-stopped g t c = on_err _ _ (stopped c.args.id c.args.query.now 2 _ _ (then_alike c.grid_at.new.tree c.keep_told.new.tree c.keep_told.ensures.alike c.grid_at.new.tally c.grid_inline.new.passes (g.R.Ruler.log c.grid_at.new.ruler) _ c.args.id c.args.query.now 2 (ticked c.args.id c.args.query.now 0 2 _ _ c.grid_inline.new.passes (omega (arith, c.in_ok-sizes.ensures.step)) (from_alike c.args.tree.now c.take_columns.new.tree c.take_columns.ensures.alike c.args.tally.now c.args.passes.now (g.R.Ruler.log c.args.ruler.now) (state c.grid_at.new.tree c.grid_at.new.tally c.grid_at.new.passes (g.R.Ruler.log c.grid_at.new.ruler)) c.args.id c.args.query.now 0 (c.in_ok-told.ensures.below c.args.query.now (sym c.as_slice-reps.ensures) refl)))))
+grid_sizes-returns-in_err-keep_told-clause-stopped g t c =
+    on_err _ _
+    (stopped c.args.id c.args.query.now 2 _ _
+    (then_alike c.grid_at.new.tree c.keep_told.new.tree c.keep_told.ensures.alike c.grid_at.new.tally c.grid_inline.new.passes (g.R.Ruler.log c.grid_at.new.ruler) _ c.args.id c.args.query.now 2
+    (ticked c.args.id c.args.query.now 0 2 _ _ c.grid_inline.new.passes (omega (arith, c.in_ok-sizes.ensures.step))
+    (from_alike c.args.tree.now c.take_columns.new.tree c.take_columns.ensures.alike c.args.tally.now c.args.passes.now (g.R.Ruler.log c.args.ruler.now) (state c.grid_at.new.tree c.grid_at.new.tally c.grid_at.new.passes (g.R.Ruler.log c.grid_at.new.ruler)) c.args.id
+    c.args.query.now 0 (c.in_ok-told.ensures.below c.args.query.now (sym c.as_slice-reps.ensures) refl)))))
 
 pub ask_shared-lend_columns_at-requires : goal.ask_shared-lend_columns_at-requires
 ask_shared-lend_columns_at-requires g t c =
     let b = bare c.args.tree.now.tree in
     let live : IsLive (bare c.args.tree.now.tree) c.args.entry.child = c.requires.entry.live in
-    let fits : Fits (sight_at (bare c.args.tree.now.tree) c.args.entry.child) (inline_query true c.as_slice-reps.result.now) = subst (λ (r : List Pair). Fits (sight_at (bare c.args.tree.now.tree) c.args.entry.child) (inline_query true r)) (sym c.as_slice-reps.ensures) (shared_fits b c.args.id c.args.base.now c.args.entry c.requires.entry c.requires.shared) in
-    let seat : IsSeat (sight_at (bare c.args.tree.now.tree) c.args.entry.child) c.as_slice-reps.result.now c.args.base.now.above c.args.entry.area = subst (λ (r : List Pair). IsSeat (sight_at (bare c.args.tree.now.tree) c.args.entry.child) r c.args.base.now.above c.args.entry.area) (sym c.as_slice-reps.ensures) (c.requires.entry.seat (shared_chain b c.args.id c.args.base.now c.args.entry c.requires.entry c.requires.shared)) in
+    let fits : Fits (sight_at (bare c.args.tree.now.tree) c.args.entry.child) (inline_query true c.as_slice-reps.result.now) = subst (λ (r : List Pair). Fits (sight_at (bare c.args.tree.now.tree) c.args.entry.child) (inline_query true r)) (sym c.as_slice-reps.ensures)
+    (shared_fits b c.args.id c.args.base.now c.args.entry c.requires.entry c.requires.shared) in
+    let seat : IsSeat (sight_at (bare c.args.tree.now.tree) c.args.entry.child) c.as_slice-reps.result.now c.args.base.now.above c.args.entry.area = subst (λ (r : List Pair). IsSeat (sight_at (bare c.args.tree.now.tree) c.args.entry.child) r c.args.base.now.above c.args.entry.area)
+    (sym c.as_slice-reps.ensures) (c.requires.entry.seat (shared_chain b c.args.id c.args.base.now c.args.entry c.requires.entry c.requires.shared)) in
     let small : 16 * size_at (bare c.args.tree.now.tree) c.args.entry.child + 7 < 16 * size_at (bare c.args.tree.now.tree) c.args.entry.child + 8 = omega arith in
     search rules
 
 pub ask_shared-returns-clause-stopped : goal.ask_shared-returns-clause-stopped
 ask_shared-returns-clause-stopped g t c =
     let as_asked = sym (shared_asked (bare c.args.tree.now.tree) c.args.id c.args.base.now c.args.entry c.requires.entry c.requires.shared ∙ ap (inline_query true) (sym c.as_slice-reps.ensures)) in
-    on_err _ _ (walked_stopped _ _ _ _ (subst (λ (q : Query). Walked c.args.entry.child q (state c.args.tree.now c.args.tally.now c.args.passes.now (g.R.Ruler.log c.args.ruler.now)) (state c.lend_columns_at.new.tree c.lend_columns_at.new.tally c.lend_columns_at.new.passes (g.R.Ruler.log c.lend_columns_at.new.ruler))) as_asked c.in_ok-lent.ensures.walked))
+    on_err _ _
+    (walked_stopped _ _ _ _
+    (subst
+    (λ (q : Query). Walked c.args.entry.child q (state c.args.tree.now c.args.tally.now c.args.passes.now (g.R.Ruler.log c.args.ruler.now))
+    (state c.lend_columns_at.new.tree c.lend_columns_at.new.tally c.lend_columns_at.new.passes (g.R.Ruler.log c.lend_columns_at.new.ruler))) as_asked c.in_ok-lent.ensures.walked))
 
 pub ask_sizes-inline_at-requires : goal.ask_sizes-inline_at-requires
 ask_sizes-inline_at-requires g t c =
@@ -370,8 +447,10 @@ ask_sizes-inline_at-requires g t c =
     let some : has_chain (sight_at (bare c.args.tree.now.tree) c.args.entry.child).chain ≡ true =
     c.requires.entry.chain ∙ (λ i. has_kind (sym c.node_at.ensures.kind i) (sym c.node_at.ensures.grid i)) ∙ sym c.has_subgrid.ensures ∙ c.if-has_subgrid.true in
     let live : IsLive (bare c.args.tree.now.tree) c.args.entry.child = c.requires.entry.live in
-    let fits : Fits (sight_at (bare c.args.tree.now.tree) c.args.entry.child) (inline_query false c.as_slice-reps.result.now) = subst (λ (r : List Pair). Fits (sight_at (bare c.args.tree.now.tree) c.args.entry.child) (inline_query false r)) (sym c.as_slice-reps.ensures) (rows_fits b c.args.id c.args.base.now c.args.entry c.requires.entry c.requires.own some) in
-    let seat : IsSeat (sight_at (bare c.args.tree.now.tree) c.args.entry.child) c.as_slice-reps.result.now c.args.base.now.above c.args.entry.area = subst (λ (r : List Pair). IsSeat (sight_at (bare c.args.tree.now.tree) c.args.entry.child) r c.args.base.now.above c.args.entry.area) (sym c.as_slice-reps.ensures) (c.requires.entry.seat some) in
+    let fits : Fits (sight_at (bare c.args.tree.now.tree) c.args.entry.child) (inline_query false c.as_slice-reps.result.now) = subst (λ (r : List Pair). Fits (sight_at (bare c.args.tree.now.tree) c.args.entry.child) (inline_query false r)) (sym c.as_slice-reps.ensures)
+    (rows_fits b c.args.id c.args.base.now c.args.entry c.requires.entry c.requires.own some) in
+    let seat : IsSeat (sight_at (bare c.args.tree.now.tree) c.args.entry.child) c.as_slice-reps.result.now c.args.base.now.above c.args.entry.area = subst (λ (r : List Pair). IsSeat (sight_at (bare c.args.tree.now.tree) c.args.entry.child) r c.args.base.now.above c.args.entry.area)
+    (sym c.as_slice-reps.ensures) (c.requires.entry.seat some) in
     let small : 16 * size_at (bare c.args.tree.now.tree) c.args.entry.child + 7 < 16 * size_at (bare c.args.tree.now.tree) c.args.entry.child + 9 = omega arith in
     search rules
 
@@ -379,7 +458,8 @@ pub ask_sizes-returns-in-Some-clause-sizes : goal.ask_sizes-returns-in-Some-clau
 ask_sizes-returns-in-Some-clause-sizes g t c =
     let some : has_chain (sight_at (bare c.args.tree.now.tree) c.args.entry.child).chain ≡ true =
     c.requires.entry.chain ∙ (λ i. has_kind (sym c.node_at.ensures.kind i) (sym c.node_at.ensures.grid i)) ∙ sym c.has_subgrid.ensures ∙ c.if-has_subgrid.true in
-    sizes_answered (bare c.args.tree.now.tree) c.args.id c.args.base.now c.args.entry c.requires.entry c.requires.own c.as_slice-reps.result.now _ (pairs_all (bare c.args.tree.now.tree) c.args.id c.args.base.now c.args.entry c.requires.entry some ∙ sym c.as_slice-reps.ensures) c.in-Some.ensures.value
+    sizes_answered (bare c.args.tree.now.tree) c.args.id c.args.base.now c.args.entry c.requires.entry c.requires.own c.as_slice-reps.result.now _ (pairs_all (bare c.args.tree.now.tree) c.args.id c.args.base.now c.args.entry c.requires.entry some ∙ sym c.as_slice-reps.ensures)
+    c.in-Some.ensures.value
 
 pub ask_sizes-returns-in-Some-clause-walked : goal.ask_sizes-returns-in-Some-clause-walked
 ask_sizes-returns-in-Some-clause-walked g t c =
@@ -427,13 +507,16 @@ flex_anew-put-requires-clause-fits g t c = subst (λ (z : BareTrees). Fits (sigh
 pub columns_anew-put-requires-clause-value : goal.columns_anew-put-requires-clause-value
 columns_anew-put-requires-clause-value g t c =
     ap lent_items (c.in_ok-items.ensures (bare c.args.tree.now.tree) c.args.id c.args.query.reps given.None (subst (λ (o : List Pair). IsGrid (bare c.args.tree.now.tree) c.args.id o given.None c.in_ok-told.told.parts) c.as_slice-reps.ensures
-    (subst (λ (w : Given). IsGrid (bare c.args.tree.now.tree) c.args.id c.as_slice-reps.result.now w c.in_ok-told.told.parts) (ap (λ (q : Query). q.inline) c.requires.query) c.in_ok-told.ensures.value))) ∙ lent_answer (bare c.args.tree.now.tree) c.args.id c.args.query (c.subgrids_are_grids.ensures (lent_fit (sight_at (bare c.args.tree.now.tree) c.args.id) c.args.query (ap (λ (q : Query). q.ask) c.requires.query) c.requires.fits)) (ap (λ (q : Query). q.ask) c.requires.query)
+    (subst (λ (w : Given). IsGrid (bare c.args.tree.now.tree) c.args.id c.as_slice-reps.result.now w c.in_ok-told.told.parts) (ap (λ (q : Query). q.inline) c.requires.query) c.in_ok-told.ensures.value))) ∙ lent_answer (bare c.args.tree.now.tree) c.args.id c.args.query (c.subgrids_are_grids.ensures (lent_fit
+    (sight_at (bare c.args.tree.now.tree) c.args.id) c.args.query (ap (λ (q : Query). q.ask) c.requires.query) c.requires.fits)) (ap (λ (q : Query). q.ask) c.requires.query)
     ∙ ap (λ (z : BareTrees). answer_of (sight_at z c.args.id) c.args.query) (sym (c.in_ok-told.ensures.below c.args.query (sym c.as_slice-reps.ensures) refl).walk.bare_same)
 
 pub columns_anew-returns-clause-value : goal.columns_anew-returns-clause-value
 columns_anew-returns-clause-value g t c =
-    ap lent_items (c.in_ok-lent.ensures ∙ c.as_slice.ensures) ∙ ap lent_items (c.in_ok-items.ensures (bare c.args.tree.now.tree) c.args.id c.args.query.reps given.None (subst (λ (o : List Pair). IsGrid (bare c.args.tree.now.tree) c.args.id o given.None c.in_ok-told.told.parts) c.as_slice-reps.ensures
-    (subst (λ (w : Given). IsGrid (bare c.args.tree.now.tree) c.args.id c.as_slice-reps.result.now w c.in_ok-told.told.parts) (ap (λ (q : Query). q.inline) c.requires.query) c.in_ok-told.ensures.value))) ∙ lent_answer (bare c.args.tree.now.tree) c.args.id c.args.query (c.subgrids_are_grids.ensures (lent_fit (sight_at (bare c.args.tree.now.tree) c.args.id) c.args.query (ap (λ (q : Query). q.ask) c.requires.query) c.requires.fits)) (ap (λ (q : Query). q.ask) c.requires.query)
+    ap lent_items (c.in_ok-lent.ensures ∙ c.as_slice.ensures) ∙
+    ap lent_items (c.in_ok-items.ensures (bare c.args.tree.now.tree) c.args.id c.args.query.reps given.None (subst (λ (o : List Pair). IsGrid (bare c.args.tree.now.tree) c.args.id o given.None c.in_ok-told.told.parts) c.as_slice-reps.ensures
+    (subst (λ (w : Given). IsGrid (bare c.args.tree.now.tree) c.args.id c.as_slice-reps.result.now w c.in_ok-told.told.parts) (ap (λ (q : Query). q.inline) c.requires.query) c.in_ok-told.ensures.value))) ∙ lent_answer (bare c.args.tree.now.tree) c.args.id c.args.query (c.subgrids_are_grids.ensures (lent_fit
+    (sight_at (bare c.args.tree.now.tree) c.args.id) c.args.query (ap (λ (q : Query). q.ask) c.requires.query) c.requires.fits)) (ap (λ (q : Query). q.ask) c.requires.query)
 
 pub columns_anew-returns-clause-walked : goal.columns_anew-returns-clause-walked
 columns_anew-returns-clause-walked g t c = c.in_ok-put.ensures.joins _ 0 _ _ (omega arith) (c.in_ok-told.ensures.below c.args.query (sym c.as_slice-reps.ensures) refl)
@@ -459,14 +542,16 @@ flex_anew-returns-in_err-low-clause-stopped g t c = on_err _ _ (stopped c.args.i
 
 pub flex_anew-put-requires-clause-value : goal.flex_anew-put-requires-clause-value
 flex_anew-put-requires-clause-value g t c =
-    ap inline_sizes c.in_ok-low.ensures ∙ flex_answer (bare c.flex_at.new.tree.tree) c.args.id c.args.query (subst (λ (z : BareTrees). (sight_at z c.args.id).label.kind ≡ kind.Flex) (sym (c.in_ok-parts.ensures.below c.args.query).walk.bare_same) c.requires.flex) (ap (λ (q : Query). q.ask) c.requires.query)
+    ap inline_sizes c.in_ok-low.ensures ∙
+    flex_answer (bare c.flex_at.new.tree.tree) c.args.id c.args.query (subst (λ (z : BareTrees). (sight_at z c.args.id).label.kind ≡ kind.Flex) (sym (c.in_ok-parts.ensures.below c.args.query).walk.bare_same) c.requires.flex) (ap (λ (q : Query). q.ask) c.requires.query)
 
 pub flex_anew-put-requires-clause-quiet : goal.flex_anew-put-requires-clause-quiet
 flex_anew-put-requires-clause-quiet g t c = flex_quiet (bare c.flex_at.new.tree.tree) c.args.id c.args.query (subst (λ (z : BareTrees). (sight_at z c.args.id).label.kind ≡ kind.Flex) (sym (c.in_ok-parts.ensures.below c.args.query).walk.bare_same) c.requires.flex)
 
 pub flex_anew-returns-clause-value : goal.flex_anew-returns-clause-value
 flex_anew-returns-clause-value g t c =
-    ap inline_sizes c.in_ok-low.ensures ∙ flex_answer (bare c.flex_at.new.tree.tree) c.args.id c.args.query (subst (λ (z : BareTrees). (sight_at z c.args.id).label.kind ≡ kind.Flex) (sym (c.in_ok-parts.ensures.below c.args.query).walk.bare_same) c.requires.flex) (ap (λ (q : Query). q.ask) c.requires.query)
+    ap inline_sizes c.in_ok-low.ensures ∙
+    flex_answer (bare c.flex_at.new.tree.tree) c.args.id c.args.query (subst (λ (z : BareTrees). (sight_at z c.args.id).label.kind ≡ kind.Flex) (sym (c.in_ok-parts.ensures.below c.args.query).walk.bare_same) c.requires.flex) (ap (λ (q : Query). q.ask) c.requires.query)
     ∙ ap (λ (z : BareTrees). answer_of (sight_at z c.args.id) c.args.query) (c.in_ok-parts.ensures.below c.args.query).walk.bare_same
 
 pub flex_anew-returns-clause-walked : goal.flex_anew-returns-clause-walked
@@ -520,7 +605,9 @@ pub flex_at-returns-in_err-inline-clause-stopped : goal.flex_at-returns-in_err-i
 flex_at-returns-in_err-inline-clause-stopped g t c =
     let all : (q : Query) → Stopped c.args.id q (state c.args.tree.now c.args.tally.now c.args.passes.now (g.R.Ruler.log c.args.ruler.now)) (state c.inline_at.new.tree c.inline_at.new.tally c.inline_at.new.passes (g.R.Ruler.log c.inline_at.new.ruler)) =
     λ q. c.child-child.ensures.step.stops q (inline_query false []) 0 _ _ _
-    (subst (λ (z : BareTrees). Contains (uses_at z c.args.id q) (get_or c.as_slice-number-items.result.now c.loop-number.number-index 0, inline_query false [])) (sym c.loop-number.invariant.same) (flex_uses_next (bare c.args.tree.now.tree) c.args.id c.as_slice-number-items.result.now (c.as_slice-number-items.ensures ∙ c.in_ok-numbers.ensures.value) c.loop-number.number-index (omega (arith, c.loop-number-test.true)) c.child-child.result (subst (λ (z : BareTrees). IsNext z c.args.id (get_or c.as_slice-number-items.result.now c.loop-number.number-index 0) c.child-child.result) c.loop-number.invariant.same c.child-child.ensures.next) q c.requires.flex))
+    (subst (λ (z : BareTrees). Contains (uses_at z c.args.id q) (get_or c.as_slice-number-items.result.now c.loop-number.number-index 0, inline_query false [])) (sym c.loop-number.invariant.same)
+    (flex_uses_next (bare c.args.tree.now.tree) c.args.id c.as_slice-number-items.result.now (c.as_slice-number-items.ensures ∙ c.in_ok-numbers.ensures.value) c.loop-number.number-index (omega (arith, c.loop-number-test.true)) c.child-child.result
+    (subst (λ (z : BareTrees). IsNext z c.args.id (get_or c.as_slice-number-items.result.now c.loop-number.number-index 0) c.child-child.result) c.loop-number.invariant.same c.child-child.ensures.next) q c.requires.flex))
     refl (c.loop-number.invariant.walked q) c.in_err-inline.ensures.stopped in
     on_err _ _ all
 
@@ -528,7 +615,9 @@ pub flex_at-returns-in_err-push-clause-stopped : goal.flex_at-returns-in_err-pus
 flex_at-returns-in_err-push-clause-stopped g t c =
     let all : (q : Query) → Stopped c.args.id q (state c.args.tree.now c.args.tally.now c.args.passes.now (g.R.Ruler.log c.args.ruler.now)) (state c.inline_at.new.tree c.inline_at.new.tally c.inline_at.new.passes (g.R.Ruler.log c.inline_at.new.ruler)) =
     λ q. stopped c.args.id q 0 _ _ (c.child-child.ensures.step.below q (inline_query false []) 0 _ _ _
-    (subst (λ (z : BareTrees). Contains (uses_at z c.args.id q) (get_or c.as_slice-number-items.result.now c.loop-number.number-index 0, inline_query false [])) (sym c.loop-number.invariant.same) (flex_uses_next (bare c.args.tree.now.tree) c.args.id c.as_slice-number-items.result.now (c.as_slice-number-items.ensures ∙ c.in_ok-numbers.ensures.value) c.loop-number.number-index (omega (arith, c.loop-number-test.true)) c.child-child.result (subst (λ (z : BareTrees). IsNext z c.args.id (get_or c.as_slice-number-items.result.now c.loop-number.number-index 0) c.child-child.result) c.loop-number.invariant.same c.child-child.ensures.next) q c.requires.flex))
+    (subst (λ (z : BareTrees). Contains (uses_at z c.args.id q) (get_or c.as_slice-number-items.result.now c.loop-number.number-index 0, inline_query false [])) (sym c.loop-number.invariant.same)
+    (flex_uses_next (bare c.args.tree.now.tree) c.args.id c.as_slice-number-items.result.now (c.as_slice-number-items.ensures ∙ c.in_ok-numbers.ensures.value) c.loop-number.number-index (omega (arith, c.loop-number-test.true)) c.child-child.result
+    (subst (λ (z : BareTrees). IsNext z c.args.id (get_or c.as_slice-number-items.result.now c.loop-number.number-index 0) c.child-child.result) c.loop-number.invariant.same c.child-child.ensures.next) q c.requires.flex))
     refl (c.loop-number.invariant.walked q) c.in_ok-inline.ensures.walked) in
     on_err _ _ all
 
@@ -538,9 +627,13 @@ flex_at-loop-number-preserved g t c =
       right = c.inline_at.ensures.right;
       same = c.in_ok-inline.ensures.walked.walk.bare_same ∙ c.loop-number.invariant.same;
       walked = λ q. c.child-child.ensures.step.below q (inline_query false []) 0 _ _ _
-          (subst (λ (z : BareTrees). Contains (uses_at z c.args.id q) (get_or c.as_slice-number-items.result.now c.loop-number.number-index 0, inline_query false [])) (sym c.loop-number.invariant.same) (flex_uses_next (bare c.args.tree.now.tree) c.args.id c.as_slice-number-items.result.now (c.as_slice-number-items.ensures ∙ c.in_ok-numbers.ensures.value) c.loop-number.number-index (omega (arith, c.loop-number-test.true)) c.child-child.result (subst (λ (z : BareTrees). IsNext z c.args.id (get_or c.as_slice-number-items.result.now c.loop-number.number-index 0) c.child-child.result) c.loop-number.invariant.same c.child-child.ensures.next) q c.requires.flex))
+          (subst (λ (z : BareTrees). Contains (uses_at z c.args.id q) (get_or c.as_slice-number-items.result.now c.loop-number.number-index 0, inline_query false [])) (sym c.loop-number.invariant.same)
+          (flex_uses_next (bare c.args.tree.now.tree) c.args.id c.as_slice-number-items.result.now (c.as_slice-number-items.ensures ∙ c.in_ok-numbers.ensures.value) c.loop-number.number-index (omega (arith, c.loop-number-test.true)) c.child-child.result
+          (subst (λ (z : BareTrees). IsNext z c.args.id (get_or c.as_slice-number-items.result.now c.loop-number.number-index 0) c.child-child.result) c.loop-number.invariant.same c.child-child.ensures.next) q c.requires.flex))
           refl (c.loop-number.invariant.walked q) c.in_ok-inline.ensures.walked;
-      members = members_next (bare c.args.tree.now.tree) c.args.id c.as_slice-number-items.result.now (c.as_slice-number-items.ensures ∙ c.in_ok-numbers.ensures.value) c.loop-number.number-index (omega (arith, c.loop-number-test.true)) c.child-child.result (subst (λ (z : BareTrees). IsNext z c.args.id (get_or c.as_slice-number-items.result.now c.loop-number.number-index 0) c.child-child.result) c.loop-number.invariant.same c.child-child.ensures.next) _ _ c.in_ok-inline.inline
+      members =
+          members_next (bare c.args.tree.now.tree) c.args.id c.as_slice-number-items.result.now (c.as_slice-number-items.ensures ∙ c.in_ok-numbers.ensures.value) c.loop-number.number-index (omega (arith, c.loop-number-test.true)) c.child-child.result
+          (subst (λ (z : BareTrees). IsNext z c.args.id (get_or c.as_slice-number-items.result.now c.loop-number.number-index 0) c.child-child.result) c.loop-number.invariant.same c.child-child.ensures.next) _ _ c.in_ok-inline.inline
           (sizes_are _ _ c.in_ok-inline.ensures.value ∙ ap (λ (z : BareTrees). (kid_at z c.child-child.result).answers.inline []) c.loop-number.invariant.same)
           c.in_ok-push.ensures.ok c.loop-number.invariant.members;
       children = subst (All (IsChild (bare c.args.tree.now.tree) c.args.id)) (sym c.in_ok-push.ensures.ok)
@@ -561,7 +654,10 @@ pub flex_at-returns-clause-below : goal.flex_at-returns-clause-below
 flex_at-returns-clause-below g t c = c.loop-number.invariant.walked
 
 pub columns_anew-put-requires-clause-quiet : goal.columns_anew-put-requires-clause-quiet
-columns_anew-put-requires-clause-quiet g t c = grid_quiet (bare c.grid_at.new.tree.tree) c.args.id c.args.query (subst (λ (z : BareTrees). (sight_at z c.args.id).label.kind ≡ kind.Grid) (sym (c.in_ok-told.ensures.below c.args.query (sym c.as_slice-reps.ensures) refl).walk.bare_same) (c.subgrids_are_grids.ensures (lent_fit (sight_at (bare c.args.tree.now.tree) c.args.id) c.args.query (ap (λ (q : Query). q.ask) c.requires.query) c.requires.fits)))
+columns_anew-put-requires-clause-quiet g t c =
+    grid_quiet (bare c.grid_at.new.tree.tree) c.args.id c.args.query
+    (subst (λ (z : BareTrees). (sight_at z c.args.id).label.kind ≡ kind.Grid) (sym (c.in_ok-told.ensures.below c.args.query (sym c.as_slice-reps.ensures) refl).walk.bare_same)
+    (c.subgrids_are_grids.ensures (lent_fit (sight_at (bare c.args.tree.now.tree) c.args.id) c.args.query (ap (λ (q : Query). q.ask) c.requires.query) c.requires.fits)))
 
 pub inline_at-returns-in_err-query-clause-stopped : goal.inline_at-returns-in_err-query-clause-stopped
 inline_at-returns-in_err-query-clause-stopped g t c = on_err _ _ (stopped c.args.id _ 0 _ _ (walked_none c.args.id (inline_query false c.args.reps.now) (state c.args.tree.now c.args.tally.now c.args.passes.now (g.R.Ruler.log c.args.ruler.now)) c.requires.right))

@@ -8,4 +8,7 @@ use Rattle.page_tree.proofs.Marking.{two_added}
 use Rattle.page_tree.proofs.touched.by_node.Goals as goal
 
 pub returns-clause-numbers : goal.returns-clause-numbers
-returns-clause-numbers c = record { each = two_added (λ (w : Word). bytes_eq w c.args.name.now) (λ (w : Word). c.args.felt && is_parent (trees_in c.args.page.now) c.args.name.now w) c.args.page.now.nodes.tree c.add_named.new.found c.add_felt_parent.new.found (subst (λ l. AddsMarked (λ (w : Word). bytes_eq w c.args.name.now) c.args.page.now.nodes.tree l c.add_named.new.found) c.new-numbers.ensures c.in_ok-add_named.ensures) c.in_ok-add_felt_parent.ensures }
+returns-clause-numbers c = record {
+  each = two_added (λ (w : Word). bytes_eq w c.args.name.now) (λ (w : Word). c.args.felt && is_parent (trees_in c.args.page.now) c.args.name.now w) c.args.page.now.nodes.tree c.add_named.new.found c.add_felt_parent.new.found
+      (subst (λ l. AddsMarked (λ (w : Word). bytes_eq w c.args.name.now) c.args.page.now.nodes.tree l c.add_named.new.found) c.new-numbers.ensures c.in_ok-add_named.ensures) c.in_ok-add_felt_parent.ensures;
+}

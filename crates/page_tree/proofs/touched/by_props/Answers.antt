@@ -11,6 +11,8 @@ use Rattle.page_tree.proofs.touched.by_props.Goals as goal
 
 pub returns-clause-numbers : goal.returns-clause-numbers
 returns-clause-numbers c = record {
-  each = three_added (λ (w : Word). bytes_eq w c.args.name.now) (λ (w : Word). c.args.felt && is_parent (trees_in c.args.page.now) c.args.name.now w) (λ (w : Word). c.args.font && holds (doc.below_at c.args.name.now (trees_in c.args.page.now)) w) c.args.page.now.nodes.tree c.add_named.new.found c.add_felt_parent.new.found c.add_all_below.new.found
+  each =
+      three_added (λ (w : Word). bytes_eq w c.args.name.now) (λ (w : Word). c.args.felt && is_parent (trees_in c.args.page.now) c.args.name.now w) (λ (w : Word). c.args.font && holds (doc.below_at c.args.name.now (trees_in c.args.page.now)) w) c.args.page.now.nodes.tree
+      c.add_named.new.found c.add_felt_parent.new.found c.add_all_below.new.found
       (subst (λ l. AddsMarked (λ (w : Word). bytes_eq w c.args.name.now) c.args.page.now.nodes.tree l c.add_named.new.found) c.new-numbers.ensures c.in_ok-add_named.ensures) c.in_ok-add_felt_parent.ensures c.in_ok-add_all_below.ensures;
 }

@@ -22,5 +22,7 @@ pub returns-clause-numbers : goal.returns-clause-numbers
 returns-clause-numbers c =
     let felt = c.any_is_felt-felt.ensures ∙ ap (list_any (λ (v : Prop × Option DeclaredValue). is_felt_property v.0)) c.as_slice-slice.ensures ∙ any_value is_felt_property c.args.values.now in
     let font = c.any_is_font-font.ensures ∙ ap (list_any (λ (v : Prop × Option DeclaredValue). is_font_property v.0)) c.as_slice-slice.ensures ∙ any_value is_font_property c.args.values.now in
-    subst (λ (b : Bool × Bool). IfOk c.by_props.result (λ (m : Touched). IsMarking (λ w. bytes_eq w c.args.name.now || ((b.0 && is_parent (trees_in c.args.page.now) c.args.name.now w) || (b.1 && holds (doc.below_at c.args.name.now (trees_in c.args.page.now)) w))) c.args.page.now.nodes.tree m.numbers))
+    subst
+    (λ (b : Bool × Bool). IfOk c.by_props.result
+    (λ (m : Touched). IsMarking (λ w. bytes_eq w c.args.name.now || ((b.0 && is_parent (trees_in c.args.page.now) c.args.name.now w) || (b.1 && holds (doc.below_at c.args.name.now (trees_in c.args.page.now)) w))) c.args.page.now.nodes.tree m.numbers))
     (λ i. (felt i, font i)) c.by_props.ensures.numbers

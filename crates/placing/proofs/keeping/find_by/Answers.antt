@@ -10,10 +10,14 @@ pub returns-clause-kept : goal.returns-clause-kept
 returns-clause-kept c = c.find_by.ensures.value ∙ ap (answer_to (record { ask = c.args.ask; reps = c.args.reps.now; inline = c.args.inline.now; block = c.args.block.now })) c.node_at.ensures.kept
 
 pub returns-clause-value : goal.returns-clause-value
-returns-clause-value c = found_value c.args.tree.now.tree c.args.id (record { ask = c.args.ask; reps = c.args.reps.now; inline = c.args.inline.now; block = c.args.block.now }) _ c.requires.right (c.find_by.ensures.value ∙ ap (answer_to (record { ask = c.args.ask; reps = c.args.reps.now; inline = c.args.inline.now; block = c.args.block.now })) c.node_at.ensures.kept)
+returns-clause-value c =
+    found_value c.args.tree.now.tree c.args.id (record { ask = c.args.ask; reps = c.args.reps.now; inline = c.args.inline.now; block = c.args.block.now }) _ c.requires.right
+    (c.find_by.ensures.value ∙ ap (answer_to (record { ask = c.args.ask; reps = c.args.reps.now; inline = c.args.inline.now; block = c.args.block.now })) c.node_at.ensures.kept)
 
 pub returns-clause-children : goal.returns-clause-children
-returns-clause-children c = found_children c.args.tree.now.tree c.args.id (record { ask = c.args.ask; reps = c.args.reps.now; inline = c.args.inline.now; block = c.args.block.now }) _ c.requires.right (c.find_by.ensures.value ∙ ap (answer_to (record { ask = c.args.ask; reps = c.args.reps.now; inline = c.args.inline.now; block = c.args.block.now })) c.node_at.ensures.kept)
+returns-clause-children c =
+    found_children c.args.tree.now.tree c.args.id (record { ask = c.args.ask; reps = c.args.reps.now; inline = c.args.inline.now; block = c.args.block.now }) _ c.requires.right
+    (c.find_by.ensures.value ∙ ap (answer_to (record { ask = c.args.ask; reps = c.args.reps.now; inline = c.args.inline.now; block = c.args.block.now })) c.node_at.ensures.kept)
 
 pub returns-clause-absent : goal.returns-clause-absent
 returns-clause-absent c = none_then _ _ (λ none. subst (IsAbsent (record { ask = c.args.ask; reps = c.args.reps.now; inline = c.args.inline.now; block = c.args.block.now })) c.node_at.ensures.kept (c.find_by.ensures.absent.0 none))

@@ -14,7 +14,8 @@ unwrap-node-requires c = mut_some c.get_mut.result (ap is_some c.get_mut.ensures
 pub returns-clause-right : goal.returns-clause-right
 returns-clause-right c =
     let k = base_put c.args.tree.now c.args.id c.unwrap-node.result.now c.args.base c.put.new.self (ap option_copied_mut (sym c.unwrap-node.ensures) ∙ c.get_mut.ensures.value) c.get_mut.ensures.numbered c.put.ensures in
-    changes_right _ _ _ _ k c.requires.right (base_more c.args.tree.now.tree c.args.id c.args.base c.unwrap-node.result.now.past c.requires.right c.requires.holds (past_there c.args.tree.now.tree c.args.id c.unwrap-node.result.now (ap option_copied_mut (sym c.unwrap-node.ensures) ∙ c.get_mut.ensures.value)))
+    changes_right _ _ _ _ k c.requires.right
+    (base_more c.args.tree.now.tree c.args.id c.args.base c.unwrap-node.result.now.past c.requires.right c.requires.holds (past_there c.args.tree.now.tree c.args.id c.unwrap-node.result.now (ap option_copied_mut (sym c.unwrap-node.ensures) ∙ c.get_mut.ensures.value)))
 
 pub returns-clause-same : goal.returns-clause-same
 returns-clause-same c =

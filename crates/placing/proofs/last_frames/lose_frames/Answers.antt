@@ -16,7 +16,9 @@ returns-clause-lost c =
       value = c.unwrap-node.result.now;
       there = ap option_copied_mut (sym c.unwrap-node.ensures) ∙ c.get_mut.ensures.value;
       numbered = c.get_mut.ensures.numbered;
-      new_is = ap (λ o. with_value c.args.id (record c.unwrap-node.result.now { past = record c.unwrap-node.result.now.past { frames = o } }) c.args.tree.now) c.take.ensures.after ∙ ap (λ (p : Past). with_value c.args.id (record c.unwrap-node.result.now { past = record p { frames = None } }) c.args.tree.now) (past_there c.args.tree.now.tree c.args.id c.unwrap-node.result.now (ap option_copied_mut (sym c.unwrap-node.ensures) ∙ c.get_mut.ensures.value));
+      new_is =
+          ap (λ o. with_value c.args.id (record c.unwrap-node.result.now { past = record c.unwrap-node.result.now.past { frames = o } }) c.args.tree.now) c.take.ensures.after ∙
+          ap (λ (p : Past). with_value c.args.id (record c.unwrap-node.result.now { past = record p { frames = None } }) c.args.tree.now) (past_there c.args.tree.now.tree c.args.id c.unwrap-node.result.now (ap option_copied_mut (sym c.unwrap-node.ensures) ∙ c.get_mut.ensures.value));
     }
 
 pub returns-clause-kept : goal.returns-clause-kept

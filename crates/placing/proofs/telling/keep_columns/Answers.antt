@@ -13,7 +13,8 @@ pub returns-clause-right : goal.returns-clause-right
 returns-clause-right c =
     changes_right _ _ _ _ c.gain_columns.ensures c.requires.right (new_columns c.args.tree.now.tree c.args.id c.in_ok-shared.shared c.requires.right
     (subst (HoldsColumns (bare c.args.tree.now.tree) (turn_at c.args.tree.now.tree) c.args.id) (sym c.in_ok-shared.ensures)
-    (columns_kept (bare c.args.tree.now.tree) (turn_at c.args.tree.now.tree) c.args.id (record { told = c.args.told; turns = c.in_ok-turns.turns }) (c.in_ok-turns.ensures ∙ ap (map (λ (e : NodeId × Area). turn_at c.args.tree.now.tree e.0)) (c.as_slice-areas.ensures ∙ ap (λ (z : GridBase). z.placed.areas) c.grid.ensures)) c.requires.places c.requires.told)))
+    (columns_kept (bare c.args.tree.now.tree) (turn_at c.args.tree.now.tree) c.args.id (record { told = c.args.told; turns = c.in_ok-turns.turns })
+    (c.in_ok-turns.ensures ∙ ap (map (λ (e : NodeId × Area). turn_at c.args.tree.now.tree e.0)) (c.as_slice-areas.ensures ∙ ap (λ (z : GridBase). z.placed.areas) c.grid.ensures)) c.requires.places c.requires.told)))
 
 pub returns-clause-alike : goal.returns-clause-alike
 returns-clause-alike c = changes_alike _ _ _ _ c.gain_columns.ensures

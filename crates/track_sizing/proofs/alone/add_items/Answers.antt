@@ -24,6 +24,10 @@ loop-back-preserved g c =
     let place : length c.args.items.now - 1 - c.loop-back.back ≡ length c.args.items.now - (c.loop-back.back + 1) = omega arith in
     let is : c.index-items-items.result ≡ get_or c.args.items.now (length c.args.items.now - (c.loop-back.back + 1)) c.index-items-items.result = subst (λ (k : ℕ). c.index-items-items.result ≡ get_or c.args.items.now k c.index-items-items.result) place c.index-items-items.is in
     record {
-      same = one_counted c.args.space.now c.args.gap c.args.rows.now c.args.items.now (length c.args.items.now - c.loop-back.back) (length c.args.items.now - (c.loop-back.back + 1)) c.index-items-items.result c.loop-back.singles c.add_item-more.new.singles c.loop-back.invariant.same (omega arith) (omega arith) is c.add_item-more.ensures.singles;
-      quiet = quiet_more c.args.gap c.args.items.now (length c.args.items.now - c.loop-back.back) (length c.args.items.now - (c.loop-back.back + 1)) c.index-items-items.result c.loop-back.quiet c.add_item-more.result c.both-quiet.result c.loop-back.invariant.quiet (omega arith) (omega arith) is c.add_item-more.ensures.quiet c.both-quiet.ensures;
+      same =
+          one_counted c.args.space.now c.args.gap c.args.rows.now c.args.items.now (length c.args.items.now - c.loop-back.back) (length c.args.items.now - (c.loop-back.back + 1)) c.index-items-items.result c.loop-back.singles c.add_item-more.new.singles c.loop-back.invariant.same
+          (omega arith) (omega arith) is c.add_item-more.ensures.singles;
+      quiet =
+          quiet_more c.args.gap c.args.items.now (length c.args.items.now - c.loop-back.back) (length c.args.items.now - (c.loop-back.back + 1)) c.index-items-items.result c.loop-back.quiet c.add_item-more.result c.both-quiet.result c.loop-back.invariant.quiet (omega arith)
+          (omega arith) is c.add_item-more.ensures.quiet c.both-quiet.ensures;
     }

@@ -12,7 +12,8 @@ pub returns-clause-singles : goal.returns-clause-singles
 returns-clause-singles g c =
     let at : c.place_of-place.result < length c.args.rows.now = omega (arith, ints, c.place_of-place.ensures, c.requires.item.some, c.requires.item.end) in
     let plain : is_special c.index-rows-place.result ≡ false = none_special c.args.rows.now c.place_of-place.result c.index-rows-place.result c.requires.plain at c.index-rows-place.is in
-    counts c.args._space.now c.args.gap c.args.first c.args.rows.now c.args.item.now c.args.rows.now c.args.singles.now c.place_of-place.result c.index-rows-place.result c.index-singles-place.result c.single_plain.result c.requires.length c.requires.set (sym c.is_single.ensures ∙ c.if-not-is_single.false) c.place_of-place.ensures at c.index-rows-place.is (plain_rigid c.index-rows-place.result plain) c.index-singles-place.is
+    counts c.args._space.now c.args.gap c.args.first c.args.rows.now c.args.item.now c.args.rows.now c.args.singles.now c.place_of-place.result c.index-rows-place.result c.index-singles-place.result c.single_plain.result c.requires.length c.requires.set
+    (sym c.is_single.ensures ∙ c.if-not-is_single.false) c.place_of-place.ensures at c.index-rows-place.is (plain_rigid c.index-rows-place.result plain) c.index-singles-place.is
     (c.single_plain.ensures
     ∙ ap (λ (s : Single). single_plain c.args.definite c.args.item.now s) (sym c.index-singles-place.is)
     ∙ ap (λ (b : Bool). single_plain b c.args.item.now c.index-singles-place.result) c.requires.definite

@@ -65,4 +65,5 @@ loop-turn-preserved g c =
 
 pub returns-then-left-eq0-clause-rows : goal.returns-then-left-eq0-clause-rows
 returns-then-left-eq0-clause-rows g c =
-    ended c.args.space.now c.args.gap c.args.items.now c.loop-turn.left.now (length c.args.rows.now - c.loop-turn._turn) c.loop-turn.span c.loop-turn.rows (spans_fitted c.args.space.now c.args.gap c.args.items.now (length c.args.rows.now) 2 c.args.rows.now) c.loop-turn.invariant.left (omega (arith, c.if-left-eq0.true)) c.loop-turn.invariant.same
+    ended c.args.space.now c.args.gap c.args.items.now c.loop-turn.left.now (length c.args.rows.now - c.loop-turn._turn) c.loop-turn.span c.loop-turn.rows (spans_fitted c.args.space.now c.args.gap c.args.items.now (length c.args.rows.now) 2 c.args.rows.now) c.loop-turn.invariant.left
+    (omega (arith, c.if-left-eq0.true)) c.loop-turn.invariant.same

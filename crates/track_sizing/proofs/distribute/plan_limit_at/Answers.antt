@@ -10,20 +10,25 @@ use Rattle.track_sizing.proofs.distribute.plan_limit_at.Goals as goal
 pub returns-clause-rows : goal.returns-clause-rows
 returns-clause-rows c =
     let tracks = limit_at c.args.affected.now c.args.second c.args.gap c.args.item.now c.args.first c.args.rows.now c.place_of-start.result c.span_length-tracks.result c.requires.set c.place_of-start.ensures (omega (arith, ints, c.span_length-tracks.ensures.value)) in
-    joined_at (limit_planned_of c.args.affected.now c.args.second c.args.gap c.args.item.now) c.args.rows.now c.place_of-start.result c.span_length-tracks.result c.split_at_mut-before.result.0.now c.split_at_mut-before.result.1.now c.split_at_mut-mine.result.0.now c.split_at_mut-mine.result.1.now c.plan_limit.new.rows
+    joined_at (limit_planned_of c.args.affected.now c.args.second c.args.gap c.args.item.now) c.args.rows.now c.place_of-start.result c.span_length-tracks.result c.split_at_mut-before.result.0.now c.split_at_mut-before.result.1.now c.split_at_mut-mine.result.0.now
+    c.split_at_mut-mine.result.1.now c.plan_limit.new.rows
     c.split_at_mut-before.ensures.front c.split_at_mut-before.ensures.back c.split_at_mut-mine.ensures.front c.split_at_mut-mine.ensures.back c.plan_limit.ensures ∙ sym tracks
 
 pub returns-clause-set : goal.returns-clause-set
 returns-clause-set c =
     let tracks = limit_at c.args.affected.now c.args.second c.args.gap c.args.item.now c.args.first c.args.rows.now c.place_of-start.result c.span_length-tracks.result c.requires.set c.place_of-start.ensures (omega (arith, ints, c.span_length-tracks.ensures.value)) in
-    let rows = joined_at (limit_planned_of c.args.affected.now c.args.second c.args.gap c.args.item.now) c.args.rows.now c.place_of-start.result c.span_length-tracks.result c.split_at_mut-before.result.0.now c.split_at_mut-before.result.1.now c.split_at_mut-mine.result.0.now c.split_at_mut-mine.result.1.now c.plan_limit.new.rows
+    let rows =
+    joined_at (limit_planned_of c.args.affected.now c.args.second c.args.gap c.args.item.now) c.args.rows.now c.place_of-start.result c.span_length-tracks.result c.split_at_mut-before.result.0.now c.split_at_mut-before.result.1.now c.split_at_mut-mine.result.0.now
+    c.split_at_mut-mine.result.1.now c.plan_limit.new.rows
     c.split_at_mut-before.ensures.front c.split_at_mut-before.ensures.back c.split_at_mut-mine.ensures.front c.split_at_mut-mine.ensures.back c.plan_limit.ensures ∙ sym tracks in
     subst (λ (ts : List Track). AreSet c.args.first ts) (sym rows) (limit_set (limit_step_in c.args.affected.now c.args.second) c.args.gap c.args.first c.args.rows.now c.args.item.now c.requires.set)
 
 pub returns-clause-lengths : goal.returns-clause-lengths
 returns-clause-lengths c =
     let tracks = limit_at c.args.affected.now c.args.second c.args.gap c.args.item.now c.args.first c.args.rows.now c.place_of-start.result c.span_length-tracks.result c.requires.set c.place_of-start.ensures (omega (arith, ints, c.span_length-tracks.ensures.value)) in
-    let rows = joined_at (limit_planned_of c.args.affected.now c.args.second c.args.gap c.args.item.now) c.args.rows.now c.place_of-start.result c.span_length-tracks.result c.split_at_mut-before.result.0.now c.split_at_mut-before.result.1.now c.split_at_mut-mine.result.0.now c.split_at_mut-mine.result.1.now c.plan_limit.new.rows
+    let rows =
+    joined_at (limit_planned_of c.args.affected.now c.args.second c.args.gap c.args.item.now) c.args.rows.now c.place_of-start.result c.span_length-tracks.result c.split_at_mut-before.result.0.now c.split_at_mut-before.result.1.now c.split_at_mut-mine.result.0.now
+    c.split_at_mut-mine.result.1.now c.plan_limit.new.rows
     c.split_at_mut-before.ensures.front c.split_at_mut-before.ensures.back c.split_at_mut-mine.ensures.front c.split_at_mut-mine.ensures.back c.plan_limit.ensures ∙ sym tracks in
     subst HaveLengths (sym rows) (limit_lengths (limit_step_in c.args.affected.now c.args.second) c.args.gap c.args.rows.now c.args.item.now c.requires.lengths)
 

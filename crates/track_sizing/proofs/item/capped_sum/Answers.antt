@@ -7,4 +7,5 @@ use Rattle.track_sizing.proofs.item.capped_sum.Goals as goal
 
 pub loop-row-preserved : goal.loop-row-preserved
 loop-row-preserved c =
-    more_known (λ (t : Track). capped_most t.rule.most) c.args.rows.now c.loop-row.row-index c.loop-row.sum c.in-Some.size c.add-sum.result c.row-item.result c.loop-row.invariant (omega arith) c.row-item.is (ap (λ (r : Rule). capped_most r.most) (sym c.rule.ensures) ∙ sym c.in-Some.ensures) (omega (arith, ints), omega (arith, ints)) (omega (arith, ints))
+    more_known (λ (t : Track). capped_most t.rule.most) c.args.rows.now c.loop-row.row-index c.loop-row.sum c.in-Some.size c.add-sum.result c.row-item.result c.loop-row.invariant (omega arith) c.row-item.is
+    (ap (λ (r : Rule). capped_most r.most) (sym c.rule.ensures) ∙ sym c.in-Some.ensures) (omega (arith, ints), omega (arith, ints)) (omega (arith, ints))

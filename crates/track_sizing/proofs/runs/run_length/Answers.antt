@@ -17,5 +17,7 @@ loop-count-preserved c =
     let next : suc c.loop-count.count ≡ c.loop-count.count + 1 = omega arith in
     record {
       fits = omega arith;
-      of = subst (λ (n : ℕ). AreOf c.args.number (take n c.args.items.now)) next (of_more c.args.number c.args.items.now c.loop-count.count c.index-items-count.result c.loop-count.invariant.of (omega arith) c.index-items-count.is (that_number (span_length c.index-items-count.result) c.args.number (sym c.has.ensures ∙ c.if-has.true)));
+      of =
+          subst (λ (n : ℕ). AreOf c.args.number (take n c.args.items.now)) next
+          (of_more c.args.number c.args.items.now c.loop-count.count c.index-items-count.result c.loop-count.invariant.of (omega arith) c.index-items-count.is (that_number (span_length c.index-items-count.result) c.args.number (sym c.has.ensures ∙ c.if-has.true)));
     }

@@ -20,7 +20,8 @@ lines_below-requires-clause-areas c =
     let whole : Span = record { start = pos 0; end = pos c.tracks_within-tracks.result } in
     let all : whole.end ≡ whole.start +ℤ pos c.tracks_within-tracks.result = omega (arith, ints) in
     let P : Table → Type 0 = λ t. are_areas t.tracks t.areas ≡ true in
-    all_fit c.tracks_within-tracks.result 65536 c.args.parent.now.tracks whole c.args.span c.args.areas.now c.args.parent.now.areas c.as_slice.result.now all c.tracks_within-tracks.ensures.value c.requires.areas (subst P c.parent.view_is c.parent.invariant.areas) (c.as_slice.ensures ∙ c.in_ok-all.ensures)
+    all_fit c.tracks_within-tracks.result 65536 c.args.parent.now.tracks whole c.args.span c.args.areas.now c.args.parent.now.areas c.as_slice.result.now all c.tracks_within-tracks.ensures.value c.requires.areas (subst P c.parent.view_is c.parent.invariant.areas)
+    (c.as_slice.ensures ∙ c.in_ok-all.ensures)
 
 pub returns : goal.returns
 returns c =

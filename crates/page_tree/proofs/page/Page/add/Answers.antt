@@ -20,7 +20,9 @@ invariant_of-self-2 c =
     subst (λ (n : Nodes Node). IsPage n.tree) (sym c.in_ok-id.ensures.ok)
     (record {
       rooted = grafted_count c.args.parent c.args.index new t ∙ c.self.invariant.rooted;
-      styled = grafted_styled under.font c.args.parent c.args.index new t (subst (λ (h : Held). HasFont under.font c.args.parent h.nodes.tree) (sym c.self.view_is) under.has) ((subst (λ (h : Held). HasStyle (font_of under.font (root_font_of h.nodes.tree) c.in_ok-node.node.declared) (root_font_of h.nodes.tree) c.in_ok-node.node) (sym c.self.view_is) under.style), (tt, tt)) c.self.invariant.styled;
+      styled =
+          grafted_styled under.font c.args.parent c.args.index new t (subst (λ (h : Held). HasFont under.font c.args.parent h.nodes.tree) (sym c.self.view_is) under.has)
+          ((subst (λ (h : Held). HasStyle (font_of under.font (root_font_of h.nodes.tree) c.in_ok-node.node.declared) (root_font_of h.nodes.tree) c.in_ok-node.node) (sym c.self.view_is) under.style), (tt, tt)) c.self.invariant.styled;
     })
 
 pub returns-clause-adds : goal.returns-clause-adds

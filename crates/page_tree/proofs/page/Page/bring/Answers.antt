@@ -45,7 +45,8 @@ returns-in-Err-clause-err c =
     let back =
     c.take_out.ensures.nodes
     ∙ added_back c.known-upper.result c.args.index (label_of c.args.node.now) c.in_ok-id.id c.args.self.now.nodes.tree c.add.new.self.nodes.tree c.stands.ensures.distinct c.known-upper.ensures.live c.in_ok-id.ensures.adds c.fill.new.page.nodes.tree c.in-Err.ensures.err in
-    undone_brought c.args.parent.now c.args.index c.args.node.now c.args.self.now c.take_out.new.self (around_on c.args.self.now c.fill.new.page c.take_out.new.self (around_on c.args.self.now c.add.new.self c.fill.new.page c.in_ok-id.ensures.around c.fill.ensures.around) c.take_out.ensures.around) back
+    undone_brought c.args.parent.now c.args.index c.args.node.now c.args.self.now c.take_out.new.self
+    (around_on c.args.self.now c.fill.new.page c.take_out.new.self (around_on c.args.self.now c.add.new.self c.fill.new.page c.in_ok-id.ensures.around c.fill.ensures.around) c.take_out.ensures.around) back
     (λ alone. absurd (not_both false (c.in-Err.ensures.bare alone) refl))
 
 pub returns-in-Err-clause-around : goal.returns-in-Err-clause-around

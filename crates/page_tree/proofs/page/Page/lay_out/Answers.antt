@@ -42,7 +42,8 @@ returns-clause-paths g c =
 
 pub returns-clause-leaves : goal.returns-clause-leaves
 returns-clause-leaves g c =
-    subst (λ (h : Held). OnOk c.lay_out.result (AreMeasured (bare h.nodes.tree) h.width h.height (state h.nodes c.args.tally.now c.args.passes.now (g.R.Ruler.log c.args.ruler.now)) (state c.lay_out.new.self c.lay_out.new.tally c.lay_out.new.passes (g.R.Ruler.log c.lay_out.new.ruler)))) c.self.view_is c.lay_out.ensures.leaves
+    subst (λ (h : Held). OnOk c.lay_out.result (AreMeasured (bare h.nodes.tree) h.width h.height (state h.nodes c.args.tally.now c.args.passes.now (g.R.Ruler.log c.args.ruler.now)) (state c.lay_out.new.self c.lay_out.new.tally c.lay_out.new.passes (g.R.Ruler.log c.lay_out.new.ruler))))
+    c.self.view_is c.lay_out.ensures.leaves
 
 pub lay_out-requires-clause-last : goal.lay_out-requires-clause-last
 lay_out-requires-clause-last g c = subst (λ (h : Held). AreFound (bare h.nodes.tree) (kept_at h.nodes.tree) c.args.last.now) (sym c.self.view_is) c.requires.last

@@ -24,7 +24,10 @@ returns-clause-paths g c =
 
 pub returns-clause-leaves : goal.returns-clause-leaves
 returns-clause-leaves g c =
-    subst (λ (n : Nodes Node). OnOk c.walk_boxes.result (AreMeasured (bare n.tree) c.args.width c.args.height (state n c.args.tally.now c.args.passes.now (g.R.Ruler.log c.args.ruler.now)) (state c.walk_boxes.new.tree c.walk_boxes.new.tally c.walk_boxes.new.passes (g.R.Ruler.log c.walk_boxes.new.ruler)))) c.self.view_is c.walk_boxes.ensures.leaves
+    subst
+    (λ (n : Nodes Node). OnOk c.walk_boxes.result
+    (AreMeasured (bare n.tree) c.args.width c.args.height (state n c.args.tally.now c.args.passes.now (g.R.Ruler.log c.args.ruler.now)) (state c.walk_boxes.new.tree c.walk_boxes.new.tally c.walk_boxes.new.passes (g.R.Ruler.log c.walk_boxes.new.ruler)))) c.self.view_is
+    c.walk_boxes.ensures.leaves
 
 pub walk_boxes-requires-clause-last : goal.walk_boxes-requires-clause-last
 walk_boxes-requires-clause-last g c = subst (λ (n : Nodes Node). AreFound (bare n.tree) (kept_at n.tree) c.args.last.now) (sym c.self.view_is) c.requires.last
