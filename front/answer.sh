@@ -25,15 +25,16 @@ explain_all() {
     fi
 }
 
-# What a status says, beside those of the answers themselves.
+# say_status STATUS WORD: what a status says, beside those that the output tells itself.
 say_status() {
     case $1 in
-        0 | 2 | 3) ;;
+        0 | 2) ;;
+        3) [ "$2" != write ] || say "some edits were refused, and the document is written without them: ./gridlay check FILE tells which" ;;
         4) say "the input could not be read to its end: what is whole before that was answered" ;;
         5) say "the output could not be written: what was written is the beginning of it" ;;
         6) say "memory was wanting: what was written is the beginning of the output" ;;
         7) say "the input has more than 67108864 bytes: what is whole before that was answered" ;;
-        8) say "a line of the document would have more than 65536 bytes: it was not written" ;;
+        8) say "a line of the document would have more than 65536 bytes, so nothing was written" ;;
         64) say "the program does not take these words; ./gridlay --help tells all words" ;;
         139) say "the system ended the program: most likely the stack is too small, README.md tells how much it needs" ;;
         *) [ "$1" -lt 129 ] || [ "$1" -eq 141 ] || say "the program was ended by signal $(($1 - 128))" ;;
@@ -65,7 +66,7 @@ answer() {
         "$program" "$@"
     fi
     status=$?
-    say_status "$status"
+    say_status "$status" "$1"
     exit "$status"
 }
 

@@ -1,5 +1,5 @@
 # shellcheck shell=bash
-# The program: which one is run, whether it is built, and how it is proved and built.
+# The program: which one is run, whether it is built, and how it is proved and built. The library is proved and built so too.
 
 front=$(dirname -- "$(readlink -f -- "${BASH_SOURCE[0]}")")
 # shellcheck source=words.sh
@@ -11,36 +11,43 @@ say() {
     printf 'gridlay: %s\n' "$*" >&2
 }
 
+# is_newer FILE CRATE..: whether a file stands there and is newer than all sources of the crates.
+is_newer() {
+    local file=$1 name
+    shift
+    [ -f "$file" ] || return 1
+    for name in "$@"; do
+        [ -z "$(find "$top/crates/$name" "$top/crates.txt" -name out -prune -o -type f \
+            \( -name '*.rt' -o -name '*.antt' -o -name crates.txt \) -newer "$file" -print -quit)" ] || return 1
+    done
+}
+
 # Whether the program stands there and is newer than all of its sources.
 is_built() {
-    [ -x "$built" ] || return 1
-    local name
-    for name in $program_crates; do
-        [ -z "$(find "$top/crates/$name" "$top/crates.txt" -name out -prune -o -type f \
-            \( -name '*.rt' -o -name '*.antt' -o -name crates.txt \) -newer "$built" -print -quit)" ] || return 1
-    done
+    # shellcheck disable=SC2086
+    [ -x "$built" ] && is_newer "$built" $program_crates
 }
 
 need_rt() {
     command -v rt >/dev/null 2>&1 && return
-    say "the command rt of Rattle's kit is not installed: without it the program cannot be built (README.md, Try it)"
+    say "the command rt of Rattle's kit is not installed: without it nothing can be built (README.md tells more)"
     exit 69
 }
 
-# Proves each crate that the program stands on, and builds it.
+# build WHAT CRATE..: proves each crate, and builds the program or the library, which comes last.
 build() {
     need_rt
-    local log name at=0 many
-    many=$(wc -l <<<"$program_crates")
+    local what=$1 log name at=0
+    shift
     log=$(mktemp) || exit 70
-    say "proving and building the program; where nothing was proved here before, this takes more than an hour on four processors"
-    for name in $program_crates; do
+    say "proving and building $what; where nothing was proved here before, this takes more than an hour on four processors"
+    for name in "$@"; do
         at=$((at + 1))
-        say "proving $name, $at of $many"
+        say "proving $name, $at of $#"
         build_crate "$name" "$log" || {
             cat "$log" >&2
             rm -f -- "$log"
-            say "$name was not proved, so the program was not built"
+            say "$name was not proved, so $what was not built"
             exit 70
         }
     done
@@ -49,12 +56,15 @@ build() {
 
 build_crate() {
     (cd "$top/crates/$1" && rt check) </dev/null >"$2" 2>&1 || return
-    [ "$1" = gridlay ] || return 0
-    # `rt run` builds what is proved, and runs it; on the word `build` the program reads nothing and ends with status 64. So
-    # whether it was built is seen by the file, and an older one has to go.
-    rm -f -- "$built" "$built.stamp"
-    (cd "$top/crates/$1" && rt run -- build) </dev/null >"$2" 2>&1
-    [ -x "$built" ]
+    case $1 in
+        gridlay)
+            # `rt run` builds what is proved, and runs it; on the word `build` the program reads nothing and ends with status
+            # 64. So whether it was built is seen by the file, and an older one has to go.
+            rm -f -- "$built" "$built.stamp"
+            (cd "$top/crates/$1" && rt run -- build) </dev/null >"$2" 2>&1
+            [ -x "$built" ] ;;
+        gridlay_c) (cd "$top/crates/$1" && rt lib) </dev/null >"$2" 2>&1 ;;
+    esac
 }
 
 # Sets `program`: the one that is given, one that is compiled as it is, or the one that is proved, which is built first.
@@ -71,7 +81,8 @@ find_program() {
         program=$front/unproved
     else
         program=$built
-        is_built || build
+        # shellcheck disable=SC2086
+        is_built || build "the program" $program_crates
         # Large pages of memory where the system has them: a large document is all over its memory, and an edit of it then takes
         # less time.
         export GLIBC_TUNABLES="${GLIBC_TUNABLES:+$GLIBC_TUNABLES:}glibc.malloc.hugetlb=1"

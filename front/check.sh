@@ -107,7 +107,7 @@ check_file() {
     explain_all "$shown" "$file" <"$room/out"
     case $status in
         0 | 2 | 3) tell_outcome "$shown" "$room/out" ;;
-        *) say_status "$status" ;;
+        *) say_status "$status" layout ;;
     esac
     exit "$status"
 }

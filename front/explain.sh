@@ -279,6 +279,7 @@ explain_unknown_edit() {
         back | revert | rollback) found=undo ;;
         again | repeat) found=redo ;;
         click | pick | point) found=hit ;;
+        write) say_so "\`write\` is no edit: \`./gridlay write FILE\` writes the document after all its edits" ; return ;;
         /) say_so "a comment begins with \`#\`" ; return ;;
         *) found=$(nearest "$token" "${edit_words[@]}") ;;
     esac

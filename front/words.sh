@@ -6,9 +6,9 @@
 
 top=$(dirname -- "$(dirname -- "$(readlink -f -- "${BASH_SOURCE[0]}")")")
 
-# The crates of this repository that the program stands on, lowest first, the program last.
-crates_of_the_program() {
-    awk '
+# crates_of NAME: a crate of this repository and those that it stands on, lowest first, itself last.
+crates_of() {
+    awk -v top="$1" '
         function visit(name,    parts, i, n) {
             if (!(name in below) || name in seen) return
             seen[name] = 1
@@ -18,15 +18,12 @@ crates_of_the_program() {
         }
         { sub(/#.*/, "") }
         /:/ { at = index($0, ":"); name = substr($0, 1, at - 1); sub(/ .*/, "", name); below[name] = substr($0, at + 1) }
-        END { visit("gridlay") }' "$top/crates.txt"
+        END { visit(top) }' "$top/crates.txt"
 }
 
-program_crates=$(crates_of_the_program)
-
-# Whether the program of this checkout stands on a crate.
-stands_on() {
-    grep -qx -- "$1" <<<"$program_crates"
-}
+# (build.sh proves these)
+# shellcheck disable=SC2034
+program_crates=$(crates_of gridlay)
 
 # ---- words in general
 
@@ -84,10 +81,9 @@ edit_words=(set unset insert remove move content viewport undo redo hit)
 all_words=(layout make check write picture play library)
 is_here() {
     case $1 in
-        write) stands_on doc_writer ;;
         picture) [ -x "$top/view/picture" ] ;;
         play) [ -x "$top/view/build_engine.sh" ] ;;
-        library) [ -x "$top/tools/library.sh" ] ;;
+        library) [ -x "$top/tools/library.sh" ] && [ -n "$(crates_of gridlay_c)" ] ;;
         *) is_among "$1" "${all_words[@]}" ;;
     esac
 }
@@ -98,7 +94,7 @@ tell_word() {
         layout) tell_call "layout [--stats] < FILE" "the same, of standard input" ;;
         make) tell_call "make --seed N --nodes M" "generates a document and eight edits, and tells sums of their boxes" ;;
         check) tell_call "check FILE" "tells what is wrong with FILE, its line ends too, and prints no boxes" ;;
-        write) tell_call "write FILE" "writes the document that its edits make of it, in one form" ;;
+        write) tell_call "write FILE" "writes the document that its edits make of it, in canonical form" ;;
         picture) tell_call "picture FILE > PAGE.html" "draws the boxes of FILE on a page for a browser" ;;
         play) tell_call "play" "builds a page that lays out while you type" ;;
         library) tell_call "library" "builds the library that C and Rust programs call" ;;

@@ -1,8 +1,7 @@
 -- The options of a command as they were found.
-use Rattle.std.proofs.Common.{◌≡◌, ◌∙◌, ap, sym, subst, refl, List, Bool, true, false, Option, Some, None}
+use Rattle.std.proofs.Common.{◌≡◌, ◌∙◌, ap, sym, List, Bool, true, false, Option, Some, None}
 use Rattle.std.specs.Prelude.{if◌then◌else◌, codes}
 use Rattle.clap.specs.Words.{App, Text, first_value, found_of, is_simple_and_free}
-use Rattle.clap.proofs.OnLiterals.{clap_on_literals}
 use Rattle.clap.specs.declared.parser.matches.ArgMatches.{ArgMatches}
 use Rattle.command_words.specs.Options.{has_dashes, is_taken, value_in, Reads, layout, make}
 use Rattle.command_words.specs.Commands.{is_given, layout_of, made_by, make_of}

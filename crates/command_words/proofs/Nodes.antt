@@ -5,7 +5,7 @@ use Rattle.std.specs.Str.{bytes_eq}
 use Rattle.std.proofs.lemmas.Bool.{leb-false}
 use Rattle.clap.specs.Words.{Text}
 use Rattle.command_words.specs.Options.{has_dashes, is_taken, value_in, layout, make}
-use Rattle.command_words.specs.Commands.{is_given, number_of, nodes_of, within, made_of, made_by, layout_of, make_of, command_of, HasNodes}
+use Rattle.command_words.specs.Commands.{is_given, number_of, nodes_of, within, made_of, made_by, layout_of, make_of, write_of, command_of, HasNodes}
 use Rattle.command_words.specs.declared.Command.{Command}
 use Rattle.command_words.specs.declared.Command.TheVariants.{Layout}
 use Rattle.command_words.specs.declared.WordsError.{WordsError}
@@ -56,12 +56,18 @@ make_few words =
     either (has_dashes words) None (if is_taken make words then made else None) tt
     (either (is_taken make words) made None (by_few (value_in make words (codes "seed")) (value_in make words (codes "nodes"))) tt)
 
+write_few : (words : List Text) → IfSome (write_of words) HasNodes
+unfolding write_of
+write_few [] = tt
+write_few (word ∷ words) = tt
+
 command_few : (words : List Text) → IfSome (command_of words) HasNodes
 unfolding command_of
 command_few [] = tt
 command_few (first ∷ rest) =
-    either (bytes_eq first (codes "layout")) (layout_of rest) (if bytes_eq first (codes "make") then make_of rest else None) (layout_few rest)
-    (either (bytes_eq first (codes "make")) (make_of rest) None (make_few rest) tt)
+    let written : Option Command = if bytes_eq first (codes "write") then write_of rest else None in
+    either (bytes_eq first (codes "layout")) (layout_of rest) (if bytes_eq first (codes "make") then make_of rest else written) (layout_few rest)
+    (either (bytes_eq first (codes "make")) (make_of rest) written (make_few rest) (either (bytes_eq first (codes "write")) (write_of rest) None (write_few rest) tt))
 
 pub has_nodes : (words : List Text) (command : Command) → command_of words ≡ Some command → HasNodes command
 has_nodes words command e = subst (λ (o : Option Command). IfSome o HasNodes) e (command_few words)

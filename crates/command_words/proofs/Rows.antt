@@ -1,9 +1,9 @@
 -- Words that are written out, and the commands that they are.
-use Rattle.std.proofs.Common.{◌≡◌, List, [], ◌∷◌, true, false, Option, Some, None, refl, codes}
+use Rattle.std.proofs.Common.{◌≡◌, [], ◌∷◌, true, false, Some, None, refl, codes}
 use Rattle.clap.proofs.OnLiterals.{clap_on_literals}
 use Rattle.command_words.specs.Options.{layout, make, is_taken, value_in}
-use Rattle.command_words.specs.Commands.{command_of, layout_of, make_of, number_of, nodes_of}
-use Rattle.command_words.specs.declared.Command.TheVariants.{Layout, Make}
+use Rattle.command_words.specs.Commands.{command_of, layout_of, make_of, number_of, nodes_of, write_of}
+use Rattle.command_words.specs.declared.Command.TheVariants.{Layout, Make, Write}
 
 plain : command_of (codes "layout" ∷ []) ≡ Some (Layout false)
 unfolding clap_on_literals layout is_taken value_in layout_of command_of
@@ -44,3 +44,11 @@ no_nodes = refl
 each_once : command_of (codes "make" ∷ codes "--seed" ∷ codes "1" ∷ codes "--seed" ∷ codes "1" ∷ codes "--nodes" ∷ codes "1" ∷ []) ≡ None
 unfolding clap_on_literals make is_taken value_in make_of number_of nodes_of command_of
 each_once = refl
+
+writes : command_of (codes "write" ∷ []) ≡ Some Write
+unfolding clap_on_literals write_of command_of
+writes = refl
+
+write_alone : command_of (codes "write" ∷ codes "--stats" ∷ []) ≡ None
+unfolding clap_on_literals write_of command_of
+write_alone = refl

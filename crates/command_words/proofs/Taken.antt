@@ -1,7 +1,7 @@
 -- What `clap` answers, over plain variables.
 use Rattle.std.proofs.lemmas.Bool.{ne_eqb}
-use Rattle.std.proofs.Common.{suc, length, arith, ◌≡◌, ◌∙◌, ◌⊎◌, ap, sym, refl, List, [], ◌∷◌, Bool, true, false, inl, inr}
-use Rattle.clap.specs.Words.{App, Text, fault_of, matches_of, rows_of, found_of, first_value, first_of, is_simple, is_simple_and_free, HasMatchesOf, Kinds, IsAmong}
+use Rattle.std.proofs.Common.{suc, length, arith, ◌≡◌, ◌∙◌, ◌⊎◌, ap, List, [], ◌∷◌, true, false, inl, inr}
+use Rattle.clap.specs.Words.{App, Text, fault_of, found_of, first_of, is_simple, is_simple_and_free, HasMatchesOf, Kinds, IsAmong}
 use Rattle.clap.specs.Walk.{is_empty}
 use Rattle.clap.proofs.WalkLemmas.{first_value-rows, both}
 use Rattle.clap.specs.declared.parser.matches.ArgMatches.{ArgMatches}

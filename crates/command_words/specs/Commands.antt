@@ -5,7 +5,7 @@ use Rattle.std.specs.Str.Parse.{digits_value}
 use Rattle.clap.specs.Words.{Text}
 use Rattle.command_words.specs.Options.{has_dashes, is_taken, value_in, layout, make}
 use Rattle.command_words.specs.declared.Command.{Command}
-use Rattle.command_words.specs.declared.Command.TheVariants.{Layout, Make}
+use Rattle.command_words.specs.declared.Command.TheVariants.{Layout, Make, Write}
 
 -- ---- numbers
 
@@ -54,13 +54,19 @@ unfoldable pub make_of : List Text → Option Command
 make_of words = if has_dashes words then None
     else (if is_taken make words then made_by (value_in make words (codes "seed")) (value_in make words (codes "nodes")) else None)
 
+-- of `write`: nothing follows it
+unfoldable pub write_of : List Text → Option Command
+write_of [] = Some Write
+write_of (word ∷ words) = None
+
 -- ---- the words
 
 -- the command that the words are: the first names it, and its options follow
 unfoldable pub command_of : List Text → Option Command
 command_of [] = None
 command_of (first ∷ rest) = if bytes_eq first (codes "layout") then layout_of rest
-    else (if bytes_eq first (codes "make") then make_of rest else None)
+    else (if bytes_eq first (codes "make") then make_of rest
+    else (if bytes_eq first (codes "write") then write_of rest else None))
 
 -- ---- what holds of a command
 
@@ -68,3 +74,4 @@ command_of (first ∷ rest) = if bytes_eq first (codes "layout") then layout_of 
 abbrev pub HasNodes : Command → Type 0
 HasNodes (Layout stats) = ⊤
 HasNodes (Make seed nodes) = (0 < nodes) × (nodes ≤ 20000)
+HasNodes Write = ⊤

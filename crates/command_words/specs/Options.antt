@@ -1,8 +1,8 @@
 -- The options after the first word, as `clap` reads them.
-use Rattle.std.specs.Prelude.{◌≡◌, ℕ, Bool, not, ◌&&◌, List, [], ◌∷◌, map, Some, true, Option, codes, string_bytes, String}
+use Rattle.std.specs.Prelude.{◌≡◌, Bool, List, map, Some, true, Option, codes, string_bytes, String}
 use Rattle.std.specs.List.{list_any}
 use Rattle.std.specs.Str.{bytes_eq}
-use Rattle.clap.specs.Words.{App, Rule, Shape, Text, fault_of, matches_of, first_of, first_value, found_of, is_simple_and_free, new_app, new_rule, with_rule}
+use Rattle.clap.specs.Words.{App, Rule, Shape, Text, fault_of, matches_of, first_of, first_value, found_of, new_app, new_rule, with_rule}
 use Rattle.clap.specs.Simple.{on_top}
 use Rattle.clap.specs.Walk.{is_empty}
 use Rattle.clap.specs.declared.builder.ArgAction.TheVariants.{Set, SetTrue}

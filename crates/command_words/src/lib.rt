@@ -3,7 +3,7 @@
 
 ghost use Rattle.std.specs.Prelude.{◌≡◌, None, Some, IfOk, IsErrOf, string_bytes};
 ghost use Rattle.std.specs.Str.{bytes_eq};
-ghost use Rattle.command_words.specs.Commands.{command_of, HasNodes};
+ghost use Rattle.command_words.specs.Commands.{command_of, write_of, HasNodes};
 ghost use Rattle.command_words.specs.Options.{texts};
 
 mod layout;
@@ -30,6 +30,8 @@ pub enum Command {
         /// M, from 1 to 20,000.
         nodes: u16,
     },
+    /// `write`.
+    Write,
 }
 
 /// Why words are no command.
@@ -42,8 +44,8 @@ pub enum WordsError {
 }
 
 #[tactic(auto, using(crate::proofs::Words::naming))]
-/// The command that the words are, without the program's name (own rule). The first is `layout` or `make`. The options of a
-/// command stand after it in any order, each once, as `--name value` or `--name=value`, and `--stats` alone.
+/// The command that the words are, without the program's name (own rule). The first is `layout`, `make` or `write`. The options of a
+/// command stand after it in any order, each once, as `--name value` or `--name=value`, and `--stats` alone; `write` has none.
 ///
 /// - `BadWords` exactly where the words are no command.
 /// - `NoMemory` at want of memory.
@@ -58,11 +60,27 @@ pub fn read_command(alloc: Global, words: &[String]) -> Result<Command, WordsErr
                 read_layout(alloc, rest)
             } else if is_word(first, "make") {
                 read_make(alloc, rest)
+            } else if is_word(first, "write") {
+                read_write(rest)
             } else {
                 Err(WordsError::BadWords)
             }
         }
         None => Err(WordsError::BadWords),
+    }
+}
+
+#[tactic(auto, using(crate::proofs::Words::writing))]
+/// The command `write`, after which no word stands.
+fn read_write(words: &[String]) -> Result<Command, WordsError>
+    ensures taken { IfOk result (λ command. write_of (texts words.now) ≡ Some command) }
+    ensures nodes { IfOk result HasNodes }
+    ensures bad { IsErrOf result WordsError.BadWords → write_of (texts words.now) ≡ None }
+{
+    if words.is_empty() {
+        Ok(Command::Write)
+    } else {
+        Err(WordsError::BadWords)
     }
 }
 

@@ -1,9 +1,9 @@
 //! Compares the top call with a corpus: inputs whose outputs and statuses are known. The first word is the folder of the
 //! corpus, else it is the one where the program runs. Three lists there name cases: `list.txt` those that have to agree,
-//! `wrong.txt` those into which a fault was put, each of which has to be told, and `later.txt` those of what is not built yet,
-//! which are read and counted; there `NAME.write` names the run of a case under `write` alone. Each case that does not agree is
-//! printed with the first of its lines that differs, and then how many agree. The status is 0 where all is as it has to be, 1
-//! where not, and 2 where a list cannot be read.
+//! `wrong.txt` those into which a fault was put, each of which has to be told, and `later.txt`, where there is one, those of what
+//! is not built yet, which are read and counted; there `NAME.write` names the run of a case under `write` alone. Each case that
+//! does not agree is printed with the first of its lines that differs, and then how many agree. The status is 0 where all is as it
+//! has to be, 1 where not, and 2 where a list cannot be read.
 #![tactic(auto)]
 
 ghost use Rattle.std.specs.Prelude.{◌≡◌, ◌<◌};
@@ -38,6 +38,15 @@ fn list_of(rt: &(impl Files + AllocGlobal), folder: &str, list: &str) -> io::Res
     fs::read_to_string(rt, path.as_str())
 }
 
+/// The text of the list of those that wait; an empty one where there is no such list.
+fn later_of(rt: &(impl Files + AllocGlobal), folder: &str) -> io::Result<String> {
+    match list_of(rt, folder, "later") {
+        Ok(list) => Ok(list),
+        Err(error) if error.kind() == io::ErrorKind::NotFound => Ok(String::new(rt.alloc())),
+        Err(error) => Err(error),
+    }
+}
+
 /// Whether each case with a fault is told. None of them waits.
 fn are_told<R: Files + Print + AllocGlobal, L: Ledger>(
     rt: &R,
@@ -58,7 +67,7 @@ fn are_well<R: Files + Print + AllocGlobal, L: Ledger>(
     passes: &mut Steps<L>,
 ) -> io::Result<bool> {
     let list = list_of(rt, folder, "list")?;
-    let later = list_of(rt, folder, "later")?;
+    let later = later_of(rt, folder)?;
     let tally = check_all(rt, folder, list.as_str(), later.as_str(), passes)?;
     let Some(waiting) = count_readable(rt, folder, later.as_str())? else {
         return Ok(false);

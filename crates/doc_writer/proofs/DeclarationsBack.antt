@@ -297,13 +297,22 @@ flex_set relative f h =
     (((λ f. absurd f), factor_is_back relative f.grow h.0.0), (((λ f. absurd f), factor_is_back relative f.shrink h.0.1), (((λ f. absurd f), size_is_back relative basis_form refused.Contents (λ _. tt) tt f.basis h.1), tt)))
 
 parts_told : (relative : Bool) (s : Shorthand) (words : List Word) → Every (AreSettings relative) (parts_of relative s words)
-parts_told relative shorthand.GridColumn words = every_map (AreSettings relative) (line_settings prop.GridColumnStart prop.GridColumnEnd) (two_lines words) (every_so AreTwo (λ r. AreSettings relative (line_settings prop.GridColumnStart prop.GridColumnEnd r)) (two_lines words) (columns_set relative) (two_lines_told words))
-parts_told relative shorthand.GridRow words = every_map (AreSettings relative) (line_settings prop.GridRowStart prop.GridRowEnd) (two_lines words) (every_so AreTwo (λ r. AreSettings relative (line_settings prop.GridRowStart prop.GridRowEnd r)) (two_lines words) (rows_set relative) (two_lines_told words))
+parts_told relative shorthand.GridColumn words =
+    every_map (AreSettings relative) (line_settings prop.GridColumnStart prop.GridColumnEnd) (two_lines words) (every_so AreTwo (λ r. AreSettings relative (line_settings prop.GridColumnStart prop.GridColumnEnd r)) (two_lines words) (columns_set relative) (two_lines_told words))
+parts_told relative shorthand.GridRow words =
+    every_map (AreSettings relative) (line_settings prop.GridRowStart prop.GridRowEnd) (two_lines words) (every_so AreTwo (λ r. AreSettings relative (line_settings prop.GridRowStart prop.GridRowEnd r)) (two_lines words) (rows_set relative) (two_lines_told words))
 parts_told relative shorthand.GridArea words = every_map (AreSettings relative) area_settings (four_lines words) (every_so AreFour (λ r. AreSettings relative (area_settings r)) (four_lines words) (area_set relative) (four_lines_told words))
-parts_told relative shorthand.Gap words = every_map (AreSettings relative) gap_settings (two_sizes relative gap_form words) (every_so (AreTwoSizes relative gap_form) (λ r. AreSettings relative (gap_settings r)) (two_sizes relative gap_form words) (gaps_set relative) (two_sizes_told relative gap_form words))
-parts_told relative shorthand.Margin words = every_map (AreSettings relative) (side_settings prop.MarginTop prop.MarginRight prop.MarginBottom prop.MarginLeft) (side_sizes relative margin_form words) (every_so (AreSides relative margin_form) (λ r. AreSettings relative (side_settings prop.MarginTop prop.MarginRight prop.MarginBottom prop.MarginLeft r)) (side_sizes relative margin_form words) (margins_set relative) (side_sizes_told relative margin_form words))
-parts_told relative shorthand.Padding words = every_map (AreSettings relative) (side_settings prop.PaddingTop prop.PaddingRight prop.PaddingBottom prop.PaddingLeft) (side_sizes relative edge_form words) (every_so (AreSides relative edge_form) (λ r. AreSettings relative (side_settings prop.PaddingTop prop.PaddingRight prop.PaddingBottom prop.PaddingLeft r)) (side_sizes relative edge_form words) (paddings_set relative) (side_sizes_told relative edge_form words))
-parts_told relative shorthand.BorderWidth words = every_map (AreSettings relative) (side_settings prop.BorderTopWidth prop.BorderRightWidth prop.BorderBottomWidth prop.BorderLeftWidth) (side_sizes relative edge_form words) (every_so (AreSides relative edge_form) (λ r. AreSettings relative (side_settings prop.BorderTopWidth prop.BorderRightWidth prop.BorderBottomWidth prop.BorderLeftWidth r)) (side_sizes relative edge_form words) (borders_set relative) (side_sizes_told relative edge_form words))
+parts_told relative shorthand.Gap words =
+    every_map (AreSettings relative) gap_settings (two_sizes relative gap_form words) (every_so (AreTwoSizes relative gap_form) (λ r. AreSettings relative (gap_settings r)) (two_sizes relative gap_form words) (gaps_set relative) (two_sizes_told relative gap_form words))
+parts_told relative shorthand.Margin words =
+    every_map (AreSettings relative) (side_settings prop.MarginTop prop.MarginRight prop.MarginBottom prop.MarginLeft) (side_sizes relative margin_form words)
+    (every_so (AreSides relative margin_form) (λ r. AreSettings relative (side_settings prop.MarginTop prop.MarginRight prop.MarginBottom prop.MarginLeft r)) (side_sizes relative margin_form words) (margins_set relative) (side_sizes_told relative margin_form words))
+parts_told relative shorthand.Padding words =
+    every_map (AreSettings relative) (side_settings prop.PaddingTop prop.PaddingRight prop.PaddingBottom prop.PaddingLeft) (side_sizes relative edge_form words)
+    (every_so (AreSides relative edge_form) (λ r. AreSettings relative (side_settings prop.PaddingTop prop.PaddingRight prop.PaddingBottom prop.PaddingLeft r)) (side_sizes relative edge_form words) (paddings_set relative) (side_sizes_told relative edge_form words))
+parts_told relative shorthand.BorderWidth words =
+    every_map (AreSettings relative) (side_settings prop.BorderTopWidth prop.BorderRightWidth prop.BorderBottomWidth prop.BorderLeftWidth) (side_sizes relative edge_form words)
+    (every_so (AreSides relative edge_form) (λ r. AreSettings relative (side_settings prop.BorderTopWidth prop.BorderRightWidth prop.BorderBottomWidth prop.BorderLeftWidth r)) (side_sizes relative edge_form words) (borders_set relative) (side_sizes_told relative edge_form words))
 parts_told relative shorthand.Flex words = every_map (AreSettings relative) flex_settings (flex_of relative words) (every_so (IsFlex relative) (λ r. AreSettings relative (flex_settings r)) (flex_of relative words) (flex_set relative) (flex_told relative words))
 
 -- ---- what a declaration sets
@@ -368,7 +377,9 @@ property_told : (relative : Bool) (word : Word) → Every (InProperty relative) 
 property_told relative word = every_bind (InProperty relative) (λ _. ⊤) (λ p. Some (with_version relative p)) (named properties word) (anything (named properties word)) (λ p _. version_told relative p)
 
 settings_told : (relative : Bool) (p : Property) (words : List Word) → InProperty relative p → Every (AreSettings relative) (settings_of relative p words)
-settings_told relative (property.Longhand p) words h = every_map (AreSettings relative) (one_setting p) (value_of relative (form_of p) words) (every_so (IsBack relative (form_of p) (refused_by_prop p)) (λ v. AreSettings relative (one_setting p v)) (value_of relative (form_of p) words) (λ v b. ((h, b), tt)) (value_told relative p words))
+settings_told relative (property.Longhand p) words h =
+    every_map (AreSettings relative) (one_setting p) (value_of relative (form_of p) words)
+    (every_so (IsBack relative (form_of p) (refused_by_prop p)) (λ v. AreSettings relative (one_setting p v)) (value_of relative (form_of p) words) (λ v b. ((h, b), tt)) (value_told relative p words))
 settings_told relative (property.Shorthand s) words h = parts_told relative s words
 settings_told relative property.Unsupported words h = tt
 

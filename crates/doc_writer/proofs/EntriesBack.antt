@@ -106,7 +106,8 @@ repeat_told relative (a ∷ b ∷ []) = tt
 repeat_told relative (a ∷ b ∷ c ∷ words) =
     every_if (λ read. IsPart relative read.0) (bytes_eq a (codes "(") && bytes_eq c (codes ",")) (bind (often_of b) (λ often. option_map (λ body. (part_of often body.0, body.1 + 3)) (body_after relative words))) None
     (λ _. every_bind (λ read. IsPart relative read.0) (λ _. ⊤) (λ often. option_map (λ body. (part_of often body.0, body.1 + 3)) (body_after relative words)) (often_of b) (anything (often_of b))
-    (λ often u. every_map (λ read. IsPart relative read.0) (λ body. (part_of often body.0, body.1 + 3)) (body_after relative words) (every_so (λ read. IsBody relative read.0) (λ body. IsPart relative (part_of often body.0)) (body_after relative words) (λ body h. of_body relative often body.0 h) (body_told relative words))))
+    (λ often u. every_map (λ read. IsPart relative read.0) (λ body. (part_of often body.0, body.1 + 3)) (body_after relative words)
+    (every_so (λ read. IsBody relative read.0) (λ body. IsPart relative (part_of often body.0)) (body_after relative words) (λ body h. of_body relative often body.0 h) (body_told relative words))))
     (λ _. tt)
 
 pub part_told : (relative : Bool) (words : List Word) → Every (λ read. IsPart relative read.0) (part_first relative words)

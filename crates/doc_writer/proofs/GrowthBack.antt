@@ -261,10 +261,12 @@ module _ (version level : ℕ) (x : Label) (below after trees : Trees Label) (f 
 
     same_few : (n : ℕ) → n ≡ level → are_too_many version (child_count (parent_on n (join_last n (tree x below leafless) trees)) + count_of after) ≡ false
     same_few zero e = fewer version (0 + count_of after) (child_count (parent_on level trees) + count_of (tree x below after)) (omega arith) f.few
-    same_few (suc n) e = fewer version (child_count (last_on n (join_last (suc n) (tree x below leafless) trees)) + count_of after) (child_count (parent_on level trees) + count_of (tree x below after)) (omega (arith, ap child_count (parent_join n (tree x below leafless) trees), one_child (last_on n trees), ap (λ (m : ℕ). child_count (parent_on m trees)) e)) f.few where
-      one_child : (o : Option (Label × Trees Label)) → child_count (with_child (tree x below leafless) o) ≤ child_count o + 1
-      one_child None = omega arith
-      one_child (Some node) = omega (arith, count_of-joined node.1 (tree x below leafless))
+    same_few (suc n) e =
+        fewer version (child_count (last_on n (join_last (suc n) (tree x below leafless) trees)) + count_of after) (child_count (parent_on level trees) + count_of (tree x below after))
+        (omega (arith, ap child_count (parent_join n (tree x below leafless) trees), one_child (last_on n trees), ap (λ (m : ℕ). child_count (parent_on m trees)) e)) f.few where
+          one_child : (o : Option (Label × Trees Label)) → child_count (with_child (tree x below leafless) o) ≤ child_count o + 1
+          one_child None = omega arith
+          one_child (Some node) = omega (arith, count_of-joined node.1 (tree x below leafless))
 
     one_more : level ≡ 0 → count_of whole + count_of after ≤ 1
     one_more e =

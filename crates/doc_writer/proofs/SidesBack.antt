@@ -154,7 +154,9 @@ percent_no_flex t h =
 -- a number is a breadth by its unit
 by_unit : (relative : Bool) (word : Word) → starts word ≡ true → breadth_of relative word ≡ (if ends_in (codes "fr") word then option_map side.Flex (flex_of word) else length_or_percentage relative false word)
 by_unit relative word s =
-    ap (λ (b : Bool). if b then Some side.Auto else if bytes_eq word (codes "min-content") then Some side.MinContent else if bytes_eq word (codes "max-content") then Some side.MaxContent else if ends_in (codes "fr") word then option_map side.Flex (flex_of word) else length_or_percentage relative false word) (starts_not word (codes "auto") s refl)
+    ap
+    (λ (b : Bool). if b then Some side.Auto else if bytes_eq word (codes "min-content") then Some side.MinContent else if bytes_eq word (codes "max-content") then Some side.MaxContent else if ends_in (codes "fr") word then option_map side.Flex (flex_of word) else
+    length_or_percentage relative false word) (starts_not word (codes "auto") s refl)
     ∙ ap (λ (b : Bool). if b then Some side.MinContent else if bytes_eq word (codes "max-content") then Some side.MaxContent else if ends_in (codes "fr") word then option_map side.Flex (flex_of word) else length_or_percentage relative false word) (starts_not word (codes "min-content") s refl)
     ∙ ap (λ (b : Bool). if b then Some side.MaxContent else if ends_in (codes "fr") word then option_map side.Flex (flex_of word) else length_or_percentage relative false word) (starts_not word (codes "max-content") s refl)
 

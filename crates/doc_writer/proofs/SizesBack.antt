@@ -179,8 +179,12 @@ pub size_back : (relative : Bool) (form : SizeForm) (s : Size) (u : Option Unit)
 unfolding size_of
 size_back relative form size.Auto None h = ap (λ (o : Option Size). or_measured o (measured_size relative form (codes "auto"))) (this form.auto (Some size.Auto) (none_or form (codes "auto")) h)
 size_back relative form size.Absent None h = ap (λ (o : Option Size). or_measured o (measured_size relative form (codes "none"))) (skip form.auto (Some size.Auto) (none_or form (codes "none")) ∙ this form.none (Some size.Absent) (normal_or form (codes "none")) h)
-size_back relative form size.Normal None h = ap (λ (o : Option Size). or_measured o (measured_size relative form (codes "normal"))) (skip form.auto (Some size.Auto) (none_or form (codes "normal")) ∙ skip form.none (Some size.Absent) (normal_or form (codes "normal")) ∙ this form.normal (Some size.Normal) (content_or form (codes "normal")) h)
-size_back relative form size.Content None h = ap (λ (o : Option Size). or_measured o (measured_size relative form (codes "content"))) (skip form.auto (Some size.Auto) (none_or form (codes "content")) ∙ skip form.none (Some size.Absent) (normal_or form (codes "content")) ∙ skip form.normal (Some size.Normal) (content_or form (codes "content")) ∙ this form.content (Some size.Content) None h)
+size_back relative form size.Normal None h =
+    ap (λ (o : Option Size). or_measured o (measured_size relative form (codes "normal")))
+    (skip form.auto (Some size.Auto) (none_or form (codes "normal")) ∙ skip form.none (Some size.Absent) (normal_or form (codes "normal")) ∙ this form.normal (Some size.Normal) (content_or form (codes "normal")) h)
+size_back relative form size.Content None h =
+    ap (λ (o : Option Size). or_measured o (measured_size relative form (codes "content")))
+    (skip form.auto (Some size.Auto) (none_or form (codes "content")) ∙ skip form.none (Some size.Absent) (normal_or form (codes "content")) ∙ skip form.normal (Some size.Normal) (content_or form (codes "content")) ∙ this form.content (Some size.Content) None h)
 size_back relative form (size.Percent t) None h =
     let w : Word = percentage t in
     ap (λ (o : Option Size). or_measured o (measured_size relative form w)) (no_keyword form w (percent_starts t (omega (arith, h.1))))
@@ -203,7 +207,8 @@ one_size_back relative form m h = ap (λ (o : Option Measured). bind {A = Measur
 
 -- ---- nothing is refused
 
-keyword_quiet : (relative : Bool) (r : Refused) → (holds_refused false relative r (codes "auto" ∷ []) ≡ false) × ((holds_refused false relative r (codes "none" ∷ []) ≡ false) × ((holds_refused false relative r (codes "normal" ∷ []) ≡ false) × (holds_refused false relative r (codes "content" ∷ []) ≡ false)))
+keyword_quiet : (relative : Bool) (r : Refused) →
+    (holds_refused false relative r (codes "auto" ∷ []) ≡ false) × ((holds_refused false relative r (codes "none" ∷ []) ≡ false) × ((holds_refused false relative r (codes "normal" ∷ []) ≡ false) × (holds_refused false relative r (codes "content" ∷ []) ≡ false)))
 keyword_quiet true refused.Nothing = (refl, (refl, (refl, refl)))
 keyword_quiet true refused.Template = (refl, (refl, (refl, refl)))
 keyword_quiet true refused.Baselines = (refl, (refl, (refl, refl)))

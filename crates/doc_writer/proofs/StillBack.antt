@@ -459,7 +459,8 @@ set_runs_pass : (relative : Bool) (names : List Word) (count : ℕ) (lines : Lis
 set_runs_pass relative names count [] h few a = repeated_pass relative true count (set_words names) few (set_pass relative true names h.0)
 set_runs_pass relative names count (next ∷ lines) h few a =
     by_test (has_room count && pointwise bytes_eq names next) refl (λ more. set_runs_pass relative names (count + 1) lines h (omega (arith, more)) a.1) (set_runs_pass relative next 1 lines a.0 (omega arith) a.1) where
-      by_test : (b : Bool) → (has_room count && pointwise bytes_eq names next) ≡ b → (count < 10000 → Passes relative true (set_runs names (count + 1) lines)) → Passes relative true (set_runs next 1 lines) → Passes relative true (if b then set_runs names (count + 1) lines else repeated count (set_words names) ++ set_runs next 1 lines)
+      by_test : (b : Bool) → (has_room count && pointwise bytes_eq names next) ≡ b → (count < 10000 → Passes relative true (set_runs names (count + 1) lines)) → Passes relative true (set_runs next 1 lines) →
+          Passes relative true (if b then set_runs names (count + 1) lines else repeated count (set_words names) ++ set_runs next 1 lines)
       by_test true e more rest = more (ltb-true count 10000 (and_parts (has_room count) (pointwise bytes_eq names next) e).0)
       by_test false e more rest = both_pass relative true (repeated count (set_words names)) (set_runs next 1 lines) (repeated_pass relative true count (set_words names) few (set_pass relative true names h.0)) rest
 

@@ -126,16 +126,19 @@ around_back relative sizes names r a =
     ap (λ (n : ℕ). tracks_words (take (n + 1) names) (take n sizes) ++ (middle ++ tracks_words (drop (n + 1) names) (drop n sizes))) a.before
     ∙ ap (λ (ns : List (List Word)). tracks_words (take (length a.front + 1) ns) (take (length a.front) sizes) ++ (middle ++ tracks_words (drop (length a.front + 1) ns) (drop (length a.front) sizes))) a.lines
     ∙ ap (λ (ts : List Track). tracks_words (take (length a.front + 1) (a.front_names ++ a.back_names)) (take (length a.front) ts) ++ (middle ++ tracks_words (drop (length a.front + 1) (a.front_names ++ a.back_names)) (drop (length a.front) ts))) a.tracks
-    ∙ ap (λ (ns : List (List Word)). tracks_words ns (take (length a.front) (a.front ++ a.back)) ++ (middle ++ tracks_words (drop (length a.front + 1) (a.front_names ++ a.back_names)) (drop (length a.front) (a.front ++ a.back)))) (take_at a.front_names a.back_names (length a.front + 1) a.front_run.lines)
+    ∙ ap (λ (ns : List (List Word)). tracks_words ns (take (length a.front) (a.front ++ a.back)) ++ (middle ++ tracks_words (drop (length a.front + 1) (a.front_names ++ a.back_names)) (drop (length a.front) (a.front ++ a.back))))
+    (take_at a.front_names a.back_names (length a.front + 1) a.front_run.lines)
     ∙ ap (λ (ts : List Track). tracks_words a.front_names ts ++ (middle ++ tracks_words (drop (length a.front + 1) (a.front_names ++ a.back_names)) (drop (length a.front) (a.front ++ a.back)))) (take_at a.front a.back (length a.front) refl)
     ∙ ap (λ (ns : List (List Word)). tracks_words a.front_names a.front ++ (middle ++ tracks_words ns (drop (length a.front) (a.front ++ a.back)))) (drop_at a.front_names a.back_names (length a.front + 1) a.front_run.lines)
     ∙ ap (λ (ts : List Track). tracks_words a.front_names a.front ++ (middle ++ tracks_words a.back_names ts)) (drop_at a.front a.back (length a.front) refl) in
     let read : all_from (part_first relative) (tracks_words a.front_names a.front ++ (middle ++ tracks_words a.back_names a.back)) ≡ Some (front.parts ++ part.Automatic f body ∷ (back.parts ++ [])) =
     front.reads (middle ++ tracks_words a.back_names a.back)
     ∙ ap (option_map (λ (more : List Part). front.parts ++ more))
-    (all_next (part_first relative) (middle ++ tracks_words a.back_names a.back) (tracks_words a.back_names a.back) (part.Automatic f body) (automatic_read relative r.auto_fit f r.names r.sizes (tracks_words a.back_names a.back) (filling_read r.auto_fit) a.body_run.sets a.body_run.tracks (some_in r.names r.sizes a.some))
+    (all_next (part_first relative) (middle ++ tracks_words a.back_names a.back) (tracks_words a.back_names a.back) (part.Automatic f body)
+    (automatic_read relative r.auto_fit f r.names r.sizes (tracks_words a.back_names a.back) (filling_read r.auto_fit) a.body_run.sets a.body_run.tracks (some_in r.names r.sizes a.some))
     ∙ ap (option_map (with_first (part.Automatic f body))) (ap (all_from (part_first relative)) (sym (append-nil (tracks_words a.back_names a.back))) ∙ back.reads [] ∙ ap (option_map (λ (more : List Part). back.parts ++ more)) (no_parts_left relative))) in
-    let fixed : (all_fixed fs && (all_fixed body && all_fixed bs)) ≡ true = and_from (all_fixed fs) (all_fixed body && all_fixed bs) (fixed_entries a.front_names a.front a.front_fixed) (and_from (all_fixed body) (all_fixed bs) (fixed_entries r.names r.sizes a.body_fixed) (fixed_entries a.back_names a.back a.back_fixed)) in
+    let fixed : (all_fixed fs && (all_fixed body && all_fixed bs)) ≡
+    true = and_from (all_fixed fs) (all_fixed body && all_fixed bs) (fixed_entries a.front_names a.front a.front_fixed) (and_from (all_fixed body) (all_fixed bs) (fixed_entries r.names r.sizes a.body_fixed) (fixed_entries a.back_names a.back a.back_fixed)) in
     ap (track_list relative) cut
     ∙ list-parts relative (tracks_words a.front_names a.front ++ (middle ++ tracks_words a.back_names a.back))
     ∙ ap (λ (o : Option (List Part)). bind o (list_of [])) read

@@ -120,13 +120,15 @@ zero_told relative below word = every_map (IsLengthOf relative below) in_px (rea
 em_told : (below : Bool) (word : Word) → Every (IsLengthOf true below) (em_or_zero below word)
 em_told below word =
     every_if (IsLengthOf true below) (ends_in (codes "em") word) (option_map in_em (read_number (relative_form below) (before (codes "em") word))) (zero_of word)
-    (λ e. every_map (IsLengthOf true below) in_em (read_number (relative_form below) (before (codes "em") word)) (every_so (IsReadBy (relative_form below)) (λ z. IsLengthOf true below (in_em z)) (read_number (relative_form below) (before (codes "em") word)) (λ z h. (refl, (refl, (h.0, h.1)))) (number_told (relative_form below) (before (codes "em") word))))
+    (λ e. every_map (IsLengthOf true below) in_em (read_number (relative_form below) (before (codes "em") word))
+    (every_so (IsReadBy (relative_form below)) (λ z. IsLengthOf true below (in_em z)) (read_number (relative_form below) (before (codes "em") word)) (λ z h. (refl, (refl, (h.0, h.1)))) (number_told (relative_form below) (before (codes "em") word))))
     (λ e. zero_told true below word)
 
 relative_told : (below : Bool) (word : Word) → Every (IsLengthOf true below) (relative_of below word)
 relative_told below word =
     every_if (IsLengthOf true below) (ends_in (codes "rem") word) (option_map in_rem (read_number (relative_form below) (before (codes "rem") word))) (em_or_zero below word)
-    (λ e. every_map (IsLengthOf true below) in_rem (read_number (relative_form below) (before (codes "rem") word)) (every_so (IsReadBy (relative_form below)) (λ z. IsLengthOf true below (in_rem z)) (read_number (relative_form below) (before (codes "rem") word)) (λ z h. (refl, (refl, (h.0, h.1)))) (number_told (relative_form below) (before (codes "rem") word))))
+    (λ e. every_map (IsLengthOf true below) in_rem (read_number (relative_form below) (before (codes "rem") word))
+    (every_so (IsReadBy (relative_form below)) (λ z. IsLengthOf true below (in_rem z)) (read_number (relative_form below) (before (codes "rem") word)) (λ z h. (refl, (refl, (h.0, h.1)))) (number_told (relative_form below) (before (codes "rem") word))))
     (λ e. em_told below word)
 
 other_told : (relative below : Bool) (word : Word) → Every (IsLengthOf relative below) (other_length relative below word)

@@ -27,7 +27,8 @@ quote_if false = []
 -- so many cells of a row from a column on. The first begins the string where the first argument says so, and the last ends it
 abbrev pub cells_from : Bool → List Named → ℕ → ℕ → ℕ → List Word
 cells_from opens areas row column zero = []
-cells_from opens areas row column (suc rest) = (quote_if opens ++ (cell_word areas row column ++ quote_if (rest == 0))) ∷ cells_from false areas row (column + 1) rest
+cells_from opens areas row column (suc rest) =
+    (quote_if opens ++ (cell_word areas row column ++ quote_if (rest == 0))) ∷ cells_from false areas row (column + 1) rest
 
 abbrev pub row_words : List Named → ℕ → ℕ → List Word
 row_words areas columns row = if columns == 0 then codes "\"\"" ∷ [] else cells_from true areas row 0 columns

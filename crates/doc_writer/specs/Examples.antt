@@ -55,20 +55,26 @@ abbrev tracks : List TrackFn → List (List Word) → Value
 tracks sizes names = value.Template (template.Tracks (record { sizes = sizes; names = names; repeat = None }))
 
 -- 2em on both sides, 1em and 2em, a factor, both functions `auto`, and two caps
-track_sizes : written (value.Sizes (alone (breadth.Length (pos 0)) ∷ alone (breadth.Length (pos 0)) ∷ track breadth.Auto (breadth.Flex 1500) ∷ alone breadth.Auto ∷ fit (breadth.Percent 5000) ∷ fit (breadth.Length (neg_ℤ (pos 1))) ∷ track breadth.MinContent (breadth.Length (pos 64)) ∷ []))
+track_sizes : written
+    (value.Sizes
+    (alone (breadth.Length (pos 0)) ∷ alone (breadth.Length (pos 0)) ∷ track breadth.Auto (breadth.Flex 1500) ∷ alone breadth.Auto ∷
+    fit (breadth.Percent 5000) ∷ fit (breadth.Length (neg_ℤ (pos 1))) ∷ track breadth.MinContent (breadth.Length (pos 64)) ∷ []))
     (unit.Em (pos 2000000) ∷ unit.Em (pos 2000000) ∷ unit.Em (pos 1000000) ∷ unit.Em (pos 2000000) ∷ unit.Px ∷ unit.Px ∷ [])
     ≡ codes "2em minmax(1em, 2em) 1.5fr auto fit-content(5%) fit-content(-0.015625px) minmax(min-content, 1px)"
 unfolding number digits
 track_sizes = refl
 
 -- the runs end at a set of names that is not empty
-runs : written (tracks (alone breadth.Auto ∷ alone breadth.Auto ∷ alone breadth.Auto ∷ alone breadth.MaxContent ∷ alone breadth.MaxContent ∷ []) ((a ∷ b ∷ []) ∷ [] ∷ (a ∷ []) ∷ [] ∷ [] ∷ (b ∷ []) ∷ [])) []
+runs : written
+    (tracks (alone breadth.Auto ∷ alone breadth.Auto ∷ alone breadth.Auto ∷ alone breadth.MaxContent ∷ alone breadth.MaxContent ∷ [])
+    ((a ∷ b ∷ []) ∷ [] ∷ (a ∷ []) ∷ [] ∷ [] ∷ (b ∷ []) ∷ [])) []
     ≡ codes "[a b] repeat(2, auto) [a] auto repeat(2, max-content) [b]"
 unfolding number digits
 runs = refl
 
 -- lengths that stand as 0 are equal only with their units
-units_in_runs : written (tracks (alone (breadth.Length (pos 0)) ∷ alone (breadth.Length (pos 0)) ∷ alone (breadth.Length (pos 0)) ∷ []) ([] ∷ [] ∷ [] ∷ [] ∷ []))
+units_in_runs : written
+    (tracks (alone (breadth.Length (pos 0)) ∷ alone (breadth.Length (pos 0)) ∷ alone (breadth.Length (pos 0)) ∷ []) ([] ∷ [] ∷ [] ∷ [] ∷ []))
     (unit.Em (pos 1000000) ∷ unit.Em (pos 1000000) ∷ unit.Em (pos 2000000) ∷ unit.Em (pos 2000000) ∷ unit.Em (pos 2000000) ∷ unit.Em (pos 2000000) ∷ [])
     ≡ codes "1em repeat(2, 2em)"
 unfolding number digits
@@ -81,7 +87,9 @@ no_runs = refl
 around_a_repeat : written (value.Template (template.Tracks (record {
   sizes = alone (breadth.Length (pos 0)) ∷ alone (breadth.Length (pos 0)) ∷ alone (breadth.Percent 1000) ∷ [];
   names = (a ∷ []) ∷ [] ∷ [] ∷ (b ∷ []) ∷ [] ∷ [];
-  repeat = Some (record { before = 2; auto_fit = true; sizes = alone (breadth.Length (pos 64)) ∷ alone (breadth.Length (pos 64)) ∷ []; names = [] ∷ [] ∷ (b ∷ []) ∷ [] });
+  repeat =
+      Some
+      (record { before = 2; auto_fit = true; sizes = alone (breadth.Length (pos 64)) ∷ alone (breadth.Length (pos 64)) ∷ []; names = [] ∷ [] ∷ (b ∷ []) ∷ [] });
 })))
     (unit.Rem (pos 3000000) ∷ unit.Rem (pos 3000000) ∷ unit.Rem (pos 3000000) ∷ unit.Rem (pos 3000000) ∷ unit.Px ∷ unit.Px ∷ unit.Px ∷ unit.Px ∷ [])
     ≡ codes "[a] repeat(2, 3rem) repeat(auto-fit, 1px 1px [b]) [b] 1%"
@@ -102,7 +110,15 @@ subgrid_alone = refl
 abbrev span : ℤ → ℤ → Span
 span start end = record { start = start; end = end }
 
-areas : written (value.Areas (Some (record { columns = 2; rows = 2; named = (codes "h", record { columns = span (pos 0) (pos 2); rows = span (pos 0) (pos 1) }) ∷ (codes "m", record { columns = span (pos 1) (pos 2); rows = span (pos 1) (pos 2) }) ∷ [] }))) []
+areas : written
+    (value.Areas
+    (Some
+    (record {
+      columns = 2;
+      rows = 2;
+      named = (codes "h", record { columns = span (pos 0) (pos 2); rows = span (pos 0) (pos 1) }) ∷
+          (codes "m", record { columns = span (pos 1) (pos 2); rows = span (pos 1) (pos 2) }) ∷ [];
+    }))) []
     ≡ codes "\"h h\" \". m\""
 areas = refl
 
@@ -145,12 +161,16 @@ several prop.MarginLeft = Some (declared (value.Size size.Auto) [])
 several p = None
 
 declarations_in_order : node_line 0 (codes "main") kind.Grid several
-    ≡ codes "main grid { grid-column-start: h; grid-column-end: h; grid-row-start: h; grid-row-end: h; row-gap: 4px; column-gap: 0.5%; margin-top: 0px; margin-right: auto; margin-bottom: 0px; margin-left: auto }"
+    ≡ codes
+    "main grid { grid-column-start: h; grid-column-end: h; grid-row-start: h; grid-row-end: h; row-gap: 4px; column-gap: 0.5%; margin-top: 0px; margin-right: auto; margin-bottom: 0px; margin-left: auto }"
 unfolding number digits
 declarations_in_order = refl
 
 abbrev columns : Prop → Option DeclaredValue
-columns prop.GridTemplateColumns = Some (declared (tracks (alone (breadth.Length (pos 6400)) ∷ track breadth.Auto (breadth.Flex 1000) ∷ []) ([] ∷ [] ∷ [] ∷ [])) (unit.Px ∷ unit.Px ∷ []))
+columns prop.GridTemplateColumns =
+    Some
+    (declared (tracks (alone (breadth.Length (pos 6400)) ∷ track breadth.Auto (breadth.Flex 1000) ∷ []) ([] ∷ [] ∷ [] ∷ []))
+    (unit.Px ∷ unit.Px ∷ []))
 columns prop.ColumnGap = Some (px (pos 640))
 columns p = None
 
@@ -168,7 +188,9 @@ document : with_lines (header 1 (pos 19200) (pos 12800)) (grid ∷ leaf (pos 256
 unfolding number digits
 document = refl
 
-too_long : with_lines [] (record { name = a; text = replicate 65536 46 } ∷ record { name = b; text = replicate 65537 46 } ∷ record { name = a; text = replicate 65538 46 } ∷ []) ≡ Err b
+too_long : with_lines []
+    (record { name = a; text = replicate 65536 46 } ∷ record { name = b; text = replicate 65537 46 } ∷
+    record { name = a; text = replicate 65538 46 } ∷ []) ≡ Err b
 too_long = refl
 
 words : node_line 2 a (kind.Leaf (content.Words (pos 1280) (pos 320) (pos 2400 ∷ pos 33 ∷ []))) nothing ≡ codes "    a words 20 5 37.5 0.515625"

@@ -10,5 +10,6 @@ use Rattle.doc_writer.specs.Tracks.{tracks_with, track_words, repeated, run_word
 -- the line after the track
 pub record IsRun (track : Track) (lines : List (List Word)) (sizes : List TrackFn) (units : List Unit) (more : ℕ) (left : List Unit) : Type 0 where
   pub few : more < 10000
-  pub text : run_words track 1 lines (tracks_with sizes units).0 ≡ repeated (more + 1) (track_words track) ++ tracks_words (drop more lines) (tracks_with (drop more sizes) left).0
+  pub text : run_words track 1 lines (tracks_with sizes units).0 ≡
+      repeated (more + 1) (track_words track) ++ tracks_words (drop more lines) (tracks_with (drop more sizes) left).0
   pub after : (tracks_with (drop more sizes) left).1 ≡ (tracks_with sizes units).1

@@ -38,10 +38,14 @@ put text (word ∷ words) = take 65537 (text ++ words_after (last_or 32 text) (w
 
 -- ---- examples, which hold by computation
 
-size_text : words_text (codes "minmax" ∷ codes "(" ∷ codes "1px" ∷ codes "," ∷ codes "1fr" ∷ codes ")" ∷ codes "[" ∷ codes "a" ∷ codes "b" ∷ codes "]" ∷ codes "[" ∷ codes "]" ∷ [])
+size_text : words_text
+    (codes "minmax" ∷ codes "(" ∷ codes "1px" ∷ codes "," ∷ codes "1fr" ∷ codes ")" ∷ codes "[" ∷ codes "a" ∷ codes "b" ∷ codes "]" ∷ codes "[" ∷
+    codes "]" ∷ [])
     ≡ codes "minmax(1px, 1fr) [a b] []"
 size_text = refl
 
-node_text : words_text (codes "a" ∷ codes "grid" ∷ codes "{" ∷ codes "width" ∷ codes ":" ∷ codes "1px" ∷ codes ";" ∷ codes "order" ∷ codes ":" ∷ codes "2" ∷ codes "}" ∷ [])
+node_text : words_text
+    (codes "a" ∷ codes "grid" ∷ codes "{" ∷ codes "width" ∷ codes ":" ∷ codes "1px" ∷ codes ";" ∷ codes "order" ∷ codes ":" ∷ codes "2" ∷
+    codes "}" ∷ [])
     ≡ codes "a grid { width: 1px; order: 2 }"
 node_text = refl

@@ -61,7 +61,8 @@ fn mark_area(marks: &mut [usize], rows: usize, columns: usize, area: Area, mark:
 /// The marks of the cells by the areas, of which the first counts where several have a cell.
 fn marks_of(alloc: Global, areas: &Areas) -> Result<Vec<usize>, NoMemory>
     ensures cells { IfOk result (λ marks. length marks.items ≡ areas.now.rows * areas.now.columns) }
-    ensures marks { IfOk result (λ marks. AreMarks areas.now.columns 0 areas.now.named marks.items) }
+    ensures marks { IfOk result
+        (λ marks. AreMarks areas.now.columns 0 areas.now.named marks.items) }
 {
     let rows = areas.rows as usize;
     let columns = areas.columns as usize;
@@ -98,7 +99,8 @@ fn put_text(room: &mut [u8; 66], at: usize, text: &[u8]) -> usize
 /// Adds the word of a cell, with the quotes of its string where it begins or ends one.
 fn write_cell(line: &mut LineText, opens: bool, cell: &[u8], closes: bool) -> Result<(), NoMemory>
     requires { length cell.now ≤ 64 }
-    ensures { OnOk result (line.new ≡ put line.old ((quote_if opens ++ (cell.now ++ quote_if closes)) ∷ [])) }
+    ensures { OnOk result
+        (line.new ≡ put line.old ((quote_if opens ++ (cell.now ++ quote_if closes)) ∷ [])) }
 {
     let mut room = [0; 66];
     let start = put_text(&mut room, 0, quote_if(opens));
@@ -161,7 +163,8 @@ fn row_of(marks: &[usize], columns: usize, row: usize) -> &[usize]
 fn write_rows(line: &mut LineText, areas: &Areas, marks: &[usize]) -> Result<(), NoMemory>
     requires cells { length marks.now ≡ areas.now.rows * areas.now.columns }
     requires marks { AreMarks areas.now.columns 0 areas.now.named marks.now }
-    ensures { OnOk result (line.new ≡ put line.old (rows_from areas.now.named areas.now.columns 0 areas.now.rows)) }
+    ensures { OnOk result
+        (line.new ≡ put line.old (rows_from areas.now.named areas.now.columns 0 areas.now.rows)) }
 {
     let columns = areas.columns as usize;
     for row in 0..areas.rows as usize {

@@ -16,15 +16,20 @@ ghost use Rattle.doc_writer.specs.Spaces.{words_text};
 /// wherever it stands: it sets the property to the same value with the same units, and nothing
 /// else.
 pub fn declarations_read_back()
-    ensures { (version : ℕ) (at : Place) (p : Prop) (value : DeclaredValue) → IsDeclared version p value → declaration version at (words_text (declaration_words p value)) ≡ Ok ((p, value) ∷ []) }
+    ensures { (version : ℕ) (at : Place) (p : Prop) (value : DeclaredValue) →
+        IsDeclared version p value →
+        declaration version at (words_text (declaration_words p value)) ≡ Ok ((p, value) ∷ []) }
 {}
 
 /// The lines of the canonical text of a document read as the same document.
 pub fn documents_read_back()
-    ensures { (doc : Doc) (text : List ℕ) (end : Place) → IsValid doc → canonical doc ≡ Ok text → document_of (lines_of text) end ≡ Ok doc }
+    ensures { (doc : Doc) (text : List ℕ) (end : Place) → IsValid doc → canonical doc ≡ Ok text →
+        document_of (lines_of text) end ≡ Ok doc }
 {}
 
 /// What the lines of a canonical text read as has the same canonical text.
 pub fn canonical_text_is_fixed()
-    ensures { (doc again : Doc) (text : List ℕ) (end : Place) → IsValid doc → canonical doc ≡ Ok text → document_of (lines_of text) end ≡ Ok again → canonical again ≡ Ok text }
+    ensures { (doc again : Doc) (text : List ℕ) (end : Place) → IsValid doc →
+        canonical doc ≡ Ok text → document_of (lines_of text) end ≡ Ok again →
+        canonical again ≡ Ok text }
 {}

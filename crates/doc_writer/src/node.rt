@@ -86,7 +86,10 @@ fn write_setting(
     p: Prop,
     some: bool,
 ) -> Result<bool, NoMemory>
-    ensures { IfOk result (λ more. (settings : List Setting) → put line.new (declarations more settings) ≡ put line.old (declarations some (with_value p (map.get style.now p) settings))) }
+    ensures { IfOk result
+        (λ more. (settings : List Setting) →
+        put line.new (declarations more settings) ≡
+        put line.old (declarations some (with_value p (map.get style.now p) settings))) }
 {
     match style.get(p) {
         Some(value) => {
@@ -112,7 +115,9 @@ fn write_settings(
     style: &Declared,
     properties: &[Prop],
 ) -> Result<bool, NoMemory>
-    ensures { IfOk result (λ some. put line.new (close_after some) ≡ put line.old (declarations false (settings_of (map.get style.now) properties.now))) }
+    ensures { IfOk result
+        (λ some. put line.new (close_after some) ≡
+        put line.old (declarations false (settings_of (map.get style.now) properties.now))) }
 {
     let mut some = false;
     for p in properties {
@@ -137,7 +142,9 @@ pub(crate) fn write_node(
     node: &Plain,
 ) -> Result<(), NoMemory>
     requires { level ≤ 64 }
-    ensures { OnOk result (line.new ≡ put (indent level) (node_words node.now.name node.now.kind (map.get node.now.style))) }
+    ensures { OnOk result
+        (line.new ≡
+        put (indent level) (node_words node.now.name node.now.kind (map.get node.now.style))) }
 {
     line.start(level)?;
     line.word(node.name.bytes())?;

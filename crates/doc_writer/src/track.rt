@@ -274,7 +274,8 @@ fn write_tracks<'a>(
     sizes: &[TrackFn],
     units: &Units<'a>,
 ) -> Result<Units<'a>, NoMemory>
-    ensures text { OnOk result (line.new ≡ put line.old (tracks_words lines.now (tracks_with sizes.now units.now).0)) }
+    ensures text { OnOk result
+        (line.new ≡ put line.old (tracks_words lines.now (tracks_with sizes.now units.now).0)) }
     ensures units { IfOk result (λ left. left ≡ (tracks_with sizes.now units.now).1) }
 {
     let mut lines = lines;
@@ -300,7 +301,8 @@ fn write_plain(
     sizes: &[TrackFn],
     units: &mut Units,
 ) -> Result<(), NoMemory>
-    ensures { OnOk result (line.new ≡ put line.old (plain_words lines.now (tracks_with sizes.now units.old).0)) }
+    ensures { OnOk result
+        (line.new ≡ put line.old (plain_words lines.now (tracks_with sizes.now units.old).0)) }
 {
     let mut lines = lines;
     for size in sizes {
@@ -321,7 +323,9 @@ fn filling_word(auto_fit: bool) -> &'static [u8]
 
 /// Adds an automatic repeat, whose lengths have these units.
 fn write_automatic(line: &mut LineText, repeat: &Repeat, units: &mut Units) -> Result<(), NoMemory>
-    ensures { OnOk result (line.new ≡ put line.old (automatic_words repeat.now (tracks_with repeat.now.sizes units.old).0)) }
+    ensures { OnOk result
+        (line.new ≡
+        put line.old (automatic_words repeat.now (tracks_with repeat.now.sizes units.old).0)) }
 {
     open_repeat(line)?;
     line.word(filling_word(repeat.auto_fit))?;
@@ -362,7 +366,10 @@ fn write_around(
     repeat: &Repeat,
     units: &Units,
 ) -> Result<(), NoMemory>
-    ensures { OnOk result (line.new ≡ put line.old (list_words list.now.names (Some repeat.now) (tracks_with list.now.sizes units.now))) }
+    ensures { OnOk result
+        (line.new ≡
+        put line.old
+        (list_words list.now.names (Some repeat.now) (tracks_with list.now.sizes units.now))) }
 {
     let (names, names_after) = cut(list.names.as_slice(), repeat.before as usize + 1);
     let (sizes, sizes_after) = cut(list.sizes.as_slice(), repeat.before as usize);
@@ -373,7 +380,10 @@ fn write_around(
 }
 
 fn write_list(line: &mut LineText, list: &TrackList, units: &Units) -> Result<(), NoMemory>
-    ensures { OnOk result (line.new ≡ put line.old (list_words list.now.names list.now.repeat (tracks_with list.now.sizes units.now))) }
+    ensures { OnOk result
+        (line.new ≡
+        put line.old
+        (list_words list.now.names list.now.repeat (tracks_with list.now.sizes units.now))) }
 {
     match &list.repeat {
         Some(repeat) => write_around(line, list, repeat, units),

@@ -29,7 +29,8 @@ fn push_line(text: &mut Vec<u8>, line: &LineText) -> Result<(), NoMemory>
 #[tactic(auto, using(crate::proofs::Kept::adding, crate::proofs::Short::version_line))]
 /// Adds the header line that tells the version.
 fn push_version(text: &mut Vec<u8>, line: &mut LineText, version: u8) -> Result<(), NoMemory>
-    ensures { OnOk result (text.new.items ≡ text.old.items ++ ended (words_text (version_words version))) }
+    ensures { OnOk result
+        (text.new.items ≡ text.old.items ++ ended (words_text (version_words version))) }
 {
     line.start(0)?;
     line.word(b"gridlay")?;
@@ -45,7 +46,8 @@ fn push_viewport(
     width: Lu,
     height: Lu,
 ) -> Result<(), NoMemory>
-    ensures { OnOk result (text.new.items ≡ text.old.items ++ ended (words_text (viewport_words width height))) }
+    ensures { OnOk result
+        (text.new.items ≡ text.old.items ++ ended (words_text (viewport_words width height))) }
 {
     line.start(0)?;
     line.word(b"viewport")?;
@@ -64,8 +66,10 @@ fn push_node(
     node: &Plain,
 ) -> Result<(), WriteError>
     requires { level ≤ 64 }
-    ensures ok { OnOk result (with_lines text.old.items (line_of level (label_of node.now) ∷ []) ≡ Ok text.new.items) }
-    ensures err { IfErr result (λ e. IsDue e (with_lines text.old.items (line_of level (label_of node.now) ∷ []))) }
+    ensures ok { OnOk result
+        (with_lines text.old.items (line_of level (label_of node.now) ∷ []) ≡ Ok text.new.items) }
+    ensures err { IfErr result
+        (λ e. IsDue e (with_lines text.old.items (line_of level (label_of node.now) ∷ []))) }
 {
     write_node(line, alloc, level, node)?;
     if line.as_slice().len() > LONGEST {
@@ -84,8 +88,10 @@ fn push_nodes(
     node: &Plain,
 ) -> Result<(), WriteError>
     requires { level + height_of (trees_of (node.now ∷ [])) ≤ 64 }
-    ensures ok { OnOk result (with_lines text.old.items (lines_of level (trees_of (node.now ∷ []))) ≡ Ok text.new.items) }
-    ensures err { IfErr result (λ e. IsDue e (with_lines text.old.items (lines_of level (trees_of (node.now ∷ []))))) }
+    ensures ok { OnOk result
+        (with_lines text.old.items (lines_of level (trees_of (node.now ∷ []))) ≡ Ok text.new.items) }
+    ensures err { IfErr result
+        (λ e. IsDue e (with_lines text.old.items (lines_of level (trees_of (node.now ∷ []))))) }
 {
     push_node(text, line, alloc, level, node)?;
     for child in node.children.nodes() {

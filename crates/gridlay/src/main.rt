@@ -27,8 +27,10 @@ fn status<R: Input + Print + Env + AllocGlobal, L: Ledger>(
     requires parts { blank.parts ≡ L.parts }
     requires some { 0 < blank.parts }
     ensures refused { IfErr words (λ why. result ≡ why) }
-    ensures words { IfOk words (λ given. result ≡ Status.BadWords → is_served (asked given.items) ≡ false) }
-    ensures unserved { IfOk words (λ given. is_served (asked given.items) ≡ false → IsUnserved result) }
+    ensures words { IfOk words
+        (λ given. result ≡ Status.BadWords → is_served (asked given.items) ≡ false) }
+    ensures unserved { IfOk words
+        (λ given. is_served (asked given.items) ≡ false → IsUnserved result) }
 {
     let words = match words {
         Ok(words) => words,

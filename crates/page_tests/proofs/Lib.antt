@@ -1,5 +1,2 @@
 mod Readied
-mod Made
-mod Asking
-mod Contents
 mod Stepped

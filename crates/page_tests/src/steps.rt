@@ -1,23 +1,23 @@
 //! Steps of edits: the boxes of a page after the change of an edit and the change that takes it
 //! back.
 
-ghost use Rattle.std.specs.Prelude.{◌≡◌, ◌<◌, OnOk};
+ghost use Rattle.std.specs.Prelude.{OnOk};
 ghost use Rattle.doc_text.specs.Laws.{IsChange, NamesItsNode};
 ghost use Rattle.page_tests.specs.Ready.{IsReady};
 
-use crate::bases::edit_of;
-use crate::boxes::{Placed, are_boxes};
+use crate::edits::edit_of;
 use crate::pages::{laid_out, none_found, page_of};
 use doc_text::Edit;
 use edit_journal::steps_lead_back;
-use lunit::Steps;
-use outside::{Tally, WordRuler};
+use lunit::{Name, Rect};
 use page_tree::{Page, steps_fit};
 use std::alloc::Global;
-use std::marker::Brand;
 use std::process::Abort;
-use std::sync::ledger::{Blank, Ledger};
 use std::test::Fail;
+
+/// A node, and its border box in units of 1/64 px: the place of its left upper corner, its width
+/// and its height.
+type Placed<'a> = (&'a [u8], i64, i64, i64, i64);
 
 /// The lines of a document with a leaf and a subgrid of two leaves.
 static PAGE: &[&[u8]] = &[
@@ -72,41 +72,52 @@ fn there_and_back(page: &mut Page, edit: &Edit) -> Result<(), Fail>
     Ok(())
 }
 
+fn is_box(found: &(Name, Rect), wants: &Placed) -> bool {
+    let (name, rect) = *found;
+    let (of, x, y, width, height) = *wants;
+    let sizes = (
+        rect.x.units(),
+        rect.y.units(),
+        rect.width.units(),
+        rect.height.units(),
+    );
+    name.bytes() == of && sizes == (x, y, width, height)
+}
+
+/// Whether these are all boxes, in document order.
+fn are_boxes(found: &[(Name, Rect)], wants: &[Placed]) -> bool {
+    if found.len() != wants.len() {
+        return false;
+    }
+    for (one, other) in found.iter().zip(wants) {
+        if !is_box(one, other) {
+            return false;
+        }
+    }
+    true
+}
+
 /// Whether a page has the boxes of `PAGE`.
-fn is_whole<L: Ledger>(page: &mut Page, passes: &mut Steps<L>) -> Result<bool, Fail>
+fn is_whole(page: &mut Page) -> Result<bool, Fail>
     requires { IsReady page.old }
     ensures { IsReady page.new }
 {
-    let boxes = laid_out(page, &mut WordRuler::new(), &mut Tally::new(), passes)?;
+    let boxes = laid_out(page)?;
     Ok(are_boxes(boxes.as_slice(), BOXES))
 }
 
-fn comes_back<L: Ledger>(
-    rt: &impl Abort,
-    alloc: Global,
-    passes: &mut Steps<L>,
-    text: &[u8],
-) -> Result<(), Fail> {
+fn comes_back(rt: &impl Abort, alloc: Global, text: &[u8]) -> Result<(), Fail> {
     let mut page = page_of(alloc, PAGE)?;
-    assert!(rt; is_whole(&mut page, passes)?);
+    assert!(rt; is_whole(&mut page)?);
     there_and_back(&mut page, &edit_of(alloc, text)?)?;
-    assert!(rt; is_whole(&mut page, passes)?);
-    Ok(())
-}
-
-fn all_come_back<L: Ledger>(rt: &impl Abort, alloc: Global, blank: Blank) -> Result<(), Fail>
-    requires name { blank.name ≡ L.name }
-    requires parts { blank.parts ≡ L.parts }
-    requires some { 0 < blank.parts }
-{
-    let mut passes: Steps<L> = Steps::new(blank);
-    for text in EDITS {
-        comes_back(rt, alloc, &mut passes, text)?;
-    }
+    assert!(rt; is_whole(&mut page)?);
     Ok(())
 }
 
 #[test]
 fn boxes_come_back_with_what_was_edited(rt: HostRuntime) -> Result<(), Fail> {
-    all_come_back::<Brand>(&rt, rt.alloc(), Blank::new(1))
+    for text in EDITS {
+        comes_back(&rt, rt.alloc(), text)?;
+    }
+    Ok(())
 }

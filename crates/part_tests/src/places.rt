@@ -1,11 +1,7 @@
-//! Which cells are taken, and where items are placed among them.
-
-ghost use Rattle.std.specs.Prelude.{◌≡◌, []};
+//! Which cells are taken.
 
 use cell_index::{IntervalCells, ListCells};
-use grid_placement::{Shape, Wish, place};
-use lunit::{Area, NoMemory, Occupancy, Span, Spot};
-use std::alloc::Global;
+use lunit::{Area, NoMemory, Occupancy, Span};
 use std::process::Abort;
 use std::test::Fail;
 
@@ -78,45 +74,5 @@ fn either_kind_of_cells_is_taken_once_added(rt: HostRuntime) -> Result<(), Fail>
     ];
     fill(&rt, &mut ListCells::new(rt.alloc()), ROWS)?;
     fill(&rt, &mut IntervalCells::new(rt.alloc()), ROWS)?;
-    Ok(())
-}
-
-/// Two items that are free over two columns of one row, and one that is free over one.
-static WISHES: [Wish; 3] = [
-    Wish {
-        column: Spot::Free(2),
-        row: Spot::Free(1),
-    },
-    Wish {
-        column: Spot::Free(2),
-        row: Spot::Free(1),
-    },
-    Wish {
-        column: Spot::Free(1),
-        row: Spot::Free(1),
-    },
-];
-
-/// In a dense grid of three columns the second item does not fit beside the first, and the third
-/// fills the hole there.
-fn places<O: Occupancy>(rt: &impl Abort, alloc: Global, cells: &mut O) -> Result<(), NoMemory>
-    requires { O.areas cells.old ≡ [] }
-{
-    let dense = Shape {
-        columns: 3,
-        column_flow: false,
-        dense: true,
-        rows: 0,
-    };
-    let areas = place(alloc, &WISHES, dense, cells)?;
-    let wants = [area((0, 2, 0, 1)), area((0, 2, 1, 2)), area((2, 3, 0, 1))];
-    assert_eq!(rt; areas.as_slice(), wants.as_slice());
-    Ok(())
-}
-
-#[test]
-fn items_are_placed_over_either_kind_of_cells(rt: HostRuntime) -> Result<(), Fail> {
-    places(&rt, rt.alloc(), &mut IntervalCells::new(rt.alloc()))?;
-    places(&rt, rt.alloc(), &mut ListCells::new(rt.alloc()))?;
     Ok(())
 }

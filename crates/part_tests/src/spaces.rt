@@ -1,10 +1,6 @@
-//! Spaces that are shared, by alignment, by weights and by flexible tracks, at the bounds of
-//! numbers.
-
-ghost use Rattle.std.specs.Prelude.{◌≤ℤ◌, pos};
+//! Spaces that are shared, by alignment and by weights, at the bounds of numbers.
 
 use box_align::{Mode, auto_margins, content_offset, self_offset};
-use fr_tracks::{FrRow, expand, find_fr};
 use lunit::Lu;
 use share_out::{Share, apportion, hand_out};
 
@@ -71,34 +67,4 @@ fn the_greatest_free_space_is_aligned(rt: HostRuntime) {
     let half = 36_028_797_018_963_968;
     assert_eq!(rt; auto_margins(MOST - 1, true, true), (half - 1, half));
     assert_eq!(rt; auto_margins(-MOST, true, false), (0, 0));
-}
-
-#[tactic(auto, using(crate::proofs::Measurable::some_length))]
-/// So many units.
-fn length(units: u32) -> Lu
-    ensures { pos 0 ≤ℤ result }
-{
-    Lu::of(units as i64)
-}
-
-/// A flexible track of this base size and factor.
-fn flexible(base: u32, factor: u32) -> FrRow
-    ensures { pos 0 ≤ℤ result.base }
-{
-    FrRow {
-        base: length(base),
-        factor: Some(factor),
-    }
-}
-
-/// 900 gives 300 each, below 500; then 400 gives 200 each, below 250; then 150 is left.
-#[test]
-fn a_fraction_fills_a_space(rt: HostRuntime) {
-    let mut tracks = [flexible(500, 1000), flexible(250, 1000), flexible(0, 1000)];
-    let fraction = find_fr(&tracks, length(0), Lu::of(900));
-    assert_eq!(rt; (fraction.space.units(), fraction.weight), (150, 1000));
-    expand(&mut tracks, fraction);
-    let [first, second, third] = tracks;
-    assert_eq!(rt; (first.base.units(), second.base.units()), (500, 250));
-    assert_eq!(rt; third.base.units(), 150);
 }

@@ -1,18 +1,17 @@
-//! Sizes of tracks for a max-content space, whether these are also those for their own total, and
-//! sizes for a definite space.
+//! Whether sizes of tracks for a max-content space are told to be also those for their own total.
 
 ghost use Rattle.std.specs.Prelude.{◌≡◌, ◌<◌, ◌≤ℤ◌, IfOk, IfSome, length, negsuc, pos};
 ghost use Rattle.track_sizing.specs.Fits.{HaveFixed, IsFixed, IsKnownSpace};
 ghost use Rattle.track_sizing.specs.Placed.{AreIn, IsIn};
 
 use Track::{Auto, Between, Gone, Limited};
-use lunit::{Along, Floor, INLINE, Item, Lu, NoMemory, Span, Steps};
+use lunit::{Floor, INLINE, Item, Lu, NoMemory, Span, Steps};
 use std::alloc::Global;
 use std::marker::Brand;
 use std::process::Abort;
 use std::sync::ledger::{Blank, Ledger};
 use std::test::Fail;
-use track_sizing::{Fit, Least, Most, Rule, Space, size_axis, size_axis_lasting};
+use track_sizing::{Fit, Least, Most, Rule, Space, size_axis_lasting};
 
 /// A track: `auto`, between two lengths, of the function `fit-content`, or collapsed.
 #[derive(Clone, Copy)]
@@ -27,15 +26,11 @@ enum Track {
 /// contributions.
 type Placed = (u8, [i64; 3]);
 
-/// Tracks with gaps of 5 and their items, the sizes for a max-content space, which last, and those
-/// for a definite space.
+/// Tracks with gaps of 5 and their items.
 struct Row {
     shows: &'static str,
     tracks: &'static [Track],
     items: &'static [Placed],
-    widest: &'static [i64],
-    space: i64,
-    sizes: &'static [i64],
 }
 
 /// The coordinate of the first track.
@@ -110,16 +105,13 @@ fn items(alloc: Global, count: usize, rows: &[Placed]) -> Result<Vec<Item>, NoMe
     Ok(all)
 }
 
-/// What the tracks are sized for: a definite space, else a max-content one.
-fn fit(space: Option<i64>) -> Fit<INLINE>
+/// A max-content space.
+fn widest() -> Fit<INLINE>
     ensures gap { pos 0 ≤ℤ result.gap }
     ensures space { IsKnownSpace result.space }
 {
     Fit {
-        space: match space {
-            Some(units) => Space::Definite(Along::of(Lu::of(units).units())),
-            None => Space::MaxContent,
-        },
+        space: Space::MaxContent,
         min: None,
         max: None,
         gap: units(5),
@@ -127,15 +119,7 @@ fn fit(space: Option<i64>) -> Fit<INLINE>
     }
 }
 
-fn units_of(alloc: Global, sizes: &[Lu]) -> Result<Vec<i64>, NoMemory> {
-    let mut all = Vec::new(alloc);
-    for size in sizes {
-        all.push(size.units())?;
-    }
-    Ok(all)
-}
-
-fn agrees<L: Ledger>(
+fn lasts<L: Ledger>(
     rt: &impl Abort,
     alloc: Global,
     passes: &mut Steps<L>,
@@ -144,26 +128,12 @@ fn agrees<L: Ledger>(
     let rules = rules(alloc, row.tracks)?;
     assert!(rt; rules.len() < 100);
     let items = items(alloc, rules.len(), row.items)?;
-    let made = size_axis_lasting(alloc, &rules, FIRST, &items, &fit(None), passes)?;
-    assert_eq!(rt;
-        units_of(alloc, &made.sizes)?.as_slice(),
-        row.widest,
-        "{}",
-        row.shows
-    );
+    let made = size_axis_lasting(alloc, &rules, FIRST, &items, &widest(), passes)?;
     assert!(rt; made.lasting, "{}", row.shows);
-    let definite = fit(Some(row.space));
-    let sizes = size_axis(alloc, &rules, FIRST, &items, &definite, passes)?;
-    assert_eq!(rt;
-        units_of(alloc, &sizes)?.as_slice(),
-        row.sizes,
-        "{}",
-        row.shows
-    );
     Ok(())
 }
 
-fn agree<L: Ledger>(
+fn all_last<L: Ledger>(
     rt: &impl Abort,
     alloc: Global,
     blank: Blank,
@@ -175,48 +145,36 @@ fn agree<L: Ledger>(
 {
     let mut passes: Steps<L> = Steps::new(blank);
     for row in rows {
-        agrees(rt, alloc, &mut passes, row)?;
+        lasts(rt, alloc, &mut passes, row)?;
     }
     Ok(())
 }
 
-/// That sizes last is told where items of one track make them; no clause says that it is told.
+/// Items of one track make the sizes; no clause says that these are told to last.
 #[test]
-fn tracks_fit_their_items(rt: HostRuntime) -> Result<(), Fail> {
+fn sizes_by_items_of_one_track_last(rt: HostRuntime) -> Result<(), Fail> {
     static ROWS: &[Row] = &[
         Row {
-            shows: "minimum contributions of 25 and 20 leave 27 of 77: 14 and 13",
+            shows: "two automatic tracks",
             tracks: &[Auto, Auto],
             items: &[(0, [30, 50, 25]), (1, [20, 42, 20])],
-            widest: &[50, 42],
-            space: 77,
-            sizes: &[39, 33],
         },
         Row {
-            shows: "10 and 20 leave 15 of 50: 8 and 7",
+            shows: "a track between two lengths",
             tracks: &[Between(10, 70), Auto],
             items: &[(0, [30, 50, 25]), (1, [20, 42, 20])],
-            widest: &[70, 42],
-            space: 50,
-            sizes: &[18, 27],
         },
         Row {
-            shows: "25 and 20 leave 10 of 60, of which the first takes 2",
+            shows: "a track that fits its content up to a limit",
             tracks: &[Limited(27), Auto],
             items: &[(0, [30, 50, 25]), (1, [20, 42, 20])],
-            widest: &[27, 42],
-            space: 60,
-            sizes: &[27, 28],
         },
         Row {
-            shows: "a collapsed track has no size and no gap",
+            shows: "a collapsed track",
             tracks: &[Auto, Gone, Auto],
             items: &[(0, [30, 50, 25]), (2, [20, 42, 20])],
-            widest: &[50, 0, 42],
-            space: 77,
-            sizes: &[39, 0, 33],
         },
     ];
-    agree::<Brand>(&rt, rt.alloc(), Blank::new(1), ROWS)?;
+    all_last::<Brand>(&rt, rt.alloc(), Blank::new(1), ROWS)?;
     Ok(())
 }

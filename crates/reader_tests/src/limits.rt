@@ -1,109 +1,11 @@
-//! Texts at the bounds of their numbers, of the bytes of an edit line, and of the nodes of a
-//! document, and one beyond. That a document's line, its levels and all of its bytes are too many
-//! stands in `session_tests`.
+//! Texts at the bounds of the bytes of an edit line and of the nodes of a document, and one beyond.
+//! That a document's line, its levels and all of its bytes are too many stands in `session_tests`.
 
 use crate::texts::{HEAD, HEAD_2, READS, Told, document_told, edit_told};
 use lunit::NoMemory;
 use std::alloc::Global;
 use std::process::Abort;
 use std::test::Fail;
-
-/// A text, and what is told of it.
-struct Row {
-    shows: &'static str,
-    text: &'static [u8],
-    want: Told,
-}
-
-fn joined(alloc: Global, front: &[u8], back: &[u8]) -> Result<Vec<u8>, NoMemory> {
-    let mut text = Vec::from_slice(alloc, front)?;
-    text.extend_from_slice(back)?;
-    Ok(text)
-}
-
-#[test]
-fn nodes_have_bounds(rt: HostRuntime) -> Result<(), Fail> {
-    static ROWS: &[Row] = &[
-        Row {
-            shows: "a name of 58 bytes, the greatest sizes of words",
-            text: b"abcdefghijabcdefghijabcdefghijabcdefghijabcdefghijabcdefgh words 0 1048576 .5px 1048576.000",
-            want: READS,
-        },
-        Row {
-            shows: "a name of 59 bytes",
-            text: b"abcdefghijabcdefghijabcdefghijabcdefghijabcdefghijabcdefghi grid",
-            want: (5, 3, 1),
-        },
-        Row {
-            shows: "a height that passes its bound by little",
-            text: b"main leaf 1 1048576.0000001",
-            want: (9, 3, 13),
-        },
-        Row {
-            shows: "the greatest values",
-            text: b"main grid { width: 1048576px; margin-left: -1048576px; height: 1000%; order: -1000000; flex-grow: 10000; grid-auto-rows: 10000fr; grid-template-rows: repeat(10000, 1px) }",
-            want: READS,
-        },
-        Row {
-            shows: "more repeats",
-            text: b"main grid { grid-template-rows: repeat(10001, 1px) }",
-            want: (9, 3, 33),
-        },
-        Row {
-            shows: "a greater factor",
-            text: b"main grid { flex-grow: 10000.1 }",
-            want: (9, 3, 24),
-        },
-    ];
-    for row in ROWS {
-        let text = joined(rt.alloc(), HEAD, row.text)?;
-        let found = document_told(rt.alloc(), text)?;
-        assert!(rt; found == row.want, "{}", row.shows);
-    }
-    Ok(())
-}
-
-#[test]
-fn edits_have_bounds(rt: HostRuntime) -> Result<(), Fail> {
-    static ROWS: &[Row] = &[
-        Row {
-            shows: "the greatest index",
-            text: b"insert main +1000000 a grid",
-            want: READS,
-        },
-        Row {
-            shows: "an index above it",
-            text: b"move a b 1000001",
-            want: (9, 1, 10),
-        },
-        Row {
-            shows: "the greatest number of edits",
-            text: b"undo 1000000",
-            want: READS,
-        },
-        Row {
-            shows: "no edit",
-            text: b"undo 0",
-            want: (9, 1, 6),
-        },
-        Row {
-            shows: "a greater number of edits",
-            text: b"redo 1000001",
-            want: (9, 1, 6),
-        },
-        Row {
-            shows: "a greater size",
-            text: b"viewport 1 1048577",
-            want: (9, 1, 12),
-        },
-    ];
-    for row in ROWS {
-        let text = joined(rt.alloc(), row.text, b"")?;
-        let found = edit_told(rt.alloc(), 1, text)?;
-        assert!(rt; found == row.want, "{}", row.shows);
-    }
-    Ok(())
-}
 
 /// `remove a` and as many bytes of a comment.
 fn commented(alloc: Global, count: u32) -> Result<Vec<u8>, NoMemory> {

@@ -29,7 +29,7 @@ fn one_piece(alloc: Global, text: Vec<u8>) -> Result<Vec<Sequence<u8>>, NoMemory
 }
 
 /// The lines of a text.
-pub(crate) fn lines_of(alloc: Global, text: Vec<u8>) -> Result<Sequence<Line>, Fail> {
+fn lines_of(alloc: Global, text: Vec<u8>) -> Result<Sequence<Line>, Fail> {
     if text.len() > MAX_FED {
         return Err(Fail::new("a text of too many bytes"));
     }
@@ -47,7 +47,7 @@ fn end_of(lines: &[Line]) -> Place {
 }
 
 /// What is told of a text that is not read.
-pub(crate) fn told(error: ReadError) -> Result<Told, Fail> {
+fn told(error: ReadError) -> Result<Told, Fail> {
     match error {
         ReadError::Fault(Fault { number, place }) => Ok((number, place.line, place.column)),
         ReadError::NoMemory => Err(Fail::new("want of memory")),

@@ -64,7 +64,7 @@ pub not_edit : (h : History) (line : Line) (fault : Fault) → edit_of h.doc.ver
 unfolding made_of
 not_edit h line fault e = ap (of_read h) e
 
-is_edit : (h : History) (line : Line) (e : Edit) → edit_of h.doc.version line ≡ Ok e → made_of h line ≡ answer_to e h
+pub is_edit : (h : History) (line : Line) (e : Edit) → edit_of h.doc.version line ≡ Ok e → made_of h line ≡ answer_to e h
 unfolding made_of
 is_edit h line e read = ap (of_read h) read
 

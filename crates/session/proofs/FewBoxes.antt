@@ -23,15 +23,15 @@ use Rattle.page_tree.specs.Boxes.{declared_of, node_kind_of}
 use Rattle.session.specs.Boxes.{boxes_of}
 
 -- the nodes below one, as the rules see them
-abbrev seen_below : ℤ → ℤ → Trees Label → Trees rules.Label
+abbrev pub seen_below : ℤ → ℤ → Trees Label → Trees rules.Label
 seen_below parent root t = computed_trees parent root (map_trees declared_of t)
 
-bare_leaf : (k : Kind) (parent root : ℤ) (below : Trees Label) → (is_leaf k ≡ true → below ≡ leafless) → IsBareLeaf (node_kind_of k) (seen_below parent root below)
+pub bare_leaf : (k : Kind) (parent root : ℤ) (below : Trees Label) → (is_leaf k ≡ true → below ≡ leafless) → IsBareLeaf (node_kind_of k) (seen_below parent root below)
 bare_leaf plain.Grid parent root below h = tt
 bare_leaf plain.Flex parent root below h = tt
 bare_leaf (plain.Leaf content) parent root below h = subst (λ (t : Trees Label). IsBareLeaf (kind.Leaf content) (seen_below parent root t)) (sym (h refl)) tt
 
-bare_leaves : (parent root : ℤ) (t : Trees Label) → HasContainers t → LeavesAreBare (seen_below parent root t)
+pub bare_leaves : (parent root : ℤ) (t : Trees Label) → HasContainers t → LeavesAreBare (seen_below parent root t)
 bare_leaves parent root leafless h = tt
 bare_leaves parent root (tree x below after) h =
     let font = font_of parent root x.style in

@@ -16,12 +16,13 @@ use Rattle.session.specs.Script.{has_end, before_end, after_end, document_of_lin
 use Rattle.session.specs.Outcome.{answer_of, document_in, out, verdict, early_lines, IsEarlyFault}
 use Rattle.session.specs.Runs.{IsSilent, WritesAll, WritesPrefix, Stands, IsWhole, IsEnded, EndsAll, EndsBad, EndsEarly, Judged, Runs, HasRun, Permits, PermitsOver, IsComplete, IsOverComplete, IsHeadline}
 use Rattle.session.specs.declared.status.Status.{Status}
-use Rattle.session.specs.declared.status.Status.TheVariants.{Done, BadDocument, SomeRefused, ReadFault, WriteFault, NoMemory, InputLimit, BadWords}
+use Rattle.session.specs.declared.status.Status.TheVariants.{Done, BadDocument, SomeRefused, ReadFault, WriteFault, NoMemory, InputLimit, TooLong, BadWords}
 use Rattle.session.proofs.Due.{prefix_due}
 use Rattle.session.proofs.Logs.{Made}
 use Rattle.session.proofs.Scripts.{MadeMore, has_more, before_more, after_more, made_more}
 use Rattle.session.proofs.Written.{front_all, front_stays, front_longer, plain_all, plain_front}
 use Rattle.session.specs.Written.{Writes, WritesFront}
+use Rattle.session.specs.Writing.{read_of}
 
 -- ---- the first lines of an input and all of them
 
@@ -46,11 +47,7 @@ prefix_front stats w w' l l' given all e f p = with_more (all_more given f.rest 
     with_more : (more : List Made) × (all_made (given ++ f.rest) ≡ all_made given ++ more) → WritesPrefix stats w w' l l' all
     with_more m = subst (λ (made : List Made). WritesFront stats w w' l l' 0 made) (sym m.1 ∙ ap all_made f.parts) (front_longer stats w w' l l' 0 (all_made given) m.0 p)
 
--- the document that was read
-abbrev read_of : List Line → Result Doc Fault
-read_of lines = document_of_lines (before_end lines)
-
-same_front : (given all : List Line) → has_end given ≡ true → IsFront given all → read_of all ≡ read_of given
+pub same_front : (given all : List Line) → has_end given ≡ true → IsFront given all → read_of all ≡ read_of given
 same_front given all e f = ap read_of (sym f.parts) ∙ ap document_of_lines (before_more given f.rest e)
 
 bad_made : (given : List Line) → has_fault (read_of given) ≡ true → all_made given ≡ or_refused (read_of given) ∷ []
@@ -73,15 +70,15 @@ take_short (suc n) (x ∷ xs) ys h =
 
 -- ---- all bytes of an input
 
-told_is : (told taken : List ℕ) (left' : Option (List ℕ)) → IsReadToEnd (Some told) left' taken → taken ≡ told
+pub told_is : (told taken : List ℕ) (left' : Option (List ℕ)) → IsReadToEnd (Some told) left' taken → taken ≡ told
 told_is told taken None p = absurd p
 told_is told taken (Some rest) p = sym p.0
 
-long_is : (told taken : List ℕ) (left' : Option (List ℕ)) → Loses (Some told) left' taken → length taken ≤ length told
+pub long_is : (told taken : List ℕ) (left' : Option (List ℕ)) → Loses (Some told) left' taken → length taken ≤ length told
 long_is told taken None p = absurd p
 long_is told taken (Some rest) p = omega (arith, ap (λ (l : List ℕ). length l) p, length-append taken rest)
 
-early_is : (told taken : List ℕ) (left' : Option (List ℕ)) → Loses (Some told) left' taken → limit < length taken → early_lines taken ≡ early_lines told
+pub early_is : (told taken : List ℕ) (left' : Option (List ℕ)) → Loses (Some told) left' taken → limit < length taken → early_lines taken ≡ early_lines told
 early_is told taken None p many = absurd p
 early_is told taken (Some rest) p many =
     let enough : limit ≤ length taken = omega (arith, many) in
@@ -138,6 +135,7 @@ module _ (stats : Bool) (told : List ℕ) (left' w w' : Option (List ℕ)) (l l'
   prefix_told NoMemory taken given f (inl p) = silent_out p
   prefix_told NoMemory taken given f (inr p) = part_out taken given f p
   prefix_told InputLimit taken given f p = stands_out given f p.2
+  prefix_told TooLong taken given f p = absurd p
   prefix_told BadWords taken given f p = absurd p
 
   all_verdict : (status : Status) (taken : List ℕ) (given : List Line) → EndsAll stats (Some told) left' w w' l l' taken given status → (status ≡ verdict told) × WritesAll stats w w' l l' (lines_of told)
@@ -156,6 +154,7 @@ module _ (stats : Bool) (told : List ℕ) (left' w w' : Option (List ℕ)) (l l'
   permitted WriteFault taken given t f few p = tt
   permitted NoMemory taken given t f few p = tt
   permitted InputLimit taken given t f few p = absurd (omega (arith, long_is told taken left' t, p.0, few))
+  permitted TooLong taken given t f few p = absurd p
   permitted BadWords taken given t f few p = absurd p
 
   early_fault : (taken : List ℕ) (given : List Line) → limit < length told → EndsBad stats (Some told) left' w w' l l' taken given → IsEarlyFault (early_lines told)
@@ -183,6 +182,7 @@ module _ (stats : Bool) (told : List ℕ) (left' w w' : Option (List ℕ)) (l l'
   permitted_over InputLimit taken given t f many p =
       let long : limit < length taken = omega (arith, p.0) in
       no_early_fault given (p.1 ∙ early_is told taken left' t long) p.2
+  permitted_over TooLong taken given t f many p = absurd p
   permitted_over BadWords taken given t f many p = absurd p
 
 -- ---- all that is known
@@ -210,6 +210,7 @@ complete wrote told ReadFault p not_read not_write = absurd (not_read refl)
 complete wrote told WriteFault p not_read not_write = absurd (not_write refl)
 complete wrote told NoMemory p not_read not_write = inl refl
 complete wrote told InputLimit p not_read not_write = inr p
+complete wrote told TooLong p not_read not_write = inr p
 complete wrote told BadWords p not_read not_write = inr p
 
 all_complete : (left : Option (List ℕ)) (wrote : List ℕ → Type 0) (s s' k k' : ℕ) (status : Status) → IfSome left (λ b. length b ≤ limit → Permits (wrote b) b status)
@@ -218,7 +219,7 @@ all_complete : (left : Option (List ℕ)) (wrote : List ℕ → Type 0) (s s' k 
 all_complete None wrote s s' k k' status p read write = tt
 all_complete (Some told) wrote s s' k k' status p read write = λ few no_read no_write. complete (wrote told) told status (p few) (λ e. no_read (read e)) (λ e. no_write (write e))
 
-over_complete : (left : Option (List ℕ)) (wrote : List ℕ → Type 0) (s s' k k' : ℕ) (status : Status) → IfSome left (λ b. limit < length b → PermitsOver (wrote b) b status)
+pub over_complete : (left : Option (List ℕ)) (wrote : List ℕ → Type 0) (s s' k k' : ℕ) (status : Status) → IfSome left (λ b. limit < length b → PermitsOver (wrote b) b status)
     → (status ≡ ReadFault → Rose s s') → (status ≡ WriteFault → Rose k k')
     → IsOverComplete left s s' k k' status
 over_complete None wrote s s' k k' status p read write = tt
@@ -233,6 +234,7 @@ over_complete (Some told) wrote s s' k k' status p read write = λ many no_read 
     by_status WriteFault p no_read no_write = absurd (no_write refl)
     by_status NoMemory p no_read no_write = inl refl
     by_status InputLimit p no_read no_write = inr (inl (refl, p))
+    by_status TooLong p no_read no_write = absurd p
     by_status BadWords p no_read no_write = absurd p
 
 pub has_run : (stats : Bool) (left left' w w' : Option (List ℕ)) (l l' : Option (List Event)) (s s' k k' : ℕ) (status : Status) → Runs stats left left' w w' l l' status
@@ -267,6 +269,7 @@ module _ (w w' : Option (List ℕ)) (l l' : Option (List Event)) where
   as_plain told WriteFault p = tt
   as_plain told NoMemory p = tt
   as_plain told InputLimit p = (p.0, plain_wrote told p.1)
+  as_plain told TooLong p = (p.0, plain_wrote told p.1)
   as_plain told BadWords p = (p.0, plain_wrote told p.1)
 
   -- the answer and the output of a run where no count rose

@@ -34,3 +34,5 @@ pub mod Making
 pub mod Replies
 pub mod Traces
 pub mod Applying
+pub mod Calls
+pub mod LastText

@@ -26,7 +26,7 @@ use Rattle.session.specs.Made.{EndsMaking, HasMade, MakesAll, TellsLayouts, all_
 use Rattle.session.specs.Runs.{StopsWriting}
 use Rattle.session.specs.Spares.{Spares}
 use Rattle.session.specs.declared.status.Status.{Status}
-use Rattle.session.specs.declared.status.Status.TheVariants.{Done, BadDocument, SomeRefused, ReadFault, WriteFault, NoMemory, InputLimit, BadWords}
+use Rattle.session.specs.declared.status.Status.TheVariants.{Done, BadDocument, SomeRefused, ReadFault, WriteFault, NoMemory, InputLimit, TooLong, BadWords}
 use Rattle.session.proofs.Logs.{front_all, front_none}
 use Rattle.session.proofs.Spares.{spares_none}
 
@@ -217,6 +217,7 @@ module _ (seed nodes : ℕ) (w w' : Option (List ℕ)) (l l' : Option (List Even
     made_some WriteFault s cause = stopped WriteFault tt (λ n. absurd (n (cause refl)))
     made_some NoMemory s cause = stopped NoMemory tt (λ n. refl)
     made_some InputLimit s cause = absurd s
+    made_some TooLong s cause = absurd s
     made_some BadWords s cause = absurd s
 
 -- nothing was done for want of memory

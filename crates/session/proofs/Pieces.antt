@@ -1,5 +1,5 @@
 -- Pieces of the input and the lines that are given of them, one after another.
-use Rattle.std.proofs.Common.{◌≡◌, subst, ℕ, ◌+◌, ◌≤◌, ◌||◌, Bool, true, false, List, [], ◌∷◌, ◌++◌, take, Option, Some, None, Ok, Err, length, sym, ap, ◌∙◌, refl, arith, append_assoc, append-nil, length-append, option_to_list}
+use Rattle.std.proofs.Common.{◌≡◌, subst, ℕ, ◌+◌, ◌<◌, ◌≤◌, ◌||◌, Bool, true, false, List, [], ◌∷◌, ◌++◌, take, Option, Some, None, Ok, Err, length, sym, ap, ◌∙◌, refl, arith, append_assoc, append-nil, length-append, option_to_list}
 use Rattle.std.proofs.lemmas.Bool.{false≢true}
 use Rattle.std.specs.Prelude.{if◌then◌else◌, IfSome}
 use Rattle.outside.specs.Told.{Loses, IsSpent}
@@ -8,16 +8,27 @@ use Rattle.text_scan.specs.declared.line.Line.{Line}
 use Rattle.text_scan.specs.Lines.{lines_of, lines_from, has_line_feed, whole_lines, line_of}
 use Rattle.text_scan.specs.Stream.{Stream, empty_stream, is_line_due, next_line, after_next, lines_ahead, HasRead}
 use Rattle.text_scan.proofs.Reading.{read_start, read_whole, next_ahead, takes_next, drained}
-use Rattle.session.specs.Input.{limit, IsReadToEnd, IsFront, AreFirst, HasGiven, HasGivenLine, HasGivenAll, Stops, MeetsPiece, TakesPiece, StopsAtPiece}
+use Rattle.session.specs.Input.{limit, AsksOnce, AsksSoFar, IsReadToEnd, IsFront, AreFirst, HasGiven, HasGivenLine, HasGivenAll, Stops, MeetsPiece, TakesPiece, StopsAtPiece}
 use Rattle.session.proofs.Options.{none_is_no, some_same}
 use Rattle.std.proofs.lemmas.List.{length-take}
 use Rattle.session.specs.declared.status.Status.{Status}
-use Rattle.session.specs.declared.status.Status.TheVariants.{Done, BadDocument, SomeRefused, ReadFault, WriteFault, NoMemory, InputLimit, BadWords}
+use Rattle.session.specs.declared.status.Status.TheVariants.{Done, BadDocument, SomeRefused, ReadFault, WriteFault, NoMemory, InputLimit, TooLong, BadWords}
 
 -- nothing was given yet
 pub given_none : (before : Option (List ℕ)) → HasGiven before before [] empty_stream false
 given_none before =
-    record { bytes = []; taken = loses_none before; fed = refl; number = refl; within = omega arith; ahead = λ more h. refl; reads = λ _. read_start; spent = λ e. absurd (false≢true e); last = record { front = []; piece = []; split = refl; short = omega arith; before = record { rest = []; parts = refl } } }
+    record {
+      bytes = [];
+      taken = loses_none before;
+      fed = refl;
+      number = refl;
+      within = omega arith;
+      ahead = λ more h. refl;
+      reads = λ _. read_start;
+      spent = λ e. absurd (false≢true e);
+      last = record
+          { front = []; piece = []; split = refl; short = omega arith; before = record { rest = []; parts = refl } };
+    }
 
 -- the lines given are the first of all
 pub first_given : (before now : Option (List ℕ)) (given : List Line) (stream : Stream) (ended : Bool) → HasGiven before now given stream ended → AreFirst before given
@@ -63,6 +74,7 @@ module _ (before left left' : Option (List ℕ)) (given : List Line) (stream str
   stops_at BadDocument piece none t s = absurd s
   stops_at SomeRefused piece none t s = absurd s
   stops_at WriteFault piece none t s = absurd s
+  stops_at TooLong piece none t s = absurd s
   stops_at BadWords piece none t s = absurd s
   stops_at NoMemory piece none t s = record { bytes = p.bytes ++ piece; taken = loses_more before left left' p.bytes piece _ p.taken t refl; first = first_given before left given stream false p }
   stops_at ReadFault piece none t s =
@@ -93,7 +105,53 @@ pub piece_stops : (before left left' : Option (List ℕ)) (given : List Line) (s
     → HasGiven before left given stream false → is_line_due false stream.held ≡ false → MeetsPiece left left' stream stream' (Err status) → Stops before left' given status
 piece_stops before left left' given stream stream' status p none q = stops_at before left left' given stream stream' p status q.piece none q.taken q.met
 
-pub ruleset going_on = (piece_more, piece_stops)
+-- ---- how often the source was asked
+
+-- not yet
+pub asks_none : (left : Option (List ℕ)) (asked count : ℕ) (ended : Bool) → count ≡ 0 → ended ≡ false → AsksSoFar left left asked asked count ended
+asks_none left asked count ended c e = record { bytes = []; taken = loses_none left; counted = sym c; within = omega (arith, c); each = omega arith }
+
+pub asks_unread : (left : Option (List ℕ)) (asked : ℕ) → AsksOnce left left asked asked
+asks_unread left asked = record { bytes = []; taken = loses_none left; each = omega arith; most = omega arith }
+
+-- where it goes on no more
+pub asks_done : (left left' : Option (List ℕ)) (asked asked' count : ℕ) (ended : Bool) → AsksSoFar left left' asked asked' count ended → AsksOnce left left' asked asked'
+asks_done left left' asked asked' count true p = record { bytes = p.bytes; taken = p.taken; each = omega (arith, p.each, p.counted); most = omega (arith, p.each, p.within) }
+asks_done left left' asked asked' count false p = record { bytes = p.bytes; taken = p.taken; each = omega (arith, p.each, p.counted); most = omega (arith, p.each, p.within) }
+
+module _ (before left left' : Option (List ℕ)) (first asked asked' count : ℕ) (stream stream' : Stream) (p : AsksSoFar before left first asked count false) (once : asked' ≤ asked + 1) where
+  -- a piece more, and the end
+  pub asks_more : (taken : ℕ) → MeetsPiece left left' stream stream' (Ok taken) → stream.fed ≡ count → 0 < taken → AsksSoFar before left' first asked' (count + taken) false
+  asks_more taken q fed some =
+      record {
+        bytes = p.bytes ++ q.piece;
+        taken = loses_more before left left' p.bytes q.piece _ p.taken q.taken refl;
+        counted = omega (arith, length-append p.bytes q.piece, p.counted, q.met.counted);
+        within = omega (arith, q.met.within, q.met.fed, fed);
+        each = omega (arith, p.each, once, some);
+      }
+
+  pub asks_end : (taken : ℕ) → MeetsPiece left left' stream stream' (Ok taken) → taken ≡ 0 → AsksSoFar before left' first asked' count true
+  asks_end taken q none =
+      record {
+        bytes = p.bytes ++ q.piece;
+        taken = loses_more before left left' p.bytes q.piece _ p.taken q.taken refl;
+        counted = omega (arith, length-append p.bytes q.piece, p.counted, q.met.counted, none);
+        within = p.within;
+        each = omega (arith, p.each, once);
+      }
+
+  -- reading stopped
+  pub asks_stop : (status : Status) → MeetsPiece left left' stream stream' (Err status) → AsksOnce before left' first asked'
+  asks_stop status q =
+      record {
+        bytes = p.bytes ++ q.piece;
+        taken = loses_more before left left' p.bytes q.piece _ p.taken q.taken refl;
+        each = omega (arith, length-append p.bytes q.piece, p.counted, p.each, once);
+        most = omega (arith, p.each, p.within, once);
+      }
+
+pub ruleset going_on = (piece_more, piece_stops, asks_more, asks_end, asks_stop)
 
 -- ---- one line
 
@@ -181,4 +239,4 @@ given_end before now given stream false p e none = absurd (false≢true e)
 pub no_memory : (before now : Option (List ℕ)) (given : List Line) (stream : Stream) (ended : Bool) → HasGiven before now given stream ended → Stops before now given NoMemory
 no_memory before now given stream ended p = record { bytes = p.bytes; taken = p.taken; first = first_given before now given stream ended p }
 
-pub ruleset giving = (with_line, none_due, given_end, no_memory)
+pub ruleset giving = (with_line, none_due, given_end, no_memory, asks_done)

@@ -1,5 +1,5 @@
 -- The replies of a run, one after another.
-use Rattle.std.proofs.Common.{◌≡◌, refl, ap, sym, subst, ◌∙◌, ℕ, suc, ◌+◌, ◌^◌, ◌≤◌, ◌<◌, ◌||◌, Bool, true, false, List, [], ◌∷◌, ◌++◌, length, Option, Some, None, Result, Ok, Err, IfSome, ◌⊎◌, inl, inr, append_assoc, append-nil, arith}
+use Rattle.std.proofs.Common.{◌≡◌, refl, ap, sym, subst, ◌∙◌, ℕ, suc, ◌+◌, ◌*◌, ◌^◌, ◌≤◌, ◌<◌, ◌||◌, Bool, true, false, List, [], ◌∷◌, ◌++◌, length, Option, Some, None, Result, Ok, Err, IfSome, ◌⊎◌, inl, inr, append_assoc, append-nil, arith}
 use Rattle.std.specs.Prelude.{◌-◌, ◌&&◌, if◌then◌else◌, IfErr, IfOk, OnErr, OnOk}
 use Rattle.std.proofs.lemmas.Bool.{false≢true, ne_eqb}
 use Rattle.text_scan.specs.declared.line.Fault.{Fault}
@@ -35,7 +35,7 @@ use Rattle.session.specs.Engine.{KeepsUntouched, Spreads}
 use Rattle.session.specs.Input.{HasGiven, HasGivenAll, Stops}
 use Rattle.session.specs.Laying.{Walks}
 use Rattle.session.specs.Printing.{Box, counts, print}
-use Rattle.session.specs.Replies.{AreExact, AreReplies, HasReplied, HasReply, IsIdle, Replies, RepliesFirst, RepliesFront, RepliesLines, RepliesTo, Reply, is_new, kept_in, texts_in, told_in}
+use Rattle.session.specs.Replies.{AreAllFew, AreExact, AreReplies, HasReplied, HasReply, IsIdle, Replies, RepliesFirst, RepliesFront, RepliesLines, RepliesTo, Reply, is_new, kept_in, questions_in, texts_in, told_in}
 use Rattle.session.specs.Runs.{StopsWriting}
 use Rattle.session.specs.Script.{after_end, all_made, document_of_lines, made_from, made_in, said_line, text_of}
 use Rattle.session.specs.Serving.{EndsFirst, HasReadText, HasText, IsLaid}
@@ -44,7 +44,7 @@ use Rattle.session.specs.Touched.{Agrees, touched_lines}
 use Rattle.session.specs.Words.{IsUnserved}
 use Rattle.session.specs.declared.said.Said.{Said}
 use Rattle.session.specs.declared.status.Status.{Status}
-use Rattle.session.specs.declared.status.Status.TheVariants.{Done, BadDocument, SomeRefused, ReadFault, WriteFault, NoMemory, InputLimit, BadWords}
+use Rattle.session.specs.declared.status.Status.TheVariants.{Done, BadDocument, SomeRefused, ReadFault, WriteFault, NoMemory, InputLimit, TooLong, BadWords}
 use Rattle.session.specs.declared.text.Text.{Text}
 use Rattle.session.proofs.Counts.{rising_exact, rising_most}
 use Rattle.session.proofs.Finished.{all_more}
@@ -145,11 +145,31 @@ laid_reply stats touches l l' k old new measured added p p' boxes front text w b
         leaves = w.bounded.leaves (is_new touches k) empty;
         least = w.least (is_new touches k) empty;
         most = λ few. let least : length w.entries ≤ length (asked_of (document_of old)) = w.bounded.most few in omega (arith, w.count, rising_most (length w.entries), least);
+        added = record { page = old; document = refl; emptied = empty; entries = w.entries; fresh = w.fresh; asked = w.asked; events = refl; count = w.count };
       };
       text = refl;
       log = w.log;
       ticks = λ e. let whole : added ≡ length w.entries = w.count ∙ rising_exact (length w.entries) (subst (λ (n : ℕ). n < 2 ^ 64 - 1) w.count e) in omega (arith, w.ticks, whole);
     }
+
+-- ---- passes by questions
+
+few_exact : (stats : Bool) (touches : Touches) (k : ℕ) (made : List Made) (all : List Reply) → AreReplies stats touches k made all → AreAllFew made → AreExact all × (kept_in all ≤ questions_in made)
+few_exact stats touches k [] [] r few = (tt, omega arith)
+few_exact stats touches k [] (x ∷ all) r few = absurd r
+few_exact stats touches k (m ∷ made) [] r few = absurd r
+few_exact stats touches k (Ok doc ∷ made) (x ∷ all) r few =
+    let rest = few_exact stats touches (k + 1) made all r.1 few.1 in
+    let most : x.kept ≤ length (asked_of doc) = r.0.most few.0.0 in
+    ((omega (arith, most, few.0.1), rest.0), omega (arith, most, rest.1))
+few_exact stats touches k (Err said ∷ made) (x ∷ all) r few =
+    let rest = few_exact stats touches (k + 1) made all r.1 few in
+    ((omega (arith, r.0.kept), rest.0), omega (arith, r.0.kept, rest.1))
+
+pub passes_few : (stats : Bool) (touches : Touches) (w w' : Option (List ℕ)) (l l' : Option (List Event)) (p p' k : ℕ) (made : List Made) → Replies stats w w' l l' p p' touches k made → AreAllFew made → p' ≤ p + 4 * questions_in made
+passes_few stats touches w w' l l' p p' k made r few =
+    let most = few_exact stats touches k made r.all r.each few in
+    omega (arith, r.ticks most.0, most.1)
 
 -- ---- nodes that keep nothing
 
@@ -250,6 +270,7 @@ module _ (given : List Line) (c : Course) (k : ℕ) (bad : Bool) (laid : IsLaid 
     stopped_replies left now stream ended WriteFault h r left' s = tt
     stopped_replies left now stream ended NoMemory h r left' s = tt
     stopped_replies left now stream ended InputLimit h r left' s = inr (record { given = given; first = first_given left now given stream ended h; ended = laid.ended; replies = r })
+    stopped_replies left now stream ended TooLong h r left' s = tt
     stopped_replies left now stream ended BadWords h r left' s = tt
 
 all_lines : (left left' : Option (List ℕ)) (given : List Line) → HasGivenAll left left' given → IfSome left (λ b. given ≡ lines_of b)
@@ -258,7 +279,8 @@ all_lines (Some told) None given p = absurd p.whole
 all_lines (Some told) (Some rest) given p = p.lines ∙ ap lines_of (sym p.whole.0)
 
 -- all lines had their replies
-pub ended_replies : (stats : Bool) (w w' : Option (List ℕ)) (l l' : Option (List Event)) (p p' : ℕ) (left left' : Option (List ℕ)) (given : List Line) (bad : Bool) (status : Status) → status ≡ (if bad then SomeRefused else Done) → HasGivenAll left left' given → RepliesLines stats w w' l l' p p' given
+pub ended_replies : (stats : Bool) (w w' : Option (List ℕ)) (l l' : Option (List Event)) (p p' : ℕ) (left left' : Option (List ℕ)) (given : List Line) (bad : Bool) (status : Status) → status ≡ (if bad then SomeRefused else Done) → HasGivenAll left left' given →
+    RepliesLines stats w w' l l' p p' given
     → RepliesTo stats w w' l l' p p' left status
 ended_replies stats w w' l l' p p' left left' given bad status e h r = subst (RepliesTo stats w w' l l' p p' left) (sym e) (at bad)
   where
@@ -275,6 +297,7 @@ unwritten_replies stats w w' l l' p p' left ReadFault s = absurd s
 unwritten_replies stats w w' l l' p p' left WriteFault s = tt
 unwritten_replies stats w w' l l' p p' left NoMemory s = tt
 unwritten_replies stats w w' l l' p p' left InputLimit s = absurd s
+unwritten_replies stats w w' l l' p p' left TooLong s = absurd s
 unwritten_replies stats w w' l l' p p' left BadWords s = absurd s
 
 -- ---- the document
@@ -288,6 +311,7 @@ unread_replies stats w l p left left' given ReadFault s = inl (record { written 
 unread_replies stats w l p left left' given WriteFault s = tt
 unread_replies stats w l p left left' given NoMemory s = tt
 unread_replies stats w l p left left' given InputLimit s = inl (record { written = stays_same w; log = stays_same l; ticks = refl })
+unread_replies stats w l p left left' given TooLong s = tt
 unread_replies stats w l p left left' given BadWords s = tt
 
 -- it has a fault, or writing stopped
@@ -299,6 +323,7 @@ refused_replies stats w w' l l' p p' left made ReadFault s e = absurd s
 refused_replies stats w w' l l' p p' left made WriteFault s e = tt
 refused_replies stats w w' l l' p p' left made NoMemory s e = tt
 refused_replies stats w w' l l' p p' left made InputLimit s e = absurd s
+refused_replies stats w w' l l' p p' left made TooLong s e = absurd s
 refused_replies stats w w' l l' p p' left made BadWords s e = absurd s
 
 -- it was laid out
@@ -320,6 +345,7 @@ not_bad {E = E} p p' (Err status) s e = at status s e
     at WriteFault q f = absurd cc
     at NoMemory q f = absurd cc
     at InputLimit q f = absurd q
+    at TooLong q f = absurd q
     at BadWords q f = absurd q
 
 -- it is all of the input
@@ -367,6 +393,7 @@ module _ (stats : Bool) (w w' : Option (List ℕ)) (l l' : Option (List Event)) 
   replied (Some b) WriteFault r = tt
   replied (Some b) NoMemory r = tt
   replied (Some b) InputLimit r = front_replied b r
+  replied (Some b) TooLong r = tt
   replied (Some b) BadWords r = tt
 
 -- the words are others, or memory was wanting
@@ -379,6 +406,7 @@ unserved_replied stats w l p (Some b) ReadFault s = absurd s
 unserved_replied stats w l p (Some b) WriteFault s = absurd s
 unserved_replied stats w l p (Some b) NoMemory s = tt
 unserved_replied stats w l p (Some b) InputLimit s = absurd s
+unserved_replied stats w l p (Some b) TooLong s = tt
 unserved_replied stats w l p (Some b) BadWords s = tt
 
 -- what holds is left where there is an error

@@ -23,7 +23,7 @@ use Rattle.session.specs.Outcome.{answer_of, verdict_of, early_lines}
 use Rattle.session.specs.Runs.{StopsWriting, WritesAll, WritesPrefix, WritesFrom, Stands, HasEndInLast, IsWhole, IsEnded, EndsEarly, Judged, Runs}
 use Rattle.session.specs.Serving.{HasText, HasReadText, StopsInText, Answers, AnswersPrefix, EndsFirst, HasAnswered, IsAt, ended}
 use Rattle.session.specs.declared.status.Status.{Status}
-use Rattle.session.specs.declared.status.Status.TheVariants.{Done, BadDocument, SomeRefused, ReadFault, WriteFault, NoMemory, InputLimit, BadWords}
+use Rattle.session.specs.declared.status.Status.TheVariants.{Done, BadDocument, SomeRefused, ReadFault, WriteFault, NoMemory, InputLimit, TooLong, BadWords}
 use Rattle.session.proofs.Logs.{Made}
 use Rattle.session.proofs.Written.{front_all}
 use Rattle.session.proofs.Scripts.{has_more, before_none, after_none}
@@ -34,7 +34,7 @@ use Rattle.session.proofs.Texts.{given_few}
 
 -- ---- the lines of the document and the line after them
 
-has_push : (lines : List Line) (last : Line) → is_end_of_document last ≡ true → has_end (lines ++ last ∷ []) ≡ true
+pub has_push : (lines : List Line) (last : Line) → is_end_of_document last ≡ true → has_end (lines ++ last ∷ []) ≡ true
 has_push [] last e = ap (λ (b : Bool). b || false) e
 has_push (line ∷ lines) last e = by_line (is_end_of_document line) (has_push lines last e)
   where
@@ -60,14 +60,14 @@ after_push (line ∷ lines) last o e = by_line (is_end_of_document line) o (λ h
 
 -- ---- an input whose document ended just now
 
-record IsJust (given lines : List Line) : Type 0 where
-  before : before_end given ≡ lines
-  after : after_end given ≡ []
+pub record IsJust (given lines : List Line) : Type 0 where
+  pub before : before_end given ≡ lines
+  pub after : after_end given ≡ []
 
-just_ended : (lines : List Line) (last : Line) → has_end lines ≡ false → is_end_of_document last ≡ true → IsJust (lines ++ last ∷ []) lines
+pub just_ended : (lines : List Line) (last : Line) → has_end lines ≡ false → is_end_of_document last ≡ true → IsJust (lines ++ last ∷ []) lines
 just_ended lines last o e = record { before = before_push lines last o e; after = after_push lines last o e }
 
-just_whole : (lines : List Line) → has_end lines ≡ false → IsJust lines lines
+pub just_whole : (lines : List Line) → has_end lines ≡ false → IsJust lines lines
 just_whole lines o = record { before = before_none lines o; after = after_none lines o }
 
 module _ (given lines : List Line) (p : IsJust given lines) where
@@ -133,7 +133,7 @@ early_read told now bytes given stream t few r =
           ∙ ap (λ (l : List ℕ). lines_of (whole_lines l)) (sym first);
     }
 
-early_front : (left left' : Option (List ℕ)) (given : List Line) (stream : Stream) (ended : Bool) → HasGiven left left' given stream ended → IfSome left (λ b. limit < length b → IsFront given (early_lines b))
+pub early_front : (left left' : Option (List ℕ)) (given : List Line) (stream : Stream) (ended : Bool) → HasGiven left left' given stream ended → IfSome left (λ b. limit < length b → IsFront given (early_lines b))
 early_front None left' given stream ended p = tt
 early_front (Some told) None given stream ended p = absurd p.taken
 early_front (Some told) (Some now) given stream true p =
@@ -143,13 +143,13 @@ early_front (Some told) (Some now) given stream false p = λ many. early_read to
 -- ---- how a run ends
 
 -- all lines are the first of all
-whole_first : (left left' : Option (List ℕ)) (given : List Line) → HasGivenAll left left' given → AreFirst left given
+pub whole_first : (left left' : Option (List ℕ)) (given : List Line) → HasGivenAll left left' given → AreFirst left given
 whole_first None left' given p = tt
 whole_first (Some told) None given p = absurd p.whole
 whole_first (Some told) (Some rest) given p = record { rest = []; parts = append-nil given ∙ p.lines ∙ ap lines_of (sym p.whole.0) }
 
 module _ (left left' : Option (List ℕ)) where
-  is_whole : (given : List Line) (p : HasGivenAll left left' given) → IsWhole left left' p.bytes given
+  pub is_whole : (given : List Line) (p : HasGivenAll left left' given) → IsWhole left left' p.bytes given
   is_whole given p = record { few = p.few; whole = p.whole; lines = p.lines }
 
   ended_or_whole : (taken : List ℕ) (given : List Line) → IsEnded left left' taken given → (has_end given ≡ true) ⊎ IsWhole left left' taken given
@@ -173,6 +173,7 @@ module _ (stats : Bool) (left left' w w' : Option (List ℕ)) (l l' : Option (Li
   stopped given WriteFault s q = absurd s
   stopped given NoMemory s q = record { taken = s.bytes; given = given; took = s.taken; first = s.first; judged = wanted s.bytes given q }
   stopped given InputLimit s q = record { taken = s.bytes; given = given; took = s.taken; first = s.first; judged = (s.passed, s.lines, q) }
+  stopped given TooLong s q = absurd s
   stopped given BadWords s q = absurd s
 
   -- the document was refused, or its first layout was not written
@@ -189,6 +190,7 @@ module _ (stats : Bool) (left left' w w' : Option (List ℕ)) (l l' : Option (Li
       judged_first WriteFault p = s (wrote_first_part given lines j stats w w' l l' p)
       judged_first NoMemory p = inr (record { input = ended_or_whole left left' taken given e; output = wrote_first_part given lines j stats w w' l l' p })
       judged_first InputLimit p = absurd p
+      judged_first TooLong p = absurd p
       judged_first BadWords p = absurd p
 
   -- writing stopped at a line of the script
@@ -211,6 +213,7 @@ module _ (stats : Bool) (left left' w w' : Option (List ℕ)) (l l' : Option (Li
       judged_part WriteFault s = inl (record { earlier = earlier; line = line; parts = refl; ended = more; last = p.last; output = q })
       judged_part NoMemory s = inr early
       judged_part InputLimit s = absurd s
+      judged_part TooLong s = absurd s
       judged_part BadWords s = absurd s
 
   -- all lines were answered
@@ -231,7 +234,7 @@ unended_front first lines f o = by_end (has_end first) refl
     by_end true e = absurd (false≢true (sym o ∙ ap has_end (sym f.parts) ∙ has_more first f.rest e))
     by_end false e = refl
 
-end_in_last : (bytes : List ℕ) (lines : List Line) → has_end lines ≡ false → HasLastPiece bytes lines → HasEndInLast bytes
+pub end_in_last : (bytes : List ℕ) (lines : List Line) → has_end lines ≡ false → HasLastPiece bytes lines → HasEndInLast bytes
 end_in_last bytes lines o p = record { front = p.front; piece = p.piece; split = p.split; short = p.short; unended = unended_front (lines_of (whole_lines p.front)) lines p.before o }
 
 pub stopped_in_text : (stats : Bool) (left left' w : Option (List ℕ)) (l : Option (List Event)) (status : Status) → StopsInText left left' status → Runs stats left left' w w l l status

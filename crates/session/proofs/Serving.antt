@@ -17,7 +17,7 @@ use Rattle.session.specs.Standing.{Standing, doc_of}
 use Rattle.session.specs.declared.said.Said.{Said}
 use Rattle.session.specs.declared.said.Said.TheVariants as saying
 use Rattle.session.specs.declared.status.Status.{Status}
-use Rattle.session.specs.declared.status.Status.TheVariants.{Done, BadDocument, SomeRefused, ReadFault, WriteFault, NoMemory, InputLimit, BadWords}
+use Rattle.session.specs.declared.status.Status.TheVariants.{Done, BadDocument, SomeRefused, ReadFault, WriteFault, NoMemory, InputLimit, TooLong, BadWords}
 use Rattle.session.proofs.Logs.{Made}
 use Rattle.session.proofs.Written.{front_none, text_all, text_part, text_none}
 
@@ -57,6 +57,7 @@ module _ (stats : Bool) where
     ends_prefix l l' read WriteFault s p = p
     ends_prefix l l' read NoMemory s p = p
     ends_prefix l l' read InputLimit s p = absurd s
+    ends_prefix l l' read TooLong s p = absurd s
     ends_prefix l l' read BadWords s p = absurd s
 
     pub document_refused_prefix : (fault : Fault) (text : List ℕ) (l : Option (List Event)) (status : Status) → text ≡ refusal 0 fault.place (fault_name fault.number)

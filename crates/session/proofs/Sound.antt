@@ -1,7 +1,10 @@
 -- An engine keeps its document valid and its kept answers right.
-use Rattle.std.proofs.Common.{◌≡◌, sym, subst, arith, ◌<◌, List, [], Contains, Result, Ok, Err, IfOk}
+use Rattle.std.proofs.Common.{◌≡◌, sym, subst, arith, ◌<◌, List, [], Contains, Option, Some, None, Result, Ok, Err, IfOk, IfSome, true}
+use Rattle.std.proofs.lemmas.Bool.{false≢true}
 use Rattle.doc_text.specs.declared.document.Doc.{Doc}
-use Rattle.std.specs.Prelude.{reverse}
+use Rattle.std.specs.Prelude.{is_some, reverse}
+use Rattle.box_layout.specs.declared.layout.RootFrame.{RootFrame}
+use Rattle.session.specs.Laying.{KeepsPath}
 use Rattle.doc_text.specs.Valid.{IsValid}
 use Rattle.edit_journal.specs.Journals.{Lists}
 use Rattle.page_tree.specs.Pages.{Held, document_of}
@@ -12,7 +15,7 @@ use Rattle.placing.specs.declared.node.Answer.{Answer}
 use Rattle.placing.specs.Kept.{IsRight, kept_at}
 use Rattle.placing.specs.Nodes.{BareTrees, bare}
 use Rattle.session.specs.Courses.{Steps, no_steps}
-use Rattle.session.specs.Standing.{HaveLed, IsSound, IsWell, steps_of}
+use Rattle.session.specs.Standing.{HaveLed, IsLaidBy, IsSound, IsWell, steps_of}
 
 pub sound_first : (doc : Doc) (page : Held) → document_of page ≡ doc → IsRight page.nodes.tree → IsValid doc → IsSound page
 sound_first doc page e r v = record { valid = subst IsValid (sym e) v; right = r }
@@ -43,5 +46,10 @@ well_first doc page all journal e r v a done undone =
 pub valid_copy : {E : Type 0} (r : Result Doc E) (page : Held) → IsValid (document_of page) → IfOk r (λ doc. doc ≡ document_of page) → IfOk r IsValid
 valid_copy (Ok doc) page v e = subst IsValid (sym e) v
 valid_copy (Err error) page v e = tt
+
+-- where a page is laid out its containers keep the questions of the path
+pub path_laid : (page : Held) (root : Option RootFrame) → IfSome root (IsLaidBy page) → is_some root ≡ true → KeepsPath page page
+path_laid page None p e = absurd (false≢true e)
+path_laid page (Some root) p e = p.path
 
 pub ruleset beginning = (well_first, new_steps)

@@ -37,7 +37,7 @@ numbered-length : (number : ℕ) (lines : List (List ℕ)) → length (numbered 
 numbered-length number [] = refl
 numbered-length number (line ∷ lines) = ap (λ (n : ℕ). suc n) (numbered-length (number + 1) lines)
 
-lines_of-length : (bytes : List ℕ) → length (lines_of bytes) ≤ length bytes
+pub lines_of-length : (bytes : List ℕ) → length (lines_of bytes) ≤ length bytes
 lines_of-length bytes = omega (arith, numbered-length 1 (split_lines bytes), split_lines-length bytes)
 
 pub given_few : (before now : Option (List ℕ)) (given : List Line) (stream : Stream) (ended : Bool) → HasGiven before now given stream ended → length given ≤ limit

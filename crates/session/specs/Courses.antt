@@ -26,7 +26,9 @@ pub record Steps : Type 0 where
   pub undone : List Step
 
 abbrev pub steps_code : Coded Steps
-steps_code = code_by (List Step × List Step) (coded× (coded_list step.the_row.coded) (coded_list step.the_row.coded)) (λ s. (s.done, s.undone)) (λ p. record { done = p.0; undone = p.1 }) (λ _. refl)
+steps_code =
+    code_by (List Step × List Step) (coded× (coded_list step.the_row.coded) (coded_list step.the_row.coded)) (λ s. (s.done, s.undone))
+    (λ p. record { done = p.0; undone = p.1 }) (λ _. refl)
 
 abbrev pub no_steps : Steps
 no_steps = record { done = []; undone = [] }
@@ -71,7 +73,8 @@ docs_along change (step ∷ steps) doc = turned (change step) doc ∷ docs_along
 abbrev pub touched_along : (Step → Change) → ℕ → List Step → Doc → List ℕ → Bool
 touched_along change zero steps doc name = false
 touched_along change (suc n) [] doc name = false
-touched_along change (suc n) (step ∷ steps) doc name = touches (change step) doc (turned (change step) doc) name || touched_along change n steps (turned (change step) doc) name
+touched_along change (suc n) (step ∷ steps) doc name =
+    touches (change step) doc (turned (change step) doc) name || touched_along change n steps (turned (change step) doc) name
 
 -- the history of a document to which these steps led
 abbrev pub history_by : Steps → Doc → History

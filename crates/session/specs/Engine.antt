@@ -172,7 +172,8 @@ pub record Says (said : Said) (answer : Result History Said) (old new : Standing
 
 -- an edit or a hit was answered
 abbrev pub AnswersEdit : Option Said → Edit → Standing → Standing → Type 0
-AnswersEdit None e old new = Leaves (answer_to e (history_of old)) (next_steps e (doc_of old) old.steps) (touched_between e old.steps (doc_of old) (doc_of new)) old new
+AnswersEdit None e old new =
+    Leaves (answer_to e (history_of old)) (next_steps e (doc_of old) old.steps) (touched_between e old.steps (doc_of old) (doc_of new)) old new
 AnswersEdit (Some said) e old new = Says said (answer_to e (history_of old)) old new
 
 -- a line was answered

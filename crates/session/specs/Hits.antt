@@ -18,7 +18,9 @@ abbrev box : List ℕ → ℤ → ℤ → ℤ → ℤ → Box
 box name x y width height = (name, record { x = x; y = y; width = width; height = height })
 
 abbrev page : List Box
-page = box (codes "main") (pos 0) (pos 0) (pos 300) (pos 30) ∷ box (codes "a") (pos 0) (pos 0) (pos 100) (pos 30) ∷ box (codes "b") (pos 90) (negsuc 9) (pos 10) (pos 20) ∷ []
+page =
+    box (codes "main") (pos 0) (pos 0) (pos 300) (pos 30) ∷ box (codes "a") (pos 0) (pos 0) (pos 100) (pos 30) ∷
+    box (codes "b") (pos 90) (negsuc 9) (pos 10) (pos 20) ∷ []
 
 -- the last one counts
 in_three : box_under page (pos 95) (pos 5) ≡ Some (codes "b")

@@ -104,6 +104,31 @@ abbrev pub ReadsOn : Option (List ℕ) → Option (List ℕ) → List Line → S
 ReadsOn before now given stream ended (Ok done) = HasGiven before now given stream ended
 ReadsOn before now given stream ended (Err status) = Stops before now given status
 
+-- a source gave some bytes, and was asked at most once for each of them and once more (own rule)
+pub record AsksOnce (left left' : Option (List ℕ)) (asked asked' : ℕ) : Type 0 where
+  pub bytes : List ℕ
+  pub taken : Loses left left' bytes
+  pub each : asked' ≤ asked + length bytes + 1
+  pub most : asked' ≤ asked + most_asked
+
+-- once for the end, where it was seen
+abbrev pub end_asked : Bool → ℕ
+end_asked true = 1
+end_asked false = 0
+
+-- a source gave so many bytes, and was asked at most once for each of them, and for the end where it was seen
+pub record AsksSoFar (left left' : Option (List ℕ)) (asked asked' count : ℕ) (ended : Bool) : Type 0 where
+  pub bytes : List ℕ
+  pub taken : Loses left left' bytes
+  pub counted : length bytes ≡ count
+  pub within : count ≤ limit
+  pub each : asked' ≤ asked + count + end_asked ended
+
+-- so while reading goes on; where it stopped once more is counted
+abbrev pub AsksOn : {T : Type 0} → (left left' : Option (List ℕ)) → (asked asked' count : ℕ) → Bool → Result T Status → Type 0
+AsksOn left left' asked asked' count ended (Ok x) = AsksSoFar left left' asked asked' count ended
+AsksOn left left' asked asked' count ended (Err status) = AsksOnce left left' asked asked'
+
 -- how often reading can go on at most, after so many bytes
 abbrev pub to_go : ℕ → Bool → ℕ
 to_go count true = 0

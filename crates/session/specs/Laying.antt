@@ -43,7 +43,8 @@ pub record Keeps (old new : Held) (before after passes passes' : ℕ) : Type 0 w
   pub count : after ≡ rising before (length more.entries)
   pub ticks : passes' ≤ passes + 4 * length more.entries
 
--- A page was laid out by a walk over it, and what it kept is within the bounds of its document. Leaves of the document were measured. Its containers are so few that they can be
+-- A page was laid out by a walk over it, and what it kept is within the bounds of its document. Leaves of the document were measured. Its containers are so few
+-- that they can be
 -- counted.
 pub record WalksPage (old new : Held) (tally tally' : Tally) (passes passes' : ℕ) (told told' : Option (List Event)) : Type 0 where
   pub walk : Walk (IsAsked (bare old.nodes.tree) old.width old.height) 0 [] (state old.nodes tally passes told) (state new.nodes tally' passes' told')
@@ -51,7 +52,8 @@ pub record WalksPage (old new : Held) (tally tally' : Tally) (passes passes' : �
   pub each : AreMeasuring (document_of old) (events_of (bare old.nodes.tree) walk.added)
   pub few : (test : List ℕ → Bool) → containers_by test (tree_of (document_of old)) ≤ 2 ^ 64 - 1
 
--- a layout with the number k: it began, and then the events of the answers that were kept were told, in their order, and no others; each answers a question that laying out the page may ask. They are within the bounds of the document; and where nodes kept nothing, A counts at least the containers among them
+-- a layout with the number k: it began, and then the events of the answers that were kept were told, in their order, and no others; each answers a question
+-- that laying out the page may ask. They are within the bounds of the document; and where nodes kept nothing, A counts at least the containers among them
 pub record Walks (k : ℕ) (old new : Held) (told told' : Option (List Event)) (measured added passes passes' : ℕ) : Type 0 where
   pub entries : List Entry
   pub log : Adds told told' (Begin k ∷ events_of (bare old.nodes.tree) entries)

@@ -37,8 +37,10 @@ pub mod Standing
 pub mod Engine
 pub mod Touched
 pub mod Spares
+pub mod Calls
 pub mod Made
 pub mod Replies
+pub mod Writing
 pub use Rattle.asked_names.specs.Asked as Asked
 pub use Rattle.asked_pages.specs.AskedOf as AskedOf
 pub use Rattle.asked_pages.specs.Bounds as Bounds

@@ -45,7 +45,8 @@ all_laid (doc ∷ docs) = Ok doc ∷ all_laid docs
 unfoldable pub made_layouts : ℕ → ℕ → List (Result Doc Said)
 made_layouts seed nodes = all_laid (made_documents seed nodes)
 
--- These layouts were told, numbered from k on. Of each it holds what holds of a reply under `layout`: which leaves were measured, how many answers it kept, and how
+-- These layouts were told, numbered from k on. Of each it holds what holds of a reply under `layout`: which leaves were measured, how many answers it kept, and
+-- how
 -- many passes it took. What is written of them stands apart.
 abbrev pub TellsLayouts : Touches → (events events' : Option (List Event)) → (passes passes' : ℕ) → ℕ → List (Result Doc Said) → Type 0
 TellsLayouts touches events events' passes passes' k made = Replies false None None events events' passes passes' touches k made
@@ -126,7 +127,8 @@ pub record LogsAllBut (before after : Option (List Event)) (first next : ℕ) (r
   pub log : Logs before after first done
 
 -- the same, with what each layout measures, keeps and takes
-pub record TellsAllBut (touches : Touches) (before after : Option (List Event)) (passes passes' : ℕ) (first next : ℕ) (rest whole : List (Result Doc Said)) : Type 0 where
+pub record TellsAllBut (touches : Touches) (before after : Option (List Event)) (passes passes' : ℕ) (first next : ℕ) (rest whole : List (Result Doc Said)) : Type
+    0 where
   pub done : List (Result Doc Said)
   pub parts : done ++ rest ≡ whole
   pub number : first + length done ≡ next

@@ -7,10 +7,14 @@ use Rattle.outside.specs.declared.event.Event.{Event}
 use Rattle.outside.specs.declared.event.Event.TheVariants.{Begin}
 use Rattle.doc_text.specs.declared.document.Doc.{Doc}
 use Rattle.doc_text.specs.Edits.{tree_of}
-use Rattle.placing.specs.Walks.{rising}
+use Rattle.box_layout.specs.Paths.{IsAsked}
+use Rattle.page_tree.specs.Pages.{Held, document_of}
+use Rattle.placing.specs.Kept.{kept_at}
+use Rattle.placing.specs.Nodes.{bare}
+use Rattle.placing.specs.Walks.{AreAsked, AreFresh, Entry, events_of, rising}
 use Rattle.asked_names.specs.Asked.{AreFew}
 use Rattle.asked_pages.specs.AskedOf.{asked_of, containers_by}
-use Rattle.asked_pages.specs.Leaves.{AreAllMeasured}
+use Rattle.asked_pages.specs.Leaves.{AreAllMeasured, IsEmptied}
 use Rattle.sparing.specs.Sparing.{Touches}
 use Rattle.session.specs.declared.answer.Progress.{Progress}
 use Rattle.session.specs.declared.status.Status.{Status}
@@ -54,9 +58,24 @@ AreExact (r ∷ replies) = (r.kept < 2 ^ 64 - 1) × AreExact replies
 abbrev pub is_new : Touches → ℕ → List ℕ → Bool
 is_new touches k name = k == 0 || touches k name
 
--- The reply with the number k that lays a document out: its boxes, and where they are wanted the counts of measurings and of answers that were kept. The ruler is
--- told that the layout begins, and then of measurings of leaves. Each leaf with a new name that is the child of a grid is measured at the content width of its box. At
--- least one answer is kept for each container with a new name; and no more than there are questions, where no node has more than sixteen of them.
+-- So many answers were kept by one layout of this document: on a page that held it, where what is new kept nothing, each to a question that the layout can ask
+-- and that was not kept where its answer was put. The measurings are the events of these answers, and of no others.
+pub record HasAdded (test : List ℕ → Bool) (doc : Doc) (measured : List Event) (kept : ℕ) : Type 0 where
+  pub page : Held
+  pub document : document_of page ≡ doc
+  pub emptied : IsEmptied test page
+  pub entries : List Entry
+  pub fresh : AreFresh (kept_at page.nodes.tree) [] entries
+  pub asked : AreAsked (IsAsked (bare page.nodes.tree) page.width page.height) entries
+  pub events : measured ≡ events_of (bare page.nodes.tree) entries
+  pub count : kept ≡ rising 0 (length entries)
+
+-- The reply with the number k that lays a document out: its boxes, and where they are wanted the counts of measurings and of answers that were kept. The ruler
+-- is
+-- told that the layout begins, and then of measurings of leaves. Each leaf with a new name that is the child of a grid is measured at the content width of its
+-- box. At
+-- least one answer is kept for each container with a new name; and no more than there are questions, where no node has more than sixteen of them. With counts
+-- or without, they are the answers that a layout of the document added.
 pub record IsLayout (stats : Bool) (touches : Touches) (k : ℕ) (doc : Doc) (r : Reply) : Type 0 where
   pub measured : List Event
   pub parts : r.told ≡ Begin k ∷ measured
@@ -65,6 +84,7 @@ pub record IsLayout (stats : Bool) (touches : Touches) (k : ℕ) (doc : Doc) (r 
   pub leaves : AreAllMeasured (is_new touches k) doc measured
   pub least : containers_by (is_new touches k) (tree_of doc) ≤ r.kept
   pub most : AreFew (asked_of doc) → r.kept ≤ length (asked_of doc)
+  pub added : HasAdded (is_new touches k) doc measured r.kept
 
 -- the reply that says why a line is refused, or which box lies under a point: nothing is told, and nothing kept
 pub record IsSaid (k : ℕ) (said : Said) (r : Reply) : Type 0 where
@@ -77,6 +97,20 @@ abbrev pub IsReply : Bool → Touches → ℕ → Result Doc Said → Reply → 
 IsReply stats touches k (Ok doc) r = IsLayout stats touches k doc r
 IsReply stats touches k (Err said) r = IsSaid k said r
 
+-- ---- the questions that the documents of replies ask
+
+-- to no node are more than sixteen questions, and all of them can be counted
+abbrev pub AreAllFew : List (Result Doc Said) → Type 0
+AreAllFew [] = ⊤
+AreAllFew (Ok doc ∷ rest) = (AreFew (asked_of doc) × (length (asked_of doc) < 2 ^ 64 - 1)) × AreAllFew rest
+AreAllFew (Err said ∷ rest) = AreAllFew rest
+
+-- how many there are, of all layouts
+abbrev pub questions_in : List (Result Doc Said) → ℕ
+questions_in [] = 0
+questions_in (Ok doc ∷ rest) = length (asked_of doc) + questions_in rest
+questions_in (Err said ∷ rest) = questions_in rest
+
 -- the replies to all that was made, in order and numbered from k on
 abbrev pub AreReplies : Bool → Touches → ℕ → List (Result Doc Said) → List Reply → Type 0
 AreReplies stats touches k [] [] = ⊤
@@ -87,7 +121,8 @@ AreReplies stats touches k (made ∷ rest) (r ∷ replies) = IsReply stats touch
 -- ---- a sink, a log and passes
 
 -- the reply of a text was told, in at most four passes for each answer that was kept
-pub record HasReply (stats : Bool) (touches : Touches) (events events' : Option (List Event)) (passes passes' k : ℕ) (made : Result Doc Said) (bytes : List ℕ) : Type 0 where
+pub record HasReply (stats : Bool) (touches : Touches) (events events' : Option (List Event)) (passes passes' k : ℕ) (made : Result Doc Said) (bytes : List ℕ) : Type
+    0 where
   pub reply : Reply
   pub is : IsReply stats touches k made reply
   pub text : reply.text ≡ bytes
@@ -147,7 +182,8 @@ module _ (stats : Bool) (held held' : Option (List ℕ)) (events events' : Optio
     pub parts : made ++ rest ≡ all_made lines
     pub replies : Replies (touched_lines lines) 0 made
 
-  -- The replies to the lines of an input: all of them, where it was answered to its end; those that were given where reading stopped; and where the document has a
+  -- The replies to the lines of an input: all of them, where it was answered to its end; those that were given where reading stopped; and where the document
+  -- has a
   -- fault nothing was sized.
   abbrev pub HasReplied : List Line → Status → Type 0
   HasReplied lines Done = Replies (touched_lines lines) 0 (all_made lines)

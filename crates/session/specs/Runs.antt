@@ -47,7 +47,9 @@ module _ (stats : Bool) (held held' : Option (List ℕ)) (events events' : Optio
 
   -- what is due for the lines so far: all of it where one of them ends the document, which then has no fault, else nothing
   abbrev pub Stands : List Line → Type 0
-  Stands given = ((has_end given ≡ false) × IsSilent held held' events events') ⊎ ((has_end given ≡ true) × (has_fault (document_of_lines (before_end given)) ≡ false) × WritesAll given)
+  Stands given =
+      ((has_end given ≡ false) × IsSilent held held' events events') ⊎
+      ((has_end given ≡ true) × (has_fault (document_of_lines (before_end given)) ≡ false) × WritesAll given)
 
 -- no line that is whole in the bytes before the last piece ends the document: a piece has at most 65,536 bytes
 pub record HasEndInLast (taken : List ℕ) : Type 0 where
@@ -67,7 +69,8 @@ module _ (left left' : Option (List ℕ)) where
   -- the text of the document has ended: at a line of its own, which is whole in the first bytes of a longer input and after
   -- which no further piece was taken, or at the end of the input
   abbrev pub IsEnded : List ℕ → List Line → Type 0
-  IsEnded taken given = ((has_end given ≡ true) × IfSome left (λ b. limit < length b → IsFront given (early_lines b)) × HasEndInLast taken) ⊎ IsWhole taken given
+  IsEnded taken given =
+      ((has_end given ≡ true) × IfSome left (λ b. limit < length b → IsFront given (early_lines b)) × HasEndInLast taken) ⊎ IsWhole taken given
 
 module _ (stats : Bool) (left left' held held' : Option (List ℕ)) (events events' : Option (List Event)) where
   pub record EndsAll (taken : List ℕ) (given : List Line) (status : Status) : Type 0 where
@@ -148,7 +151,8 @@ IsOverComplete left reads reads' writes writes' status =
     ⊎ (((status ≡ InputLimit) × ¬ IsEarlyFault (early_lines b)) ⊎ ((status ≡ BadDocument) × IsEarlyFault (early_lines b))))
 
 -- what is known of a run over all bytes of its input, with the counts of each layout or without
-pub record HasRun (stats : Bool) (left left' held held' : Option (List ℕ)) (events events' : Option (List Event)) (reads reads' writes writes' : ℕ) (status : Status) : Type 0 where
+pub record HasRun (stats : Bool) (left left' held held' : Option (List ℕ)) (events events' : Option (List Event)) (reads reads' writes writes' : ℕ) (status : Status) : Type
+    0 where
   -- what was taken, written and logged, by the answer
   pub runs : Runs stats left left' held held' events events' status
   -- at every exit what was written is a prefix of the output

@@ -28,7 +28,13 @@ abbrev leaf : List ℕ → ℕ → ℕ → Label
 leaf name width height = record { name = name; kind = kind.Leaf (content.Fixed (pos width) (pos height)); style = map.empty }
 
 abbrev with_leaves : Trees Label → Doc
-with_leaves leaves = record { version = 1; width = pos 19200; height = pos 12800; root = record { name = codes "main"; kind = kind.Grid; style = map.empty; children = leaves } }
+with_leaves leaves = record {
+  version = 1;
+  width = pos 19200;
+  height = pos 12800;
+  root = record
+      { name = codes "main"; kind = kind.Grid; style = map.empty; children = leaves };
+}
 
 abbrev alone : ℕ → ℕ → Doc
 alone width height = with_leaves (tree (leaf (codes "a") width height) leafless leafless)
@@ -44,7 +50,8 @@ unfolding document_of_lines made_of past first_word word_place after_word text_o
 no_edits = refl
 
 three_edits : makes (codes "content a leaf 20 10\ninsert main 1 b leaf 1 2\nremove c\n")
-    ≡ Ok (alone 640 1280) ∷ Ok (alone 1280 640) ∷ Ok (with_leaves (tree (leaf (codes "a") 1280 640) leafless (tree (leaf (codes "b") 64 128) leafless leafless))) ∷ fault_at 21 8 8 ∷ []
+    ≡ Ok (alone 640 1280) ∷ Ok (alone 1280 640) ∷
+    Ok (with_leaves (tree (leaf (codes "a") 1280 640) leafless (tree (leaf (codes "b") 64 128) leafless leafless))) ∷ fault_at 21 8 8 ∷ []
 unfolding document_of_lines made_of past first_word word_place after_word text_of size_of_word
 three_edits = refl
 
@@ -62,7 +69,13 @@ after_a_refusal = refl
 
 -- a flex container with two leaves, as the text below tells it
 abbrev in_flex : Trees Label → Doc
-in_flex leaves = record { version = 1; width = pos 6400; height = pos 3200; root = record { name = codes "main"; kind = kind.Flex; style = map.empty; children = leaves } }
+in_flex leaves = record {
+  version = 1;
+  width = pos 6400;
+  height = pos 3200;
+  root = record
+      { name = codes "main"; kind = kind.Flex; style = map.empty; children = leaves };
+}
 
 abbrev two : Doc
 two = in_flex (tree (leaf (codes "a") 1280 640) leafless (tree (leaf (codes "b") 1920 640) leafless leafless))
@@ -71,23 +84,29 @@ abbrev one : Doc
 one = in_flex (tree (leaf (codes "b") 1920 640) leafless leafless)
 
 abbrev grown : Doc
-grown = in_flex (tree (record (leaf (codes "b") 1920 640) { style = map.insert map.empty prop.FlexGrow (record { value = value.Factor 1000; units = [] }) }) leafless leafless)
+grown =
+    in_flex
+    (tree (record (leaf (codes "b") 1920 640) { style = map.insert map.empty prop.FlexGrow (record { value = value.Factor 1000; units = [] }) })
+    leafless leafless)
 
 -- edits are taken back and made again, the last one first; too many are refused at their number
 taken_back_and_made_again : all_made (lines_of (codes "gridlay 1\nviewport 100 50\nmain flex\n  a leaf 20 10\n  b leaf 30 10\n---\nremove a\nset b flex-grow: 1\nundo 2\nredo 1\nundo 3\nredo 2\n"))
     ≡ Ok two ∷ Ok one ∷ Ok grown ∷ Ok two ∷ Ok one ∷ fault_at 25 11 6 ∷ fault_at 26 12 6 ∷ []
-unfolding property_rows properties_2 properties_3 properties_4 properties_5 properties_6 properties_7 properties_8 properties_9 properties_10 document_of_lines made_of past first_word word_place after_word text_of size_of_word
+unfolding property_rows properties_2 properties_3 properties_4 properties_5 properties_6 properties_7 properties_8 properties_9 properties_10
+    document_of_lines made_of past first_word word_place after_word text_of size_of_word
 taken_back_and_made_again = refl
 
 -- an edit after an undo ends what could be made again; one that is refused does not
 after_an_edit : makes (codes "content a leaf 20 10\nundo 1\nremove c\nredo 1\nundo 1\nviewport 300 200\nredo 1\nundo 0\n")
-    ≡ Ok (alone 640 1280) ∷ Ok (alone 1280 640) ∷ Ok (alone 640 1280) ∷ fault_at 21 8 8 ∷ Ok (alone 1280 640) ∷ Ok (alone 640 1280) ∷ Ok (alone 640 1280) ∷ fault_at 26 12 6 ∷ fault_at 9 13 6 ∷ []
+    ≡ Ok (alone 640 1280) ∷ Ok (alone 1280 640) ∷ Ok (alone 640 1280) ∷ fault_at 21 8 8 ∷ Ok (alone 1280 640) ∷ Ok (alone 640 1280) ∷
+    Ok (alone 640 1280) ∷ fault_at 26 12 6 ∷ fault_at 9 13 6 ∷ []
 unfolding document_of_lines made_of past first_word word_place after_word text_of size_of_word
 after_an_edit = refl
 
 -- a hit is answered by the document as it is, and no edit: it is not taken back
 after_a_hit : makes (codes "content a leaf 20 10\nhit 115 -5px\nundo 1\nhit 1\n")
-    ≡ Ok (alone 640 1280) ∷ Ok (alone 1280 640) ∷ Err (saying.Found (box_under (boxes_of (alone 1280 640)) (pos 7360) (negsuc 319))) ∷ Ok (alone 640 1280) ∷ fault_at 9 9 6 ∷ []
+    ≡ Ok (alone 640 1280) ∷ Ok (alone 1280 640) ∷ Err (saying.Found (box_under (boxes_of (alone 1280 640)) (pos 7360) (negsuc 319))) ∷
+    Ok (alone 640 1280) ∷ fault_at 9 9 6 ∷ []
 unfolding document_of_lines made_of past first_word word_place after_word text_of size_of_word position_of_word
 after_a_hit = refl
 

@@ -97,19 +97,23 @@ pub record IsLaid (given : List Line) (c : Course) (k : ℕ) (bad : Bool) : Type
   pub few : k ≤ length given
 
 -- and all of these answers were written and logged
-pub record HasAnswered (stats : Bool) (held held' : Option (List ℕ)) (events events' : Option (List Event)) (given : List Line) (c : Course) (k : ℕ) (bad : Bool) : Type 0 where
+pub record HasAnswered (stats : Bool) (held held' : Option (List ℕ)) (events events' : Option (List Event)) (given : List Line) (c : Course) (k : ℕ) (bad : Bool) : Type
+    0 where
   pub laid : IsLaid given c k bad
   pub output : WritesAll stats held held' events events' given
 
 -- these lines were given and answered, and nothing else was written or logged
-pub record IsAt (stats : Bool) (before now held held' : Option (List ℕ)) (events events' : Option (List Event)) (stream : Stream) (ended : Bool) (c : Course) (k : ℕ) (bad : Bool) : Type 0 where
+pub record IsAt (stats : Bool) (before now held held' : Option (List ℕ)) (events events' : Option (List Event)) (stream : Stream) (ended : Bool) (c : Course) (k : ℕ) (bad : Bool) : Type
+    0 where
   pub given : List Line
   pub input : HasGiven before now given stream ended
   pub answered : HasAnswered stats held held' events events' given c k bad
 
 -- a script follows the document, or the run ended before
-abbrev pub Starts : (stats : Bool) (before now held held' : Option (List ℕ)) (events events' : Option (List Event)) → Stream → Bool → Result Progress Status → Type 0
-Starts stats before now held held' events events' stream ended (Ok progress) = IsAt stats before now held held' events events' stream ended (course_of progress.engine) progress.number progress.refused
+abbrev pub Starts : (stats : Bool) (before now held held' : Option (List ℕ)) (events events' : Option (List Event)) → Stream → Bool →
+    Result Progress Status → Type 0
+Starts stats before now held held' events events' stream ended (Ok progress) =
+    IsAt stats before now held held' events events' stream ended (course_of progress.engine) progress.number progress.refused
 Starts stats before now held held' events events' stream ended (Err status) = Runs stats before now held held' events events' status
 
 -- the answer once all lines were answered

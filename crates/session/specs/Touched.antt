@@ -38,7 +38,8 @@ Either false A B = B
 -- the same of each edit line, numbered from this number on
 abbrev pub Follows : Touches → ℕ → Course → List Line → Type 0
 Follows touches k c [] = ⊤
-Follows touches k c (line ∷ lines) = Either (is_skipped line) (Follows touches k c lines) (Agrees touches k c line × Follows touches (k + 1) (next_course c line) lines)
+Follows touches k c (line ∷ lines) =
+    Either (is_skipped line) (Follows touches k c lines) (Agrees touches k c line × Follows touches (k + 1) (next_course c line) lines)
 
 -- and of those of an input
 abbrev pub FollowsLines : Touches → List Line → Type 0

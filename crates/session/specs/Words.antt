@@ -6,7 +6,7 @@ use Rattle.command_words.specs.declared.Command.{Command}
 use Rattle.outside.specs.declared.sink.SinkError.{SinkError}
 use Rattle.outside.specs.declared.sink.SinkError.TheVariants as sink
 use Rattle.session.specs.declared.status.Status.{Status}
-use Rattle.session.specs.declared.status.Status.TheVariants.{Done, BadDocument, SomeRefused, ReadFault, WriteFault, NoMemory, InputLimit, BadWords}
+use Rattle.session.specs.declared.status.Status.TheVariants.{Done, BadDocument, SomeRefused, ReadFault, WriteFault, NoMemory, InputLimit, TooLong, BadWords}
 
 -- the command that the words are, where they are one
 abbrev pub asked : {A : Type 0} → List (String A) → Option Command
@@ -32,6 +32,7 @@ code_of ReadFault = 4
 code_of WriteFault = 5
 code_of NoMemory = 6
 code_of InputLimit = 7
+code_of TooLong = 8
 code_of BadWords = 64
 
 -- how a run ends where the sink answers an error

@@ -42,7 +42,8 @@ pub(crate) fn write<K: Sink>(sink: &mut K, text: &[u8]) -> Result<(), Status>
     ensures ok { OnOk result (Adds (K.written sink.old) (K.written sink.new) text.now) }
     ensures err { OnErr result (AddsPrefix (K.written sink.old) (K.written sink.new) text.now) }
     ensures stops { IfErr result StopsWriting }
-    ensures cause { HasCauseOf (K.faults sink.old) (K.faults sink.new) (result ≡ Err Status.WriteFault) }
+    ensures cause { HasCauseOf (K.faults sink.old) (K.faults sink.new)
+        (result ≡ Err Status.WriteFault) }
 {
     write_all(sink, text)?;
     Ok(())
@@ -62,12 +63,21 @@ fn first_layout<K: Sink, R: Ruler, L: Ledger>(
     ensures engine { IfOk result (λ engine. doc_of engine ≡ doc) }
     ensures laid { IfOk result (λ engine. engine.laid ≡ true) }
     ensures steps { IfOk result (λ engine. engine.steps ≡ no_steps) }
-    ensures answers { OnOk result (Answers stats (K.written sink.old) (K.written sink.new) (R.log ruler.old) (R.log ruler.new) 0 (Ok doc)) }
-    ensures prefix { OnErr result (AnswersPrefix stats (K.written sink.old) (K.written sink.new) (R.log ruler.old) (R.log ruler.new) 0 (Ok doc)) }
-    ensures replies { (touches : Touches) → OnOk result (Replies stats (K.written sink.old) (K.written sink.new) (R.log ruler.old) (R.log ruler.new) passes.old passes.new touches 0 (Ok doc ∷ [])) }
-    ensures spares { (touches : Touches) → SparesFirst touches (R.log ruler.old) (R.log ruler.new) result }
+    ensures answers { OnOk result
+        (Answers stats (K.written sink.old) (K.written sink.new) (R.log ruler.old) (R.log ruler.new)
+        0 (Ok doc)) }
+    ensures prefix { OnErr result
+        (AnswersPrefix stats (K.written sink.old) (K.written sink.new) (R.log ruler.old)
+        (R.log ruler.new) 0 (Ok doc)) }
+    ensures replies { (touches : Touches) →
+        OnOk result
+        (Replies stats (K.written sink.old) (K.written sink.new) (R.log ruler.old)
+        (R.log ruler.new) passes.old passes.new touches 0 (Ok doc ∷ [])) }
+    ensures spares { (touches : Touches) →
+        SparesFirst touches (R.log ruler.old) (R.log ruler.new) result }
     ensures stops { IfErr result StopsWriting }
-    ensures cause { HasCauseOf (K.faults sink.old) (K.faults sink.new) (result ≡ Err Status.WriteFault) }
+    ensures cause { HasCauseOf (K.faults sink.old) (K.faults sink.new)
+        (result ≡ Err Status.WriteFault) }
 {
     let mut engine = Engine::new(alloc, doc)?;
     let text = layout_text(alloc, stats, &mut engine, 0, ruler, passes)?;
@@ -77,9 +87,11 @@ fn first_layout<K: Sink, R: Ruler, L: Ledger>(
 
 #[tactic(auto, using(crate::proofs::Serving::document_refusing))]
 /// Writes the line of the refusal of a document.
-fn refuse_document<K: Sink>(alloc: Global, fault: Fault, sink: &mut K) -> Status
-    ensures refused { (stats : Bool) (events : Option (List Event)) → EndsFirst stats (K.written sink.old) (K.written sink.new) events events (Err fault) result }
-    ensures cause { HasCauseOf (K.faults sink.old) (K.faults sink.new) (result ≡ Status.WriteFault) }
+pub(crate) fn refuse_document<K: Sink>(alloc: Global, fault: Fault, sink: &mut K) -> Status
+    ensures refused { (stats : Bool) (events : Option (List Event)) →
+        EndsFirst stats (K.written sink.old) (K.written sink.new) events events (Err fault) result }
+    ensures cause { HasCauseOf (K.faults sink.old) (K.faults sink.new)
+        (result ≡ Status.WriteFault) }
 {
     match refusal_text(alloc, 0, fault) {
         Ok(text) => match write(sink, &text) {
@@ -103,13 +115,19 @@ pub(crate) fn begin<K: Sink, R: Ruler, L: Ledger>(
     passes: &mut Steps<L>,
 ) -> Result<Engine, Status>
     requires { AreShort lines.now }
-    ensures begins { Begins stats (K.written sink.old) (K.written sink.new) (R.log ruler.old) (R.log ruler.new) (document_of lines.now end) result }
+    ensures begins { Begins stats (K.written sink.old) (K.written sink.new) (R.log ruler.old)
+        (R.log ruler.new) (document_of lines.now end) result }
     ensures laid { IfOk result (λ engine. engine.laid ≡ true) }
     ensures steps { IfOk result (λ engine. engine.steps ≡ no_steps) }
-    ensures replies { (touches : Touches) → IfOk result (λ engine. Replies stats (K.written sink.old) (K.written sink.new) (R.log ruler.old) (R.log ruler.new) passes.old passes.new touches 0 (Ok (doc_of engine) ∷ [])) }
+    ensures replies { (touches : Touches) →
+        IfOk result
+        (λ engine. Replies stats (K.written sink.old) (K.written sink.new) (R.log ruler.old)
+        (R.log ruler.new) passes.old passes.new touches 0 (Ok (doc_of engine) ∷ [])) }
     ensures idle { result ≡ Err Status.BadDocument → passes.new ≡ passes.old }
-    ensures spares { (touches : Touches) → SparesFirst touches (R.log ruler.old) (R.log ruler.new) result }
-    ensures cause { HasCauseOf (K.faults sink.old) (K.faults sink.new) (result ≡ Err Status.WriteFault) }
+    ensures spares { (touches : Touches) →
+        SparesFirst touches (R.log ruler.old) (R.log ruler.new) result }
+    ensures cause { HasCauseOf (K.faults sink.old) (K.faults sink.new)
+        (result ≡ Err Status.WriteFault) }
 {
     match read_doc(alloc, lines, end) {
         Ok(doc) => first_layout(alloc, stats, doc, sink, ruler, passes),
@@ -133,13 +151,27 @@ fn write_answer<K: Sink, R: Ruler, L: Ledger>(
     requires laid { engine.old.laid ≡ true }
     requires short { IsShort line.now }
     ensures laid { OnOk result (engine.new.laid ≡ true) }
-    ensures answered { IfOk result (λ refused. IsAnswered (course_of engine.old) line.now (course_of engine.new) refused) }
-    ensures answers { OnOk result (Answers stats (K.written sink.old) (K.written sink.new) (R.log ruler.old) (R.log ruler.new) k (made_by (course_of engine.old) line.now)) }
-    ensures prefix { OnErr result (AnswersPrefix stats (K.written sink.old) (K.written sink.new) (R.log ruler.old) (R.log ruler.new) k (made_by (course_of engine.old) line.now)) }
-    ensures replies { (touches : Touches) → 1 ≤ k → Agrees touches k (course_of engine.old) line.now → OnOk result (Replies stats (K.written sink.old) (K.written sink.new) (R.log ruler.old) (R.log ruler.new) passes.old passes.new touches k (made_by (course_of engine.old) line.now ∷ [])) }
-    ensures spares { (touches : Touches) (before : Option (List Event)) → Agrees touches k (course_of engine.old) line.now → SparesPage touches before (R.log ruler.old) engine.old.page → SparesAfter touches before (R.log ruler.new) engine.new.page result }
+    ensures answered { IfOk result
+        (λ refused. IsAnswered (course_of engine.old) line.now (course_of engine.new) refused) }
+    ensures answers { OnOk result
+        (Answers stats (K.written sink.old) (K.written sink.new) (R.log ruler.old) (R.log ruler.new)
+        k (made_by (course_of engine.old) line.now)) }
+    ensures prefix { OnErr result
+        (AnswersPrefix stats (K.written sink.old) (K.written sink.new) (R.log ruler.old)
+        (R.log ruler.new) k (made_by (course_of engine.old) line.now)) }
+    ensures replies { (touches : Touches) → 1 ≤ k →
+        Agrees touches k (course_of engine.old) line.now →
+        OnOk result
+        (Replies stats (K.written sink.old) (K.written sink.new) (R.log ruler.old)
+        (R.log ruler.new) passes.old passes.new touches k
+        (made_by (course_of engine.old) line.now ∷ [])) }
+    ensures spares { (touches : Touches) (before : Option (List Event)) →
+        Agrees touches k (course_of engine.old) line.now →
+        SparesPage touches before (R.log ruler.old) engine.old.page →
+        SparesAfter touches before (R.log ruler.new) engine.new.page result }
     ensures stops { IfErr result StopsWriting }
-    ensures cause { HasCauseOf (K.faults sink.old) (K.faults sink.new) (result ≡ Err Status.WriteFault) }
+    ensures cause { HasCauseOf (K.faults sink.old) (K.faults sink.new)
+        (result ≡ Err Status.WriteFault) }
 {
     let answer = answer_to_edit(alloc, stats, engine, k, line, ruler, passes)?;
     write(sink, &answer.text)?;
@@ -162,12 +194,35 @@ pub(crate) fn handle_line<K: Sink, R: Ruler, L: Ledger>(
     requires laid { progress.old.engine.laid ≡ true }
     requires short { IsShort line.now }
     ensures laid { OnOk result (progress.new.engine.laid ≡ true) }
-    ensures ok { (held : Option (List ℕ)) (events : Option (List Event)) (given : List Line) → HasAnswered stats held (K.written sink.old) events (R.log ruler.old) given (course_of progress.old.engine) progress.old.number progress.old.refused → OnOk result (HasAnswered stats held (K.written sink.new) events (R.log ruler.new) (given ++ line.now ∷ []) (course_of progress.new.engine) progress.new.number progress.new.refused) }
-    ensures err { (held : Option (List ℕ)) (events : Option (List Event)) (given : List Line) → HasAnswered stats held (K.written sink.old) events (R.log ruler.old) given (course_of progress.old.engine) progress.old.number progress.old.refused → OnErr result (WritesFrom stats held (K.written sink.new) events (R.log ruler.new) given (given ++ line.now ∷ [])) }
-    ensures replies { (touches : Touches) → 1 ≤ progress.old.number → (is_skipped line.now ≡ false → Agrees touches progress.old.number (course_of progress.old.engine) line.now) → OnOk result (Replies stats (K.written sink.old) (K.written sink.new) (R.log ruler.old) (R.log ruler.new) passes.old passes.new touches progress.old.number (if is_skipped line.now then [] else made_by (course_of progress.old.engine) line.now ∷ [])) }
-    ensures spares { (touches : Touches) (before : Option (List Event)) → (is_skipped line.now ≡ false → Agrees touches progress.old.number (course_of progress.old.engine) line.now) → SparesPage touches before (R.log ruler.old) progress.old.engine.page → SparesAfter touches before (R.log ruler.new) progress.new.engine.page result }
+    ensures ok { (held : Option (List ℕ)) (events : Option (List Event)) (given : List Line) →
+        HasAnswered stats held (K.written sink.old) events (R.log ruler.old) given
+        (course_of progress.old.engine) progress.old.number progress.old.refused →
+        OnOk result
+        (HasAnswered stats held (K.written sink.new) events (R.log ruler.new)
+        (given ++ line.now ∷ []) (course_of progress.new.engine) progress.new.number
+        progress.new.refused) }
+    ensures err { (held : Option (List ℕ)) (events : Option (List Event)) (given : List Line) →
+        HasAnswered stats held (K.written sink.old) events (R.log ruler.old) given
+        (course_of progress.old.engine) progress.old.number progress.old.refused →
+        OnErr result
+        (WritesFrom stats held (K.written sink.new) events (R.log ruler.new) given
+        (given ++ line.now ∷ [])) }
+    ensures replies { (touches : Touches) → 1 ≤ progress.old.number →
+        (is_skipped line.now ≡ false →
+        Agrees touches progress.old.number (course_of progress.old.engine) line.now) →
+        OnOk result
+        (Replies stats (K.written sink.old) (K.written sink.new) (R.log ruler.old)
+        (R.log ruler.new) passes.old passes.new touches progress.old.number
+        (if is_skipped line.now then [] else made_by (course_of progress.old.engine)
+        line.now ∷ [])) }
+    ensures spares { (touches : Touches) (before : Option (List Event)) →
+        (is_skipped line.now ≡ false →
+        Agrees touches progress.old.number (course_of progress.old.engine) line.now) →
+        SparesPage touches before (R.log ruler.old) progress.old.engine.page →
+        SparesAfter touches before (R.log ruler.new) progress.new.engine.page result }
     ensures stops { IfErr result StopsWriting }
-    ensures cause { HasCauseOf (K.faults sink.old) (K.faults sink.new) (result ≡ Err Status.WriteFault) }
+    ensures cause { HasCauseOf (K.faults sink.old) (K.faults sink.new)
+        (result ≡ Err Status.WriteFault) }
 {
     if line.is_skipped() {
         return Ok(());

@@ -54,12 +54,20 @@ pub(crate) fn layout_text<R: Ruler, L: Ledger>(
     ruler: &mut R,
     passes: &mut Steps<L>,
 ) -> Result<Vec<u8>, NoMemory>
-    ensures prints { IfOk result (λ text. Prints stats (R.log ruler.old) (R.log ruler.new) k (Ok (doc_of engine.old)) text.items) }
-    ensures err { OnErr result (LogsFront (R.log ruler.old) (R.log ruler.new) k (Ok (doc_of engine.old) ∷ [])) }
+    ensures prints { IfOk result
+        (λ text. Prints stats (R.log ruler.old) (R.log ruler.new) k (Ok (doc_of engine.old))
+        text.items) }
+    ensures err { OnErr result
+        (LogsFront (R.log ruler.old) (R.log ruler.new) k (Ok (doc_of engine.old) ∷ [])) }
     ensures same { IsSame engine.old engine.new }
     ensures laid { OnOk result (engine.new.laid ≡ true) }
-    ensures replies { (touches : Touches) → IsEmptied (is_new touches k) engine.old.page → IfOk result (λ text. HasReply stats touches (R.log ruler.old) (R.log ruler.new) passes.old passes.new k (Ok (doc_of engine.old)) text.items) }
-    ensures spares { (touches : Touches) (before : Option (List Event)) → SparesDue touches before (R.log ruler.old) k engine.old.page → SparesAfter touches before (R.log ruler.new) engine.new.page result }
+    ensures replies { (touches : Touches) → IsEmptied (is_new touches k) engine.old.page →
+        IfOk result
+        (λ text. HasReply stats touches (R.log ruler.old) (R.log ruler.new) passes.old
+        passes.new k (Ok (doc_of engine.old)) text.items) }
+    ensures spares { (touches : Touches) (before : Option (List Event)) →
+        SparesDue touches before (R.log ruler.old) k engine.old.page →
+        SparesAfter touches before (R.log ruler.new) engine.new.page result }
 {
     let mut boxes = BoxText::new(alloc, k)?;
     let counted = engine.lay_out(k, &mut boxes, ruler, passes)?;
@@ -136,12 +144,25 @@ pub(crate) fn answer_to_edit<R: Ruler, L: Ledger>(
 ) -> Result<Answer, NoMemory>
     requires laid { engine.old.laid ≡ true }
     requires short { IsShort line.now }
-    ensures answered { IfOk result (λ answer. IsAnswered (course_of engine.old) line.now (course_of engine.new) answer.refused) }
+    ensures answered { IfOk result
+        (λ answer. IsAnswered (course_of engine.old) line.now (course_of engine.new)
+        answer.refused) }
     ensures laid { OnOk result (engine.new.laid ≡ true) }
-    ensures prints { IfOk result (λ answer. Prints stats (R.log ruler.old) (R.log ruler.new) k (made_by (course_of engine.old) line.now) answer.text.items) }
-    ensures err { OnErr result (LogsFront (R.log ruler.old) (R.log ruler.new) k (made_by (course_of engine.old) line.now ∷ [])) }
-    ensures replies { (touches : Touches) → 1 ≤ k → Agrees touches k (course_of engine.old) line.now → IfOk result (λ answer. HasReply stats touches (R.log ruler.old) (R.log ruler.new) passes.old passes.new k (made_by (course_of engine.old) line.now) answer.text.items) }
-    ensures spares { (touches : Touches) (before : Option (List Event)) → Agrees touches k (course_of engine.old) line.now → SparesPage touches before (R.log ruler.old) engine.old.page → SparesAfter touches before (R.log ruler.new) engine.new.page result }
+    ensures prints { IfOk result
+        (λ answer. Prints stats (R.log ruler.old) (R.log ruler.new) k
+        (made_by (course_of engine.old) line.now) answer.text.items) }
+    ensures err { OnErr result
+        (LogsFront (R.log ruler.old) (R.log ruler.new) k
+        (made_by (course_of engine.old) line.now ∷ [])) }
+    ensures replies { (touches : Touches) → 1 ≤ k →
+        Agrees touches k (course_of engine.old) line.now →
+        IfOk result
+        (λ answer. HasReply stats touches (R.log ruler.old) (R.log ruler.new) passes.old
+        passes.new k (made_by (course_of engine.old) line.now) answer.text.items) }
+    ensures spares { (touches : Touches) (before : Option (List Event)) →
+        Agrees touches k (course_of engine.old) line.now →
+        SparesPage touches before (R.log ruler.old) engine.old.page →
+        SparesAfter touches before (R.log ruler.new) engine.new.page result }
 {
     match apply_line(alloc, engine, line, passes) {
         Ok(None) => Ok(Answer {

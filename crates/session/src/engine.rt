@@ -14,7 +14,7 @@ ghost use Rattle.session.specs.Laying.{IsQuiet, LaysOut, Keeps, KeepsAll, KeepsM
 ghost use Rattle.std.specs.List.{All};
 ghost use Rattle.session.specs.Logs.{LogsFront};
 ghost use Rattle.session.specs.Printing.{IsPrintableBox};
-ghost use Rattle.session.specs.Standing.{doc_of};
+ghost use Rattle.session.specs.Standing.{doc_of, HaveLed, IsSound};
 
 use crate::faults::{NOTHING_TO_REDO, NOTHING_TO_UNDO};
 use crate::laying::lay_out;
@@ -78,11 +78,11 @@ pub struct Layout {
 
 /// What it took to lay a document out.
 #[derive(Clone, Copy, Debug)]
-pub(crate) struct Counted {
+pub struct Counted {
     /// How often a leaf was measured, or 2^64 - 1 where that is less.
-    pub(crate) measured: u64,
+    pub measured: u64,
     /// How many answers were kept, or 2^64 - 1 where that is less.
-    pub(crate) added: u64,
+    pub added: u64,
 }
 
 impl Engine {
@@ -117,11 +117,31 @@ impl Engine {
         self.calls
     }
 
+    /// What holds of every engine between two calls. Its document is valid. Every answer that a
+    /// node keeps is right: it is the one that the rules give for the document as it stands, the
+    /// questions of a node differ, and each fits it. The steps led to the document, and lead back.
+    /// Where it is laid out each container keeps the question for its frames that its box gives it.
+    pub fn stands(&self)
+        ensures sound { IsSound self.now.page }
+        ensures led { HaveLed self.now.steps (doc_of self.now) }
+        ensures path { self.now.laid ≡ true → KeepsPath self.now.page self.now.page }
+    {
+        let _ = &self.page;
+    }
+
     /// The version of the language of the document, 1 or 2.
     pub fn version(&self) -> u8
         ensures { result ≡ (doc_of self.now).version }
     {
         self.page.version()
+    }
+
+    /// The document is valid at all times. Does nothing.
+    #[inline(always)]
+    pub fn stays_valid(&self)
+        ensures { IsValid (doc_of self.now) }
+    {
+        let _ = &self.page;
     }
 
     /// The document as the edits so far left it, which is valid. Or `NoMemory`.
@@ -227,7 +247,7 @@ impl Engine {
 
     #[tactic(auto, using(crate::proofs::Laid::laying, crate::proofs::Walks::walking))]
     /// Lays the document out as [`Engine::layout`] does, and hands each box over as it is found.
-    pub(crate) fn lay_out<T: BoxSink, R: Ruler, L: Ledger>(
+    pub fn lay_out<T: BoxSink, R: Ruler, L: Ledger>(
         &mut self,
         k: u32,
         told: &mut T,
@@ -236,16 +256,27 @@ impl Engine {
     ) -> Result<Counted, NoMemory>
         ensures boxes { OnOk result (T.adds told.old told.new (boxes_of (doc_of self.old))) }
         ensures printable { OnOk result (All IsPrintableBox (boxes_of (doc_of self.old))) }
-        ensures laid { IfOk result (λ counted. LaysOut k (doc_of self.old) (R.log ruler.old) (R.log ruler.new) counted.measured) }
-        ensures stopped { OnErr result (LogsFront (R.log ruler.old) (R.log ruler.new) k (Ok (doc_of self.old) ∷ [])) }
+        ensures laid { IfOk result
+            (λ counted. LaysOut k (doc_of self.old) (R.log ruler.old) (R.log ruler.new)
+            counted.measured) }
+        ensures stopped { OnErr result
+            (LogsFront (R.log ruler.old) (R.log ruler.new) k (Ok (doc_of self.old) ∷ [])) }
         ensures same { IsSame self.old self.new }
         ensures done { OnOk result (self.new.laid ≡ true) }
-        ensures kept { IfOk result (λ counted. Keeps self.old.page self.new.page 0 counted.added passes.old passes.new) }
+        ensures kept { IfOk result
+            (λ counted. Keeps self.old.page self.new.page 0 counted.added passes.old passes.new) }
         ensures kept_some { OnErr result (KeepsMore self.old.page self.new.page) }
-        ensures walks { IfOk result (λ counted. Walks k self.old.page self.new.page (R.log ruler.old) (R.log ruler.new) counted.measured counted.added passes.old passes.new) }
+        ensures walks { IfOk result
+            (λ counted. Walks k self.old.page self.new.page (R.log ruler.old) (R.log ruler.new)
+            counted.measured counted.added passes.old passes.new) }
         ensures paths { OnOk result (KeepsPath self.old.page self.new.page) }
-        ensures quiet { KeepsAll self.old.page → IfOk result (λ counted. IsQuiet k self.old.page self.new.page (R.log ruler.old) (R.log ruler.new) counted.measured counted.added passes.old passes.new) }
-        ensures spares { (touches : Touches) (before : Option (List Event)) → SparesDue touches before (R.log ruler.old) k self.old.page → SparesAfter touches before (R.log ruler.new) self.new.page result }
+        ensures quiet { KeepsAll self.old.page →
+            IfOk result
+            (λ counted. IsQuiet k self.old.page self.new.page (R.log ruler.old)
+            (R.log ruler.new) counted.measured counted.added passes.old passes.new) }
+        ensures spares { (touches : Touches) (before : Option (List Event)) →
+            SparesDue touches before (R.log ruler.old) k self.old.page →
+            SparesAfter touches before (R.log ruler.new) self.new.page result }
     {
         let page = &mut self.page;
         let last = &mut self.last;
@@ -273,16 +304,27 @@ impl Engine {
     ) -> Result<Layout, NoMemory>
         ensures boxes { IfOk result (λ layout. layout.boxes ≡ boxes_of (doc_of self.old)) }
         ensures printable { IfOk result (λ layout. All IsPrintableBox layout.boxes) }
-        ensures laid { IfOk result (λ layout. LaysOut k (doc_of self.old) (R.log ruler.old) (R.log ruler.new) layout.measured) }
-        ensures stopped { OnErr result (LogsFront (R.log ruler.old) (R.log ruler.new) k (Ok (doc_of self.old) ∷ [])) }
+        ensures laid { IfOk result
+            (λ layout. LaysOut k (doc_of self.old) (R.log ruler.old) (R.log ruler.new)
+            layout.measured) }
+        ensures stopped { OnErr result
+            (LogsFront (R.log ruler.old) (R.log ruler.new) k (Ok (doc_of self.old) ∷ [])) }
         ensures same { IsSame self.old self.new }
         ensures done { OnOk result (self.new.laid ≡ true) }
-        ensures kept { IfOk result (λ layout. Keeps self.old.page self.new.page 0 layout.added passes.old passes.new) }
+        ensures kept { IfOk result
+            (λ layout. Keeps self.old.page self.new.page 0 layout.added passes.old passes.new) }
         ensures kept_some { OnErr result (KeepsMore self.old.page self.new.page) }
-        ensures walks { IfOk result (λ layout. Walks k self.old.page self.new.page (R.log ruler.old) (R.log ruler.new) layout.measured layout.added passes.old passes.new) }
+        ensures walks { IfOk result
+            (λ layout. Walks k self.old.page self.new.page (R.log ruler.old) (R.log ruler.new)
+            layout.measured layout.added passes.old passes.new) }
         ensures paths { OnOk result (KeepsPath self.old.page self.new.page) }
-        ensures quiet { KeepsAll self.old.page → IfOk result (λ layout. IsQuiet k self.old.page self.new.page (R.log ruler.old) (R.log ruler.new) layout.measured layout.added passes.old passes.new) }
-        ensures spares { (touches : Touches) (before : Option (List Event)) → SparesDue touches before (R.log ruler.old) k self.old.page → SparesAfter touches before (R.log ruler.new) self.new.page result }
+        ensures quiet { KeepsAll self.old.page →
+            IfOk result
+            (λ layout. IsQuiet k self.old.page self.new.page (R.log ruler.old) (R.log ruler.new)
+            layout.measured layout.added passes.old passes.new) }
+        ensures spares { (touches : Touches) (before : Option (List Event)) →
+            SparesDue touches before (R.log ruler.old) k self.old.page →
+            SparesAfter touches before (R.log ruler.new) self.new.page result }
     {
         let mut list = BoxList::new(self.page.alloc());
         let counted = self.lay_out(k, &mut list, ruler, passes)?;

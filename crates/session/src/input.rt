@@ -1,8 +1,8 @@
-ghost use Rattle.std.specs.Prelude.{◌≡◌, ◌≤◌, ◌<◌, ◌+◌, ℕ, List, Option, Ok, Err, false, true, length, OnOk, OnErr, IfOk, IfSome};
+ghost use Rattle.std.specs.Prelude.{◌≡◌, ◌≤◌, ◌<◌, ◌+◌, ℕ, List, Option, Ok, Err, false, true, length, OnOk, IfOk, IfSome};
 ghost use Rattle.outside.specs.Faults.{HasCauseOf};
 ghost use Rattle.text_scan.specs.declared.line.Line.{Line};
 ghost use Rattle.text_scan.specs.Stream.{empty_stream, is_line_due};
-ghost use Rattle.session.specs.Input.{MeetsPiece, HasGiven, ReadsOn, GivesNext, to_go, limit, most_asked};
+ghost use Rattle.session.specs.Input.{MeetsPiece, HasGiven, ReadsOn, GivesNext, AsksOn, AsksSoFar, to_go, limit};
 
 use crate::Status;
 use lunit::NoMemory;
@@ -26,8 +26,7 @@ pub(crate) struct Reader {
 
 impl Reader {
     pub(crate) fn new(alloc: Global) -> Reader
-        ensures new { (result.lines ≡ empty_stream) × (result.count ≡ 0) × (result.ended ≡ false) }
-        ensures to_go { to_go result.count result.ended ≡ most_asked }
+        ensures { (result.lines ≡ empty_stream) × (result.count ≡ 0) × (result.ended ≡ false) }
     {
         Reader {
             lines: Lines::new(alloc),
@@ -48,7 +47,8 @@ fn take_piece<S: Source>(
     requires count { lines.old.fed ≡ count }
     requires within { count ≤ limit }
     ensures piece { MeetsPiece (S.left source.old) (S.left source.new) lines.old lines.new result }
-    ensures cause { HasCauseOf (S.faults source.old) (S.faults source.new) (result ≡ Err Status.ReadFault) }
+    ensures cause { HasCauseOf (S.faults source.old) (S.faults source.new)
+        (result ≡ Err Status.ReadFault) }
     ensures asked { S.asked source.new ≤ S.asked source.old + 1 }
 {
     let most = PIECE.min((LIMIT - count).max(1));
@@ -72,13 +72,19 @@ fn read_on<S: Source>(
     requires within { reader.old.count ≤ limit }
     requires open { reader.old.ended ≡ false }
     requires none { is_line_due false reader.old.lines.held ≡ false }
-    ensures on { (before : Option (List ℕ)) (given : List Line) → HasGiven before (S.left source.old) given reader.old.lines false → ReadsOn before (S.left source.new) given reader.new.lines reader.new.ended result }
-    ensures nearer { OnOk result (to_go reader.new.count reader.new.ended < to_go reader.old.count reader.old.ended) }
+    ensures on { (before : Option (List ℕ)) (given : List Line) →
+        HasGiven before (S.left source.old) given reader.old.lines false →
+        ReadsOn before (S.left source.new) given reader.new.lines reader.new.ended result }
+    ensures nearer { OnOk result
+        (to_go reader.new.count reader.new.ended < to_go reader.old.count reader.old.ended) }
     ensures count { OnOk result (reader.new.lines.fed ≡ reader.new.count) }
     ensures within { OnOk result (reader.new.count ≤ limit) }
-    ensures cause { HasCauseOf (S.faults source.old) (S.faults source.new) (result ≡ Err Status.ReadFault) }
-    ensures asked { OnOk result (S.asked source.new + to_go reader.new.count reader.new.ended ≤ S.asked source.old + to_go reader.old.count reader.old.ended) }
-    ensures asked_last { OnErr result (S.asked source.new ≤ S.asked source.old + to_go reader.old.count reader.old.ended) }
+    ensures cause { HasCauseOf (S.faults source.old) (S.faults source.new)
+        (result ≡ Err Status.ReadFault) }
+    ensures asks { (before : Option (List ℕ)) (first : ℕ) →
+        AsksSoFar before (S.left source.old) first (S.asked source.old) reader.old.count false →
+        AsksOn before (S.left source.new) first (S.asked source.new)
+        reader.new.count reader.new.ended result }
 {
     match take_piece(source, room, reader.count, &mut reader.lines) {
         Ok(taken) => {
@@ -102,13 +108,19 @@ pub(crate) fn next_line<S: Source>(
 ) -> Result<Option<Line>, Status>
     requires count { reader.old.lines.fed ≡ reader.old.count }
     requires within { reader.old.count ≤ limit }
-    ensures next { (before : Option (List ℕ)) (given : List Line) → HasGiven before (S.left source.old) given reader.old.lines reader.old.ended → GivesNext before (S.left source.new) given reader.new.lines reader.new.ended result }
+    ensures next { (before : Option (List ℕ)) (given : List Line) →
+        HasGiven before (S.left source.old) given reader.old.lines reader.old.ended →
+        GivesNext before (S.left source.new) given reader.new.lines reader.new.ended result }
     ensures count { OnOk result (reader.new.lines.fed ≡ reader.new.count) }
     ensures within { OnOk result (reader.new.count ≤ limit) }
     ensures short { IfOk result (λ found. IfSome found (λ line. length line.bytes ≤ 65536)) }
-    ensures cause { HasCauseOf (S.faults source.old) (S.faults source.new) (result ≡ Err Status.ReadFault) }
-    ensures asked { OnOk result (S.asked source.new + to_go reader.new.count reader.new.ended ≤ S.asked source.old + to_go reader.old.count reader.old.ended) }
-    ensures asked_last { OnErr result (S.asked source.new ≤ S.asked source.old + to_go reader.old.count reader.old.ended) }
+    ensures cause { HasCauseOf (S.faults source.old) (S.faults source.new)
+        (result ≡ Err Status.ReadFault) }
+    ensures asks { (before : Option (List ℕ)) (first : ℕ) →
+        AsksSoFar before (S.left source.old) first (S.asked source.old)
+        reader.old.count reader.old.ended →
+        AsksOn before (S.left source.new) first (S.asked source.new)
+        reader.new.count reader.new.ended result }
 {
     loop {
         match reader.lines.take(reader.ended) {

@@ -41,13 +41,24 @@ pub(crate) fn lay_out<T: BoxSink, R: Ruler, L: Ledger>(
     ensures root { IfOk result (λ root. IsLaidBy page.new root) }
     ensures boxes { OnOk result (T.adds told.old told.new (boxes_of (document_of page.old))) }
     ensures printable { OnOk result (All IsPrintableBox (boxes_of (document_of page.old))) }
-    ensures measures { Measures (document_of page.old) (R.log ruler.old) (R.log ruler.new) tally.old.measured tally.new.measured }
-    ensures keeps { OnOk result (Keeps page.old page.new tally.old.added tally.new.added passes.old passes.new) }
+    ensures measures { Measures (document_of page.old) (R.log ruler.old) (R.log ruler.new)
+        tally.old.measured tally.new.measured }
+    ensures keeps { OnOk result
+        (Keeps page.old page.new tally.old.added tally.new.added passes.old passes.new) }
     ensures keeps_some { OnErr result (KeepsMore page.old page.new) }
-    ensures walked { OnOk result (WalksPage page.old page.new tally.old tally.new passes.old passes.new (R.log ruler.old) (R.log ruler.new)) }
-    ensures paths { OnOk result (IsPathKept (bare page.old.nodes.tree) page.old.width page.old.height (state page.new.nodes tally.new passes.new (R.log ruler.new))) }
-    ensures quiet { IsAllKept (bare page.old.nodes.tree) page.old.width page.old.height (state page.old.nodes tally.old passes.old (R.log ruler.old)) → state page.new.nodes tally.new passes.new (R.log ruler.new) ≡ state page.old.nodes tally.old passes.old (R.log ruler.old) }
-    ensures spares { (touches : Touches) (before : Option (List Event)) → SparesPage touches before (R.log ruler.old) page.old → SparesAfter touches before (R.log ruler.new) page.new result }
+    ensures walked { OnOk result
+        (WalksPage page.old page.new tally.old tally.new passes.old passes.new (R.log ruler.old)
+        (R.log ruler.new)) }
+    ensures paths { OnOk result
+        (IsPathKept (bare page.old.nodes.tree) page.old.width page.old.height
+        (state page.new.nodes tally.new passes.new (R.log ruler.new))) }
+    ensures quiet { IsAllKept (bare page.old.nodes.tree) page.old.width page.old.height
+        (state page.old.nodes tally.old passes.old (R.log ruler.old)) →
+        state page.new.nodes tally.new passes.new (R.log ruler.new) ≡
+        state page.old.nodes tally.old passes.old (R.log ruler.old) }
+    ensures spares { (touches : Touches) (before : Option (List Event)) →
+        SparesPage touches before (R.log ruler.old) page.old →
+        SparesAfter touches before (R.log ruler.new) page.new result }
 {
     let _ = page.tree().root();
     layouts_of_pages(page);

@@ -61,11 +61,18 @@ fn layout_line<R: Ruler, L: Ledger>(
     passes: &mut Steps<L>,
 ) -> Result<Vec<u8>, NoMemory>
     ensures text { IfOk result (λ text. text.items ≡ made_line k (boxes_of (doc_of engine.old))) }
-    ensures log { OnOk result (Logs (R.log ruler.old) (R.log ruler.new) k (Ok (doc_of engine.old) ∷ [])) }
-    ensures stopped { OnErr result (LogsFront (R.log ruler.old) (R.log ruler.new) k (Ok (doc_of engine.old) ∷ [])) }
-    ensures layouts { (touches : Touches) → IsEmptied (is_new touches k) engine.old.page → OnOk result (TellsLayouts touches (R.log ruler.old) (R.log ruler.new) passes.old passes.new k (Ok (doc_of engine.old) ∷ [])) }
+    ensures log { OnOk result
+        (Logs (R.log ruler.old) (R.log ruler.new) k (Ok (doc_of engine.old) ∷ [])) }
+    ensures stopped { OnErr result
+        (LogsFront (R.log ruler.old) (R.log ruler.new) k (Ok (doc_of engine.old) ∷ [])) }
+    ensures layouts { (touches : Touches) → IsEmptied (is_new touches k) engine.old.page →
+        OnOk result
+        (TellsLayouts touches (R.log ruler.old) (R.log ruler.new) passes.old passes.new k
+        (Ok (doc_of engine.old) ∷ [])) }
     ensures document { doc_of engine.new ≡ doc_of engine.old }
-    ensures spares { (touches : Touches) (before : Option (List Event)) → SparesDue touches before (R.log ruler.old) k engine.old.page → SparesAfter touches before (R.log ruler.new) engine.new.page result }
+    ensures spares { (touches : Touches) (before : Option (List Event)) →
+        SparesDue touches before (R.log ruler.old) k engine.old.page →
+        SparesAfter touches before (R.log ruler.new) engine.new.page result }
 {
     let layout = engine.layout(k, ruler, passes)?;
     line_of(alloc, k, layout.boxes.as_slice())
@@ -81,15 +88,27 @@ fn write_line<K: Sink, R: Ruler, L: Ledger>(
     ruler: &mut R,
     passes: &mut Steps<L>,
 ) -> Result<(), Status>
-    ensures ok { OnOk result (Adds (K.written sink.old) (K.written sink.new) (made_line k (boxes_of (doc_of engine.old)))) }
-    ensures err { OnErr result (AddsPrefix (K.written sink.old) (K.written sink.new) (made_line k (boxes_of (doc_of engine.old)))) }
-    ensures log { OnOk result (Logs (R.log ruler.old) (R.log ruler.new) k (Ok (doc_of engine.old) ∷ [])) }
-    ensures stopped { OnErr result (LogsFront (R.log ruler.old) (R.log ruler.new) k (Ok (doc_of engine.old) ∷ [])) }
-    ensures layouts { (touches : Touches) → IsEmptied (is_new touches k) engine.old.page → OnOk result (TellsLayouts touches (R.log ruler.old) (R.log ruler.new) passes.old passes.new k (Ok (doc_of engine.old) ∷ [])) }
+    ensures ok { OnOk result
+        (Adds (K.written sink.old) (K.written sink.new)
+        (made_line k (boxes_of (doc_of engine.old)))) }
+    ensures err { OnErr result
+        (AddsPrefix (K.written sink.old) (K.written sink.new)
+        (made_line k (boxes_of (doc_of engine.old)))) }
+    ensures log { OnOk result
+        (Logs (R.log ruler.old) (R.log ruler.new) k (Ok (doc_of engine.old) ∷ [])) }
+    ensures stopped { OnErr result
+        (LogsFront (R.log ruler.old) (R.log ruler.new) k (Ok (doc_of engine.old) ∷ [])) }
+    ensures layouts { (touches : Touches) → IsEmptied (is_new touches k) engine.old.page →
+        OnOk result
+        (TellsLayouts touches (R.log ruler.old) (R.log ruler.new) passes.old passes.new k
+        (Ok (doc_of engine.old) ∷ [])) }
     ensures document { doc_of engine.new ≡ doc_of engine.old }
-    ensures spares { (touches : Touches) (before : Option (List Event)) → SparesDue touches before (R.log ruler.old) k engine.old.page → SparesAfter touches before (R.log ruler.new) engine.new.page result }
+    ensures spares { (touches : Touches) (before : Option (List Event)) →
+        SparesDue touches before (R.log ruler.old) k engine.old.page →
+        SparesAfter touches before (R.log ruler.new) engine.new.page result }
     ensures stops { IfErr result StopsWriting }
-    ensures cause { HasCauseOf (K.faults sink.old) (K.faults sink.new) (result ≡ Err Status.WriteFault) }
+    ensures cause { HasCauseOf (K.faults sink.old) (K.faults sink.new)
+        (result ≡ Err Status.WriteFault) }
 {
     let text = layout_line(alloc, engine, k, ruler, passes)?;
     write(sink, &text)
@@ -103,7 +122,9 @@ fn apply(engine: &mut Engine, edit: Edit) -> Result<(), NoMemory>
     requires told { IsToldEdit (doc_of engine.old).version edit }
     requires accepted { edited edit (doc_of engine.old) ≡ Ok (applied edit (doc_of engine.old)) }
     ensures document { OnOk result (doc_of engine.new ≡ applied edit (doc_of engine.old)) }
-    ensures spreads { OnOk result (Spreads (is_touched edit (doc_of engine.old) (doc_of engine.new)) engine.old.page engine.new.page) }
+    ensures spreads { OnOk result
+        (Spreads (is_touched edit (doc_of engine.old) (doc_of engine.new)) engine.old.page
+        engine.new.page) }
 {
     match engine.apply(edit) {
         Ok(()) => Ok(()),
@@ -122,11 +143,17 @@ fn edit_once(
     requires some { 0 < nodes }
     requires few { nodes ≤ 20000 }
     requires made { IsMade nodes (doc_of engine.old) }
-    ensures document { OnOk result (doc_of engine.new ≡ applied (edit_from nodes draws.old.state).0 (doc_of engine.old)) }
+    ensures document { OnOk result
+        (doc_of engine.new ≡ applied (edit_from nodes draws.old.state).0 (doc_of engine.old)) }
     ensures state { OnOk result (draws.new.state ≡ (edit_from nodes draws.old.state).1) }
     ensures made { OnOk result (IsMade nodes (doc_of engine.new)) }
-    ensures emptied { (touches : Touches) (k : ℕ) → 1 ≤ k → AgreesDraw touches k nodes (doc_of engine.old) draws.old.state → OnOk result (IsEmptied (is_new touches k) engine.new.page) }
-    ensures spares { (touches : Touches) (before log : Option (List Event)) (k : ℕ) → AgreesDraw touches k nodes (doc_of engine.old) draws.old.state → SparesPage touches before log engine.old.page → OnOk result (SparesDue touches before log k engine.new.page) }
+    ensures emptied { (touches : Touches) (k : ℕ) → 1 ≤ k →
+        AgreesDraw touches k nodes (doc_of engine.old) draws.old.state →
+        OnOk result (IsEmptied (is_new touches k) engine.new.page) }
+    ensures spares { (touches : Touches) (before log : Option (List Event)) (k : ℕ) →
+        AgreesDraw touches k nodes (doc_of engine.old) draws.old.state →
+        SparesPage touches before log engine.old.page →
+        OnOk result (SparesDue touches before log k engine.new.page) }
 {
     let edit = next_edit(alloc, draws, nodes)?;
     apply(engine, edit)
@@ -146,14 +173,30 @@ fn write_edits<K: Sink, R: Ruler, L: Ledger>(
     requires some { 0 < nodes }
     requires few { nodes ≤ 20000 }
     requires made { IsMade nodes (doc_of engine.old) }
-    ensures ok { OnOk result (Adds (K.written sink.old) (K.written sink.new) (lines_left 8 nodes (doc_of engine.old) draws.old.state)) }
-    ensures err { OnErr result (AddsPrefix (K.written sink.old) (K.written sink.new) (lines_left 8 nodes (doc_of engine.old) draws.old.state)) }
-    ensures log { OnOk result (Logs (R.log ruler.old) (R.log ruler.new) 1 (layouts_left 8 nodes (doc_of engine.old) draws.old.state)) }
-    ensures stopped { OnErr result (LogsFront (R.log ruler.old) (R.log ruler.new) 1 (layouts_left 8 nodes (doc_of engine.old) draws.old.state)) }
-    ensures layouts { (touches : Touches) → AgreeDraws touches 8 1 nodes (doc_of engine.old) draws.old.state → OnOk result (TellsLayouts touches (R.log ruler.old) (R.log ruler.new) passes.old passes.new 1 (layouts_left 8 nodes (doc_of engine.old) draws.old.state)) }
-    ensures spares { (touches : Touches) (before : Option (List Event)) → AgreeDraws touches 8 1 nodes (doc_of engine.old) draws.old.state → SparesPage touches before (R.log ruler.old) engine.old.page → Spares touches before (R.log ruler.new) }
+    ensures ok { OnOk result
+        (Adds (K.written sink.old) (K.written sink.new)
+        (lines_left 8 nodes (doc_of engine.old) draws.old.state)) }
+    ensures err { OnErr result
+        (AddsPrefix (K.written sink.old) (K.written sink.new)
+        (lines_left 8 nodes (doc_of engine.old) draws.old.state)) }
+    ensures log { OnOk result
+        (Logs (R.log ruler.old) (R.log ruler.new) 1
+        (layouts_left 8 nodes (doc_of engine.old) draws.old.state)) }
+    ensures stopped { OnErr result
+        (LogsFront (R.log ruler.old) (R.log ruler.new) 1
+        (layouts_left 8 nodes (doc_of engine.old) draws.old.state)) }
+    ensures layouts { (touches : Touches) →
+        AgreeDraws touches 8 1 nodes (doc_of engine.old) draws.old.state →
+        OnOk result
+        (TellsLayouts touches (R.log ruler.old) (R.log ruler.new) passes.old passes.new 1
+        (layouts_left 8 nodes (doc_of engine.old) draws.old.state)) }
+    ensures spares { (touches : Touches) (before : Option (List Event)) →
+        AgreeDraws touches 8 1 nodes (doc_of engine.old) draws.old.state →
+        SparesPage touches before (R.log ruler.old) engine.old.page →
+        Spares touches before (R.log ruler.new) }
     ensures stops { IfErr result StopsWriting }
-    ensures cause { HasCauseOf (K.faults sink.old) (K.faults sink.new) (result ≡ Err Status.WriteFault) }
+    ensures cause { HasCauseOf (K.faults sink.old) (K.faults sink.new)
+        (result ≡ Err Status.WriteFault) }
 {
     for k in 1..9 {
         edit_once(alloc, engine, draws, nodes)?;
@@ -176,13 +219,19 @@ fn write_summary<K: Sink, R: Ruler, L: Ledger>(
     requires some { 0 < nodes }
     requires few { nodes ≤ 20000 }
     ensures ok { OnOk result (Adds (K.written sink.old) (K.written sink.new) (summary seed nodes)) }
-    ensures err { OnErr result (AddsPrefix (K.written sink.old) (K.written sink.new) (summary seed nodes)) }
-    ensures log { OnOk result (Logs (R.log ruler.old) (R.log ruler.new) 0 (made_layouts seed nodes)) }
-    ensures stopped { OnErr result (LogsFront (R.log ruler.old) (R.log ruler.new) 0 (made_layouts seed nodes)) }
-    ensures layouts { OnOk result (TellsLayouts (touched_made seed nodes) (R.log ruler.old) (R.log ruler.new) passes.old passes.new 0 (made_layouts seed nodes)) }
+    ensures err { OnErr result
+        (AddsPrefix (K.written sink.old) (K.written sink.new) (summary seed nodes)) }
+    ensures log { OnOk result
+        (Logs (R.log ruler.old) (R.log ruler.new) 0 (made_layouts seed nodes)) }
+    ensures stopped { OnErr result
+        (LogsFront (R.log ruler.old) (R.log ruler.new) 0 (made_layouts seed nodes)) }
+    ensures layouts { OnOk result
+        (TellsLayouts (touched_made seed nodes) (R.log ruler.old) (R.log ruler.new) passes.old
+        passes.new 0 (made_layouts seed nodes)) }
     ensures spares { Spares (touched_made seed nodes) (R.log ruler.old) (R.log ruler.new) }
     ensures stops { IfErr result StopsWriting }
-    ensures cause { HasCauseOf (K.faults sink.old) (K.faults sink.new) (result ≡ Err Status.WriteFault) }
+    ensures cause { HasCauseOf (K.faults sink.old) (K.faults sink.new)
+        (result ≡ Err Status.WriteFault) }
 {
     let (doc, mut draws) = make_document(alloc, seed, nodes)?;
     let mut engine = Engine::new(alloc, doc)?;
@@ -202,8 +251,10 @@ pub(crate) fn make<K: Sink, R: Ruler, L: Ledger>(
 ) -> Status
     requires some { 0 < nodes }
     requires few { nodes ≤ 20000 }
-    ensures made { HasMade seed nodes (K.written sink.old) (K.written sink.new) (R.log ruler.old) (R.log ruler.new) passes.old passes.new (K.faults sink.old) (K.faults sink.new) result }
-    ensures cause { HasCauseOf (K.faults sink.old) (K.faults sink.new) (result ≡ Status.WriteFault) }
+    ensures made { HasMade seed nodes (K.written sink.old) (K.written sink.new) (R.log ruler.old)
+        (R.log ruler.new) passes.old passes.new (K.faults sink.old) (K.faults sink.new) result }
+    ensures cause { HasCauseOf (K.faults sink.old) (K.faults sink.new)
+        (result ≡ Status.WriteFault) }
 {
     match write_summary(alloc, seed, nodes, sink, ruler, passes) {
         Ok(()) => Status::Done,

@@ -1,7 +1,7 @@
-ghost use Rattle.std.specs.Prelude.{◌≡◌, ◌≤◌, ◌+◌, Err, false, true, IfOk, OnOk, OnErr};
+ghost use Rattle.std.specs.Prelude.{◌≡◌, Err, false, true, IfOk, OnOk};
 ghost use Rattle.outside.specs.Faults.{HasCauseOf};
 ghost use Rattle.text_scan.specs.Stream.{empty_stream};
-ghost use Rattle.session.specs.Input.{limit, most_asked, to_go};
+ghost use Rattle.session.specs.Input.{AsksOn, AsksOnce};
 ghost use Rattle.session.specs.Replies.{RepliesStart, RepliesTo};
 ghost use Rattle.session.specs.Runs.{Runs};
 ghost use Rattle.session.specs.Serving.{Starts, ended};
@@ -30,18 +30,24 @@ fn start<S: Source, K: Sink, R: Ruler, L: Ledger>(
     ruler: &mut R,
     passes: &mut Steps<L>,
 ) -> Result<Progress, Status>
-    requires new { (reader.old.lines ≡ empty_stream) × (reader.old.count ≡ 0) × (reader.old.ended ≡ false) }
-    ensures starts { Starts stats (S.left source.old) (S.left source.new) (K.written sink.old) (K.written sink.new) (R.log ruler.old) (R.log ruler.new) reader.new.lines reader.new.ended result }
-    ensures spares { (touches : Touches) → SparesStart touches (R.log ruler.old) (R.log ruler.new) result }
-    ensures replies { RepliesStart stats (K.written sink.old) (K.written sink.new) (R.log ruler.old) (R.log ruler.new) passes.old passes.new (S.left source.old) result }
+    requires new { (reader.old.lines ≡ empty_stream) × (reader.old.count ≡ 0) ×
+        (reader.old.ended ≡ false) }
+    ensures starts { Starts stats (S.left source.old) (S.left source.new) (K.written sink.old)
+        (K.written sink.new) (R.log ruler.old) (R.log ruler.new) reader.new.lines reader.new.ended
+        result }
+    ensures spares { (touches : Touches) →
+        SparesStart touches (R.log ruler.old) (R.log ruler.new) result }
+    ensures replies { RepliesStart stats (K.written sink.old) (K.written sink.new) (R.log ruler.old)
+        (R.log ruler.new) passes.old passes.new (S.left source.old) result }
     ensures one { IfOk result (λ progress. progress.number ≡ 1) }
     ensures laid { IfOk result (λ progress. progress.engine.laid ≡ true) }
     ensures count { OnOk result (reader.new.lines.fed ≡ reader.new.count) }
-    ensures within { OnOk result (reader.new.count ≤ limit) }
-    ensures asked { OnOk result (S.asked source.new + to_go reader.new.count reader.new.ended ≤ S.asked source.old + to_go reader.old.count reader.old.ended) }
-    ensures asked_last { OnErr result (S.asked source.new ≤ S.asked source.old + to_go reader.old.count reader.old.ended) }
-    ensures read { HasCauseOf (S.faults source.old) (S.faults source.new) (result ≡ Err Status.ReadFault) }
-    ensures write { HasCauseOf (K.faults sink.old) (K.faults sink.new) (result ≡ Err Status.WriteFault) }
+    ensures asks { AsksOn (S.left source.old) (S.left source.new) (S.asked source.old)
+        (S.asked source.new) reader.new.count reader.new.ended result }
+    ensures read { HasCauseOf (S.faults source.old) (S.faults source.new)
+        (result ≡ Err Status.ReadFault) }
+    ensures write { HasCauseOf (K.faults sink.old) (K.faults sink.new)
+        (result ≡ Err Status.WriteFault) }
 {
     let text = match read_text(alloc, source, room, reader) {
         Ok(text) => text,
@@ -79,12 +85,17 @@ pub(crate) fn serve<S: Source, K: Sink, R: Ruler, L: Ledger>(
     ruler: &mut R,
     passes: &mut Steps<L>,
 ) -> Status
-    ensures runs { Runs stats (S.left source.old) (S.left source.new) (K.written sink.old) (K.written sink.new) (R.log ruler.old) (R.log ruler.new) result }
+    ensures runs { Runs stats (S.left source.old) (S.left source.new) (K.written sink.old)
+        (K.written sink.new) (R.log ruler.old) (R.log ruler.new) result }
     ensures spares { SparesInput (S.left source.old) (R.log ruler.old) (R.log ruler.new) }
-    ensures replies { RepliesTo stats (K.written sink.old) (K.written sink.new) (R.log ruler.old) (R.log ruler.new) passes.old passes.new (S.left source.old) result }
-    ensures asked { S.asked source.new ≤ S.asked source.old + most_asked }
-    ensures read { HasCauseOf (S.faults source.old) (S.faults source.new) (result ≡ Status.ReadFault) }
-    ensures write { HasCauseOf (K.faults sink.old) (K.faults sink.new) (result ≡ Status.WriteFault) }
+    ensures replies { RepliesTo stats (K.written sink.old) (K.written sink.new) (R.log ruler.old)
+        (R.log ruler.new) passes.old passes.new (S.left source.old) result }
+    ensures asks { AsksOnce (S.left source.old) (S.left source.new) (S.asked source.old)
+        (S.asked source.new) }
+    ensures read { HasCauseOf (S.faults source.old) (S.faults source.new)
+        (result ≡ Status.ReadFault) }
+    ensures write { HasCauseOf (K.faults sink.old) (K.faults sink.new)
+        (result ≡ Status.WriteFault) }
 {
     let mut room = [0; PIECE];
     let mut reader = Reader::new(alloc);
@@ -116,7 +127,7 @@ pub(crate) fn serve<S: Source, K: Sink, R: Ruler, L: Ledger>(
 }
 
 /// How a run ends whose input was answered to its end.
-fn ended(refused: bool) -> Status
+pub(crate) fn ended(refused: bool) -> Status
     ensures { result ≡ ended refused }
 {
     if refused {

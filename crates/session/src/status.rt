@@ -21,12 +21,14 @@ pub enum Status {
     NoMemory,
     /// The input has more than 2^26 bytes.
     InputLimit,
+    /// The line of a node would have more than 65,536 bytes, under `write`.
+    TooLong,
     /// The words are none that the program knows.
     BadWords,
 }
 
 impl Status {
-    /// The number that the program ends with: 0, 2, 3, 4, 5, 6, 7 and 64, in the order of the enum.
+    /// The number that the program ends with: 0, 2 to 8 and 64, in the order of the enum.
     pub fn code(&self) -> u8
         ensures { result ≡ code_of self.now }
     {
@@ -38,6 +40,7 @@ impl Status {
             Status::WriteFault => 5,
             Status::NoMemory => 6,
             Status::InputLimit => 7,
+            Status::TooLong => 8,
             Status::BadWords => 64,
         }
     }

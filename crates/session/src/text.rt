@@ -1,8 +1,8 @@
-ghost use Rattle.std.specs.Prelude.{◌≡◌, ◌+◌, ◌≤◌, ◌++◌, ◌∷◌, [], List, Err, false, true, OnOk, OnErr, IfOk, IfSome};
+ghost use Rattle.std.specs.Prelude.{◌≡◌, ◌+◌, ◌≤◌, ◌++◌, ◌∷◌, [], List, Err, false, true, OnOk, IfOk, IfSome};
 ghost use Rattle.outside.specs.Faults.{HasCauseOf};
 ghost use Rattle.text_scan.specs.Stream.{empty_stream};
 ghost use Rattle.text_scan.specs.declared.line.Line.{Line};
-ghost use Rattle.session.specs.Input.{limit, to_go};
+ghost use Rattle.session.specs.Input.{limit, AsksOn};
 ghost use Rattle.doc_text.specs.Documents.{document_of};
 ghost use Rattle.doc_text.specs.Valid.{IsShort, AreShort};
 ghost use Rattle.session.specs.Script.{is_end_of_document};
@@ -72,8 +72,9 @@ fn begins_none(alloc: Global, lines: &[Line]) -> Result<bool, NoMemory>
 /// The lines of a document as they are held: none that is skipped, and no more once they can begin
 /// no document.
 #[derive(Drop)]
-pub(crate) struct Held {
-    lines: Sequence<Line>,
+pub struct Held {
+    /// The lines that are held.
+    pub lines: Sequence<Line>,
     // At so many lines it is looked next whether they can begin one.
     next: usize,
     // They can't.
@@ -82,7 +83,7 @@ pub(crate) struct Held {
 
 impl Held {
     /// No lines yet. Takes no memory.
-    fn new(alloc: Global) -> Held
+    pub fn new(alloc: Global) -> Held
         ensures { (result.lines ≡ []) × (result.lost ≡ false) }
     {
         Held {
@@ -95,9 +96,10 @@ impl Held {
     #[tactic(auto, using(crate::proofs::Texts::holding))]
     /// Adds a line. It looks at all lines where there are more than a document has, and then each
     /// time when there are twice as many, so the time stays linear.
-    fn add(&mut self, alloc: Global, line: Line) -> Result<(), NoMemory>
+    pub fn add(&mut self, alloc: Global, line: Line) -> Result<(), NoMemory>
         requires { IsShort line }
-        ensures holds { (given : List Line) → Holds self.old given → OnOk result (Holds self.new (given ++ line ∷ [])) }
+        ensures holds { (given : List Line) → Holds self.old given →
+            OnOk result (Holds self.new (given ++ line ∷ [])) }
         ensures short { AreShort self.old.lines → OnOk result (AreShort self.new.lines) }
     {
         if self.lost {
@@ -141,14 +143,17 @@ pub(crate) fn read_text<S: Source>(
     room: &mut [u8; PIECE],
     reader: &mut Reader,
 ) -> Result<Text, Status>
-    requires new { (reader.old.lines ≡ empty_stream) × (reader.old.count ≡ 0) × (reader.old.ended ≡ false) }
-    ensures text { ReadsText (S.left source.old) (S.left source.new) reader.new.lines reader.new.ended result }
+    requires new { (reader.old.lines ≡ empty_stream) × (reader.old.count ≡ 0) ×
+        (reader.old.ended ≡ false) }
+    ensures text { ReadsText (S.left source.old) (S.left source.new) reader.new.lines
+        reader.new.ended result }
     ensures short { IfOk result (λ text. AreShort text.lines) }
     ensures count { OnOk result (reader.new.lines.fed ≡ reader.new.count) }
     ensures within { OnOk result (reader.new.count ≤ limit) }
-    ensures cause { HasCauseOf (S.faults source.old) (S.faults source.new) (result ≡ Err Status.ReadFault) }
-    ensures asked { OnOk result (S.asked source.new + to_go reader.new.count reader.new.ended ≤ S.asked source.old + to_go reader.old.count reader.old.ended) }
-    ensures asked_last { OnErr result (S.asked source.new ≤ S.asked source.old + to_go reader.old.count reader.old.ended) }
+    ensures cause { HasCauseOf (S.faults source.old) (S.faults source.new)
+        (result ≡ Err Status.ReadFault) }
+    ensures asks { AsksOn (S.left source.old) (S.left source.new) (S.asked source.old)
+        (S.asked source.new) reader.new.count reader.new.ended result }
 {
     let mut held = Held::new(alloc);
     let mut count = 0;

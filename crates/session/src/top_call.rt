@@ -1,14 +1,15 @@
-ghost use Rattle.std.specs.Prelude.{◌≡◌, ◌≤◌, ◌+◌, ℕ, Bool, false, length, Some, IfOk, IfErr, IfSome};
+ghost use Rattle.std.specs.Prelude.{◌≡◌, ◌≤◌, ℕ, Bool, false, length, Some, IfOk, IfErr, IfSome};
 ghost use Rattle.outside.specs.Faults.{HasCauseOf};
 ghost use Rattle.outside.specs.Told.{Adds, AddsPrefix};
 ghost use Rattle.command_words.specs.Commands.{HasNodes};
-ghost use Rattle.command_words.specs.declared.Command.TheVariants.{Layout, Make};
+ghost use Rattle.command_words.specs.declared.Command.TheVariants.{Layout, Make, Write};
 ghost use Rattle.session.specs.Outcome.{out};
-ghost use Rattle.session.specs.Input.{limit, most_asked};
+ghost use Rattle.session.specs.Input.{limit, AsksOnce};
 ghost use Rattle.session.specs.Made.{HasMade};
 ghost use Rattle.session.specs.Runs.{HasRun, Permits, IsComplete, IsHeadline};
 ghost use Rattle.session.specs.Replies.{HasReplied};
 ghost use Rattle.session.specs.Words.{asked, is_served, IsUnserved};
+ghost use Rattle.session.specs.Writing.{HasWritten};
 ghost use Rattle.text_scan.specs.Lines.{lines_of};
 ghost use Rattle.session.specs.Spares.{Spares};
 ghost use Rattle.session.specs.Touched.{touched_lines};
@@ -16,6 +17,7 @@ ghost use Rattle.session.specs.Touched.{touched_lines};
 use crate::Status;
 use crate::made::make;
 use crate::serve::serve;
+use crate::writing::write_document;
 use command_words::{Command, WordsError, read_command};
 use lunit::Steps;
 use outside::{Ruler, Sink, Source};
@@ -31,21 +33,45 @@ fn run_layout<S: Source, K: Sink, R: Ruler, L: Ledger>(
     ruler: &mut R,
     passes: &mut Steps<L>,
 ) -> Status
-    ensures run { HasRun stats (S.left source.old) (S.left source.new) (K.written sink.old) (K.written sink.new) (R.log ruler.old) (R.log ruler.new) (S.faults source.old) (S.faults source.new) (K.faults sink.old) (K.faults sink.new) result }
-    ensures read { HasCauseOf (S.faults source.old) (S.faults source.new) (result ≡ Status.ReadFault) }
-    ensures write { HasCauseOf (K.faults sink.old) (K.faults sink.new) (result ≡ Status.WriteFault) }
-    ensures asked { S.asked source.new ≤ S.asked source.old + most_asked }
-    ensures spares { IfSome (S.left source.old) (λ b. Spares (touched_lines (lines_of b)) (R.log ruler.old) (R.log ruler.new)) }
-    ensures replies { IfSome (S.left source.old) (λ b. HasReplied stats (K.written sink.old) (K.written sink.new) (R.log ruler.old) (R.log ruler.new) passes.old passes.new (lines_of b) result) }
+    ensures run { HasRun stats (S.left source.old) (S.left source.new) (K.written sink.old)
+        (K.written sink.new) (R.log ruler.old) (R.log ruler.new) (S.faults source.old)
+        (S.faults source.new) (K.faults sink.old) (K.faults sink.new) result }
+    ensures read { HasCauseOf (S.faults source.old) (S.faults source.new)
+        (result ≡ Status.ReadFault) }
+    ensures write { HasCauseOf (K.faults sink.old) (K.faults sink.new)
+        (result ≡ Status.WriteFault) }
+    ensures asked { AsksOnce (S.left source.old) (S.left source.new) (S.asked source.old)
+        (S.asked source.new) }
+    ensures spares { IfSome (S.left source.old)
+        (λ b. Spares (touched_lines (lines_of b)) (R.log ruler.old) (R.log ruler.new)) }
+    ensures replies { IfSome (S.left source.old)
+        (λ b. HasReplied stats (K.written sink.old) (K.written sink.new) (R.log ruler.old)
+        (R.log ruler.new) passes.old passes.new (lines_of b) result) }
 {
     serve(alloc, stats, source, sink, ruler, passes)
+}
+
+/// A run under the word `write`, with what follows of all bytes of the input.
+fn run_write<S: Source, K: Sink>(alloc: Global, source: &mut S, sink: &mut K) -> Status
+    ensures written { HasWritten (S.left source.old) (S.left source.new) (K.written sink.old)
+        (K.written sink.new) (S.faults source.old) (S.faults source.new) (K.faults sink.old)
+        (K.faults sink.new) result }
+    ensures read { HasCauseOf (S.faults source.old) (S.faults source.new)
+        (result ≡ Status.ReadFault) }
+    ensures write { HasCauseOf (K.faults sink.old) (K.faults sink.new)
+        (result ≡ Status.WriteFault) }
+    ensures asked { AsksOnce (S.left source.old) (S.left source.new) (S.asked source.old)
+        (S.asked source.new) }
+{
+    write_document(alloc, source, sink)
 }
 
 /// The command that the words are, or how the run ends whose words are none.
 fn served(alloc: Global, words: &[String]) -> Result<Command, Status>
     ensures command { IfOk result (λ command. asked words.now ≡ Some command) }
     ensures nodes { IfOk result HasNodes }
-    ensures bad { IfErr result (λ status. status ≡ Status.BadWords → is_served (asked words.now) ≡ false) }
+    ensures bad { IfErr result
+        (λ status. status ≡ Status.BadWords → is_served (asked words.now) ≡ false) }
     ensures stops { IfErr result IsUnserved }
 {
     match read_command(alloc, words) {
@@ -71,10 +97,16 @@ fn served(alloc: Global, words: &[String]) -> Result<Command, Status>
 /// a line `made k C S`: k counts from 0, C is the number of boxes, and S the sum of x + 3y + 5 *
 /// width + 7 * height in units of 1/64 px over all of them, modulo 2^64 and at least 0.
 ///
+/// Under `write` it takes the edits of the script, and writes the last document in its canonical form
+/// once the input has ended. It lays out nothing and measures nothing; refused lines and hits write
+/// nothing.
+///
 /// - `BadWords` exactly where the words are others, or want of memory; then nothing is read,
 ///   written or logged.
 /// - `Done` where the input, of at most 2^26 bytes, holds a document and no edit was refused: the
 ///   input was read to its end. Under `make` where all nine lines were written.
+/// - `TooLong` under `write`, where the canonical line of a node has more than 65,536 bytes: nothing is
+///   written. It stands before `SomeRefused` and `Done`.
 /// - `SomeRefused` where at least one edit was refused, else as `Done`.
 /// - `BadDocument` where the text before the line `---`, or all of it, has a fault: the line
 ///   `refused 0 L:C name` of its first fault is written, and no more is read.
@@ -91,8 +123,8 @@ fn served(alloc: Global, words: &[String]) -> Result<Command, Status>
 /// where it is the first layout or the edit touches the leaf. `passes` counts the passes of track
 /// sizing and of flex lengths, at most four for each answer that is kept.
 ///
-/// The source is asked at most 2^26 + 1 times, as it counts them: each piece but the last has a
-/// byte.
+/// The source is asked at most once for each byte that it gives and once more, and at most
+/// 2^26 + 1 times, as it counts them: each piece but the last has a byte.
 pub fn run<S: Source, K: Sink, R: Ruler, L: Ledger>(
     alloc: Global,
     words: Vec<String>,
@@ -103,36 +135,70 @@ pub fn run<S: Source, K: Sink, R: Ruler, L: Ledger>(
 ) -> Status
     ensures words { result ≡ Status.BadWords → is_served (asked words.items) ≡ false }
     ensures unserved { is_served (asked words.items) ≡ false → IsUnserved result }
-    ensures untouched { is_served (asked words.items) ≡ false → (source.new ≡ source.old) × (sink.new ≡ sink.old) × (ruler.new ≡ ruler.old) }
+    ensures untouched { is_served (asked words.items) ≡ false →
+        (source.new ≡ source.old) × (sink.new ≡ sink.old) × (ruler.new ≡ ruler.old) }
     // What was taken, written and logged, by the answer, and what follows of it for all bytes of
     // the source: with counts or not.
-    ensures run { (stats : Bool) → asked words.items ≡ Some (Layout stats) → HasRun stats (S.left source.old) (S.left source.new) (K.written sink.old) (K.written sink.new) (R.log ruler.old) (R.log ruler.new) (S.faults source.old) (S.faults source.new) (K.faults sink.old) (K.faults sink.new) result }
+    ensures run { (stats : Bool) → asked words.items ≡ Some (Layout stats) →
+        HasRun stats (S.left source.old) (S.left source.new) (K.written sink.old)
+        (K.written sink.new) (R.log ruler.old) (R.log ruler.new) (S.faults source.old)
+        (S.faults source.new) (K.faults sink.old) (K.faults sink.new) result }
     // Under `make` nothing is read. At every exit what was written is a prefix of the nine lines,
     // and with `Done` it is all of them.
-    ensures made { (seed nodes : ℕ) → asked words.items ≡ Some (Make seed nodes) → (source.new ≡ source.old) × HasMade seed nodes (K.written sink.old) (K.written sink.new) (R.log ruler.old) (R.log ruler.new) passes.old passes.new (K.faults sink.old) (K.faults sink.new) result }
-    ensures read { HasCauseOf (S.faults source.old) (S.faults source.new) (result ≡ Status.ReadFault) }
-    ensures write { HasCauseOf (K.faults sink.old) (K.faults sink.new) (result ≡ Status.WriteFault) }
-    // How often the source was asked, at every exit.
-    ensures asked { S.asked source.new ≤ S.asked source.old + most_asked }
+    ensures made { (seed nodes : ℕ) → asked words.items ≡ Some (Make seed nodes) →
+        (source.new ≡ source.old) ×
+        HasMade seed nodes (K.written sink.old) (K.written sink.new) (R.log ruler.old)
+        (R.log ruler.new) passes.old passes.new (K.faults sink.old) (K.faults sink.new)
+        result }
+    // Under `write` nothing is laid out, measured or counted, and what is written is the canonical
+    // text of the last document, or the line of the document's refusal.
+    ensures written { asked words.items ≡ Some Write →
+        HasWritten (S.left source.old) (S.left source.new) (K.written sink.old) (K.written sink.new)
+        (S.faults source.old) (S.faults source.new) (K.faults sink.old) (K.faults sink.new) result ×
+        ((ruler.new ≡ ruler.old) × (passes.new ≡ passes.old)) }
+    ensures read { HasCauseOf (S.faults source.old) (S.faults source.new)
+        (result ≡ Status.ReadFault) }
+    ensures write { HasCauseOf (K.faults sink.old) (K.faults sink.new)
+        (result ≡ Status.WriteFault) }
+    // How often the source was asked, at every exit: for each byte that it gave, and once more.
+    ensures asked { AsksOnce (S.left source.old) (S.left source.new) (S.asked source.old)
+        (S.asked source.new) }
     // Without counts what is written at every exit is a prefix of the output of the source's bytes.
-    ensures prefix { asked words.items ≡ Some (Layout false) → IfSome (S.left source.old) (λ b. AddsPrefix (K.written sink.old) (K.written sink.new) (out b)) }
-    ensures permits { asked words.items ≡ Some (Layout false) → IfSome (S.left source.old) (λ b. length b ≤ limit → Permits (Adds (K.written sink.old) (K.written sink.new) (out b)) b result) }
+    ensures prefix { asked words.items ≡ Some (Layout false) →
+        IfSome (S.left source.old)
+        (λ b. AddsPrefix (K.written sink.old) (K.written sink.new) (out b)) }
+    ensures permits { asked words.items ≡ Some (Layout false) →
+        IfSome (S.left source.old)
+        (λ b. length b ≤ limit →
+        Permits (Adds (K.written sink.old) (K.written sink.new) (out b)) b result) }
     // Where no count rose: the verdict with all of the output written, or want of memory.
-    ensures complete { asked words.items ≡ Some (Layout false) → IsComplete (S.left source.old) (λ b. Adds (K.written sink.old) (K.written sink.new) (out b)) (S.faults source.old) (S.faults source.new) (K.faults sink.old) (K.faults sink.new) result }
+    ensures complete { asked words.items ≡ Some (Layout false) →
+        IsComplete (S.left source.old) (λ b. Adds (K.written sink.old) (K.written sink.new) (out b))
+        (S.faults source.old) (S.faults source.new) (K.faults sink.old) (K.faults sink.new)
+        result }
     // The boxes written are those of the document that the source's bytes hold, and then, for each
     // edit line, those of the edited document or the line of the refusal.
-    ensures headline { asked words.items ≡ Some (Layout false) → IsHeadline (S.left source.old) (K.written sink.old) (K.written sink.new) (S.faults source.old) (S.faults source.new) (K.faults sink.old) (K.faults sink.new) result }
+    ensures headline { asked words.items ≡ Some (Layout false) →
+        IsHeadline (S.left source.old) (K.written sink.old) (K.written sink.new)
+        (S.faults source.old) (S.faults source.new) (K.faults sink.old) (K.faults sink.new)
+        result }
     // No leaf was measured again at a width unless an edit reached it or sixteen other widths
     // followed.
-    ensures spares { (stats : Bool) → asked words.items ≡ Some (Layout stats) → IfSome (S.left source.old) (λ b. Spares (touched_lines (lines_of b)) (R.log ruler.old) (R.log ruler.new)) }
+    ensures spares { (stats : Bool) → asked words.items ≡ Some (Layout stats) →
+        IfSome (S.left source.old)
+        (λ b. Spares (touched_lines (lines_of b)) (R.log ruler.old) (R.log ruler.new)) }
     // In each layout every new leaf of a grid was measured at the content width of its box. A is at
     // least the number of new containers, and at most that of all questions where no node has more
     // than sixteen. There are at most four passes for each of the answers.
-    ensures replies { (stats : Bool) → asked words.items ≡ Some (Layout stats) → IfSome (S.left source.old) (λ b. HasReplied stats (K.written sink.old) (K.written sink.new) (R.log ruler.old) (R.log ruler.new) passes.old passes.new (lines_of b) result) }
+    ensures replies { (stats : Bool) → asked words.items ≡ Some (Layout stats) →
+        IfSome (S.left source.old)
+        (λ b. HasReplied stats (K.written sink.old) (K.written sink.new) (R.log ruler.old)
+        (R.log ruler.new) passes.old passes.new (lines_of b) result) }
 {
     match served(alloc, words.as_slice()) {
         Ok(Command::Layout { stats }) => run_layout(alloc, stats, source, sink, ruler, passes),
         Ok(Command::Make { seed, nodes }) => make(alloc, seed, nodes as usize, sink, ruler, passes),
+        Ok(Command::Write) => run_write(alloc, source, sink),
         Err(status) => status,
     }
 }

@@ -2,10 +2,9 @@
 
 use crate::counts::are_told;
 use crate::logs::{are_of, differ, measured_in, times};
-use crate::runs::{BYTEWISE, Devices, WHOLE, has_lines, run_logged, run_text};
+use crate::runs::{WHOLE, has_lines, run_logged};
 use lunit::NoMemory;
 use outside::{Event, LogRuler};
-use session::Status;
 use std::alloc::Global;
 use std::process::Abort;
 use std::test::Fail;
@@ -30,11 +29,6 @@ const CARD: &[u8] = b"    c#@ grid { grid-row: span 3; grid-template-rows: subgr
 
 const SCRIPT: &[u8] = b"---
 content p07 words 16 4 40 40 40 40 40 40 40 40 40 40 40 40 40 40 40 40 40
-";
-
-/// An edit that makes a card narrower, and leaves it as high: as many words stand in each line of
-/// its text that three lines hold them.
-const ASIDE: &[u8] = b"set c08 margin-left: 30px
 ";
 
 /// An edit that changes nothing.
@@ -63,40 +57,6 @@ c09 10 326 230 100
 /// foot.
 const CONTAINERS: u64 = 51;
 
-/// Some lines of the output.
-const LINES: &[u8] = b"layout 0
-main 0 0 1000 780
-head 10 10 980 40
-logo 10 10 120 40
-nav 830 20 160 20
-cards 10 70 980 700
-c01 10 70 230 100
-t01 10 70 230 20
-p01 10 94 230 48
-f01 10 146 230 24
-y01 180 146 60 24
-c05 10 190 230 100
-layout 1
-main 0 0 1000 796
-cards 10 70 980 716
-c07 510 190 230 116
-p07 510 214 230 64
-f07 510 282 230 24
-p08 760 214 230 64
-c09 10 326 230 100
-t09 10 326 230 20
-p09 10 350 230 48
-f09 10 402 230 24
-y09 180 402 60 24
-layout 2
-main 0 0 1000 796
-c07 510 190 230 116
-c08 790 190 200 116
-p08 790 214 200 64
-y08 930 282 60 24
-c09 10 326 230 100
-";
-
 /// Adds the card of this number.
 fn add_card(page: &mut Vec<u8>, number: u8) -> Result<(), NoMemory> {
     for byte in CARD {
@@ -117,21 +77,6 @@ fn page(alloc: Global) -> Result<Vec<u8>, NoMemory> {
     }
     page.extend_from_slice(SCRIPT)?;
     Ok(page)
-}
-
-fn check_boxes(rt: &impl Abort, alloc: Global, devices: Devices) -> Result<(), NoMemory> {
-    let mut page = page(alloc)?;
-    page.extend_from_slice(ASIDE)?;
-    let ran = run_text(alloc, &["layout"], &page, devices)?;
-    assert!(rt; ran.status == Status::Done && has_lines(ran.written.as_slice(), LINES));
-    Ok(())
-}
-
-/// The longer text moves what is below it, the boxes in the cards there too, and the narrower card
-/// what is in it.
-pub(crate) fn check_cards(rt: &impl Abort, alloc: Global) -> Result<(), NoMemory> {
-    check_boxes(rt, alloc, WHOLE)?;
-    check_boxes(rt, alloc, BYTEWISE)
 }
 
 /// What is asked for the page, and again for the edit: each leaf once at a width, and then the one

@@ -1,6 +1,6 @@
 //! Runs whose source or sink fails at each of its calls in turn.
 
-use crate::runs::{Devices, check_run};
+use crate::runs::{Devices, check_run, run_text};
 use lunit::NoMemory;
 use session::Status;
 use std::alloc::Global;
@@ -112,48 +112,55 @@ fn answers_due(script: &Script, read: &[u8]) -> usize {
         .min(script.answers.len())
 }
 
-/// The source fails after so many bytes, each of which was a call: what was written for the whole
-/// lines stands.
+/// The source fails after so many bytes, each of which was a call.
+fn source_fails(after: usize) -> Devices {
+    Devices {
+        bytewise: true,
+        failing_read: (after as u64).saturating_add(1),
+        failing_write: 0,
+    }
+}
+
+/// The sink fails after so many bytes, each of which was a call.
+fn sink_fails(after: usize) -> Devices {
+    Devices {
+        bytewise: true,
+        failing_read: 0,
+        failing_write: (after as u64).saturating_add(1),
+    }
+}
+
+/// Where the source fails after so many bytes, what was written for the whole lines stands.
 fn fails_reading(
     rt: &impl Abort,
     alloc: Global,
     script: &Script,
     after: usize,
 ) -> Result<(), NoMemory> {
-    let devices = Devices {
-        bytewise: true,
-        failing_read: (after as u64).saturating_add(1),
-        failing_write: 0,
-    };
     let due = answers_due(script, script.input.get(..after).unwrap_or(b""));
     let written = joined(alloc, script.answers.get(..due).unwrap_or(&[]))?;
     check_run(
         rt,
         alloc,
         script.input,
-        devices,
+        source_fails(after),
         Status::ReadFault,
         &written,
     )
 }
 
-/// The sink fails after so many bytes, each of which was a call.
+/// The sink fails once this was written.
 fn fails_writing(
     rt: &impl Abort,
     alloc: Global,
     script: &Script,
     written: &[u8],
 ) -> Result<(), NoMemory> {
-    let devices = Devices {
-        bytewise: true,
-        failing_read: 0,
-        failing_write: written.len() as u64 + 1,
-    };
     check_run(
         rt,
         alloc,
         script.input,
-        devices,
+        sink_fails(written.len()),
         Status::WriteFault,
         written,
     )
@@ -176,6 +183,51 @@ fn each_call_of_the_sink_fails_in_turn(rt: HostRuntime) -> Result<(), Fail> {
         for count in 0..all.len() {
             fails_writing(&rt, rt.alloc(), script, &all[..count])?;
         }
+    }
+    Ok(())
+}
+
+/// An input under `write`, and what is written for it.
+static EDITED: &[u8] = b"gridlay 1
+viewport 300 200
+main flex
+---
+set main row-gap: 1px
+hit 1 1
+undo 2
+";
+
+static SAVED: &[u8] = b"gridlay 1
+viewport 300 200
+main flex { row-gap: 1px }
+";
+
+fn check_write(
+    rt: &impl Abort,
+    alloc: Global,
+    devices: Devices,
+    status: Status,
+    written: &[u8],
+) -> Result<(), NoMemory> {
+    let ran = run_text(alloc, &["write"], EDITED, devices)?;
+    assert!(rt; ran.ended(status, written), "{} bytes", written.len());
+    Ok(())
+}
+
+/// Under `write` nothing is written before the input has ended.
+#[test]
+fn each_call_fails_in_turn_under_write(rt: HostRuntime) -> Result<(), Fail> {
+    for after in 0..=EDITED.len() {
+        check_write(&rt, rt.alloc(), source_fails(after), Status::ReadFault, b"")?;
+    }
+    for count in 0..SAVED.len() {
+        check_write(
+            &rt,
+            rt.alloc(),
+            sink_fails(count),
+            Status::WriteFault,
+            &SAVED[..count],
+        )?;
     }
     Ok(())
 }

@@ -1,9 +1,8 @@
 //! What calls of an engine answer where there is memory.
 
-ghost use Rattle.std.specs.Prelude.{IfOk};
+ghost use Rattle.std.specs.Prelude.{IfOk, OnOk};
 ghost use Rattle.doc_text.specs.Valid.{AreShort};
 
-use crate::lists::add_line;
 use doc_text::{Edit, Named, read_doc};
 use lunit::{Name, NoMemory, Sequence};
 use session::Engine;
@@ -25,7 +24,26 @@ static LINES: &[&[u8]] = &[
 /// Each is removed, in this order.
 static REMOVED: &[&[u8]] = &[b"b", b"c", b"a"];
 
-const AT: Place = Place { line: 8, column: 1 };
+pub(crate) const AT: Place = Place { line: 8, column: 1 };
+
+#[tactic(auto, using(crate::proofs::Readied::short_more))]
+/// Adds a line without a fault.
+fn add_line(alloc: Global, lines: &mut Sequence<Line>, text: &[u8]) -> Result<(), Fail>
+    requires { AreShort lines.old }
+    ensures { OnOk result (AreShort lines.new) }
+{
+    if text.len() > 65_536 {
+        return Err(Fail::new("a line that is too long"));
+    }
+    let number = u32::try_from(lines.len())?.saturating_add(1);
+    let bytes = Sequence::from_slice(alloc, text)?;
+    lines.push(Line {
+        number,
+        bytes,
+        fault: None,
+    })?;
+    Ok(())
+}
 
 fn lines(alloc: Global) -> Result<Sequence<Line>, Fail>
     ensures { IfOk result (λ lines. AreShort lines) }
@@ -38,7 +56,7 @@ fn lines(alloc: Global) -> Result<Sequence<Line>, Fail>
 }
 
 /// The document after all three were removed.
-fn emptied(alloc: Global) -> Result<Engine, Fail> {
+pub(crate) fn emptied(alloc: Global) -> Result<Engine, Fail> {
     let lines = lines(alloc)?;
     let doc = read_doc(alloc, lines.as_slice(), AT)?;
     let mut engine = Engine::new(alloc, doc)?;

@@ -1,10 +1,8 @@
-//! Runs with lengths by the font size.
+//! What is measured again where the font size is edited.
 
 use crate::logs::{measured_in, times};
-use crate::rows::Row;
 use crate::runs::{WHOLE, run_logged};
 use outside::{Event, LogRuler};
-use session::Status;
 use std::process::Abort;
 use std::test::Fail;
 
@@ -16,56 +14,6 @@ main grid { font-size: 20px; grid-template-columns: 2em 1rem; column-gap: 0.5em 
 ---
 set main font-size: 10px
 ";
-
-pub(crate) static ROWS: &[Row] = &[
-    Row {
-        shows: "em and rem, and an edit of the font size",
-        input: EDITED,
-        status: Status::Done,
-        output: b"layout 0
-main 0 0 300 10
-a 10 0 30 10
-b 50 0 20 10
-layout 1
-main 0 0 300 10
-a 5 0 15 10
-b 25 0 10 10
-",
-    },
-    Row {
-        shows: "a length that is rounded down",
-        input: b"gridlay 2
-viewport 300 100
-main grid
-  p leaf 0 10 { width: 0.3em; justify-self: start }
-",
-        status: Status::Done,
-        output: b"layout 0
-main 0 0 300 10
-p 0 0 4.796875 10
-",
-    },
-    Row {
-        shows: "no em in version 1",
-        input: b"gridlay 1
-viewport 300 100
-main grid { width: 2em }
-",
-        status: Status::BadDocument,
-        output: b"refused 0 3:20 unsupported
-",
-    },
-    Row {
-        shows: "no font-size in version 1",
-        input: b"gridlay 1
-viewport 300 100
-main grid { font-size: 1px }
-",
-        status: Status::BadDocument,
-        output: b"refused 0 3:13 unsupported
-",
-    },
-];
 
 /// Both leaves are measured for the document, and again for the edit of its root.
 fn check_events(rt: &impl Abort, events: &[Event]) {

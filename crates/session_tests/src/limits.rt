@@ -109,8 +109,8 @@ fn check_commented(
     check_run(rt, alloc, &input, devices, status, written)
 }
 
-/// A line has at most 65,536 bytes.
-pub(crate) fn check_long_lines(rt: &impl Abort, alloc: Global) -> Result<(), NoMemory> {
+#[test]
+fn takes_lines_of_so_many_bytes(rt: HostRuntime) -> Result<(), Fail> {
     static ROWS: &[Commented] = &[
         (65_536, Status::Done, BOXES),
         (
@@ -120,8 +120,8 @@ pub(crate) fn check_long_lines(rt: &impl Abort, alloc: Global) -> Result<(), NoM
         ),
     ];
     for row in ROWS {
-        check_commented(rt, alloc, row, WHOLE)?;
-        check_commented(rt, alloc, row, BYTEWISE)?;
+        check_commented(&rt, rt.alloc(), row, WHOLE)?;
+        check_commented(&rt, rt.alloc(), row, BYTEWISE)?;
     }
     Ok(())
 }

@@ -17,9 +17,14 @@ struct Words {
 }
 
 static WORDS: &[Words] = &[
-    // the word that reads
+    // the words that read
     Words {
         words: &["layout"],
+        status: Status::ReadFault,
+        output: b"",
+    },
+    Words {
+        words: &["write"],
         status: Status::ReadFault,
         output: b"",
     },
@@ -51,6 +56,11 @@ static WORDS: &[Words] = &[
     },
     Words {
         words: &["layout", "layout"],
+        status: Status::BadWords,
+        output: b"",
+    },
+    Words {
+        words: &["write", "--stats"],
         status: Status::BadWords,
         output: b"",
     },
@@ -160,10 +170,11 @@ fn check_run(rt: &impl Abort, alloc: Global, row: &Words, bytewise: bool) -> Res
     Ok(())
 }
 
-pub(crate) fn check_words(rt: &impl Abort, alloc: Global) -> Result<(), NoMemory> {
+#[test]
+fn words_that_do_not_read_leave_the_source(rt: HostRuntime) -> Result<(), Fail> {
     for row in WORDS {
-        check_run(rt, alloc, row, false)?;
-        check_run(rt, alloc, row, true)?;
+        check_run(&rt, rt.alloc(), row, false)?;
+        check_run(&rt, rt.alloc(), row, true)?;
     }
     Ok(())
 }

@@ -1,7 +1,7 @@
 use Rattle.std.proofs.Common.{sym, ◌∙◌}
 use Rattle.command_words.specs.Options.{texts}
 use Rattle.command_words.proofs.Nodes.{read_nodes}
-use Rattle.command_words.proofs.Words.{layout_ok, make_ok}
+use Rattle.command_words.proofs.Words.{layout_ok, make_ok, write_ok}
 use Rattle.command_words.proofs.read_command.Goals as goal
 
 pub returns-then-is_word-clause-taken : goal.returns-then-is_word-clause-taken
@@ -18,3 +18,8 @@ returns-then-is_word-clause-nodes c = read_nodes (texts c.args.words.now) c.read
 
 pub returns-then-is_word-2-clause-nodes : goal.returns-then-is_word-2-clause-nodes
 returns-then-is_word-2-clause-nodes c = read_nodes (texts c.args.words.now) c.read_make.result (returns-then-is_word-2-clause-taken c)
+
+pub returns-then-is_word-3-clause-taken : goal.returns-then-is_word-3-clause-taken
+returns-then-is_word-3-clause-taken c =
+    write_ok c.args.words.now c.in-Some.first.now c.in-Some.rest.now c.in-Some.ensures.cases.0 c.read_write.result (sym c.is_word.ensures ∙ c.if-is_word.false)
+    (sym c.is_word-else-is_word.ensures ∙ c.if-is_word-2.false) (sym c.is_word-else-is_word-2.ensures ∙ c.if-is_word-3.true) c.read_write.ensures.taken

@@ -9,7 +9,8 @@ use Rattle.session.proofs.answer.begin.Goals as goal
 
 pub returns-in-Err-Fault-clause-begins : goal.returns-in-Err-Fault-clause-begins
 returns-in-Err-Fault-clause-begins g c =
-    begins_refused c.args.stats (g.K.Sink.written c.args.sink.now) (g.K.Sink.written c.refuse_document.new.sink) (g.R.Ruler.log c.args.ruler.now) (document_of c.args.lines.now c.args.end) c.in-Err-Fault.fault c.refuse_document.result (subst (λ (e : ReadError). Reads (Err e) (document_of c.args.lines.now c.args.end)) c.in-Err-Fault.field-0-is c.in-Err-Fault.ensures.document) (c.refuse_document.ensures.refused c.args.stats (g.R.Ruler.log c.args.ruler.now))
+    begins_refused c.args.stats (g.K.Sink.written c.args.sink.now) (g.K.Sink.written c.refuse_document.new.sink) (g.R.Ruler.log c.args.ruler.now) (document_of c.args.lines.now c.args.end) c.in-Err-Fault.fault c.refuse_document.result
+    (subst (λ (e : ReadError). Reads (Err e) (document_of c.args.lines.now c.args.end)) c.in-Err-Fault.field-0-is c.in-Err-Fault.ensures.document) (c.refuse_document.ensures.refused c.args.stats (g.R.Ruler.log c.args.ruler.now))
 
 pub returns-in-Err-NoMemory-clause-begins : goal.returns-in-Err-NoMemory-clause-begins
 returns-in-Err-NoMemory-clause-begins g c = begins_not c.args.stats (g.K.Sink.written c.args.sink.now) (g.R.Ruler.log c.args.ruler.now) (document_of c.args.lines.now c.args.end)
@@ -22,7 +23,8 @@ returns-in-Err-NoMemory-clause-spares g c = λ touches. spares_none touches (g.R
 
 pub returns-in-Ok-clause-replies : goal.returns-in-Ok-clause-replies
 returns-in-Ok-clause-replies g c touches =
-    begun_replies c.args.stats (g.K.Sink.written c.args.sink.now) (g.K.Sink.written c.first_layout.new.sink) (g.R.Ruler.log c.args.ruler.now) (g.R.Ruler.log c.first_layout.new.ruler) c.args.passes.now c.first_layout.new.passes touches c.in-Ok.doc c.first_layout.result c.first_layout.ensures.engine (c.first_layout.ensures.replies touches)
+    begun_replies c.args.stats (g.K.Sink.written c.args.sink.now) (g.K.Sink.written c.first_layout.new.sink) (g.R.Ruler.log c.args.ruler.now) (g.R.Ruler.log c.first_layout.new.ruler) c.args.passes.now c.first_layout.new.passes touches c.in-Ok.doc c.first_layout.result
+    c.first_layout.ensures.engine (c.first_layout.ensures.replies touches)
 
 pub returns-in-Err-Fault-clause-replies : goal.returns-in-Err-Fault-clause-replies
 returns-in-Err-Fault-clause-replies g c touches = tt

@@ -23,7 +23,8 @@ pub returns-clause-replies : goal.returns-clause-replies
 returns-clause-replies g c touches empty =
     let boxes = boxes_of (doc_of c.args.engine.now) in
     let told : c.into_text-text.result.items ≡ print c.args.k boxes = ◌∙◌ {A = List ℕ} (ap (λ b. b.items) c.into_text-text.ensures) (◌∙◌ {A = List ℕ} c.in_ok-counted.ensures.boxes (ap (λ (x : List ℕ). x ++ box_lines boxes) c.in_ok-boxes.ensures)) in
-    laid_reply c.args.stats touches (g.R.Ruler.log c.args.ruler.now) (g.R.Ruler.log c.lay_out.new.ruler) c.args.k c.args.engine.now.page c.lay_out.new.self.page c.in_ok-counted.counted.measured c.in_ok-counted.counted.added c.args.passes.now c.lay_out.new.passes boxes c.into_text-text.result.items c.append_counts.new.out.items c.in_ok-counted.ensures.walks refl told c.in_ok-append_counts.ensures.ok empty
+    laid_reply c.args.stats touches (g.R.Ruler.log c.args.ruler.now) (g.R.Ruler.log c.lay_out.new.ruler) c.args.k c.args.engine.now.page c.lay_out.new.self.page c.in_ok-counted.counted.measured c.in_ok-counted.counted.added c.args.passes.now c.lay_out.new.passes boxes
+    c.into_text-text.result.items c.append_counts.new.out.items c.in_ok-counted.ensures.walks refl told c.in_ok-append_counts.ensures.ok empty
 
 pub returns-in_err-boxes-clause-same : goal.returns-in_err-boxes-clause-same
 returns-in_err-boxes-clause-same g c = record { document = refl; steps = refl; calls = refl }

@@ -1,6 +1,6 @@
-use Rattle.std.proofs.Common.{◌≡◌, ◌≤◌, ◌+◌, ℕ, List, Option}
+use Rattle.std.proofs.Common.{◌≡◌, ◌≤◌, ℕ, List, Option}
 use Rattle.text_scan.specs.declared.line.Line.{Line}
-use Rattle.session.specs.Input.{HasGiven, to_go, limit}
+use Rattle.session.specs.Input.{HasGiven, AsksSoFar, to_go, limit}
 use Rattle.session.proofs.input.next_line.Given as goal
 
 abbrev pub invariant-loop-line : goal.invariant-loop-line
@@ -10,7 +10,7 @@ invariant-loop-line g l =
       count : l.reader.lines.fed ≡ l.reader.count;
       within : l.reader.count ≤ limit;
       later : g.S.Source.faults l.fn.source ≤ g.S.Source.faults l.source;
-      asked : g.S.Source.asked l.source + to_go l.reader.count l.reader.ended ≤ g.S.Source.asked l.fn.source + to_go l.fn.reader.count l.fn.reader.ended;
+      asks : (before : Option (List ℕ)) (first : ℕ) → AsksSoFar before (g.S.Source.left l.fn.source) first (g.S.Source.asked l.fn.source) l.fn.reader.count l.fn.reader.ended → AsksSoFar before (g.S.Source.left l.source) first (g.S.Source.asked l.source) l.reader.count l.reader.ended;
     }
 
 abbrev pub decreases-loop-line : goal.decreases-loop-line

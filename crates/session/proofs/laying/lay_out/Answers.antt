@@ -19,25 +19,30 @@ returns-clause-printable g c = hidden (All IsPrintableBox) c.lay_out.result (doc
 
 pub returns-clause-measures : goal.returns-clause-measures
 returns-clause-measures g c =
-    measures c.args.page.now c.lay_out.new.self c.args.tally.now c.lay_out.new.tally c.args.passes.now c.lay_out.new.passes (g.R.Ruler.log c.args.ruler.now) (g.R.Ruler.log c.lay_out.new.ruler) c.root.result (ap (λ (a : Nodes Node). top_numbers a.tree) (sym c.tree.ensures) ∙ c.root.ensures.root) c.lay_out.result c.lay_out.ensures.laid c.lay_out.ensures.cut
+    measures c.args.page.now c.lay_out.new.self c.args.tally.now c.lay_out.new.tally c.args.passes.now c.lay_out.new.passes (g.R.Ruler.log c.args.ruler.now) (g.R.Ruler.log c.lay_out.new.ruler) c.root.result
+    (ap (λ (a : Nodes Node). top_numbers a.tree) (sym c.tree.ensures) ∙ c.root.ensures.root) c.lay_out.result c.lay_out.ensures.laid c.lay_out.ensures.cut
 
 pub returns-clause-keeps : goal.returns-clause-keeps
 returns-clause-keeps g c =
-    keeps c.args.page.now c.lay_out.new.self c.args.tally.now c.lay_out.new.tally c.args.passes.now c.lay_out.new.passes (g.R.Ruler.log c.args.ruler.now) (g.R.Ruler.log c.lay_out.new.ruler) c.root.result (ap (λ (a : Nodes Node). top_numbers a.tree) (sym c.tree.ensures) ∙ c.root.ensures.root) c.lay_out.result c.lay_out.ensures.laid
+    keeps c.args.page.now c.lay_out.new.self c.args.tally.now c.lay_out.new.tally c.args.passes.now c.lay_out.new.passes (g.R.Ruler.log c.args.ruler.now) (g.R.Ruler.log c.lay_out.new.ruler) c.root.result
+    (ap (λ (a : Nodes Node). top_numbers a.tree) (sym c.tree.ensures) ∙ c.root.ensures.root) c.lay_out.result c.lay_out.ensures.laid
 
 pub returns-clause-keeps_some : goal.returns-clause-keeps_some
 returns-clause-keeps_some g c =
-    keeps_some c.args.page.now c.lay_out.new.self c.args.tally.now c.lay_out.new.tally c.args.passes.now c.lay_out.new.passes (g.R.Ruler.log c.args.ruler.now) (g.R.Ruler.log c.lay_out.new.ruler) c.root.result (ap (λ (a : Nodes Node). top_numbers a.tree) (sym c.tree.ensures) ∙ c.root.ensures.root) c.lay_out.result c.lay_out.ensures.cut
+    keeps_some c.args.page.now c.lay_out.new.self c.args.tally.now c.lay_out.new.tally c.args.passes.now c.lay_out.new.passes (g.R.Ruler.log c.args.ruler.now) (g.R.Ruler.log c.lay_out.new.ruler) c.root.result
+    (ap (λ (a : Nodes Node). top_numbers a.tree) (sym c.tree.ensures) ∙ c.root.ensures.root) c.lay_out.result c.lay_out.ensures.cut
 
 pub returns-clause-spares : goal.returns-clause-spares
 returns-clause-spares g c touches before p =
     let root : top_numbers c.args.page.now.nodes.tree ≡ c.root.result ∷ [] = ap (λ (a : Nodes Node). top_numbers a.tree) (sym c.tree.ensures) ∙ c.root.ensures.root in
     let distinct : IsDistinct c.args.page.now.nodes.tree = subst (λ (a : Nodes Node). IsDistinct a.tree) c.tree.ensures c.root.ensures.sound.distinct in
-    spares_laid touches before (g.R.Ruler.log c.args.ruler.now) (g.R.Ruler.log c.lay_out.new.ruler) c.args.page.now c.lay_out.new.self c.args.tally.now c.lay_out.new.tally c.args.passes.now c.lay_out.new.passes c.root.result root distinct c.requires.sound p c.lay_out.result c.lay_out.ensures.bare c.lay_out.ensures.laid c.lay_out.ensures.cut
+    spares_laid touches before (g.R.Ruler.log c.args.ruler.now) (g.R.Ruler.log c.lay_out.new.ruler) c.args.page.now c.lay_out.new.self c.args.tally.now c.lay_out.new.tally c.args.passes.now c.lay_out.new.passes c.root.result root distinct c.requires.sound p c.lay_out.result
+    c.lay_out.ensures.bare c.lay_out.ensures.laid c.lay_out.ensures.cut
 
 pub returns-clause-walked : goal.returns-clause-walked
 returns-clause-walked g c =
-    walks_page c.args.page.now c.lay_out.new.self c.args.tally.now c.lay_out.new.tally c.args.passes.now c.lay_out.new.passes (g.R.Ruler.log c.args.ruler.now) (g.R.Ruler.log c.lay_out.new.ruler) c.root.result (ap (λ (a : Nodes Node). top_numbers a.tree) (sym c.tree.ensures) ∙ c.root.ensures.root) c.lay_out.result c.lay_out.ensures.laid c.lay_out.ensures.right c.lay_out.ensures.paths c.lay_out.ensures.leaves c.layouts_of_pages.ensures.bounded c.requires.sound.valid
+    walks_page c.args.page.now c.lay_out.new.self c.args.tally.now c.lay_out.new.tally c.args.passes.now c.lay_out.new.passes (g.R.Ruler.log c.args.ruler.now) (g.R.Ruler.log c.lay_out.new.ruler) c.root.result
+    (ap (λ (a : Nodes Node). top_numbers a.tree) (sym c.tree.ensures) ∙ c.root.ensures.root) c.lay_out.result c.lay_out.ensures.laid c.lay_out.ensures.right c.lay_out.ensures.paths c.lay_out.ensures.leaves c.layouts_of_pages.ensures.bounded c.requires.sound.valid
 
 pub returns-clause-root : goal.returns-clause-root
 returns-clause-root g c =

@@ -12,7 +12,8 @@ abbrev pub invariant-loop-k : goal.invariant-loop-k
 invariant-loop-k g l = record {
   written : AddsAllBut (g.K.Sink.written l.fn.sink) (g.K.Sink.written l.sink) (lines_left (9 - l.k) l.nodes (doc_of l.engine) l.draws.state) (lines_left 8 l.nodes (doc_of l.fn.engine) l.fn.draws.state);
   log : LogsAllBut (g.R.Ruler.log l.fn.ruler) (g.R.Ruler.log l.ruler) 1 l.k (layouts_left (9 - l.k) l.nodes (doc_of l.engine) l.draws.state) (layouts_left 8 l.nodes (doc_of l.fn.engine) l.fn.draws.state);
-  told : (touches : Touches) → AgreeDraws touches 8 1 l.nodes (doc_of l.fn.engine) l.fn.draws.state → TellsAllBut touches (g.R.Ruler.log l.fn.ruler) (g.R.Ruler.log l.ruler) l.fn.passes l.passes 1 l.k (layouts_left (9 - l.k) l.nodes (doc_of l.engine) l.draws.state) (layouts_left 8 l.nodes (doc_of l.fn.engine) l.fn.draws.state);
+  told : (touches : Touches) → AgreeDraws touches 8 1 l.nodes (doc_of l.fn.engine) l.fn.draws.state →
+      TellsAllBut touches (g.R.Ruler.log l.fn.ruler) (g.R.Ruler.log l.ruler) l.fn.passes l.passes 1 l.k (layouts_left (9 - l.k) l.nodes (doc_of l.engine) l.draws.state) (layouts_left 8 l.nodes (doc_of l.fn.engine) l.fn.draws.state);
   agree : (touches : Touches) → AgreeDraws touches 8 1 l.nodes (doc_of l.fn.engine) l.fn.draws.state → AgreeDraws touches (9 - l.k) l.k l.nodes (doc_of l.engine) l.draws.state;
   spared : (touches : Touches) (before : Option (List Event)) → AgreeDraws touches 8 1 l.nodes (doc_of l.fn.engine) l.fn.draws.state → SparesPage touches before (g.R.Ruler.log l.fn.ruler) l.fn.engine.page → SparesPage touches before (g.R.Ruler.log l.ruler) l.engine.page;
   made : IsMade l.nodes (doc_of l.engine);

@@ -107,7 +107,8 @@ returns-clause-layouts g c =
     let now = doc_of c.write_line.new.engine in
     let same : now ≡ made_document c.args.seed c.args.nodes = c.write_line.ensures.document ∙ c.in_ok-engine.ensures.document ∙ c.in_ok-doc.ensures.document in
     on_ok c.write_edits.result
-    (λ p. tells_after touches (g.R.Ruler.log c.args.ruler.now) (g.R.Ruler.log c.write_line.new.ruler) (g.R.Ruler.log c.write_edits.new.ruler) c.args.passes.now c.write_line.new.passes c.write_edits.new.passes doc (layouts_left 8 c.args.nodes now c.in_ok-doc.draws.state) (made_layouts c.args.seed c.args.nodes)
+    (λ p. tells_after touches (g.R.Ruler.log c.args.ruler.now) (g.R.Ruler.log c.write_line.new.ruler) (g.R.Ruler.log c.write_edits.new.ruler) c.args.passes.now c.write_line.new.passes c.write_edits.new.passes doc (layouts_left 8 c.args.nodes now c.in_ok-doc.draws.state)
+    (made_layouts c.args.seed c.args.nodes)
     (c.in_ok-write_line.ensures.layouts touches (first_emptied touches c.in_ok-engine.engine.page c.in_ok-engine.ensures.none))
     (layouts_are c.args.seed c.args.nodes doc now c.in_ok-doc.draws.state (c.in_ok-engine.ensures.document ∙ c.in_ok-doc.ensures.document) c.write_line.ensures.document c.in_ok-doc.ensures.draws) p)
     (c.write_edits.ensures.layouts touches (made_agree c.args.seed c.args.nodes now c.in_ok-doc.draws.state same c.in_ok-doc.ensures.draws))

@@ -1,6 +1,6 @@
 use Rattle.std.proofs.Common.{◌≡◌, ◌≤◌, ◌+◌, ◌-◌, true}
 use Rattle.session.specs.Standing.{course_of}
-use Rattle.session.specs.Input.{limit, most_asked, to_go}
+use Rattle.session.specs.Input.{limit, AsksSoFar}
 use Rattle.session.specs.Serving.{IsAt}
 use Rattle.session.specs.Replies.{RepliesLines}
 use Rattle.session.specs.Spares.{SparesPage}
@@ -19,7 +19,7 @@ invariant-loop-line g l =
       within : l.reader.count ≤ limit;
       read : g.S.Source.faults l.fn.source ≤ g.S.Source.faults l.source;
       written : g.K.Sink.faults l.fn.sink ≤ g.K.Sink.faults l.sink;
-      asked : g.S.Source.asked l.source + to_go l.reader.count l.reader.ended ≤ g.S.Source.asked l.fn.source + most_asked;
+      asks : AsksSoFar (g.S.Source.left l.fn.source) (g.S.Source.left l.source) (g.S.Source.asked l.fn.source) (g.S.Source.asked l.source) l.reader.count l.reader.ended;
     }
 
 abbrev pub decreases-loop-line : goal.decreases-loop-line

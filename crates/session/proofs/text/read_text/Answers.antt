@@ -1,5 +1,6 @@
 use Rattle.std.proofs.Common.{arith, rules, sym, ◌∙◌, ◌+◌, ◌-◌, ◌<◌, ◌≤◌}
 use Rattle.session.specs.Input.{limit}
+use Rattle.session.proofs.Pieces.{asks_done}
 use Rattle.session.proofs.Texts.{line_given, end_given, in_text_few, few_more, in_text_more, ended_at_line, ended_with_input, wants_in_text}
 use Rattle.session.proofs.text.read_text.Goals as goal
 
@@ -11,14 +12,17 @@ returns-then-is_end_of_document-clause-text g c =
     let before = g.S.Source.left c.args.source.now in
     let at = c.loop-line.invariant.text in
     let more = line_given before (g.S.Source.left c.next_line.new.source) at.given c.in-Ok-Some.line c.next_line.new.reader.lines c.next_line.new.reader.ended c.in-Ok-Some.field-0 c.in-Ok-Some.field-0-is (c.in-Ok-Some.ensures.next before at.given at.input) in
-    ended_at_line before (g.S.Source.left c.loop-line.source) (g.S.Source.left c.next_line.new.source) c.loop-line.reader.lines c.next_line.new.reader.lines c.loop-line.reader.ended c.next_line.new.reader.ended c.loop-line.held c.loop-line.count c.in-Ok-Some.line at more c.ended.result (sym c.is_end_of_document.ensures ∙ c.if-is_end_of_document.true) c.ended.ensures.lines c.ended.ensures.end c.ended.ensures.script
+    ended_at_line before (g.S.Source.left c.loop-line.source) (g.S.Source.left c.next_line.new.source) c.loop-line.reader.lines c.next_line.new.reader.lines c.loop-line.reader.ended c.next_line.new.reader.ended c.loop-line.held c.loop-line.count c.in-Ok-Some.line at more c.ended.result
+    (sym c.is_end_of_document.ensures ∙ c.if-is_end_of_document.true) c.ended.ensures.lines c.ended.ensures.end c.ended.ensures.script
 
 pub overflow_add-count : goal.overflow_add-count
 overflow_add-count g c =
     let before = g.S.Source.left c.args.source.now in
     let at = c.loop-line.invariant.text in
     let more = line_given before (g.S.Source.left c.next_line.new.source) at.given c.in-Ok-Some.line c.next_line.new.reader.lines c.next_line.new.reader.ended c.in-Ok-Some.field-0 c.in-Ok-Some.field-0-is (c.in-Ok-Some.ensures.next before at.given at.input) in
-    let few : c.loop-line.count + 1 ≤ 67108864 = few_more before (g.S.Source.left c.loop-line.source) (g.S.Source.left c.next_line.new.source) c.loop-line.reader.lines c.next_line.new.reader.lines c.loop-line.reader.ended c.next_line.new.reader.ended c.loop-line.held c.loop-line.count c.in-Ok-Some.line at more in
+    let few : c.loop-line.count +
+    1 ≤ 67108864 = few_more before (g.S.Source.left c.loop-line.source) (g.S.Source.left c.next_line.new.source) c.loop-line.reader.lines c.next_line.new.reader.lines c.loop-line.reader.ended c.next_line.new.reader.ended c.loop-line.held c.loop-line.count c.in-Ok-Some.line at more
+    in
     omega (arith, few)
 
 pub loop-line-smaller : goal.loop-line-smaller
@@ -26,7 +30,9 @@ loop-line-smaller g c =
     let before = g.S.Source.left c.args.source.now in
     let at = c.loop-line.invariant.text in
     let more = line_given before (g.S.Source.left c.next_line.new.source) at.given c.in-Ok-Some.line c.next_line.new.reader.lines c.next_line.new.reader.ended c.in-Ok-Some.field-0 c.in-Ok-Some.field-0-is (c.in-Ok-Some.ensures.next before at.given at.input) in
-    let few : c.loop-line.count + 1 ≤ 67108864 = few_more before (g.S.Source.left c.loop-line.source) (g.S.Source.left c.next_line.new.source) c.loop-line.reader.lines c.next_line.new.reader.lines c.loop-line.reader.ended c.next_line.new.reader.ended c.loop-line.held c.loop-line.count c.in-Ok-Some.line at more in
+    let few : c.loop-line.count +
+    1 ≤ 67108864 = few_more before (g.S.Source.left c.loop-line.source) (g.S.Source.left c.next_line.new.source) c.loop-line.reader.lines c.next_line.new.reader.lines c.loop-line.reader.ended c.next_line.new.reader.ended c.loop-line.held c.loop-line.count c.in-Ok-Some.line at more
+    in
     let less : limit - (c.loop-line.count + 1) < limit - c.loop-line.count = omega (arith, few) in
     less
 
@@ -36,12 +42,14 @@ loop-line-preserved g c =
     let at = c.loop-line.invariant.text in
     let more = line_given before (g.S.Source.left c.next_line.new.source) at.given c.in-Ok-Some.line c.next_line.new.reader.lines c.next_line.new.reader.ended c.in-Ok-Some.field-0 c.in-Ok-Some.field-0-is (c.in-Ok-Some.ensures.next before at.given at.input) in
     record {
-      text = in_text_more before (g.S.Source.left c.loop-line.source) (g.S.Source.left c.next_line.new.source) c.loop-line.reader.lines c.next_line.new.reader.lines c.loop-line.reader.ended c.next_line.new.reader.ended c.loop-line.held c.loop-line.count c.in-Ok-Some.line at more c.add.new.self (sym c.is_end_of_document.ensures ∙ c.if-is_end_of_document.false) (c.in-Ok.ensures.holds at.given at.holds);
+      text =
+          in_text_more before (g.S.Source.left c.loop-line.source) (g.S.Source.left c.next_line.new.source) c.loop-line.reader.lines c.next_line.new.reader.lines c.loop-line.reader.ended c.next_line.new.reader.ended c.loop-line.held c.loop-line.count c.in-Ok-Some.line at more
+          c.add.new.self (sym c.is_end_of_document.ensures ∙ c.if-is_end_of_document.false) (c.in-Ok.ensures.holds at.given at.holds);
       short = c.in-Ok.ensures.short c.loop-line.invariant.short;
       fed = search rules;
       within = search rules;
       later = search rules;
-      asked = omega (arith, c.loop-line.invariant.asked, c.in-Ok-Some.ensures.asked);
+      asks = c.in-Ok-Some.ensures.asks (g.S.Source.left c.args.source.now) (g.S.Source.asked c.args.source.now) c.loop-line.invariant.asks;
     }
 
 pub returns-in-Err-add-clause-text : goal.returns-in-Err-add-clause-text
@@ -59,7 +67,8 @@ returns-in-Ok-None-clause-text g c =
     let before = g.S.Source.left c.args.source.now in
     let at = c.loop-line.invariant.text in
     let all = end_given before (g.S.Source.left c.next_line.new.source) at.given c.next_line.new.reader.lines c.next_line.new.reader.ended c.in-Ok-None.field-0 c.in-Ok-None.field-0-is (c.in-Ok-None.ensures.next before at.given at.input) in
-    ended_with_input before (g.S.Source.left c.loop-line.source) (g.S.Source.left c.next_line.new.source) c.loop-line.reader.lines c.next_line.new.reader.lines c.loop-line.reader.ended c.next_line.new.reader.ended c.loop-line.held c.loop-line.count at c.ended-in-Ok-None.result all c.ended-in-Ok-None.ensures.lines c.ended-in-Ok-None.ensures.end c.ended-in-Ok-None.ensures.script
+    ended_with_input before (g.S.Source.left c.loop-line.source) (g.S.Source.left c.next_line.new.source) c.loop-line.reader.lines c.next_line.new.reader.lines c.loop-line.reader.ended c.next_line.new.reader.ended c.loop-line.held c.loop-line.count at c.ended-in-Ok-None.result all
+    c.ended-in-Ok-None.ensures.lines c.ended-in-Ok-None.ensures.end c.ended-in-Ok-None.ensures.script
 
 pub returns-in-Err-clause-text : goal.returns-in-Err-clause-text
 returns-in-Err-clause-text g c =
@@ -69,14 +78,16 @@ returns-in-Err-clause-text g c =
 
 -- ---- how often the source was asked
 
-pub returns-then-is_end_of_document-clause-asked : goal.returns-then-is_end_of_document-clause-asked
-returns-then-is_end_of_document-clause-asked g c = omega (arith, c.loop-line.invariant.asked, c.in-Ok-Some.ensures.asked)
+pub returns-then-is_end_of_document-clause-asks : goal.returns-then-is_end_of_document-clause-asks
+returns-then-is_end_of_document-clause-asks g c = c.in-Ok-Some.ensures.asks (g.S.Source.left c.args.source.now) (g.S.Source.asked c.args.source.now) c.loop-line.invariant.asks
 
-pub returns-in-Err-add-clause-asked_last : goal.returns-in-Err-add-clause-asked_last
-returns-in-Err-add-clause-asked_last g c = omega (arith, c.loop-line.invariant.asked, c.in-Ok-Some.ensures.asked)
+pub returns-in-Err-add-clause-asks : goal.returns-in-Err-add-clause-asks
+returns-in-Err-add-clause-asks g c =
+    asks_done (g.S.Source.left c.args.source.now) (g.S.Source.left c.next_line.new.source) (g.S.Source.asked c.args.source.now) (g.S.Source.asked c.next_line.new.source) c.next_line.new.reader.count c.next_line.new.reader.ended
+    (c.in-Ok-Some.ensures.asks (g.S.Source.left c.args.source.now) (g.S.Source.asked c.args.source.now) c.loop-line.invariant.asks)
 
-pub returns-in-Ok-None-clause-asked : goal.returns-in-Ok-None-clause-asked
-returns-in-Ok-None-clause-asked g c = omega (arith, c.loop-line.invariant.asked, c.in-Ok-None.ensures.asked)
+pub returns-in-Ok-None-clause-asks : goal.returns-in-Ok-None-clause-asks
+returns-in-Ok-None-clause-asks g c = c.in-Ok-None.ensures.asks (g.S.Source.left c.args.source.now) (g.S.Source.asked c.args.source.now) c.loop-line.invariant.asks
 
-pub returns-in-Err-clause-asked_last : goal.returns-in-Err-clause-asked_last
-returns-in-Err-clause-asked_last g c = omega (arith, c.loop-line.invariant.asked, c.in-Err.ensures.asked_last)
+pub returns-in-Err-clause-asks : goal.returns-in-Err-clause-asks
+returns-in-Err-clause-asks g c = c.in-Err.ensures.asks (g.S.Source.left c.args.source.now) (g.S.Source.asked c.args.source.now) c.loop-line.invariant.asks

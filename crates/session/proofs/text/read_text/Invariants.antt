@@ -1,6 +1,6 @@
-use Rattle.std.proofs.Common.{◌≡◌, ◌≤◌, ◌+◌, ◌-◌}
+use Rattle.std.proofs.Common.{◌≡◌, ◌≤◌, ◌-◌}
 use Rattle.doc_text.specs.Valid.{AreShort}
-use Rattle.session.specs.Input.{limit, to_go}
+use Rattle.session.specs.Input.{limit, AsksSoFar}
 use Rattle.session.proofs.Texts.{IsInText}
 use Rattle.session.proofs.text.read_text.Given as goal
 
@@ -12,7 +12,7 @@ invariant-loop-line g l =
       fed : l.reader.lines.fed ≡ l.reader.count;
       within : l.reader.count ≤ limit;
       later : g.S.Source.faults l.fn.source ≤ g.S.Source.faults l.source;
-      asked : g.S.Source.asked l.source + to_go l.reader.count l.reader.ended ≤ g.S.Source.asked l.fn.source + to_go l.fn.reader.count l.fn.reader.ended;
+      asks : AsksSoFar (g.S.Source.left l.fn.source) (g.S.Source.left l.source) (g.S.Source.asked l.fn.source) (g.S.Source.asked l.source) l.reader.count l.reader.ended;
     }
 
 abbrev pub decreases-loop-line : goal.decreases-loop-line

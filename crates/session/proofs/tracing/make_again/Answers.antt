@@ -24,4 +24,5 @@ returns-in-Err-turned-clause-well c =
 pub returns-in-Err-turned-clause-err : goal.returns-in-Err-turned-clause-err
 returns-in-Err-turned-clause-err c =
     makes_nothing c.args.page.now c.turn-turned.new.self c.args.last.now c.turn-turned.new.last c.args.journal.now c.undo.follows.lender-at-none c.requires.well (c.turn-turned.ensures.right c.requires.well.sound.right) c.turn-turned.ensures.last c.in-Ok.change.now c.in-Err-turned.ensures.err
-    (again_given c.undo.result c.args.journal.now c.redo.follows.lender-at-none c.undo.follows.lender-at-none (again_is c.redo.result c.in-Ok.change c.args.journal.now c.redo.follows.lender-at-none c.in-Ok.is c.redo.follows.holds-at-none) c.undo.ensures.nothing c.undo.follows.holds-at-none) c.pages_stand.ensures
+    (again_given c.undo.result c.args.journal.now c.redo.follows.lender-at-none c.undo.follows.lender-at-none (again_is c.redo.result c.in-Ok.change c.args.journal.now c.redo.follows.lender-at-none c.in-Ok.is c.redo.follows.holds-at-none) c.undo.ensures.nothing
+    c.undo.follows.holds-at-none) c.pages_stand.ensures

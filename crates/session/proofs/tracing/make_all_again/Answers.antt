@@ -15,7 +15,9 @@ pub loop-made-preserved : goal.loop-made-preserved
 loop-made-preserved c =
     record {
       well = c.make_again.ensures.well;
-      moved = again_further c.loop-made._made c.args.count c.args.page.now c.loop-made.page c.make_again.new.page c.loop-made.last c.args.journal.now c.loop-made.journal c.make_again.new.journal c.loop-made.invariant.well c.loop-made-test.true c.requires.many c.loop-made.invariant.moved c.in_ok-make_again.ensures.ok;
+      moved =
+          again_further c.loop-made._made c.args.count c.args.page.now c.loop-made.page c.make_again.new.page c.loop-made.last c.args.journal.now c.loop-made.journal c.make_again.new.journal c.loop-made.invariant.well c.loop-made-test.true c.requires.many c.loop-made.invariant.moved
+          c.in_ok-make_again.ensures.ok;
       few = omega (arith, c.loop-made-test.true);
     }
 

@@ -15,7 +15,9 @@ pub loop-taken-preserved : goal.loop-taken-preserved
 loop-taken-preserved c =
     record {
       well = c.take_back.ensures.well;
-      moved = back_further c.loop-taken._taken c.args.count c.args.page.now c.loop-taken.page c.take_back.new.page c.loop-taken.last c.args.journal.now c.loop-taken.journal c.take_back.new.journal c.loop-taken.invariant.well c.loop-taken-test.true c.requires.many c.loop-taken.invariant.moved c.in_ok-take_back.ensures.ok;
+      moved =
+          back_further c.loop-taken._taken c.args.count c.args.page.now c.loop-taken.page c.take_back.new.page c.loop-taken.last c.args.journal.now c.loop-taken.journal c.take_back.new.journal c.loop-taken.invariant.well c.loop-taken-test.true c.requires.many
+          c.loop-taken.invariant.moved c.in_ok-take_back.ensures.ok;
       few = omega (arith, c.loop-taken-test.true);
     }
 

@@ -14,5 +14,6 @@ returns-in-Ok-clause-applies c =
 pub returns-in-Err-clause-applies : goal.returns-in-Err-clause-applies
 returns-in-Err-clause-applies c =
     subst (λ (s : Standing). Applies (Err c.in-Err.error) c.args.change s (record { page = c.edit.new.page; calls = c.self.inside.calls; laid = is_some c.self.inside.root; steps = steps_of c.edit.new.journal })) c.self.view_is
-    (applies_none c.args.change (record { page = c.self.inside.page; calls = c.self.inside.calls; laid = is_some c.self.inside.root; steps = steps_of c.self.inside.journal }) (record { page = c.edit.new.page; calls = c.self.inside.calls; laid = is_some c.self.inside.root; steps = steps_of c.edit.new.journal })
+    (applies_none c.args.change (record { page = c.self.inside.page; calls = c.self.inside.calls; laid = is_some c.self.inside.root; steps = steps_of c.self.inside.journal })
+    (record { page = c.edit.new.page; calls = c.self.inside.calls; laid = is_some c.self.inside.root; steps = steps_of c.edit.new.journal })
     c.requires.change c.in-Err.error c.in-Err.ensures.edits refl)

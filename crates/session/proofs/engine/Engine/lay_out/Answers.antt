@@ -29,7 +29,8 @@ returns-clause-quiet g c p =
     let page : c.self.inside.page ≡ c.args.self.now.page = ap (λ (s : Standing). s.page) c.self.view_is in
     let kept : KeepsAll c.self.inside.page = subst KeepsAll (sym page) p in
     subst (λ (h : Held). IsQuiet c.args.k h c.lay_out.new.page (g.R.Ruler.log c.args.ruler.now) (g.R.Ruler.log c.lay_out.new.ruler) c.lay_out.new.tally.measured c.lay_out.new.tally.added c.args.passes.now c.lay_out.new.passes) page
-    (quiet_there c.args.k c.self.inside.page c.lay_out.new.page (g.R.Ruler.log c.args.ruler.now) (g.R.Ruler.log c.begin.new.self) (g.R.Ruler.log c.lay_out.new.ruler) c.new-tally.result c.lay_out.new.tally c.args.passes.now c.lay_out.new.passes c.in_ok-begin.ensures.log c.new-tally.ensures kept c.lay_out.ensures.quiet)
+    (quiet_there c.args.k c.self.inside.page c.lay_out.new.page (g.R.Ruler.log c.args.ruler.now) (g.R.Ruler.log c.begin.new.self) (g.R.Ruler.log c.lay_out.new.ruler) c.new-tally.result c.lay_out.new.tally c.args.passes.now c.lay_out.new.passes c.in_ok-begin.ensures.log
+    c.new-tally.ensures kept c.lay_out.ensures.quiet)
 
 pub returns-clause-spares : goal.returns-clause-spares
 returns-clause-spares g c touches before p =
@@ -41,7 +42,8 @@ pub returns-clause-paths : goal.returns-clause-paths
 returns-clause-paths g c =
     let page : c.self.inside.page ≡ c.args.self.now.page = ap (λ (s : Standing). s.page) c.self.view_is in
     subst (λ (h : Held). KeepsPath h c.lay_out.new.page) page
-    (path_there c.args.k c.self.inside.page c.lay_out.new.page (g.R.Ruler.log c.args.ruler.now) (g.R.Ruler.log c.begin.new.self) (g.R.Ruler.log c.lay_out.new.ruler) c.new-tally.result c.lay_out.new.tally c.args.passes.now c.lay_out.new.passes c.in_ok-begin.ensures.log c.new-tally.ensures c.in_ok-root.ensures.paths)
+    (path_there c.args.k c.self.inside.page c.lay_out.new.page (g.R.Ruler.log c.args.ruler.now) (g.R.Ruler.log c.begin.new.self) (g.R.Ruler.log c.lay_out.new.ruler) c.new-tally.result c.lay_out.new.tally c.args.passes.now c.lay_out.new.passes c.in_ok-begin.ensures.log
+    c.new-tally.ensures c.in_ok-root.ensures.paths)
 
 pub returns-in_err-begin-clause-same : goal.returns-in_err-begin-clause-same
 returns-in_err-begin-clause-same g c = subst (λ (s : Standing). IsSame s (record { page = c.self.inside.page; calls = c.self.inside.calls; laid = false; steps = steps_of c.self.inside.journal })) c.self.view_is (record { document = refl; steps = refl; calls = refl })

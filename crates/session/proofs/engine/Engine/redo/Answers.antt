@@ -19,5 +19,6 @@ returns-in-Err-clause-applies c =
 pub returns-clause-applies : goal.returns-clause-applies
 returns-clause-applies c =
     subst (λ (s : Standing). IsEdited (edit.Redo c.args.count c.args.at) s (record { page = c.make_all_again.new.page; calls = c.self.inside.calls; laid = false; steps = steps_of c.make_all_again.new.journal })) c.self.view_is
-    (redoes c.args.count c.args.at (record { page = c.self.inside.page; calls = c.self.inside.calls; laid = is_some c.self.inside.root; steps = steps_of c.self.inside.journal }) (record { page = c.make_all_again.new.page; calls = c.self.inside.calls; laid = false; steps = steps_of c.make_all_again.new.journal })
+    (redoes c.args.count c.args.at (record { page = c.self.inside.page; calls = c.self.inside.calls; laid = is_some c.self.inside.root; steps = steps_of c.self.inside.journal })
+    (record { page = c.make_all_again.new.page; calls = c.self.inside.calls; laid = false; steps = steps_of c.make_all_again.new.journal })
     c.self.inside.journal refl (omega (arith, c.if-undone-count.false, c.undone.ensures)) c.in-Ok.ensures.ok refl)

@@ -19,5 +19,6 @@ returns-in-Err-clause-applies c =
 pub returns-clause-applies : goal.returns-clause-applies
 returns-clause-applies c =
     subst (λ (s : Standing). IsEdited (edit.Undo c.args.count c.args.at) s (record { page = c.take_all_back.new.page; calls = c.self.inside.calls; laid = false; steps = steps_of c.take_all_back.new.journal })) c.self.view_is
-    (undoes c.args.count c.args.at (record { page = c.self.inside.page; calls = c.self.inside.calls; laid = is_some c.self.inside.root; steps = steps_of c.self.inside.journal }) (record { page = c.take_all_back.new.page; calls = c.self.inside.calls; laid = false; steps = steps_of c.take_all_back.new.journal })
+    (undoes c.args.count c.args.at (record { page = c.self.inside.page; calls = c.self.inside.calls; laid = is_some c.self.inside.root; steps = steps_of c.self.inside.journal })
+    (record { page = c.take_all_back.new.page; calls = c.self.inside.calls; laid = false; steps = steps_of c.take_all_back.new.journal })
     c.self.inside.journal refl (omega (arith, c.if-done-count.false, c.done.ensures)) c.in-Ok.ensures.ok refl)

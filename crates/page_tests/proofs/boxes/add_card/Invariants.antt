@@ -1,5 +1,0 @@
-use Rattle.doc_text.specs.Valid.{AreShort}
-use Rattle.page_tests.proofs.boxes.add_card.Given as goal
-
-abbrev pub invariant-loop-line : goal.invariant-loop-line
-invariant-loop-line l = AreShort l.lines

@@ -1,2 +1,0 @@
-mod LeafQueries
-mod Unset
