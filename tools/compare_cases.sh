@@ -3,6 +3,7 @@
 # beside the examples:
 #     tools/compare_cases.sh [PROGRAM]
 # PROGRAM is the built program; without it $GRIDLAY_PROGRAM, else the one that the gate leaves in crates/gridlay/out.
+# $GRIDLAY_WORDS, where it is set, are the words whose cases are compared: another program may have less of them.
 # It tells how many runs agree in each folder and profile, and of each that does not the first line that differs.
 # A case that crates/corpus/data/later.txt names wants a word that the program does not know yet; its runs are counted apart.
 # The status is 0 where all other runs agree, 1 where one does not, 2 where there is nothing to compare.
@@ -78,6 +79,11 @@ compare() {
     fi
 }
 
+# Whether the cases of a word are compared.
+is_wanted() {
+    case " ${GRIDLAY_WORDS-$1} " in *" $1 "*) ;; *) return 1 ;; esac
+}
+
 # compare_folder NAME FOLDER ENDING: all inputs of a folder; a group is a folder and what stands before the number of a name.
 compare_folder() {
     local folder=$1 place=$2 ending=$3 input base name group wanted words
@@ -95,8 +101,8 @@ compare_folder() {
         words=layout
         [ ! -e "$base.words" ] || words=$(<"$base.words")
         read -ra words <<<"$words"
-        compare "$folder/$name" "$group" "$input" "$wanted" "$base.status" ${words[@]+"${words[@]}"}
-        if [ -e "$base.write" ]; then
+        ! is_wanted "${words[0]-}" || compare "$folder/$name" "$group" "$input" "$wanted" "$base.status" ${words[@]+"${words[@]}"}
+        if [ -e "$base.write" ] && is_wanted write; then
             compare "$folder/$name.write" "$folder write" "$input" "$base.write" "$base.write-status" write
         fi
     done

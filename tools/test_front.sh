@@ -143,6 +143,8 @@ had() {
 . "$top/tools/front/words.sh"
 # shellcheck source=front/build.sh
 . "$top/tools/front/build.sh"
+# shellcheck source=front/library.sh
+. "$top/tools/front/library.sh"
 # shellcheck source=front/answers.sh
 . "$top/tools/front/answers.sh"
 # shellcheck source=front/refusals.sh
@@ -155,6 +157,8 @@ had() {
 . "$top/tools/front/memory.sh"
 # shellcheck source=front/size.sh
 . "$top/tools/front/size.sh"
+# shellcheck source=front/written.sh
+. "$top/tools/front/written.sh"
 # shellcheck source=front/documents.sh
 . "$top/tools/front/documents.sh"
 

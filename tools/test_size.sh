@@ -1,8 +1,8 @@
 #!/usr/bin/env bash
 # Tries a program at size, with ample memory:
 #     tools/test_size.sh [PROGRAM]
-# A document of 131,072 nodes, as many as a version lets in, and an edit of it, with all boxes worked by hand; the same with a node
-# more, which is refused; and 200 generated nodes, of which each layout has 200 boxes. It tells how many seconds each run took.
+# A document of 131,072 nodes, as many as a version lets in, and an edit of it, with all boxes worked by hand; the same, written by
+# the word `write`; the same with a node more, which is refused; and 200 generated nodes, of which each layout has 200 boxes. It tells how many seconds each run took.
 # PROGRAM is the built program; without it $GRIDLAY_PROGRAM, else the one that the gate leaves in crates/gridlay/out.
 # The status is 0 where all is as it should be, 1 where something is not, 2 where there is nothing to try. It needs awk and cmp.
 set -u
@@ -60,6 +60,10 @@ boxes() {
 } >"$room/in"
 boxes >"$room/due"
 check "131,072 nodes and an edit" 0 layout
+
+# (the document stands in canonical form, with the edit or without)
+document 0 | sed 's/^\(  b grid .*\)repeat(100, 10px)/\1repeat(100, 8px)/' >"$room/due"
+check "131,072 nodes and an edit, written" 0 write
 
 document 1 >"$room/in"
 printf 'refused 0 131075:5 too-many-nodes\n' >"$room/due"

@@ -1,9 +1,9 @@
 #!/usr/bin/env bash
 # Builds the page that lays out while you type, with the engine in it, and writes where it lies on standard output.
-#     view/build_engine.sh               from the proved program, which is built first where it is not
+#     view/build_engine.sh               from the proved library, which is built first where it is not
 #     view/build_engine.sh --unproved    from the sources as they are, in some minutes; nothing is proved of it
 #
-# The kit builds no WebAssembly with a heap. So the LLVM module of the program is caught on its way to the kit's clang, by a wrapper
+# The kit builds no WebAssembly with a heap. So the LLVM module of the library is caught on its way to the kit's clang, by a wrapper
 # that stands in a copy of the kit made of links; the same clang compiles it for wasm64, and the kit's linker joins it with
 # engine/shim.c. The kit itself is not touched. The engine that comes of it is tested and not proved.
 # Needed are the kit's command rt, and gzip and base64.
@@ -17,6 +17,8 @@ out=$view/out
 page=$out/play.html
 # shellcheck disable=SC1091
 . "$view/assemble.sh"
+# shellcheck source=../tools/module.sh
+. "$top/tools/module.sh"
 
 is_proved=true
 case "$#:${1-}" in
@@ -44,85 +46,56 @@ kit_version=$(rt version)
 sum_of_sources() {
     printf '%s %s\n' "$is_proved" "$kit_version"
     declare -f build_engine
-    cat "$view/engine/shim.c" "$top/crates.txt"
+    cat "$view/engine/shim.c" "$top/tools/module.sh" "$top/tools/library/all_calls.txt" "$top/include/gridlay.h" "$top/crates.txt"
     find "$top/crates" -name out -prune -o -type f \( -name '*.rt' -o -name '*.antt' \) -print0 | sort -z | xargs -0 cat
 }
 
-# A kit made of links to the real one, whose clang keeps the modules that it is given in $work/caught.
-wrap_kit() {
-    local it name
-    mkdir -p "$work/kit/bin" "$work/kit/toolchain/bin" "$work/caught"
-    for it in "$kit"/*; do
-        name=${it##*/}
-        case "$name" in bin | toolchain) ;; *) ln -s "$it" "$work/kit/$name" ;; esac
-    done
-    for it in "$kit"/bin/*; do
-        # rt and its parts are copied, since they look for the kit where they themselves stand.
-        if [ "$(head -c 2 "$it")" = '#!' ] || [[ $it == *.py ]]; then cp "$it" "$work/kit/bin/"; else ln -s "$it" "$work/kit/bin/"; fi
-    done
-    for it in "$kit"/toolchain/*; do
-        [ "${it##*/}" = bin ] || ln -s "$it" "$work/kit/toolchain/"
-    done
-    for it in "$kit"/toolchain/bin/*; do
-        [ "${it##*/}" = clang ] || ln -s "$it" "$work/kit/toolchain/bin/"
-    done
-    cat >"$work/kit/toolchain/bin/clang" <<WRAPPER
-#!/bin/bash
-for word; do
-    case "\$word" in *.bc) cp -- "\$word" "$work/caught/\$\$.bc" ;; esac
-done
-exec -a "\$0" "$kit/toolchain/bin/clang" "\$@"
-WRAPPER
-    chmod +x "$work/kit/toolchain/bin/clang"
-}
-
-# Has the program compiled once more, by the kit of links. What a build leaves in the crate's out/ is put back afterwards.
+# Has the library compiled once more, by the kit of links. What a build leaves in the crate's out/ is put back afterwards.
 compile_proved() {
-    say "the proved program first (./gridlay builds it where it is not built)"
-    # (an empty document is refused with status 2)
-    "$top/gridlay" layout </dev/null >/dev/null || [ $? -eq 2 ] || return 1
+    say "the proved library first (./gridlay library builds it where it is not built)"
+    "$top/gridlay" library >/dev/null || return 1
     say "compiling it once more to catch its module: some minutes"
+    wrap_kit "$kit" "$work"
     mkdir "$work/before"
-    cp -p "$top"/crates/gridlay/out/gridlay* "$work/before/"
+    cp -p "$top"/crates/gridlay_c/out/libgridlay_c.a "$work/before/"
     touch "$work/is_kept"
-    # (on the word `build` the program reads nothing, and ends with status 64)
-    (cd "$top/crates/gridlay" && "$work/kit/bin/rt" run --backend llvm -- build </dev/null >"$work/log" 2>&1) || [ $? -eq 64 ] || status=1
+    (cd "$top/crates/gridlay_c" && "$work/kit/bin/rt" lib </dev/null >"$work/log" 2>&1) || status=1
     put_back
+    module=$(caught_module "$work")
 }
 
 # Puts back what the build before had left, also where the script is broken off.
 put_back() {
-    [ ! -f "$work/is_kept" ] || cp -p "$work"/before/* "$top/crates/gridlay/out/"
+    [ ! -f "$work/is_kept" ] || cp -p "$work"/before/* "$top/crates/gridlay_c/out/"
     rm -f "$work/is_kept"
 }
 
 compile_unproved() {
     say "compiling the sources as they are, without any proof: some minutes"
-    (cd "$top/crates/gridlay" && "$work/kit/bin/rt" try -- layout <"$top/examples/first.gridlay" >"$work/log" 2>&1) || status=1
+    catch_library "$kit" "$work" "$top" || status=1
+    module=$work/library.ll
 }
 
 # The module for wasm64, and its link: the stack lies lowest, so that what overflows it traps.
 build_engine() {
-    local module status=0
-    wrap_kit
+    local module='' status=0 exports
     if $is_proved; then compile_proved; else compile_unproved; fi
-    # (beside the program's module, clang may be given a small one of settings)
-    module=$(find "$work/caught" -name '*.bc' -size +100k -printf '%s %p\n' | sort -n | tail -1 | cut -d ' ' -f 2-)
     if [ "$status" -ne 0 ] || [ -z "$module" ]; then
         cat "$work/log" >&2
-        say "the program was not compiled"
+        say "the library was not compiled"
         return 1
     fi
     say "compiling its module for wasm64: some minutes"
     local clang=$kit/toolchain/bin/clang flags=(--target=wasm64-unknown-unknown --no-default-config -O2 -c)
     # (of each function it warns that it does not know x86-64, for which the module was written)
-    "$clang" "${flags[@]}" -x ir "$module" -o "$work/program.o" 2>"$work/log" || {
+    "$clang" "${flags[@]}" -x ir "$module" -o "$work/library.o" 2>"$work/log" || {
         cat "$work/log" >&2
         return 1
     }
     "$clang" "${flags[@]}" -Wall -Wextra -Werror -fno-builtin "$view/engine/shim.c" -o "$work/shim.o"
-    (exec -a wasm-ld "$clang" -mwasm64 --no-entry --export=main --gc-sections --strip-all --import-undefined \
-        --stack-first -z stack-size=4194304 --max-memory=2147483648 -o "$work/engine.wasm" "$work/program.o" "$work/shim.o")
+    mapfile -t exports < <(sed -nE 's/^(uint8_t|void) (gridlay_[a-z_]+)\(.*/--export=\2/p' "$top/include/gridlay.h")
+    (exec -a wasm-ld "$clang" -mwasm64 --no-entry "${exports[@]}" --gc-sections --strip-all --import-undefined \
+        --stack-first -z stack-size=4194304 --max-memory=2147483648 -o "$work/engine.wasm" "$work/library.o" "$work/shim.o")
     gzip -9 -n -c "$work/engine.wasm" >"$work/engine.gz"
     mv "$work/engine.gz" "$out/engine.wasm.gz"
 }

@@ -21,6 +21,25 @@ had "no word" "layout"
 with_program make --nodes=3 --seed 18446744073709551616
 had "make, whose numbers are the program's" "make --nodes=3 --seed 18446744073709551616"
 
+# the document that a program writes goes through, and edits that were refused are told of
+printf 'gridlay 1\nviewport 1 1\nrefused leaf 1 1\n' >"$stub/print"
+with_program write "$first"
+had "write FILE" "write"
+wants_same "write FILE: the program has all of it" "$first" "$stub/input"
+wants_same "write FILE: the output is the program's" "$room/out" "$stub/print"
+wants_nothing "write FILE: nothing else is said" err
+with_program write
+had "write" "write"
+wanted_status=3
+for how in --explain ''; do
+    with_program write "$first" ${how:+"$how"}
+    wants_status "write with edits that are refused $how" 3
+    wants "write with edits that are refused $how" err "some edits were refused, and the document is written without them"
+    holds "write with edits that are refused $how: one line" [ "$(wc -l <"$room/err")" -eq 1 ]
+done
+wanted_status=0
+rm "$stub/print"
+
 # any bytes go through
 head -c 300000 /dev/urandom >"$room/random"
 cp "$room/random" "$stub/print"

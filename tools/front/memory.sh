@@ -21,7 +21,7 @@ if command -v gcc >/dev/null; then
     try "$top/tools/refuse_memory.sh" "$room/right"
     wants_status "refused memory: a program that does right" 0
     wants "refused memory: a program that does right: what is told" out "     3 requests,      3 refusals changed the outcome, the last is 3"
-    holds "refused memory: each input is told" [ "$(grep -c ' requests, ' "$room/out")" -eq 8 ]
+    holds "refused memory: each input is told" [ "$(grep -c ' requests, ' "$room/out")" -eq 9 ]
     taker spared 'if (number < 3) _exit(6);'
     try "$top/tools/refuse_memory.sh" "$room/spared"
     wants_status "refused memory: a program that can do without" 0
@@ -31,7 +31,7 @@ if command -v gcc >/dev/null; then
     wants_status "refused memory: a program that does wrong" 1
     wants "refused memory: an output that is no beginning" out "cards: with request 2 refused the status is 6, and what is written is no beginning"
     wants "refused memory: a program that is ended" out "cards: with request 3 refused the status is 134"
-    wants "refused memory: how many" out "runs that ended otherwise: 16"
+    wants "refused memory: how many" out "runs that ended otherwise: 18"
     gcc -static -o "$room/alone" "$room/right.c" 2>/dev/null && {
         try "$top/tools/refuse_memory.sh" "$room/alone"
         wants_status "refused memory: a program with a malloc of its own" 2

@@ -7,7 +7,8 @@ wants "--help tells the words" out "./gridlay check FILE"
 wants "--help has an example" out "./gridlay --unproved examples/first.gridlay"
 wants "--help tells where the docs are" out "docs/FORMAT.md"
 wants_nothing "--help says no more" err
-for word in write picture play library; do
+wants "--help tells the word that writes documents" out "./gridlay write FILE"
+for word in picture play library; do
     lacks "--help tells no word that is not here" grep -q "gridlay $word" "$room/out"
 done
 cp "$room/out" "$room/help"
@@ -20,7 +21,7 @@ wants "--version tells that nothing is built" out "not built here"
 
 # what would build the program stops where there is no kit, and says so
 for call in "" layout "make --seed 1 --nodes 2" "$fresh/examples/first.gridlay" "--unproved $fresh/examples/first.gridlay" \
-    "--unproved make --seed 1 --nodes 2" "check $fresh/examples/first.gridlay"; do
+    "--unproved make --seed 1 --nodes 2" "check $fresh/examples/first.gridlay" write "write $fresh/examples/first.gridlay"; do
     # shellcheck disable=SC2086
     no_kit $call
     wants_status "without a kit: $call" 69
@@ -59,6 +60,8 @@ slip "make wants a number after --seed" make --nodes 1
 slip "make wants a number from 1 to 20000 after --nodes" make --seed=1
 slip "make has no option --sed" make --sed 1
 slip "check wants a FILE: ./gridlay check FILE" check
+slip "write takes one FILE, and these are 2" write a b
+slip "no such file: a" write a
 slip "check takes one FILE, and these are 2" check a b
 slip "no such file: a" check a
 slip "an empty word is no FILE" ""
@@ -69,7 +72,7 @@ if [ "$(id -u)" -ne 0 ]; then
 else
     skip "a file that cannot be read: root reads all"
 fi
-for word in write picture play library; do
+for word in picture play library; do
     no_kit "$word" x
     wants_status "$word, which is not here" 64
     wants "$word, which is not here" err "this checkout has no word $word yet"
@@ -86,9 +89,7 @@ wants_same "--help through a link" "$room/out" "$room/help"
 # words that come with other parts of the checkout
 later=$room/later
 mkdir -p "$later/view" "$later/tools"
-cp -R "$top/gridlay" "$top/front" "$later/"
-sed 's/^session:/session: doc_writer/; $a doc_writer: doc_text' \
-    "$top/crates.txt" >"$later/crates.txt"
+cp -R "$top/gridlay" "$top/front" "$top/crates.txt" "$later/"
 # shellcheck disable=SC2016
 printf '#!/bin/sh\necho "the page of $1 by $GRIDLAY_PROGRAM"\n' >"$later/view/picture"
 printf '#!/bin/sh\necho playing $*\n' >"$later/view/build_engine.sh"
@@ -98,14 +99,9 @@ later_program() {
     try env GRIDLAY_PROGRAM="$room/program" STUB="$stub" STUB_STATUS=0 "$later/gridlay" "$@"
 }
 later_program --help
-for word in "write FILE" "picture FILE" "play"; do
+for word in "picture FILE" "play"; do
     wants "--help tells a word that came" out "./gridlay $word"
 done
-later_program write "$first"
-had "write FILE" "write"
-wants_same "write FILE: the program has all of it" "$first" "$stub/input"
-later_program write
-had "write" "write"
 later_program picture "$first"
 wants "picture FILE" out "the page of $first by $room/program"
 later_program picture nowhere

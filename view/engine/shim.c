@@ -1,14 +1,12 @@
-// What the compiled program calls by name and WebAssembly does not have: a heap, arithmetic of 128 bits, and what the processor can do.
-// Written for wasm64 and linked with the program by build_engine.sh. It is tested and not proved.
-//
-// Reading, writing, the words of the command line and the number of the last error are imported from the page.
+// What the compiled library calls by name and WebAssembly does not have: a heap, arithmetic of 128 bits, and what the processor can do.
+// Written for wasm64 and linked with the library by build_engine.sh. It is tested and not proved. Nothing is imported from the page.
 
 typedef unsigned long long u64;
 typedef unsigned __int128 u128;
 typedef __int128 i128;
 typedef __SIZE_TYPE__ usize;
 
-// What the processor can do: all that the program asks about before it begins. It was compiled for an x86-64 that has it; here
+// What the processor can do: all that the library may ask about. It was compiled for an x86-64 that has it; here
 // wasm64 has the same by other instructions. (glibc answers with two lists of four words for a leaf of CPUID.)
 const unsigned *__x86_get_cpuid_feature_leaf(unsigned leaf) {
     static const unsigned all[8] = {~0u, ~0u, ~0u, ~0u, ~0u, ~0u, ~0u, ~0u};
@@ -19,7 +17,7 @@ const unsigned *__x86_get_cpuid_feature_leaf(unsigned leaf) {
 // The heap
 //
 // Each block has its class in the 16 bytes before it. A block that is given back is the first of its class's list,
-// and is taken from there again; memory never goes back to the host, since a run ends with its instance.
+// and is taken from there again; memory never goes back to the host.
 // The classes of a power of two are four: 16, 20, 24, 28, 32, 40, .. times 1, so at most a fourth of a block is unused.
 
 enum { HEAD = 16, PAGE = 65536, CLASSES = 256 };
@@ -98,6 +96,17 @@ struct found rattle_realloc(void *block, usize was, usize size, usize alignment)
         rattle_dealloc(block);
     }
     return larger;
+}
+
+// Rooms for what the page hands to the library and reads from it: their place, 0 where memory is wanting.
+
+__attribute__((export_name("take_room"))) void *take_room(usize size) {
+    struct found it = take(size);
+    return it.is_found ? it.place : (void *)0;
+}
+
+__attribute__((export_name("give_room"))) void give_room(void *room) {
+    if (room) rattle_dealloc(room);
 }
 
 // Arithmetic of 128 bits, as the compiler calls it: the low half of each number first.

@@ -1,5 +1,5 @@
-// The engine of the page: `layout(text)` gives what the program prints for a text. This is the one place that knows how
-// the engine is reached; here the whole text goes to a worker each time, and the program is run on it.
+// The engine of the page: `layout(text)` gives what the program prints for a text, and `hit` the box at a point of what was laid
+// out last. This is the one place that knows how the engine is reached: the text goes to a worker, which keeps the document.
 (function (gridlay) {
   'use strict';
 
@@ -19,6 +19,10 @@
       this.last = 0;
       this.running = null;
       this.waiting = null;
+      /** Who waits for the box at a point, by the number that was asked with. */
+      this.asked = new Map();
+      /** The text that was laid out last. */
+      this.text = null;
       this.worker = null;
       this.start();
     }
@@ -38,6 +42,9 @@
 
     start() {
       this.worker?.terminate();
+      this.text = null;
+      for (const settle of this.asked.values()) settle(null);
+      this.asked.clear();
       const address = URL.createObjectURL(new Blob([this.source], { type: 'text/javascript' }));
       this.worker = new Worker(address);
       URL.revokeObjectURL(address);
@@ -63,6 +70,19 @@
       });
     }
 
+    /**
+     * The index of the last box that contains a point, in px, by the layout of a step of the text that was laid out last; -1
+     * where none does, and null where the engine does not have that text.
+     */
+    hit(text, step, x, y) {
+      if (this.running || text !== this.text) return Promise.resolve(null);
+      return new Promise(settle => {
+        this.asked.set(++this.last, settle);
+        const [left, top] = [x, y].map(it => BigInt(Math.floor(it * 64)));
+        this.worker.postMessage({ number: this.last, hit: { step, x: left, y: top } });
+      });
+    }
+
     get isBusy() {
       return this.running !== null;
     }
@@ -71,12 +91,17 @@
       if (!this.waiting) return;
       const { text, settle } = this.waiting, input = new TextEncoder().encode(text);
       this.waiting = null;
-      this.running = { number: ++this.last, settle, start: performance.now(), limit: null };
+      this.running = { number: ++this.last, text, settle, start: performance.now(), limit: null };
       this.worker.postMessage({ number: this.last, input }, [input.buffer]);
     }
 
-    hear({ number, status, output, trouble, time }) {
+    hear({ number, status, output, trouble, time, box }) {
+      if (this.asked.has(number)) {
+        this.asked.get(number)(box);
+        this.asked.delete(number);
+      }
       if (this.running?.number !== number) return;
+      this.text = trouble ? null : this.running.text;
       this.answer(trouble ? { trouble, time } : { status, output: new TextDecoder().decode(output), time });
     }
 

@@ -31,6 +31,7 @@
         list: script => this.listDragged(script),
       });
       this.viewer.hears.drag = this.dragging;
+      this.viewer.hears.hit = (x, y) => this.hit(x, y);
       this.makeControls();
     }
 
@@ -117,6 +118,12 @@
       viewer.open(run, step >= 0 ? step : this.stepOf(run, editor.caretLine), this.earlierThan(text));
       this.isFresh = false;
       if (text === editor.text) editor.showFaults(run.refusals);
+    }
+
+    /** The box at a point of the picture, by the engine; null where it does not have what is shown. */
+    async hit(x, y) {
+      const { run, step, isOld } = this.viewer;
+      return isOld || !this.engine ? null : this.engine.hit(run.lines.text, run.layoutAt(step), x, y);
     }
 
     /** What the first layout of a text is compared with: that of the text before, if this was not opened as a whole. */

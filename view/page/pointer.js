@@ -64,7 +64,14 @@
       this.pressed = null;
       if (!pressed) return;
       if (pressed.edge) viewer.hears.drag.end(pressed.isMoved && event.type === 'pointerup');
-      if (!pressed.isMoved && event.type === 'pointerup') viewer.choose(this.boxAt(pressed.x, pressed.y));
+      if (!pressed.isMoved && event.type === 'pointerup') this.chooseAt(pressed.x, pressed.y);
+    }
+
+    /** Chooses the box at a place of the window: the engine's, where there is one, and else that of the picture. */
+    async chooseAt(x, y) {
+      const { viewer } = this, { scene } = viewer;
+      const box = await viewer.hears.hit?.(...viewer.stage.view.toPage(x, y)) ?? this.boxAt(x, y);
+      if (viewer.scene === scene) viewer.choose(box);
     }
 
     /** Lets go of an edge, as if it had never been taken; answers whether one was. */

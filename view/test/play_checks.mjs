@@ -214,6 +214,45 @@ async function checkScript(checks, tools, page) {
   });
 }
 
+async function checkKept(checks, tools, page) {
+  const { program, examples } = tools;
+  await checks.check('texts of one document with scripts that grow, shrink and change are answered as by the program', async () => {
+    for (const name of ['edits', 'hit', 'undo', 'tour', 'cards']) {
+      const source = text(join(examples, `${name}.gridlay`)), [document, script] = source.split(/^---\n/m), lines = script.split('\n');
+      const scripts = [...lines.keys()].flatMap(at => [lines.slice(0, at), lines.slice(at), [...lines.slice(0, at), 'set nowhere gap: 1px', ...lines.slice(at)]]);
+      for (const it of scripts) {
+        const whole = `${document}---\n${it.join('\n')}`, answer = await page.value(`gridlay.page.engine.layout(${JSON.stringify(whole)})`);
+        assert.equal(answer.output, printedBy(program, whole), whole);
+      }
+    }
+  });
+}
+
+async function checkHit(checks, tools, page) {
+  const { program, examples } = tools;
+  await checks.check('a click chooses the box that the engine tells, and it tells what `hit` does, after each edit', async () => {
+    const [document] = text(join(examples, 'hit.gridlay')).split(/^---\n/m), edits = ['remove note', 'set page padding: 0'];
+    await put(page, `${document}---\n${edits.join('\n')}\n`);
+    for (const step of [2, 0, 1, 2]) {
+      const points = [[60, 50], [90, 20], [70, 20], [175, 20], [150, 115], [-1, 0], [0.5, 4.984375]];
+      const asked = `${document}---\n${edits.slice(0, step).join('\n')}\n${points.map(it => `hit ${it.join(' ')}\n`).join('')}`;
+      const due = answersOf(printedBy(program, asked)).filter(it => it.head[0] === 'hit').map(it => it.head[2]);
+      const told = await page.value(`(async () => {
+        const { engine, viewer } = gridlay.page, names = viewer.run.printed.boxes(${step}).names, told = [];
+        for (const [x, y] of ${JSON.stringify(points)}) told.push(await engine.hit(viewer.run.lines.text, ${step}, x, y));
+        return told.map(it => it === null ? 'nothing' : names[it] ?? '-');
+      })()`);
+      assert.deepEqual(told, due);
+    }
+    await put(page, document);
+    await page.value("gridlay.page.viewer.stage.fit('whole')");
+    const [x, y] = await edgeOf(page, 'note', 'middle');
+    await page.click(x, y);
+    await page.until("gridlay.page.viewer.nameOf(gridlay.page.viewer.chosen) === 'note'", 5000);
+    assert.equal(await page.value("gridlay.page.engine.hit('another text', 0, 1, 1)"), null);
+  });
+}
+
 async function checkLatest(checks, tools, page) {
   await checks.check('of texts that come while one is laid out, only the latest is', async () => {
     const answers = await page.value("Promise.all([1, 2, 3, 4].map(it => gridlay.page.engine.layout(`gridlay 1\\nviewport 9 9\\na leaf ${it} 1\\n`)))");
@@ -227,8 +266,8 @@ async function checkTrap(checks, tools, page) {
   await checks.check('after a trap the page says so, keeps the text and the picture, and lays out the next text', async () => {
     await put(page, text(join(examples, 'first.gridlay')));
     const before = await page.value(SHOWN);
-    // A module whose `main` traps: (memory i64 1), main (i32, i64) -> i32 is `unreachable`.
-    const trap = [0, 97, 115, 109, 1, 0, 0, 0, 1, 7, 1, 96, 2, 127, 126, 1, 127, 3, 2, 1, 0, 5, 3, 1, 4, 1, 7, 17, 2, 4, 109, 97, 105, 110, 0, 0, 6, 109, 101, 109, 111, 114, 121, 2, 0, 10, 5, 1, 3, 0, 0, 11];
+    // A module whose `take_room` traps: (memory i64 1), take_room (i64) -> i64 is `unreachable`.
+    const trap = [0, 97, 115, 109, 1, 0, 0, 0, 1, 6, 1, 96, 1, 126, 1, 126, 3, 2, 1, 0, 5, 3, 1, 4, 1, 7, 22, 2, 9, ...Buffer.from('take_room'), 0, 0, 6, ...Buffer.from('memory'), 2, 0, 10, 5, 1, 3, 0, 0, 11];
     await page.value(`globalThis.kept = gridlay.page.engine.module, gridlay.page.engine.module = new WebAssembly.Module(Uint8Array.of(${trap})), gridlay.page.engine.start()`);
     await caretBehind(page, 'a leaf 10');
     await page.type('0');
@@ -263,7 +302,7 @@ async function checkChosen(checks, tools, page) {
   await checks.check('a box that is chosen is marked in the text', async () => {
     await put(page, text(join(examples, 'cards.gridlay')));
     await page.click(...await edgeOf(page, 'text3', 'middle'));
-    assert.equal(await page.value('gridlay.page.editor.here'), 11);
+    await page.until('gridlay.page.editor.here === 11', 5000);
     assert.equal(await page.value("Math.round(document.querySelector('#marks .here').getBoundingClientRect().top - document.querySelector('#text').getBoundingClientRect().top)"), 6 + 10 * 20);
   });
 }
@@ -368,6 +407,18 @@ async function checkDragSpeed(checks, tools, page) {
     assert.match(await page.value(TEXT), /---\nset p2 width: \d+px\n$/);
     await assertAsProgram(page, program);
   });
+  let spent = [];
+  await checks.check('an edit behind a document of 240 cards is one edit for the engine', async () => {
+    spent = await page.value(`(async () => {
+      const times = [], { engine } = gridlay.page;
+      for (let width = 100; width < 130; width++) times.push((await engine.layout(${JSON.stringify(cards(240))} + '---\\nset p2 width: ' + width + 'px\\n')).time);
+      return times.slice(1).sort((a, b) => a - b);
+    })()`);
+    console.log(`         ms: ${summary(spent)}`);
+  });
+  const within = 'such an edit takes the engine less than 30 ms', busy = loadavg()[0] / availableParallelism();
+  if (busy > 1.5 && spent[0] >= 30) checks.skip(within, `the machine is busy: ${busy.toFixed(1)} jobs for each processor; ${summary(spent)} ms`);
+  else await checks.check(within, () => assert.ok(spent[0] < 30, spent.join(' ')));
 }
 
 async function checkLargeTexts(checks, tools, page) {
@@ -395,8 +446,8 @@ async function checkLargeTexts(checks, tools, page) {
 }
 
 const CHECKS = [
-  checkWords, checkExamples, checkKeys, checkCaret, checkFault, checkRefused, checkDragging, checkScript, checkLatest,
-  checkTrap, checkWorker, checkChosen, checkSpeed, checkDragSpeed, checkLargeTexts, checkMarks, checkNarrow, checkQuiet,
+  checkWords, checkExamples, checkKeys, checkCaret, checkFault, checkRefused, checkDragging, checkScript, checkLatest, checkKept,
+  checkHit, checkTrap, checkWorker, checkChosen, checkSpeed, checkDragSpeed, checkLargeTexts, checkMarks, checkNarrow, checkQuiet,
 ];
 
 /** Checks the page in one window, one check after another. */
