@@ -1,5 +1,5 @@
 -- Changes of a value along a line.
-use Rattle.std.proofs.Common.{arith, rules, refl, sym, ap, subst, length, get_or, ◌∙◌, ◌≡◌, ◌≢◌, ◌⊎◌, inl, inr, ℤ, pos, ◌-ℤ◌, ◌≤ℤ◌, ◌<ℤ◌, Bool, true, false, not, ◌&&◌, List, [], ◌∷◌, ◌++◌, int_le, int_lt, if◌then◌else◌}
+use Rattle.std.proofs.Common.{arith, rules, refl, sym, ap, subst, length, get_or, ◌∙◌, ◌≡◌, ◌⊎◌, inl, inr, ℤ, pos, ◌-ℤ◌, ◌≤ℤ◌, ◌<ℤ◌, Bool, true, false, not, ◌&&◌, List, [], ◌∷◌, ◌++◌, int_le, int_lt, if◌then◌else◌}
 use Rattle.std.specs.Prelude.{filter, Some, IsSome, is_some, unwrap_or}
 use Rattle.std.specs.List.{list_all, AllByRecursion}
 use Rattle.std.specs.List.Sorted.{IsStrictlySortedBy}
@@ -17,7 +17,7 @@ use Rattle.cell_index.specs.Taken.{reads, strictly}
 
 -- ---- the order of places
 
-not_after : (x q : ℤ) → not (is_lt (int_cmp x q)) ≡ int_le q x
+pub not_after : (x q : ℤ) → not (is_lt (int_cmp x q)) ≡ int_le q x
 not_after x q = by (int_lt x q) (int_lt q x) (int_le q x) refl refl refl
   where
     by : (s t u : Bool) → int_lt x q ≡ s → int_lt q x ≡ t → int_le q x ≡ u → not (is_lt (if s then Less else (if t then Greater else Equal))) ≡ u
@@ -63,7 +63,7 @@ some_is x y e = ap (λ o. unwrap_or o x) e
 le_false : (x q : ℤ) → q <ℤ x → int_le x q ≡ false
 le_false x q h = search rules
 
-less_from : (x q : ℤ) → int_cmp x q ≡ Less → x <ℤ q
+pub less_from : (x q : ℤ) → int_cmp x q ≡ Less → x <ℤ q
 less_from x q h = by (int_lt x q) (int_lt q x) refl h
   where
     by : (s t : Bool) → int_lt x q ≡ s → (if s then Less else (if t then Greater else Equal)) ≡ Less → x <ℤ q
@@ -91,7 +91,8 @@ reads_is {A} says p before (e ∷ es) place same =
     by (int_le e.0 place) (reads_is says p (says e.1) es place same) (reads_is says p before es place same)
     ∙ ap (λ b. last_says says before (if b then e ∷ filter p es else filter p es)) (sym (same e))
   where
-    by : (b : Bool) → reads says (says e.1) es place ≡ last_says says (says e.1) (filter p es) → reads says before es place ≡ last_says says before (filter p es) → (if b then reads says (says e.1) es place else reads says before es place) ≡ last_says says before (if b then e ∷ filter p es else filter p es)
+    by : (b : Bool) → reads says (says e.1) es place ≡ last_says says (says e.1) (filter p es) → reads says before es place ≡ last_says says before (filter p es) →
+        (if b then reads says (says e.1) es place else reads says before es place) ≡ last_says says before (if b then e ∷ filter p es else filter p es)
     by true h k = h
     by false h k = k
 
@@ -123,7 +124,7 @@ both true x y u v h k = h
 both false x y u v h k = k
 
 -- no change of these comes up to the place
-none_yet : {A : Type 0} (says : A → Bool) (before : Bool) (k : ℤ) (es : List (ℤ × A)) (place : ℤ) → AllByRecursion (λ y. int_cmp k y ≡ Less) (keys_of es) → place ≤ℤ k → reads says before es place ≡ before
+pub none_yet : {A : Type 0} (says : A → Bool) (before : Bool) (k : ℤ) (es : List (ℤ × A)) (place : ℤ) → AllByRecursion (λ y. int_cmp k y ≡ Less) (keys_of es) → place ≤ℤ k → reads says before es place ≡ before
 none_yet says before k [] place s h = refl
 none_yet {A} says before k (e ∷ es) place s h =
     let past : k <ℤ e.0 = less_from k e.0 s.0 in
@@ -151,7 +152,8 @@ reads_cut {A} says before k v (e ∷ es) place s h =
     behind : AllByRecursion (λ y. int_cmp e.0 y ≡ Less) (keys_of es)
     behind = sorted_head int_cmp e.0 (keys_of es) s
 
-    by : (o : Ordering) → int_cmp k e.0 ≡ o → (says v ≡ reads says (says e.1) es k → reads says (says e.1) (insert_entry int_cmp es k v) place ≡ reads says (says e.1) es place) → reads says before (match_ordering o ((k, v) ∷ e ∷ es) ((e.0, v) ∷ es) (e ∷ insert_entry int_cmp es k v)) place ≡ reads says before (e ∷ es) place
+    by : (o : Ordering) → int_cmp k e.0 ≡ o → (says v ≡ reads says (says e.1) es k → reads says (says e.1) (insert_entry int_cmp es k v) place ≡ reads says (says e.1) es place) →
+        reads says before (match_ordering o ((k, v) ∷ e ∷ es) ((e.0, v) ∷ es) (e ∷ insert_entry int_cmp es k v)) place ≡ reads says before (e ∷ es) place
     by Less o again =
         let less : k <ℤ e.0 = less_from k e.0 o in
         let flat : says v ≡ before = h ∙ passed (int_le e.0 k) (reads says (says e.1) es k) (reads says before es k) (le_false e.0 k less) ∙ none_yet says before e.0 es k behind (omega (arith, ints, less)) in
@@ -165,7 +167,8 @@ reads_cut {A} says before k v (e ∷ es) place s h =
         let g : says v ≡ reads says (says e.1) es k = h ∙ chosen (int_le e.0 k) (reads says (says e.1) es k) (reads says before es k) (le_true e.0 k (omega (arith, ints, more))) in
         past (int_le e.0 place) refl more (again g)
       where
-        past : (b : Bool) → int_le e.0 place ≡ b → e.0 <ℤ k → reads says (says e.1) (insert_entry int_cmp es k v) place ≡ reads says (says e.1) es place → (if b then reads says (says e.1) (insert_entry int_cmp es k v) place else reads says before (insert_entry int_cmp es k v) place) ≡ (if b then reads says (says e.1) es place else reads says before es place)
+        past : (b : Bool) → int_le e.0 place ≡ b → e.0 <ℤ k → reads says (says e.1) (insert_entry int_cmp es k v) place ≡ reads says (says e.1) es place →
+            (if b then reads says (says e.1) (insert_entry int_cmp es k v) place else reads says before (insert_entry int_cmp es k v) place) ≡ (if b then reads says (says e.1) es place else reads says before es place)
         past true e1 more here = here
         past false e1 more here = none_inserted says before e.0 k v es place behind more (omega (arith, ints, lt_false e.0 place e1)) ∙ sym (none_yet says before e.0 es place behind (omega (arith, ints, lt_false e.0 place e1)))
 
@@ -196,7 +199,8 @@ all_kept p true x xs h = (and_parts (p x) (list_all p xs) h).1
 all_kept p false x xs h = h
 
 -- where nothing is taken at the first place, and no change between says that something is, nothing is taken up to the last
-pub reads_free : {A : Type 0} (says clear : A → Bool) → ((a : A) → clear a ≡ true → says a ≡ false) → (s t place : ℤ) → s ≤ℤ place → place <ℤ t → (at here : Bool) (es : List (ℤ × A)) → reads says at es s ≡ false → (here ≡ at) ⊎ (here ≡ false) → list_all (λ (e : ℤ × A). clear e.1) (filter (λ (e : ℤ × A). strictly s t e.0) es) ≡ true → reads says here es place ≡ false
+pub reads_free : {A : Type 0} (says clear : A → Bool) → ((a : A) → clear a ≡ true → says a ≡ false) → (s t place : ℤ) → s ≤ℤ place → place <ℤ t → (at here : Bool) (es : List (ℤ × A)) → reads says at es s ≡ false → (here ≡ at) ⊎ (here ≡ false) →
+    list_all (λ (e : ℤ × A). clear e.1) (filter (λ (e : ℤ × A). strictly s t e.0) es) ≡ true → reads says here es place ≡ false
 reads_free says clear f s t place low high at here [] h (inl e) g = e ∙ h
 reads_free says clear f s t place low high at here [] h (inr e) g = e
 reads_free {A} says clear f s t place low high at here (e ∷ es) h j g =
@@ -206,9 +210,13 @@ reads_free {A} says clear f s t place low high at here (e ∷ es) h j g =
     rest = all_kept (λ (c : ℤ × A). clear c.1) (strictly s t e.0) e (filter (λ (c : ℤ × A). strictly s t c.0) es) g
 
     says_no : s <ℤ e.0 → e.0 <ℤ t → says e.1 ≡ false
-    says_no u v = f e.1 (and_parts (clear e.1) (list_all (λ (c : ℤ × A). clear c.1) (filter (λ (c : ℤ × A). strictly s t c.0) es)) (sym (ap (λ b. list_all (λ (c : ℤ × A). clear c.1) (if b then e ∷ filter (λ (c : ℤ × A). strictly s t c.0) es else filter (λ (c : ℤ × A). strictly s t c.0) es)) (is_between s t e.0 u v)) ∙ g)).0
+    says_no u v =
+        f e.1
+        (and_parts (clear e.1) (list_all (λ (c : ℤ × A). clear c.1) (filter (λ (c : ℤ × A). strictly s t c.0) es))
+        (sym (ap (λ b. list_all (λ (c : ℤ × A). clear c.1) (if b then e ∷ filter (λ (c : ℤ × A). strictly s t c.0) es else filter (λ (c : ℤ × A). strictly s t c.0) es)) (is_between s t e.0 u v)) ∙ g)).0
 
-    by : (a b : Bool) → int_le e.0 s ≡ a → int_le e.0 place ≡ b → (if a then reads says (says e.1) es s else reads says at es s) ≡ false → ((x y : Bool) → reads says x es s ≡ false → (y ≡ x) ⊎ (y ≡ false) → list_all (λ (c : ℤ × A). clear c.1) (filter (λ (c : ℤ × A). strictly s t c.0) es) ≡ true → reads says y es place ≡ false) → (if b then reads says (says e.1) es place else reads says here es place) ≡ false
+    by : (a b : Bool) → int_le e.0 s ≡ a → int_le e.0 place ≡ b → (if a then reads says (says e.1) es s else reads says at es s) ≡ false →
+        ((x y : Bool) → reads says x es s ≡ false → (y ≡ x) ⊎ (y ≡ false) → list_all (λ (c : ℤ × A). clear c.1) (filter (λ (c : ℤ × A). strictly s t c.0) es) ≡ true → reads says y es place ≡ false) → (if b then reads says (says e.1) es place else reads says here es place) ≡ false
     by true true k l m again = again (says e.1) (says e.1) m (inl refl) rest
     by true false k l m again = absurd (omega (arith, ints, le_from e.0 s k, lt_false e.0 place l, low))
     by false true k l m again = again at (says e.1) m (inr (says_no (lt_false e.0 s k) (omega (arith, ints, le_from e.0 place l, high)))) rest
@@ -234,7 +242,8 @@ shut_change {A} clear s t (e ∷ es) sorted h =
     later : IsChange clear s t es → IsChange clear s t (e ∷ es)
     later c = record { place = c.place; value = c.value; first = c.first; last = c.last; shut = c.shut; read = λ says before. either (int_le e.0 c.place) (reads says (says e.1) es c.place) (reads says before es c.place) (c.read says (says e.1) ∙ sym (c.read says before)) ∙ c.read says before }
 
-    by : (a b : Bool) → strictly s t e.0 ≡ a → clear e.1 ≡ b → list_all (λ (c : ℤ × A). clear c.1) (if a then e ∷ filter (λ (c : ℤ × A). strictly s t c.0) es else filter (λ (c : ℤ × A). strictly s t c.0) es) ≡ false → (list_all (λ (c : ℤ × A). clear c.1) (filter (λ (c : ℤ × A). strictly s t c.0) es) ≡ false → IsChange clear s t (e ∷ es)) → IsChange clear s t (e ∷ es)
+    by : (a b : Bool) → strictly s t e.0 ≡ a → clear e.1 ≡ b → list_all (λ (c : ℤ × A). clear c.1) (if a then e ∷ filter (λ (c : ℤ × A). strictly s t c.0) es else filter (λ (c : ℤ × A). strictly s t c.0) es) ≡ false →
+        (list_all (λ (c : ℤ × A). clear c.1) (filter (λ (c : ℤ × A). strictly s t c.0) es) ≡ false → IsChange clear s t (e ∷ es)) → IsChange clear s t (e ∷ es)
     by false b k l m again = again m
     by true true k l m again = again (sym (ap (λ o. o && list_all (λ (c : ℤ × A). clear c.1) (filter (λ (c : ℤ × A). strictly s t c.0) es)) l) ∙ m)
     by true false k l m again =
@@ -254,7 +263,8 @@ pub forgets : {A : Type 0} (says : A → Bool) (a b : Bool) (t : ℤ) (es : List
 forgets says a b t [] place some h = absurd (true≢false (sym some))
 forgets {A} says a b t (e ∷ es) place some h = by (is_eq (int_cmp t e.0)) (int_le e.0 place) refl refl some (λ k. forgets says a b t es place k h)
   where
-    by : (o u : Bool) → is_eq (int_cmp t e.0) ≡ o → int_le e.0 place ≡ u → IsSome (if o then Some e.1 else lookup (is_at (int_cmp t)) es) → (IsSome (lookup (is_at (int_cmp t)) es) → reads says a es place ≡ reads says b es place) → (if u then reads says (says e.1) es place else reads says a es place) ≡ (if u then reads says (says e.1) es place else reads says b es place)
+    by : (o u : Bool) → is_eq (int_cmp t e.0) ≡ o → int_le e.0 place ≡ u → IsSome (if o then Some e.1 else lookup (is_at (int_cmp t)) es) → (IsSome (lookup (is_at (int_cmp t)) es) → reads says a es place ≡ reads says b es place) →
+        (if u then reads says (says e.1) es place else reads says a es place) ≡ (if u then reads says (says e.1) es place else reads says b es place)
     by o true k l m again = refl
     by false false k l m again = again m
     by true false k l m again = absurd (omega (arith, ints, equal_from t e.0 k, lt_false e.0 place l, h))
@@ -264,7 +274,8 @@ pub reads_same : {A : Type 0} (says : A → Bool) (before : Bool) (k : ℤ) (v w
 reads_same says before k v w [] place some h = refl
 reads_same {A} says before k v w (e ∷ es) place some h = by (is_eq (int_cmp k e.0)) some (λ b g. reads_same says b k v w es place g h)
   where
-    by : (o : Bool) → (if o then Some e.1 else lookup (is_at (int_cmp k)) es) ≡ Some v → ((b : Bool) → lookup (is_at (int_cmp k)) es ≡ Some v → reads says b (set_value (is_at (int_cmp k)) es w) place ≡ reads says b es place) → reads says before (if o then (e.0, w) ∷ es else e ∷ set_value (is_at (int_cmp k)) es w) place ≡ reads says before (e ∷ es) place
+    by : (o : Bool) → (if o then Some e.1 else lookup (is_at (int_cmp k)) es) ≡ Some v → ((b : Bool) → lookup (is_at (int_cmp k)) es ≡ Some v → reads says b (set_value (is_at (int_cmp k)) es w) place ≡ reads says b es place) →
+        reads says before (if o then (e.0, w) ∷ es else e ∷ set_value (is_at (int_cmp k)) es w) place ≡ reads says before (e ∷ es) place
     by true g again = ap (λ b. if int_le e.0 place then reads says b es place else reads says before es place) (h ∙ ap says (sym (some_is e.1 v g)))
     by false g again = both (int_le e.0 place) (reads says (says e.1) (set_value (is_at (int_cmp k)) es w) place) (reads says before (set_value (is_at (int_cmp k)) es w) place) (reads says (says e.1) es place) (reads says before es place) (again (says e.1) g) (again before g)
 
@@ -273,7 +284,8 @@ pub reads_before : {A : Type 0} (says : A → Bool) (before : Bool) (k : ℤ) (w
 reads_before says before k w [] place h = refl
 reads_before {A} says before k w (e ∷ es) place h = by (is_eq (int_cmp k e.0)) refl (reads_before says (says e.1) k w es place h) (reads_before says before k w es place h)
   where
-    by : (o : Bool) → is_eq (int_cmp k e.0) ≡ o → reads says (says e.1) (set_value (is_at (int_cmp k)) es w) place ≡ reads says (says e.1) es place → reads says before (set_value (is_at (int_cmp k)) es w) place ≡ reads says before es place → reads says before (if o then (e.0, w) ∷ es else e ∷ set_value (is_at (int_cmp k)) es w) place ≡ reads says before (e ∷ es) place
+    by : (o : Bool) → is_eq (int_cmp k e.0) ≡ o → reads says (says e.1) (set_value (is_at (int_cmp k)) es w) place ≡ reads says (says e.1) es place → reads says before (set_value (is_at (int_cmp k)) es w) place ≡ reads says before es place →
+        reads says before (if o then (e.0, w) ∷ es else e ∷ set_value (is_at (int_cmp k)) es w) place ≡ reads says before (e ∷ es) place
     by true o u v =
         let no : int_le e.0 place ≡ false = le_false e.0 place (omega (arith, ints, equal_from k e.0 o, h)) in
         passed (int_le e.0 place) (reads says (says w) es place) (reads says before es place) no ∙ sym (passed (int_le e.0 place) (reads says (says e.1) es place) (reads says before es place) no)
@@ -289,11 +301,13 @@ set_none {A} k q w (e ∷ es) s h = by (is_eq (int_cmp k e.0)) refl (set_none k 
     by false o g = ap (λ xs. e ∷ xs) g
 
 -- nor from the next change on
-pub reads_after : {A : Type 0} (says : A → Bool) (before : Bool) (k t : ℤ) (w : A) (es : List (ℤ × A)) (place : ℤ) → IsStrictlySortedBy int_cmp (keys_of es) → k <ℤ t → t ≤ℤ place → IsSome (lookup (is_at (int_cmp t)) es) → reads says before (set_value (is_at (int_cmp k)) es w) place ≡ reads says before es place
+pub reads_after : {A : Type 0} (says : A → Bool) (before : Bool) (k t : ℤ) (w : A) (es : List (ℤ × A)) (place : ℤ) → IsStrictlySortedBy int_cmp (keys_of es) → k <ℤ t → t ≤ℤ place → IsSome (lookup (is_at (int_cmp t)) es) →
+    reads says before (set_value (is_at (int_cmp k)) es w) place ≡ reads says before es place
 reads_after says before k t w [] place sorted less h some = refl
 reads_after {A} says before k t w (e ∷ es) place sorted less h some = by (is_eq (int_cmp k e.0)) (is_eq (int_cmp t e.0)) refl refl some (λ b g. reads_after says b k t w es place (sorted_tail int_cmp e.0 (keys_of es) sorted) less h g)
   where
-    by : (o u : Bool) → is_eq (int_cmp k e.0) ≡ o → is_eq (int_cmp t e.0) ≡ u → IsSome (if u then Some e.1 else lookup (is_at (int_cmp t)) es) → ((b : Bool) → IsSome (lookup (is_at (int_cmp t)) es) → reads says b (set_value (is_at (int_cmp k)) es w) place ≡ reads says b es place) → reads says before (if o then (e.0, w) ∷ es else e ∷ set_value (is_at (int_cmp k)) es w) place ≡ reads says before (e ∷ es) place
+    by : (o u : Bool) → is_eq (int_cmp k e.0) ≡ o → is_eq (int_cmp t e.0) ≡ u → IsSome (if u then Some e.1 else lookup (is_at (int_cmp t)) es) → ((b : Bool) → IsSome (lookup (is_at (int_cmp t)) es) → reads says b (set_value (is_at (int_cmp k)) es w) place ≡ reads says b es place) →
+        reads says before (if o then (e.0, w) ∷ es else e ∷ set_value (is_at (int_cmp k)) es w) place ≡ reads says before (e ∷ es) place
     by true true o u g again = absurd (omega (arith, ints, equal_from k e.0 o, equal_from t e.0 u, less))
     by true false o u g again = both (int_le e.0 place) (reads says (says w) es place) (reads says before es place) (reads says (says e.1) es place) (reads says before es place) (forgets says (says w) (says e.1) t es place g h) refl
     by false true o u g again =
@@ -302,7 +316,7 @@ reads_after {A} says before k t w (e ∷ es) place sorted less h some = by (is_e
     by false false o u g again = both (int_le e.0 place) (reads says (says e.1) (set_value (is_at (int_cmp k)) es w) place) (reads says before (set_value (is_at (int_cmp k)) es w) place) (reads says (says e.1) es place) (reads says before es place) (again (says e.1) g) (again before g)
 
 -- an empty list has no first item
-no_item : {B : Type 0} (x : B) (xs : List B) → x ∷ xs ≡ [] → ⊥
+pub no_item : {B : Type 0} (x : B) (xs : List B) → x ∷ xs ≡ [] → ⊥
 no_item x xs h = let n : length (x ∷ xs) ≡ 0 = ap length h in omega (arith, n)
 
 none_left : {B : Type 0} (b : Bool) (x : B) (xs : List B) → (if b then x ∷ xs else xs) ≡ [] → xs ≡ []
@@ -321,14 +335,16 @@ none_between {A} says b k t (e ∷ es) place s h g = by (int_le e.0 place) refl 
     by false e1 again = again
 
 -- from the change up to the next one it says what is new
-pub reads_within : {A : Type 0} (says : A → Bool) (before : Bool) (k t : ℤ) (w : A) (es : List (ℤ × A)) (place : ℤ) → IsStrictlySortedBy int_cmp (keys_of es) → IsSome (lookup (is_at (int_cmp k)) es) → filter (λ (e : ℤ × A). strictly k t e.0) es ≡ [] → k ≤ℤ place → place <ℤ t → reads says before (set_value (is_at (int_cmp k)) es w) place ≡ says w
+pub reads_within : {A : Type 0} (says : A → Bool) (before : Bool) (k t : ℤ) (w : A) (es : List (ℤ × A)) (place : ℤ) → IsStrictlySortedBy int_cmp (keys_of es) → IsSome (lookup (is_at (int_cmp k)) es) → filter (λ (e : ℤ × A). strictly k t e.0) es ≡ [] → k ≤ℤ place → place <ℤ t →
+    reads says before (set_value (is_at (int_cmp k)) es w) place ≡ says w
 reads_within says before k t w [] place sorted some none low high = absurd (true≢false (sym some))
 reads_within {A} says before k t w (e ∷ es) place sorted some none low high = by (is_eq (int_cmp k e.0)) refl some (λ b g. reads_within says b k t w es place (sorted_tail int_cmp e.0 (keys_of es) sorted) g rest low high)
   where
     rest : filter (λ (c : ℤ × A). strictly k t c.0) es ≡ []
     rest = none_left (strictly k t e.0) e (filter (λ (c : ℤ × A). strictly k t c.0) es) none
 
-    by : (o : Bool) → is_eq (int_cmp k e.0) ≡ o → IsSome (if o then Some e.1 else lookup (is_at (int_cmp k)) es) → ((b : Bool) → IsSome (lookup (is_at (int_cmp k)) es) → reads says b (set_value (is_at (int_cmp k)) es w) place ≡ says w) → reads says before (if o then (e.0, w) ∷ es else e ∷ set_value (is_at (int_cmp k)) es w) place ≡ says w
+    by : (o : Bool) → is_eq (int_cmp k e.0) ≡ o → IsSome (if o then Some e.1 else lookup (is_at (int_cmp k)) es) → ((b : Bool) → IsSome (lookup (is_at (int_cmp k)) es) → reads says b (set_value (is_at (int_cmp k)) es w) place ≡ says w) →
+        reads says before (if o then (e.0, w) ∷ es else e ∷ set_value (is_at (int_cmp k)) es w) place ≡ says w
     by true o g again =
         let same : k ≡ e.0 = equal_from k e.0 o in
         let P : ℤ → Type 0 = λ q. AllByRecursion (λ y. int_cmp q y ≡ Less) (keys_of es) in
@@ -348,7 +364,8 @@ none_removed {A} says before q k (e ∷ es) place s h = by (is_eq (int_cmp k e.0
     by false again = passed (int_le e.0 place) (reads says (says e.1) (remove_entry (is_at (int_cmp k)) es) place) (reads says before (remove_entry (is_at (int_cmp k)) es) place) (le_false e.0 place (omega (arith, ints, less_from q e.0 s.0, h))) ∙ again
 
 -- a change that says what was said before it can go
-pub reads_joined : {A : Type 0} (says : A → Bool) (before : Bool) (k : ℤ) (es : List (ℤ × A)) (place : ℤ) → IsStrictlySortedBy int_cmp (keys_of es) → reads says before es k ≡ reads says before es (k -ℤ pos 1) → reads says before (remove_entry (is_at (int_cmp k)) es) place ≡ reads says before es place
+pub reads_joined : {A : Type 0} (says : A → Bool) (before : Bool) (k : ℤ) (es : List (ℤ × A)) (place : ℤ) → IsStrictlySortedBy int_cmp (keys_of es) → reads says before es k ≡ reads says before es (k -ℤ pos 1) →
+    reads says before (remove_entry (is_at (int_cmp k)) es) place ≡ reads says before es place
 reads_joined says before k [] place s h = refl
 reads_joined {A} says before k (e ∷ es) place s h =
     by (is_eq (int_cmp k e.0)) (int_le e.0 k) refl refl (λ b g. reads_joined says b k es place (sorted_tail int_cmp e.0 (keys_of es) s) g)
@@ -360,7 +377,8 @@ reads_joined {A} says before k (e ∷ es) place s h =
     rest = remove_entry (is_at (int_cmp k)) es
 
     -- it is after the first change
-    past : e.0 ≤ℤ (k -ℤ pos 1) → (b : Bool) → int_le e.0 place ≡ b → (reads says (says e.1) es k ≡ reads says (says e.1) es (k -ℤ pos 1) → reads says (says e.1) rest place ≡ reads says (says e.1) es place) → (if b then reads says (says e.1) rest place else reads says before rest place) ≡ (if b then reads says (says e.1) es place else reads says before es place)
+    past : e.0 ≤ℤ (k -ℤ pos 1) → (b : Bool) → int_le e.0 place ≡ b → (reads says (says e.1) es k ≡ reads says (says e.1) es (k -ℤ pos 1) → reads says (says e.1) rest place ≡ reads says (says e.1) es place) →
+        (if b then reads says (says e.1) rest place else reads says before rest place) ≡ (if b then reads says (says e.1) es place else reads says before es place)
     past low true f again =
         again (sym (chosen (int_le e.0 k) (reads says (says e.1) es k) (reads says before es k) (le_true e.0 k (omega (arith, ints, low)))) ∙ h ∙ chosen (int_le e.0 (k -ℤ pos 1)) (reads says (says e.1) es (k -ℤ pos 1)) (reads says before es (k -ℤ pos 1)) (le_true e.0 (k -ℤ pos 1) low))
     past low false f again = none_removed says before e.0 k es place behind (omega (arith, ints, lt_false e.0 place f)) ∙ sym (none_yet says before e.0 es place behind (omega (arith, ints, lt_false e.0 place f)))
@@ -369,7 +387,8 @@ reads_joined {A} says before k (e ∷ es) place s h =
     by true u f g again =
         let same : k ≡ e.0 = equal_from k e.0 f in
         let here : reads says before (e ∷ es) k ≡ says e.1 = chosen (int_le e.0 k) (reads says (says e.1) es k) (reads says before es k) (le_true e.0 k (omega (arith, ints, same))) ∙ none_yet says (says e.1) e.0 es k behind (omega (arith, ints, same)) in
-        let there : reads says before (e ∷ es) (k -ℤ pos 1) ≡ before = passed (int_le e.0 (k -ℤ pos 1)) (reads says (says e.1) es (k -ℤ pos 1)) (reads says before es (k -ℤ pos 1)) (le_false e.0 (k -ℤ pos 1) (omega (arith, ints, same))) ∙ none_yet says before e.0 es (k -ℤ pos 1) behind (omega (arith, ints, same)) in
+        let there : reads says before (e ∷ es) (k -ℤ pos 1) ≡
+        before = passed (int_le e.0 (k -ℤ pos 1)) (reads says (says e.1) es (k -ℤ pos 1)) (reads says before es (k -ℤ pos 1)) (le_false e.0 (k -ℤ pos 1) (omega (arith, ints, same))) ∙ none_yet says before e.0 es (k -ℤ pos 1) behind (omega (arith, ints, same)) in
         sym (either (int_le e.0 place) (reads says (says e.1) es place) (reads says before es place) (ap (λ b. reads says b es place) (sym here ∙ h ∙ there)))
     by false true f g again = past (omega (arith, ints, before_from k e.0 f (le_from e.0 k g))) (int_le e.0 place) refl (again (says e.1))
     by false false f g again =

@@ -93,7 +93,7 @@ parity n = by (n % 2 == 0) refl
         ap (λ m. m == 0) none
 
 -- what is said after so many changes
-abbrev turned : Bool → ℕ → Bool
+abbrev pub turned : Bool → ℕ → Bool
 turned now zero = now
 turned now (suc n) = turned (not now) n
 
@@ -105,7 +105,7 @@ turned_is now (suc n) = turned_is (not now) n ∙ by (n % 2 == 0) ∙ ap (λ b. 
     by true = refl
     by false = not_not now
 
-turned_once : (n : ℕ) → turned false n ≡ not (n % 2 == 0)
+pub turned_once : (n : ℕ) → turned false n ≡ not (n % 2 == 0)
 turned_once n = turned_is false n ∙ by (n % 2 == 0)
   where
     by : (b : Bool) → (if b then false else not false) ≡ not b
@@ -153,7 +153,7 @@ leaves false edge ys place h = refl
 
 -- ---- a span more
 
-all_weaker : (P Q : ℤ → Type 0) → ((x : ℤ) → P x → Q x) → (xs : List ℤ) → AllByRecursion P xs → AllByRecursion Q xs
+pub all_weaker : (P Q : ℤ → Type 0) → ((x : ℤ) → P x → Q x) → (xs : List ℤ) → AllByRecursion P xs → AllByRecursion Q xs
 all_weaker P Q f [] h = tt
 all_weaker P Q f (x ∷ xs) h = (f x h.0, all_weaker P Q f xs h.1)
 
@@ -200,7 +200,9 @@ span_added es n m span place p = by (int_le span.start place) (int_lt place span
     by false b e f =
         let less : place <ℤ span.start = search rules in
         let behind : AllByRecursion (λ edge. place <ℤ edge) back = all_weaker (λ edge. span.end <ℤ edge) (λ edge. place <ℤ edge) (λ x k. omega (arith, ints, less, p.some, k)) back p.after in
-        changes_front false (take n es) (one_if even_first span.start ++ (one_if even_last span.end ++ back)) (drop n es) place (all_one (λ edge. place <ℤ edge) even_first span.start (one_if even_last span.end ++ back) less (all_one (λ edge. place <ℤ edge) even_last span.end back (omega (arith, ints, less, p.some)) behind)) (all_weaker (λ edge. span.start ≤ℤ edge) (λ edge. place <ℤ edge) (λ x k. omega (arith, ints, less, k)) (drop n es) p.from)
+        changes_front false (take n es) (one_if even_first span.start ++ (one_if even_last span.end ++ back)) (drop n es) place
+        (all_one (λ edge. place <ℤ edge) even_first span.start (one_if even_last span.end ++ back) less (all_one (λ edge. place <ℤ edge) even_last span.end back (omega (arith, ints, less, p.some)) behind))
+        (all_weaker (λ edge. span.start ≤ℤ edge) (λ edge. place <ℤ edge) (λ x k. omega (arith, ints, less, k)) (drop n es) p.from)
         ∙ sym (whole n) ∙ sym (or_false (changes false es place))
     by true true e f =
         let from : span.start ≤ℤ place = search rules in
@@ -248,7 +250,8 @@ span_rises es n m span h p =
     (rising_one (n % 2 == 0) span.start (one_if (m % 2 == 0) span.end ++ drop m es)
     (all_one (λ later. span.start <ℤ later) (m % 2 == 0) span.end (drop m es) p.some (all_weaker (λ edge. span.end <ℤ edge) (λ later. span.start <ℤ later) (λ x k. omega (arith, ints, p.some, k)) (drop m es) p.after))
     (rising_one (m % 2 == 0) span.end (drop m es) p.after (rising_drop m es h)))
-    (all_one (λ edge. span.start ≤ℤ edge) (n % 2 == 0) span.start (one_if (m % 2 == 0) span.end ++ drop m es) (omega (arith, ints)) (all_one (λ edge. span.start ≤ℤ edge) (m % 2 == 0) span.end (drop m es) (omega (arith, ints, p.some)) (all_weaker (λ edge. span.end <ℤ edge) (λ edge. span.start ≤ℤ edge) (λ x k. omega (arith, ints, p.some, k)) (drop m es) p.after)))
+    (all_one (λ edge. span.start ≤ℤ edge) (n % 2 == 0) span.start (one_if (m % 2 == 0) span.end ++ drop m es) (omega (arith, ints))
+    (all_one (λ edge. span.start ≤ℤ edge) (m % 2 == 0) span.end (drop m es) (omega (arith, ints, p.some)) (all_weaker (λ edge. span.end <ℤ edge) (λ edge. span.start ≤ℤ edge) (λ x k. omega (arith, ints, p.some, k)) (drop m es) p.after)))
 
 -- ---- an open span
 
@@ -268,7 +271,7 @@ open_first es n span h k =
     ∙ ap (λ m. leaves_open (turned false m) (drop n es) span) (length-take-le n es h)
     ∙ ap (λ b. leaves_open b (drop n es) span) (turned_once n)
 
-taken_shut : (ys : List ℤ) (span : Span) → AllByRecursion (λ edge. span.start <ℤ edge) ys → leaves_open true ys span ≡ false
+pub taken_shut : (ys : List ℤ) (span : Span) → AllByRecursion (λ edge. span.start <ℤ edge) ys → leaves_open true ys span ≡ false
 taken_shut [] span h = refl
 taken_shut (y ∷ ys) span h = passed (int_le y span.start) (leaves_open false ys span) false (le_false y span.start h.0)
 
@@ -424,7 +427,8 @@ shut_has es span some h =
 moved : (P : List ℤ → Type 0) (xs ys : List ℤ) → xs ≡ ys → P xs → P ys
 moved P xs ys e h = subst P e h
 
-pub parted : (es front back : List ℤ) (n m : ℕ) (span : Span) (start end : ℤ) → front ≡ es → back ≡ es → start ≡ span.start → end ≡ span.end → span.start <ℤ span.end → n ≤ length front → m ≤ length back → AllByRecursion (λ edge. edge <ℤ start) (take n front) → AllByRecursion (λ edge. start ≤ℤ edge) (drop n front) → AllByRecursion (λ edge. edge ≤ℤ end) (take m back) → AllByRecursion (λ edge. end <ℤ edge) (drop m back) → IsParted es n m span
+pub parted : (es front back : List ℤ) (n m : ℕ) (span : Span) (start end : ℤ) → front ≡ es → back ≡ es → start ≡ span.start → end ≡ span.end → span.start <ℤ span.end → n ≤ length front → m ≤ length back → AllByRecursion (λ edge. edge <ℤ start) (take n front) →
+    AllByRecursion (λ edge. start ≤ℤ edge) (drop n front) → AllByRecursion (λ edge. edge ≤ℤ end) (take m back) → AllByRecursion (λ edge. end <ℤ edge) (drop m back) → IsParted es n m span
 parted es front back n m span start end e f at to some a b p q r s = record {
   some = some;
   first = moved (λ l. n ≤ length l) front es e a;

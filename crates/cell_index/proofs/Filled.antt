@@ -69,7 +69,8 @@ in_turn a b c track low high = by (int_le a track) (int_lt track b) (int_le b tr
 
 -- ---- one band
 
-pub band_added : (row next : ℤ) (columns : Span) (old now : RowBands) → IsAddedAt row columns old now → IsStrictlySortedBy int_cmp (keys_of old.bands.entries) → row <ℤ next → IsSome (tree.get int_cmp old.bands next) → filter (λ (e : ℤ × TakenColumns). strictly row next e.0) old.bands.entries ≡ [] → (r c : ℤ) → held now r c ≡ (held old r c || (within (record { start = row; end = next }) r && within columns c))
+pub band_added : (row next : ℤ) (columns : Span) (old now : RowBands) → IsAddedAt row columns old now → IsStrictlySortedBy int_cmp (keys_of old.bands.entries) → row <ℤ next → IsSome (tree.get int_cmp old.bands next) →
+    filter (λ (e : ℤ × TakenColumns). strictly row next e.0) old.bands.entries ≡ [] → (r c : ℤ) → held now r c ≡ (held old r c || (within (record { start = row; end = next }) r && within columns c))
 band_added row next columns old now h sorted less some none r c =
     ap (λ es. reads says false es r) h.entries ∙ by (within columns c) refl (within (record { start = row; end = next }) r) refl
   where
@@ -108,4 +109,5 @@ still_begins row columns old now t h some =
     kept [] g = g
     kept (e ∷ es) g =
         let P : List (ℤ × TakenColumns) → Type 0 = λ l. IsSome (lookup (is_at (int_cmp t)) l) in
-        pick P (is_eq (int_cmp row e.0)) ((e.0, h.next) ∷ es) (e ∷ set_value (is_at (int_cmp row)) es h.next) (found (is_eq (int_cmp t e.0)) e.1 h.next (lookup (is_at (int_cmp t)) es) (lookup (is_at (int_cmp t)) es) g (λ k. k)) (found (is_eq (int_cmp t e.0)) e.1 e.1 (lookup (is_at (int_cmp t)) es) (lookup (is_at (int_cmp t)) (set_value (is_at (int_cmp row)) es h.next)) g (λ k. kept es k))
+        pick P (is_eq (int_cmp row e.0)) ((e.0, h.next) ∷ es) (e ∷ set_value (is_at (int_cmp row)) es h.next) (found (is_eq (int_cmp t e.0)) e.1 h.next (lookup (is_at (int_cmp t)) es) (lookup (is_at (int_cmp t)) es) g (λ k. k))
+        (found (is_eq (int_cmp t e.0)) e.1 e.1 (lookup (is_at (int_cmp t)) es) (lookup (is_at (int_cmp t)) (set_value (is_at (int_cmp row)) es h.next)) g (λ k. kept es k))

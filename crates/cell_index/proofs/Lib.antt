@@ -4,3 +4,7 @@ pub mod Filled
 pub mod Spans
 pub mod Told
 pub mod Pairs
+pub mod Passed
+pub mod BandsPassed
+pub mod BlocksPassed
+pub mod Found

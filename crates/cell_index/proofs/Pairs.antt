@@ -48,12 +48,14 @@ joined_span first second from to track starts ends same low high =
     ∙ sym (in_turn first.start first.end second.end track low (omega (arith, ints, same, high)))
     ∙ ap (λ (z : ℤ). within first track || within (record { start = z; end = second.end }) track) same
 
-pub pair_beside : (first second : Area) (columns : Span) → first.rows ≡ second.rows → ((track : ℤ) → within columns track ≡ (within first.columns track || within second.columns track)) → (row column : ℤ) → holds (record { columns = columns; rows = first.rows }) row column ≡ (holds first row column || holds second row column)
+pub pair_beside : (first second : Area) (columns : Span) → first.rows ≡ second.rows → ((track : ℤ) → within columns track ≡ (within first.columns track || within second.columns track)) → (row column : ℤ) →
+    holds (record { columns = columns; rows = first.rows }) row column ≡ (holds first row column || holds second row column)
 pair_beside first second columns rows both row column =
     and_apart (within first.rows row) (within first.columns column) (within second.columns column) (within columns column) (sym (both column))
     ∙ ap (λ (span : Span). (within first.rows row && within first.columns column) || (within span row && within second.columns column)) rows
 
-pub pair_below : (first second : Area) (rows : Span) → first.columns ≡ second.columns → ((track : ℤ) → within rows track ≡ (within first.rows track || within second.rows track)) → (row column : ℤ) → holds (record { columns = first.columns; rows = rows }) row column ≡ (holds first row column || holds second row column)
+pub pair_below : (first second : Area) (rows : Span) → first.columns ≡ second.columns → ((track : ℤ) → within rows track ≡ (within first.rows track || within second.rows track)) → (row column : ℤ) →
+    holds (record { columns = first.columns; rows = rows }) row column ≡ (holds first row column || holds second row column)
 pair_below first second rows columns both row column =
     apart_and (within first.columns column) (within first.rows row) (within second.rows row) (within rows row) (sym (both row))
     ∙ ap (λ (span : Span). (within first.rows row && within first.columns column) || (within second.rows row && within span column)) columns
@@ -63,17 +65,18 @@ pair_below first second rows columns both row column =
 none_holds : (row column : ℤ) → holds (record { columns = record { start = pos 0; end = pos 0 }; rows = record { start = pos 0; end = pos 0 } }) row column ≡ false
 none_holds row column = ap (λ t. t && within (record { start = pos 0; end = pos 0 }) column) (empty_span (pos 0) (pos 0) row (omega (arith, ints)))
 
-pub nothing_held : (blocks : Blocks) (row column : ℤ) → held blocks.bands row column ≡ false → blocks.block ≡ record { columns = record { start = pos 0; end = pos 0 }; rows = record { start = pos 0; end = pos 0 } } → blocks.run ≡ record { columns = record { start = pos 0; end = pos 0 }; rows = record { start = pos 0; end = pos 0 } } → held_in blocks row column ≡ false
+pub nothing_held : (blocks : Blocks) (row column : ℤ) → held blocks.bands row column ≡ false → blocks.block ≡ record { columns = record { start = pos 0; end = pos 0 }; rows = record { start = pos 0; end = pos 0 } } →
+    blocks.run ≡ record { columns = record { start = pos 0; end = pos 0 }; rows = record { start = pos 0; end = pos 0 } } → held_in blocks row column ≡ false
 nothing_held blocks row column bands block run =
     ap (λ t. (t || holds blocks.block row column) || holds blocks.run row column) bands
     ∙ ap (λ t. t || holds blocks.run row column) (ap (λ area. holds area row column) block ∙ none_holds row column)
     ∙ ap (λ area. holds area row column) run ∙ none_holds row column
 
-last_yes : (u v : Bool) → v ≡ true → (u || v) ≡ true
+pub last_yes : (u v : Bool) → v ≡ true → (u || v) ≡ true
 last_yes true v e = refl
 last_yes false v e = e
 
-first_yes : (u v : Bool) → u ≡ true → (u || v) ≡ true
+pub first_yes : (u v : Bool) → u ≡ true → (u || v) ≡ true
 first_yes u v e = ap (λ t. t || v) e
 
 cell_in : (a b : Area) (h : HaveCell a b) → holds b h.row h.column ≡ true
@@ -124,7 +127,8 @@ apart a b row column e h = by (holds b row column) refl
     by true f = absurd (true≢false (sym (has_overlap a b (have_cell a b row column h f)) ∙ e))
     by false f = refl
 
-pub none_in : (blocks : Blocks) (area : Area) → areas_overlap area blocks.run ≡ false → areas_overlap area blocks.block ≡ false → ((row column : ℤ) → holds area row column ≡ true → held blocks.bands row column ≡ false) → (row column : ℤ) → holds area row column ≡ true → held_in blocks row column ≡ false
+pub none_in : (blocks : Blocks) (area : Area) → areas_overlap area blocks.run ≡ false → areas_overlap area blocks.block ≡ false → ((row column : ℤ) → holds area row column ≡ true → held blocks.bands row column ≡ false) → (row column : ℤ) → holds area row column ≡ true →
+    held_in blocks row column ≡ false
 none_in blocks area run block bands row column h =
     ap (λ t. (t || holds blocks.block row column) || holds blocks.run row column) (bands row column h)
     ∙ ap (λ t. t || holds blocks.run row column) (apart area blocks.block row column block h)

@@ -73,6 +73,7 @@ shut_when_told a areas blocks told h =
 pub told_more : (areas : List Area) (a : Area) (row column : ℤ) → any_holds (areas ++ a ∷ []) row column ≡ (any_holds areas row column || holds a row column)
 told_more areas a row column = list_any-append (λ (b : Area). holds b row column) areas (a ∷ []) ∙ ap (λ t. any_holds areas row column || t) (or_no (holds a row column))
 
-pub free_is_told : (result : Bool) (a : Area) (areas : List Area) (blocks : Blocks) → ((row column : ℤ) → held_in blocks row column ≡ any_holds areas row column) → (result ≡ true → (row column : ℤ) → holds a row column ≡ true → held_in blocks row column ≡ false) → (result ≡ false → HasTaken blocks a) → result ≡ is_free a areas
+pub free_is_told : (result : Bool) (a : Area) (areas : List Area) (blocks : Blocks) → ((row column : ℤ) → held_in blocks row column ≡ any_holds areas row column) → (result ≡ true → (row column : ℤ) → holds a row column ≡ true → held_in blocks row column ≡ false) →
+    (result ≡ false → HasTaken blocks a) → result ≡ is_free a areas
 free_is_told true a areas blocks told free shut = sym (free_when_told a areas blocks told (free refl))
 free_is_told false a areas blocks told free shut = sym (shut_when_told a areas blocks told (shut refl))

@@ -1,4 +1,5 @@
 pub mod Rising
 pub mod Taken
 pub mod Held
+pub mod Passed
 pub mod Cells

@@ -3,6 +3,7 @@
 ghost use Rattle.std.specs.Prelude.{◌≡◌, ◌<◌, ◌≤◌, ℤ, pos, get_or, int_le, ◌-ℤ◌, ◌<ℤ◌, ◌≤ℤ◌, ◌++◌, [], length, take, drop, true, false, ◌||◌, IfOk, OnOk};
 ghost use Rattle.std.specs.List.{AllByRecursion};
 ghost use Rattle.cell_index.specs.Rising.{AreRising};
+ghost use Rattle.cell_index.specs.Passed.{passed, IsPassedOver};
 ghost use Rattle.cell_index.specs.Taken.{is_open, one_if, taken, with_span, within};
 
 use lunit::{NoMemory, Span};
@@ -10,8 +11,9 @@ use std::alloc::Global;
 use std::marker::Model;
 use std::mem;
 
-/// The columns that are taken, told by the lines at which this changes, in order: the first span of them begins at the first line
-/// and ends at the second, and so on. Spans that meet are one. Contracts see the list of lines.
+/// The columns that are taken, told by the lines at which this changes, in order: the first span of
+/// them begins at the first line and ends at the second, and so on. Spans that meet are one.
+/// Contracts see the list of lines.
 #[derive(Drop)]
 pub(crate) struct TakenColumns {
     edges: Vec<i32>,
@@ -102,7 +104,8 @@ fn push_if(mut edges: Vec<i32>, wanted: bool, edge: i32) -> Result<Vec<i32>, NoM
     Ok(edges)
 }
 
-/// The lines that are left when the columns of a span are taken too, of which so many stand before it and so many up to its end.
+/// The lines that are left when the columns of a span are taken too, of which so many stand before
+/// it and so many up to its end.
 fn with_span(
     alloc: Global,
     mut edges: Vec<i32>,
@@ -126,12 +129,32 @@ fn taken_too(alloc: Global, edges: Vec<i32>, columns: Span) -> Result<Vec<i32>, 
     requires rising { AreRising edges.items }
     requires some { columns.start <ℤ columns.end }
     ensures rising { IfOk result (λ now. AreRising now.items) }
-    ensures taken { IfOk result (λ now. (column : ℤ) → taken now.items column ≡ (taken edges.items column || within columns column)) }
+    ensures taken { IfOk result
+        (λ now. (column : ℤ) →
+        taken now.items column ≡ (taken edges.items column || within columns column)) }
 {
     let first = count_before(edges.as_slice(), columns.start);
     let last = count_through(edges.as_slice(), columns.end);
     let now = with_span(alloc, edges, first, last, columns)?;
     Ok(now)
+}
+
+/// The line from which on so many columns reach no span that is taken, past those that they do, one
+/// after another. It begins inside one or not, and what is taken changes at each of these lines.
+fn passed(edges: &[i32], begins_inside: bool, start: i32, columns: u32) -> i32
+    ensures { result ≡ passed begins_inside edges.now start columns }
+{
+    let mut line = start;
+    let mut inside = begins_inside;
+    for edge in edges {
+        if inside {
+            line = line.max(*edge);
+        } else if *edge as i64 >= line as i64 + columns as i64 {
+            return line;
+        }
+        inside = !inside;
+    }
+    if inside { i32::MAX } else { line }
 }
 
 impl TakenColumns {
@@ -163,9 +186,21 @@ impl TakenColumns {
         comes_by(edges, first, columns.end)
     }
 
+    /// The least line, from one on, from which on so many columns are not taken.
+    pub(crate) fn pass(&self, start: i32, columns: u32) -> i32
+        requires { 0 < columns }
+        ensures { IsPassedOver self.now columns start result }
+    {
+        let edges = self.edges.as_slice();
+        let first = count_through(edges, start);
+        passed(&edges[first..], first % 2 != 0, start, columns)
+    }
+
     /// Takes the columns of a span. After want of memory more or fewer columns may be taken.
     pub(crate) fn add(&mut self, alloc: Global, columns: Span) -> Result<(), NoMemory>
-        ensures { OnOk result ((column : ℤ) → taken self.new column ≡ (taken self.old column || within columns column)) }
+        ensures { OnOk result
+            ((column : ℤ) →
+            taken self.new column ≡ (taken self.old column || within columns column)) }
     {
         if columns.start >= columns.end {
             return Ok(());

@@ -1,27 +1,23 @@
-ghost use Rattle.std.specs.Prelude.{◌≡◌, ◌<ℤ◌, [], true};
+ghost use Rattle.std.specs.Prelude.{◌≡◌, []};
 
 use crate::blocks::Blocks;
-use lunit::{Area, NoMemory, Occupancy};
+use crate::list::next_listed;
+use crate::size::{has_cells, tracks};
+use lunit::{Area, NoMemory};
+use occupancy::Occupancy;
 use std::alloc::Global;
 use std::marker::Model;
 
-/// The areas as they came, and beside them the cells that are taken, in blocks that grow as areas follow each other, and by bands
-/// of rows in which the same columns are. A question looks at the blocks and at the bands that it meets, and at no other area.
-/// After want of memory they are given up, and each question looks at all areas. Contracts see the list of areas.
+/// The areas as they came, and beside them the cells that are taken, in blocks that grow as areas
+/// follow each other, and by bands of rows in which the same columns are. A question looks at the
+/// blocks and at the bands that it meets, and at no other area. After want of memory they are given
+/// up, and each question looks at all areas. Contracts see the list of areas.
 #[derive(Drop)]
 pub struct IntervalCells {
     areas: Vec<Area>,
     blocks: Blocks,
     whole: bool,
     alloc: Global,
-}
-
-/// Whether an area has rows and columns.
-fn has_cells(area: Area) -> bool
-    ensures rows { result ≡ true → area.rows.start <ℤ area.rows.end }
-    ensures columns { result ≡ true → area.columns.start <ℤ area.columns.end }
-{
-    area.rows.start < area.rows.end && area.columns.start < area.columns.end
 }
 
 impl Model for IntervalCells {
@@ -62,7 +58,38 @@ impl Occupancy for IntervalCells {
         self.areas.iter().all(|held| !area.overlaps(*held))
     }
 
-    #[tactic(auto, using(crate::proofs::Told::told_more))]
+    fn next_column(&self, area: Area) -> i32 {
+        let start = area.columns.start;
+        if !has_cells(area) {
+            return start;
+        }
+        let columns = tracks(area.columns);
+        if self.whole {
+            return self.blocks.next_column(area.rows, start, columns);
+        }
+        next_listed(&self.areas, false, area.rows, start, columns)
+    }
+
+    fn next_row(&self, area: Area) -> i32 {
+        let start = area.rows.start;
+        if !has_cells(area) {
+            return start;
+        }
+        let rows = tracks(area.rows);
+        if self.whole {
+            return self.blocks.next_row(area.columns, start, rows);
+        }
+        next_listed(&self.areas, true, area.columns, start, rows)
+    }
+
+    fn next_edge(&self, row: i32) -> i32 {
+        if self.whole {
+            return self.blocks.next_edge(row);
+        }
+        row + 1
+    }
+
+    #[tactic(auto, using(crate::proofs::Found::area_more))]
     fn add(&mut self, area: Area) -> Result<(), NoMemory> {
         self.areas.push(area)?;
         if !self.whole {

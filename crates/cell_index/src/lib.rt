@@ -6,7 +6,8 @@ mod blocks;
 mod columns;
 mod intervals;
 mod list;
+mod size;
 
 pub use intervals::IntervalCells;
 pub use list::ListCells;
-pub use lunit::Occupancy;
+pub use occupancy::Occupancy;

@@ -362,7 +362,8 @@ pub record IsFilled (flow : Bool) (last : ℤ) (end : Position) (i : ℕ) (done 
   pub fit : IsTrue (are_placeable left)
 
 pub fills_more : (flow : Bool) (last last2 : ℤ) (end next : Position) (i : ℕ) (done now all : List Area) (left more : List Wish) (item w : Wish) (k l : ℕ) (a b : Area) → IsFilled flow last end i done all left → left ≡ item ∷ more → last2 ≡ last
-    → w ≡ wish_in_flow flow item → k ≡ free_length w.column → l ≡ free_length w.row → k ≤ 20000 → l ≤ 20000 → a ≡ area_after last2 end.column end.row k l → b ≡ area_in_flow flow a → now ≡ done ++ b ∷ [] → next.column ≡ a.columns.end → next.row ≡ a.rows.start → IsFilled flow last next (i + 1) now all more
+    → w ≡ wish_in_flow flow item → k ≡ free_length w.column → l ≡ free_length w.row → k ≤ 20000 → l ≤ 20000 → a ≡ area_after last2 end.column end.row k l → b ≡ area_in_flow flow a → now ≡ done ++ b ∷ [] → next.column ≡ a.columns.end → next.row ≡ a.rows.start →
+    IsFilled flow last next (i + 1) now all more
 fills_more flow last last2 end next i done now all left more item w k l a b s e le we ke he ks hs ae be ne c r =
     let v = wish_in_flow flow item in
     let is : a ≡ area_after last end.column end.row (free_length v.column) (free_length v.row) = ae ∙ (λ j. area_after (le j) end.column end.row ((ke ∙ ap (λ (u : Wish). free_length u.column) we) j) ((he ∙ ap (λ (u : Wish). free_length u.row) we) j)) in

@@ -1,6 +1,6 @@
 -- The ends that are kept at the row starts.
 use Rattle.std.proofs.Common.{arith, rules, ap, subst, ◌≡◌, refl, sym, ◌∙◌, true≢false, ℕ, ℤ, pos, ◌≤ℤ◌, Bool, true, false, cond, List, [], ◌∷◌, ◌++◌, map}
-use Rattle.std.specs.Prelude.{Option, Some, None, option_to_list, unwrap_or, filter}
+use Rattle.std.specs.Prelude.{Option, Some, option_to_list, unwrap_or, filter}
 use Rattle.std.specs.Ordering.{int_cmp, int_eq}
 use Rattle.std.specs.BTreeMap.{BTreeMap, Updates, get}
 use Rattle.std.proofs.lemmas.Int.{ints, clamps}
@@ -21,9 +21,6 @@ use Rattle.grid_placement.proofs.LinesReached.{column_from_reached, columns_put,
 greatest_more : (x z : ℤ) (ys : List ℤ) → greatest_with x ys ≤ℤ z → greatest_with x (ys ++ z ∷ []) ≡ z
 greatest_more x z [] h = omega (arith, ints, clamps)
 greatest_more x z (y ∷ ys) h = let r = greatest_more x z ys (omega (arith, ints, clamps)) in omega (arith, ints, clamps)
-
-ends_are : List Area → ℤ → List ℤ
-ends_are mine row = map (λ (a : Area). a.columns.end) (filter (λ (a : Area). int_eq a.rows.start row) mine)
 
 -- one more area, which begins in the row or does not
 end_more : (mine : List Area) (a : Area) (row : ℤ) (b : Bool) → int_eq a.rows.start row ≡ b → end_in (mine ++ a ∷ []) row ≡ (greatest_with (pos 0) (map (λ (x : Area). x.columns.end) (filter (λ (x : Area). int_eq x.rows.start row) mine) ++ map (λ (x : Area). x.columns.end) (cond b (a ∷ []) [])))
@@ -68,7 +65,8 @@ keep_sparse false s later held mine column row area a k v e f ke ve u h r =
     subst (λ (o : Option Area). AreEnds later.ends (mine ++ option_to_list o)) (sym e)
     (kept_end s.ends later.ends mine a (subst (λ (x : ℤ). Updates int_cmp s.ends later.ends a.rows.start (Some x)) ve (subst (λ (x : ℤ). Updates int_cmp s.ends later.ends x (Some v)) ke u)) h (row_ends held mine column row a (sym e ∙ r)))
 
-dense_put : (m n : BTreeMap ((ℤ × ℤ) × ℕ) ℤ) (held mine : List Area) (column row : Spot) (a : Area) (v : ℤ) → Some a ≡ row_area true held mine column row → v ≡ a.columns.start → Updates across_cmp m n ((a.rows.start, a.rows.end), free_length column) (Some v) → ColumnsReached m held → ColumnsReached n (held ++ a ∷ [])
+dense_put : (m n : BTreeMap ((ℤ × ℤ) × ℕ) ℤ) (held mine : List Area) (column row : Spot) (a : Area) (v : ℤ) → Some a ≡ row_area true held mine column row → v ≡ a.columns.start → Updates across_cmp m n ((a.rows.start, a.rows.end), free_length column) (Some v) → ColumnsReached m held →
+    ColumnsReached n (held ++ a ∷ [])
 dense_put m n held mine (At c) row a v e ve u h = absurd cc
 dense_put m n held mine (Free k) (Free l) a v e ve u h = absurd cc
 dense_put m n held mine (Free k) (At rows) a v e ve u h =

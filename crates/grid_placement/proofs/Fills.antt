@@ -71,8 +71,11 @@ left_first columns first taken cursor dense held mine (w ∷ ws) = go w.column w
         → (let v : Wish = record { column = column; row = row } in FirstOfLeft columns first taken (v ∷ ws) (ends (record { columns = columns; first = first; dense = true }) taken cursor dense held mine (v ∷ ws)))
     go (At c) (At r) later = (tt, subst (λ (t : List Area). FirstOfLeft columns first t ws (ends (record { columns = columns; first = first; dense = true }) (taken ++ []) cursor dense (held ++ []) (mine ++ []) ws)) (none_added taken) (later (taken ++ []) cursor (held ++ []) (mine ++ [])))
     go (Free k) (At r) later =
-        let area = row_area dense held mine (Free k) (At r) in
-        (tt, subst (λ (t : List Area). FirstOfLeft columns first t ws (ends (record { columns = columns; first = first; dense = true }) (taken ++ []) cursor dense (held ++ option_to_list area) (mine ++ option_to_list area) ws)) (none_added taken) (later (taken ++ []) cursor (held ++ option_to_list area) (mine ++ option_to_list area)))
+        let area = row_area dense held mine (Free k) (At r) in (
+          tt,
+          subst (λ (t : List Area). FirstOfLeft columns first t ws (ends (record { columns = columns; first = first; dense = true }) (taken ++ []) cursor dense (held ++ option_to_list area) (mine ++ option_to_list area) ws)) (none_added taken)
+              (later (taken ++ []) cursor (held ++ option_to_list area) (mine ++ option_to_list area)),
+        )
     go (At c) (Free l) later =
         let area = next_area (record { columns = columns; first = first; dense = true }) taken cursor (At c) (Free l) in
         ((λ x low high. none_before (λ r. record { columns = c; rows = to_end r l }) taken (above_zero (far_row taken first -ℤ first)) first x low high), later (taken ++ option_to_list area) (cursor_after cursor area) (held ++ []) (mine ++ []))
@@ -107,6 +110,7 @@ fills_holes items shape = record {
       let columns = explicit_columns flow shape in
       let rows = explicit_rows flow shape in
       let seen : map (area_in_flow flow) (placed items shape) ≡ placed_by_rows columns rows shape.dense ws =
-      ap (map (area_in_flow flow)) (sym (in_flow flow items shape)) ∙ sym (map_twice (area_in_flow flow) (area_in_flow flow) (placed_by_rows columns rows shape.dense ws)) ∙ all_same (λ (a : Area). area_in_flow flow (area_in_flow flow a)) (placed_by_rows columns rows shape.dense ws) (turned_back flow) in
+      ap (map (area_in_flow flow)) (sym (in_flow flow items shape)) ∙ sym (map_twice (area_in_flow flow) (area_in_flow flow) (placed_by_rows columns rows shape.dense ws)) ∙
+      all_same (λ (a : Area). area_in_flow flow (area_in_flow flow a)) (placed_by_rows columns rows shape.dense ws) (turned_back flow) in
       subst (λ (areas : List Area). IsDense columns rows ws areas) (sym (seen ∙ ap (λ (d : Bool). placed_by_rows columns rows d ws) e)) (by_rows columns rows ws);
 }

@@ -1,7 +1,8 @@
 -- The least free place along one axis.
-use Rattle.std.proofs.Common.{arith, rules, ◌≡◌, refl, sym, ◌∙◌, subst, true≢false, ℕ, zero, suc, ℤ, pos, ◌+ℤ◌, ◌-ℤ◌, ◌≤ℤ◌, ◌<ℤ◌, Bool, true, false, not, int_lt, List, [], ◌∷◌, ◌++◌, if◌then◌else◌}
+use Rattle.std.proofs.Common.{arith, rules, ap, ◌≡◌, refl, sym, ◌∙◌, subst, true≢false, ℕ, zero, suc, ℤ, pos, ◌+ℤ◌, ◌-ℤ◌, ◌≤ℤ◌, Bool, true, false, not, int_lt, List, [], ◌∷◌, ◌++◌, if◌then◌else◌}
 use Rattle.std.proofs.lemmas.Int.{ints}
 use Rattle.lunit.specs.Areas.{areas_overlap, is_free}
+use Rattle.occupancy.specs.Searches.{from_column, from_row, IsNext}
 use Rattle.lunit.specs.declared.geometry.Area.{Area}
 use Rattle.lunit.specs.declared.geometry.Span.{Span}
 use Rattle.part_rules.specs.Lists.{above_zero}
@@ -26,17 +27,6 @@ found_here area held n from x low high free = go (int_lt x (first_free area held
     go : (t : Bool) → int_lt x (first_free area held n from) ≡ t → x ≡ first_free area held n from
     go true t = absurd (true≢false (sym free ∙ none_before area held n from x low (search rules)))
     go false t = let k : first_free area held n from ≤ℤ x = search rules in omega (arith, ints)
-
--- The next place is not after it where this one is taken.
-found_later : (area : ℤ → Area) (held : List Area) (n : ℕ) (from x : ℤ) → is_free (area (first_free area held n from)) held ≡ true → x ≤ℤ first_free area held n from → is_free (area x) held ≡ false → (x +ℤ pos 1) ≤ℤ first_free area held n from
-found_later area held n from x found high taken = go (int_lt x (first_free area held n from)) refl
-  where
-    go : (t : Bool) → int_lt x (first_free area held n from) ≡ t → (x +ℤ pos 1) ≤ℤ first_free area held n from
-    go true t = let k : x <ℤ first_free area held n from = search rules in omega (arith, ints)
-    go false t =
-        let k : first_free area held n from ≤ℤ x = search rules in
-        let same : first_free area held n from ≡ x = omega (arith, ints) in
-        absurd (true≢false (sym found ∙ subst (λ z. is_free (area z) held ≡ false) (sym same) taken))
 
 -- A search that begins between where another began and what it found finds the same.
 found_again : (area : ℤ → Area) (held : List Area) (m n : ℕ) (from x : ℤ) → from ≤ℤ x → x ≤ℤ first_free area held m from → is_free (area (first_free area held m from)) held ≡ true → is_free (area (first_free area held n x)) held ≡ true
@@ -66,12 +56,6 @@ found_grows area held new m n from free = go (int_lt (first_free area (held ++ n
 
 -- ---- columns
 
-pub column_here : (held : List Area) (k : ℕ) (rows : Span) (from x : ℤ) → from ≤ℤ x → x ≤ℤ free_column held k rows from → is_free (record { columns = to_end x k; rows = rows }) held ≡ true → x ≡ free_column held k rows from
-column_here held k rows from x = found_here (λ c. record { columns = to_end c k; rows = rows }) held (above_zero (far_column held from -ℤ from)) from x
-
-pub column_later : (held : List Area) (k : ℕ) (rows : Span) (from x : ℤ) → x ≤ℤ free_column held k rows from → is_free (record { columns = to_end x k; rows = rows }) held ≡ false → (x +ℤ pos 1) ≤ℤ free_column held k rows from
-column_later held k rows from x = found_later (λ c. record { columns = to_end c k; rows = rows }) held (above_zero (far_column held from -ℤ from)) from x (free_column_free held k rows from)
-
 pub column_after : (held : List Area) (k : ℕ) (rows : Span) (from : ℤ) → from ≤ℤ free_column held k rows from
 column_after held k rows from = found_after (λ c. record { columns = to_end c k; rows = rows }) held (above_zero (far_column held from -ℤ from)) from
 
@@ -87,12 +71,6 @@ column_near line held k rows from h l = go (int_lt line (free_column held k rows
 
 -- ---- rows
 
-pub row_here : (held : List Area) (columns : Span) (l : ℕ) (from x : ℤ) → from ≤ℤ x → x ≤ℤ free_row held columns l from → is_free (record { columns = columns; rows = to_end x l }) held ≡ true → x ≡ free_row held columns l from
-row_here held columns l from x = found_here (λ r. record { columns = columns; rows = to_end r l }) held (above_zero (far_row held from -ℤ from)) from x
-
-pub row_later : (held : List Area) (columns : Span) (l : ℕ) (from x : ℤ) → x ≤ℤ free_row held columns l from → is_free (record { columns = columns; rows = to_end x l }) held ≡ false → (x +ℤ pos 1) ≤ℤ free_row held columns l from
-row_later held columns l from x = found_later (λ r. record { columns = columns; rows = to_end r l }) held (above_zero (far_row held from -ℤ from)) from x (free_row_free held columns l from)
-
 pub row_after : (held : List Area) (columns : Span) (l : ℕ) (from : ℤ) → from ≤ℤ free_row held columns l from
 row_after held columns l from = found_after (λ r. record { columns = columns; rows = to_end r l }) held (above_zero (far_row held from -ℤ from)) from
 
@@ -106,9 +84,52 @@ row_near line held columns l from h n = go (int_lt line (free_row held columns l
         absurd (omega (arith, ints, less.1))
     go false t = search rules
 
-pub ruleset columns = (column_here, column_later, column_after)
+-- ---- what the cells tell
 
-pub ruleset rows = (row_here, row_later, row_after)
+-- an area that is moved along the columns
+moved_column : (a : Area) (k : ℕ) (rows : Span) (start z : ℤ) → a.columns ≡ to_end start k → a.rows ≡ rows → from_column a z ≡ record { columns = to_end z k; rows = rows }
+moved_column a k rows start z e r =
+    let first : a.columns.start ≡ start = λ i. (e i).start in
+    let end : a.columns.end ≡ start +ℤ pos k = λ i. (e i).end in
+    let width : a.columns.end -ℤ a.columns.start ≡ pos k = omega (arith, ints) in
+    (λ i. record { columns = record { start = z; end = z +ℤ width i }; rows = r i })
+
+moved_row : (a : Area) (l : ℕ) (columns : Span) (start z : ℤ) → a.rows ≡ to_end start l → a.columns ≡ columns → from_row a z ≡ record { columns = columns; rows = to_end z l }
+moved_row a l columns start z e c =
+    let first : a.rows.start ≡ start = λ i. (e i).start in
+    let end : a.rows.end ≡ start +ℤ pos l = λ i. (e i).end in
+    let height : a.rows.end -ℤ a.rows.start ≡ pos l = omega (arith, ints) in
+    (λ i. record { columns = c i; rows = record { start = z; end = z +ℤ height i } })
+
+-- The least free line is the place found.
+least_found : (area : ℤ → Area) (held : List Area) (n : ℕ) (from x : ℤ) → is_free (area (first_free area held n from)) held ≡ true → IsNext area held from x → x ≡ first_free area held n from
+least_found area held n from x found h = go (int_lt (first_free area held n from) x) refl
+  where
+    go : (t : Bool) → int_lt (first_free area held n from) x ≡ t → x ≡ first_free area held n from
+    go true t = absurd (true≢false (sym found ∙ h.none (first_free area held n from) (found_after area held n from) (search rules)))
+    go false t = found_here area held n from x h.after (search rules) h.free
+
+next_of_same : (one two : ℤ → Area) (held : List Area) (from x : ℤ) → ((z : ℤ) → one z ≡ two z) → IsNext one held from x → IsNext two held from x
+next_of_same one two held from x e h = record {
+  after = h.after;
+  free = ap (λ a. is_free a held) (sym (e x)) ∙ h.free;
+  none = λ z low high. ap (λ a. is_free a held) (sym (e z)) ∙ h.none z low high;
+}
+
+-- The column that the cells tell is the one of the rules.
+pub column_told : (held : List Area) (k : ℕ) (rows : Span) (from start x : ℤ) (a : Area) → start ≡ from → a.columns ≡ to_end start k → a.rows ≡ rows → IsNext (from_column a) held a.columns.start x → x ≡ free_column held k rows from
+column_told held k rows from start x a se e r h =
+    let first : a.columns.start ≡ from = (λ i. (e i).start) ∙ se in
+    least_found (λ c. record { columns = to_end c k; rows = rows }) held (above_zero (far_column held from -ℤ from)) from x (free_column_free held k rows from)
+    (next_of_same (from_column a) (λ c. record { columns = to_end c k; rows = rows }) held from x (λ z. moved_column a k rows start z e r)
+    (subst (λ (z : ℤ). IsNext (from_column a) held z x) first h))
+
+pub row_told : (held : List Area) (columns : Span) (l : ℕ) (from start x : ℤ) (a : Area) → start ≡ from → a.rows ≡ to_end start l → a.columns ≡ columns → IsNext (from_row a) held a.rows.start x → x ≡ free_row held columns l from
+row_told held columns l from start x a se e c h =
+    let first : a.rows.start ≡ from = (λ i. (e i).start) ∙ se in
+    least_found (λ r. record { columns = columns; rows = to_end r l }) held (above_zero (far_row held from -ℤ from)) from x (free_row_free held columns l from)
+    (next_of_same (from_row a) (λ r. record { columns = columns; rows = to_end r l }) held from x (λ z. moved_row a l columns start z e c)
+    (subst (λ (z : ℤ). IsNext (from_row a) held z x) first h))
 
 -- ---- searches that begin later, and cells of which more are taken
 

@@ -34,7 +34,7 @@ pub record LeftSoFar (flow : Bool) (field : Field) (first : List Area) (all : Li
   pub room : AllHaveRoom field.first field.last (all_seen left)
   pub count : length held + count_left (all_seen left) ≤ 65536
 
-pub left_begin : (flow : Bool) (field : Field) (first : List Area) (all : List Entry) (cursor : Position) (reached : Reached) (none : List Area) → none ≡ [] → IsEmpty reached.rows → IsEmpty reached.positions → cursor.column ≡ field.first → cursor.row ≡ field.row
+pub left_begin : (flow : Bool) (field : Field) (first : List Area) (all : List Entry) (cursor : Position) (reached : Reached) (none : List Area) → none ≡ [] → IsEmpty reached.rows → reached.positions.items ≡ [] → cursor.column ≡ field.first → cursor.row ≡ field.row
     → ((start : Position) → start.column ≡ field.first → start.row ≡ field.row → IsSet first field start) → IsTrue (can_be_placed (all_seen all)) → AllHaveRoom field.first field.last (all_seen all) → length first + count_left (all_seen all) ≤ 65536
     → LeftSoFar flow field first all first cursor reached none all
 left_begin flow field first all cursor reached none n e1 e2 c r set fit room count =
@@ -84,7 +84,8 @@ begin_near field reached held cursor column row k l from s h room ce re count f 
     let r = by.row in
     ((a, omega (arith, ints), omega (arith, ints)), fits)
 
-pub area_is_next : (field : Field) (reached : Reached) (held : List Area) (cursor : Position) (column row : Spot) (k l : ℕ) (from : Position) (a : Area) (x y : ℤ) → x ≡ field.first → y ≡ field.last → column ≡ Free k → row ≡ Free l → HasRoom field.first field.last column row → from ≡ position_from field.dense field cursor reached k l
+pub area_is_next : (field : Field) (reached : Reached) (held : List Area) (cursor : Position) (column row : Spot) (k l : ℕ) (from : Position) (a : Area) (x y : ℤ) → x ≡ field.first → y ≡ field.last → column ≡ Free k → row ≡ Free l → HasRoom field.first field.last column row →
+    from ≡ position_from field.dense field cursor reached k l
     → a ≡ area_at (found held (record { start = x; end = y }) k l (position_of from)) k l → Knows field.dense field reached held → Some a ≡ next_of field held cursor column row
 area_is_next field reached held cursor column row k l from a x y xe ye ce re room f e0 h =
     let e : a ≡ area_at (found held (record { start = field.first; end = field.last }) k l (position_of from)) k l = e0 ∙ (λ i. area_at (found held (record { start = xe i; end = ye i }) k l (position_of from)) k l) in

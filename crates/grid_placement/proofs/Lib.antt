@@ -13,3 +13,4 @@ pub mod Same
 pub mod Whole
 pub mod Fills
 pub mod Bands
+pub mod Fitting

@@ -1,5 +1,5 @@
 -- Areas that end by a line.
-use Rattle.std.proofs.Common.{arith, rules, ◌<◌, ◌≡◌, refl, sym, true≢false, ℕ, ℤ, pos, negsuc, ◌+ℤ◌, ◌-ℤ◌, ◌≤ℤ◌, ◌<ℤ◌, Bool, true, false, not, ◌&&◌, int_le, List, [], ◌∷◌, ◌++◌}
+use Rattle.std.proofs.Common.{arith, rules, ◌<◌, ◌≡◌, refl, sym, true≢false, ℤ, pos, negsuc, ◌-ℤ◌, ◌≤ℤ◌, ◌<ℤ◌, Bool, true, false, not, ◌&&◌, int_le, List, [], ◌∷◌, ◌++◌}
 use Rattle.std.specs.Int.{int_max, int_min}
 use Rattle.std.specs.List.{list_all}
 use Rattle.std.proofs.lemmas.Int.{ints, clamps}
@@ -7,7 +7,6 @@ use Rattle.lunit.specs.Areas.{is_free, areas_overlap, spans_overlap}
 use Rattle.lunit.specs.declared.geometry.Area.{Area}
 use Rattle.lunit.specs.declared.geometry.Span.{Span}
 use Rattle.part_rules.specs.Lists.{above_zero}
-use Rattle.part_rules.specs.Placement.{to_end}
 use Rattle.grid_placement.specs.Near.{ends_by, AllEndBy}
 
 pub both_pass : (u v : Bool) → (u && v) ≡ true → (u ≡ true) × (v ≡ true)
@@ -63,17 +62,10 @@ ends_later line later (a ∷ held) l h =
     record { each = pass_both (ends_by later a) (list_all (ends_by later) held) (pass_both (int_le a.columns.end later) (int_le a.rows.end later) (search rules) (search rules)) rest.each }
 
 -- The measure of a search up to a line.
-pub falls : (line x y : ℤ) → x <ℤ line → y ≡ x +ℤ pos 1 → above_zero (line -ℤ y) < above_zero (line -ℤ x)
-falls line x y less e = go (line -ℤ y) (line -ℤ x) (omega (arith, ints)) (omega (arith, ints))
+pub falls : (line x y : ℤ) → x <ℤ y → y ≤ℤ line → above_zero (line -ℤ y) < above_zero (line -ℤ x)
+falls line x y less near = go (line -ℤ y) (line -ℤ x) (omega (arith, ints)) (omega (arith, ints))
   where
-    go : (a b : ℤ) → b ≡ a +ℤ pos 1 → pos 0 ≤ℤ a → above_zero a < above_zero b
+    go : (a b : ℤ) → a <ℤ b → pos 0 ≤ℤ a → above_zero a < above_zero b
     go (pos a) (pos b) e h = omega (arith, ints)
     go (pos a) (negsuc b) e h = absurd (omega (arith, ints))
     go (negsuc a) b e h = absurd (omega (arith, ints))
-
--- A span that is moved has as many tracks.
-pub moved_span : (k : ℕ) (span next : Span) → span ≡ to_end span.start k → next.start ≡ span.start +ℤ pos 1 → next.end ≡ span.end +ℤ pos 1 → next ≡ to_end next.start k
-moved_span k span next e s f =
-    let end : span.end ≡ span.start +ℤ pos k = λ i. (e i).end in
-    let g : next.end ≡ next.start +ℤ pos k = omega (arith, ints) in
-    λ i. record { start = next.start; end = g i }

@@ -1,7 +1,8 @@
 -- The search by rows and then by columns.
-use Rattle.std.proofs.Common.{arith, rules, ◌≡◌, refl, sym, ◌∙◌, subst, true≢false, ℕ, zero, suc, ℤ, pos, ◌+ℤ◌, ◌-ℤ◌, ◌≤ℤ◌, ◌<ℤ◌, ◌⊎◌, inl, inr, Bool, true, false, int_lt, int_le, List, ◌++◌, if◌then◌else◌}
-use Rattle.std.proofs.lemmas.Int.{ints}
-use Rattle.lunit.specs.Areas.{is_free}
+use Rattle.std.proofs.Common.{arith, rules, ap, not, ◌&&◌, ◌≤◌, [], ◌∷◌, ◌≡◌, refl, sym, ◌∙◌, subst, true≢false, ℕ, zero, suc, ℤ, pos, ◌+ℤ◌, ◌-ℤ◌, ◌≤ℤ◌, ◌<ℤ◌, ◌⊎◌, inl, inr, Bool, true, false, int_lt, int_le, List, ◌++◌, if◌then◌else◌}
+use Rattle.std.specs.Int.{int_max, int_min}
+use Rattle.std.proofs.lemmas.Int.{ints, clamps}
+use Rattle.lunit.specs.Areas.{areas_overlap, is_free, spans_overlap}
 use Rattle.lunit.specs.declared.geometry.Area.{Area}
 use Rattle.lunit.specs.declared.geometry.Span.{Span}
 use Rattle.part_rules.specs.Lists.{above_zero}
@@ -9,8 +10,8 @@ use Rattle.part_rules.specs.Placement.{to_end, first_free, free_position, rows_t
 use Rattle.part_rules.proofs.Placed.{free_position_free, free_position_inside, least_position}
 use Rattle.grid_placement.specs.Near.{AllEndBy}
 use Rattle.grid_placement.specs.Reached.{NotAfter}
-use Rattle.grid_placement.specs.InRow.{NoneFree, IsFirst}
-use Rattle.grid_placement.proofs.Near.{taken_starts, moved_span}
+use Rattle.grid_placement.specs.InRow.{NoneBetween, NoneFree, IsFirst}
+use Rattle.grid_placement.proofs.Near.{both_pass, pass_both, taken_starts}
 use Rattle.grid_placement.proofs.Least.{found_after, free_first}
 
 -- where a position is found for so many columns and rows
@@ -79,13 +80,26 @@ row_passes held columns k l from at s none = by (int_lt at.row (found held colum
         let taken = none.taken (found held columns k l from).column c (omega (arith, ints)) in
         absurd (true≢false (sym (free_position_free held columns k l from) ∙ subst (λ (z : ℤ). is_free (record { columns = to_end (found held columns k l from).column k; rows = to_end z l }) held ≡ false) (sym same) taken))
 
--- The search goes on at the first column of the next row.
-pub goes_on : (held : List Area) (columns : Span) (k l : ℕ) (from at : Position) → IsSought held columns k l from at → at.row <ℤ (found held columns k l from).row → IsSought held columns k l from (record { column = columns.start; row = at.row +ℤ pos 1 })
-goes_on held columns k l from at s less =
+-- Where none is free in the rows up to a later one either, it is not before that row.
+pub rows_pass : (held : List Area) (columns : Span) (k l : ℕ) (from : Position) (row next : ℤ) → columns.start ≤ℤ from.column → (columns.start +ℤ pos k) ≤ℤ columns.end → row <ℤ (found held columns k l from).row →
+    NoneBetween held k l columns.start (columns.end -ℤ pos k +ℤ pos 1) row next → next ≤ℤ (found held columns k l from).row
+rows_pass held columns k l from row next first fits less none = by (int_lt (found held columns k l from).row next) refl
+  where
+    by : (t : Bool) → int_lt (found held columns k l from).row next ≡ t → next ≤ℤ (found held columns k l from).row
+    by true t =
+        let inside = free_position_inside held columns k l from first fits in
+        let s = inside.starts in
+        let e = inside.ends in
+        absurd (true≢false (sym (free_position_free held columns k l from) ∙ none.taken (found held columns k l from).column (found held columns k l from).row less (search rules) s (omega (arith, ints))))
+    by false t = search rules
+
+-- The search goes on at the first column of that row.
+pub goes_on : (held : List Area) (columns : Span) (k l : ℕ) (from at : Position) (next : ℤ) → IsSought held columns k l from at → at.row <ℤ next → next ≤ℤ (found held columns k l from).row → IsSought held columns k l from (record { column = columns.start; row = next })
+goes_on held columns k l from at next s less near =
     let r = s.after.rows in
     let f = free_position_inside held columns k l from s.first s.fits in record {
       after = record { rows = omega (arith, ints); columns = λ h. absurd (omega (arith, ints)) };
-      before = record { rows = omega (arith, ints); columns = λ h. f.starts };
+      before = record { rows = near; columns = λ h. f.starts };
       first = s.first;
       column = omega (arith, ints);
       fits = s.fits;
@@ -201,17 +215,20 @@ search_less held columns k l from area s h low none =
     let within = row_within (pos 1310805536) held columns k l from h low s.sought.fits in
     omega (arith, ints)
 
-pub search_goes_on : (held : List Area) (columns : Span) (k l : ℕ) (from : Position) (area : Area) (first next : Span) (x : ℤ) → x ≡ columns.start → IsSearch held columns k l from area → columns.start ≤ℤ pos 1310805536
-    → NoneFree held k area.rows area.columns.start (columns.end -ℤ pos k +ℤ pos 1) → first ≡ to_end x k → next.start ≡ area.rows.start +ℤ pos 1 → next.end ≡ area.rows.end +ℤ pos 1
-    → IsSearch held columns k l from (record { columns = first; rows = next })
-search_goes_on held columns k l from area first next x xe s near none fx start end =
+pub search_goes_on : (held : List Area) (columns : Span) (k l : ℕ) (from : Position) (area : Area) (first rows : Span) (x row next y : ℤ) → x ≡ columns.start → y ≡ next → row ≡ area.rows.start → IsSearch held columns k l from area → columns.start ≤ℤ pos 1310805536
+    → NoneFree held k area.rows area.columns.start (columns.end -ℤ pos k +ℤ pos 1) → row <ℤ next → NoneBetween held k l columns.start (columns.end -ℤ pos k +ℤ pos 1) row next → first ≡ to_end x k → rows ≡ to_end y l
+    → IsSearch held columns k l from (record { columns = first; rows = rows })
+search_goes_on held columns k l from area first rows x row next y xe ye re s near none less between fx ry =
     let f : first ≡ to_end columns.start k = fx ∙ (λ i. to_end (xe i) k) in
-    let less = row_passes held columns k l from (corner area) s.sought (subst (λ (r : Span). NoneFree held k r area.columns.start (columns.end -ℤ pos k +ℤ pos 1)) s.rows_are none) in
-    let on = goes_on held columns k l from (corner area) s.sought less in
-    let g : first.start ≡ columns.start = λ i. (f i).start in record {
+    let r : rows ≡ to_end next l = ry ∙ (λ i. to_end (ye i) l) in
+    let passes = row_passes held columns k l from (corner area) s.sought (subst (λ (r : Span). NoneFree held k r area.columns.start (columns.end -ℤ pos k +ℤ pos 1)) s.rows_are none) in
+    let far = rows_pass held columns k l from row next s.sought.first s.sought.fits (omega (arith, ints)) between in
+    let on = goes_on held columns k l from (corner area) next s.sought (omega (arith, ints)) far in
+    let g : first.start ≡ columns.start = λ i. (f i).start in
+    let h : rows.start ≡ next = λ i. (r i).start in record {
       columns_are = f ∙ (λ i. to_end (sym g i) k);
-      rows_are = moved_span l area.rows next s.rows_are start end;
-      sought = subst (λ (p : Position). IsSought held columns k l from p) (λ i. record { column = sym g i; row = sym start i }) on;
+      rows_are = r ∙ (λ i. to_end (sym h i) l);
+      sought = subst (λ (p : Position). IsSought held columns k l from p) (λ i. record { column = sym g i; row = sym h i }) on;
       near = omega (arith, ints);
     }
 
@@ -252,3 +269,38 @@ not_after_more p q r a b = trans p q r a b
 
 pub not_after_itself : (p : Position) → NotAfter p p
 not_after_itself p = record { rows = omega (arith, ints); columns = λ h. omega (arith, ints) }
+
+-- ---- larger sizes
+
+lt_from : (a b : ℤ) → int_lt a b ≡ true → a <ℤ b
+lt_from a b h = search rules
+
+to_lt : (a b : ℤ) → a <ℤ b → int_lt a b ≡ true
+to_lt a b h = search rules
+
+longer_overlaps : (start : ℤ) (a k : ℕ) (b : Span) → a ≤ k → spans_overlap (to_end start a) b ≡ true → spans_overlap (to_end start k) b ≡ true
+longer_overlaps start a k b more h =
+    let less : int_max start b.start <ℤ int_min (start +ℤ pos a) b.end = lt_from (int_max start b.start) (int_min (start +ℤ pos a) b.end) h in
+    to_lt (int_max start b.start) (int_min (start +ℤ pos k) b.end) (omega (arith, ints, clamps, less, more))
+
+-- what is free for more columns and rows is for fewer
+pub smaller_free : (p : Position) (a b k l : ℕ) (held : List Area) → a ≤ k → b ≤ l → is_free (area_at p k l) held ≡ true → is_free (area_at p a b) held ≡ true
+smaller_free p a b k l [] wide high h = refl
+smaller_free p a b k l (c ∷ held) wide high h = by (smaller_free p a b k l held wide high parts.1) (areas_overlap (area_at p a b) c) refl
+  where
+    parts : (not (areas_overlap (area_at p k l) c) ≡ true) × (is_free (area_at p k l) held ≡ true)
+    parts = both_pass (not (areas_overlap (area_at p k l) c)) (is_free (area_at p k l) held) h
+
+    by : is_free (area_at p a b) held ≡ true → (o : Bool) → areas_overlap (area_at p a b) c ≡ o → (not o && is_free (area_at p a b) held) ≡ true
+    by rest false e = rest
+    by rest true e =
+        let both = both_pass (spans_overlap (to_end p.column a) c.columns) (spans_overlap (to_end p.row b) c.rows) e in
+        let more : areas_overlap (area_at p k l) c ≡ true = pass_both (spans_overlap (to_end p.column k) c.columns) (spans_overlap (to_end p.row l) c.rows) (longer_overlaps p.column a k c.columns wide both.0) (longer_overlaps p.row b l c.rows high both.1) in
+        absurd (true≢false (sym parts.0 ∙ ap not more))
+
+-- No larger item finds an earlier position.
+pub position_larger : (held : List Area) (columns : Span) (a b k l : ℕ) (from : Position) → columns.start ≤ℤ from.column → (columns.start +ℤ pos k) ≤ℤ columns.end → a ≤ k → b ≤ l → NotAfter (found held columns a b from) (found held columns k l from)
+position_larger held columns a b k l from first fits wide high =
+    let inside = free_position_inside held columns k l from first fits in
+    let e = inside.ends in
+    not_earlier held columns a b from (found held columns k l from) (found_not_before held columns k l from) inside.starts (omega (arith, ints, e, wide)) (smaller_free (found held columns k l from) a b k l held wide high (free_position_free held columns k l from))

@@ -43,9 +43,6 @@ both_on base d a ds more =
     ∙ on_swap (range_on (range_on base more) a) d ds
     ∙ sym (on_append base (d ++ ds) (a ++ more) ∙ on_append (range_on base (a ++ more)) d ds ∙ ap (λ (b : Span). range_on (range_on b ds) d) (on_append base a more))
 
-column_spans : List rules.Entry → List Span
-column_spans es = flat_map (λ (e : rules.Entry). definite_span e.wish.column) es ++ map (λ (a : Area). a.columns) (areas_of es)
-
 pub columns_are : (base : Span) (es : List rules.Entry) → columns_after base es ≡ range_on base (flat_map (λ (e : rules.Entry). definite_span e.wish.column) es ++ map (λ (a : Area). a.columns) (areas_of es))
 columns_are base [] = refl
 columns_are base (e ∷ es) =

@@ -188,7 +188,8 @@ by_steps columns rows dense ws held h =
 
 -- ---- the whole
 
-pub field_set : (columns rows : ℕ) (es : List rules.Entry) (held : List Area) (field : Field) (start : Position) → AllEndBy (reach (length held)) held → field.first ≡ (columns_for columns es).start → field.row ≡ first_row rows es → start.column ≡ field.first → start.row ≡ field.row → IsSet held field start
+pub field_set : (columns rows : ℕ) (es : List rules.Entry) (held : List Area) (field : Field) (start : Position) → AllEndBy (reach (length held)) held → field.first ≡ (columns_for columns es).start → field.row ≡ first_row rows es → start.column ≡ field.first → start.row ≡ field.row →
+    IsSet held field start
 field_set columns rows es held field start near f r c s =
     let low = start_at_most columns (own_spans es ++ map (λ (a : Area). a.columns) (areas_of es)) in
     let early = start_at_most rows (flat_map (λ (e : rules.Entry). definite_span e.wish.row) es ++ map (λ (a : Area). a.rows) (areas_of es)) in

@@ -13,7 +13,7 @@ use Rattle.grid_placement.specs.Wishes.{is_placeable, area_in_flow}
 abbrev pub seen : Entry → rules.Entry
 seen e = record { wish = e.wish; area = e.area }
 
--- and all of them
+-- all entries as the rules see them
 abbrev pub all_seen : List Entry → List rules.Entry
 all_seen entries = map seen entries
 
@@ -24,23 +24,23 @@ rows_added dense placed mine (e ∷ rest) =
     let new = option_to_list (row_area dense placed mine e.wish.column e.wish.row) in
     new ++ rows_added dense (placed ++ new) (mine ++ new) rest
 
--- one for an item with a definite row and a free column
+-- one for an item with a definite row and a free column, else none
 abbrev pub one_in_row : Spot → Spot → ℕ
 one_in_row (Free k) (At r) = 1
 one_in_row (Free k) (Free l) = 0
 one_in_row (At c) r = 0
 
--- how many have a definite row and a free column
+-- how many items have a definite row and a free column
 abbrev pub count_in_rows : List rules.Entry → ℕ
 count_in_rows [] = 0
 count_in_rows (e ∷ rest) = one_in_row e.wish.column e.wish.row + count_in_rows rest
 
--- one for an item with a free row
+-- one for an item with a free row, else none
 abbrev pub one_left : Spot → ℕ
 one_left (At r) = 0
 one_left (Free l) = 1
 
--- how many have a free row
+-- how many items have a free row
 abbrev pub count_left : List rules.Entry → ℕ
 count_left [] = 0
 count_left (e ∷ rest) = one_left e.wish.row + count_left rest

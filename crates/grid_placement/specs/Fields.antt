@@ -18,7 +18,7 @@ use Rattle.grid_placement.specs.declared.reached.Reached.{Reached}
 abbrev pub field_of : Field → rules.Field
 field_of f = record { columns = record { start = f.first; end = f.last }; first = f.row; dense = f.dense }
 
--- and the lines
+-- the range of lines as the rules see it
 abbrev pub span_of : Lines → Span
 span_of l = record { start = l.first; end = l.last }
 
@@ -31,7 +31,7 @@ range_on base (s ∷ rest) = with_span s (range_on base rest)
 abbrev pub columns_in : Option Area → List Span
 columns_in area = map (λ (a : Area). a.columns) (option_to_list area)
 
--- and its rows
+-- the rows of the area, if there is one
 abbrev pub rows_in : Option Area → List Span
 rows_in area = map (λ (a : Area). a.rows) (option_to_list area)
 
@@ -40,7 +40,7 @@ abbrev pub columns_after : Span → List rules.Entry → Span
 columns_after base [] = base
 columns_after base (e ∷ rest) = columns_after (range_on (range_on base (definite_span e.wish.column)) (columns_in e.area)) rest
 
--- and with their rows
+-- the range with the rows of these entries
 abbrev pub rows_after : Span → List rules.Entry → Span
 rows_after base [] = base
 rows_after base (e ∷ rest) = rows_after (range_on (range_on base (definite_span e.wish.row)) (rows_in e.area)) rest
@@ -51,7 +51,7 @@ HasRoom first last column (At r) = Unit {0}
 HasRoom first last (At c) (Free l) = first ≤ℤ c.start
 HasRoom first last (Free k) (Free l) = (first +ℤ pos k) ≤ℤ last
 
--- and for each of these
+-- the columns have room for each of these items
 abbrev pub AllHaveRoom : ℤ → ℤ → List rules.Entry → Type 0
 AllHaveRoom first last [] = Unit {0}
 AllHaveRoom first last (e ∷ rest) = HasRoom first last e.wish.column e.wish.row × AllHaveRoom first last rest
@@ -76,9 +76,9 @@ first_of field = record { column = field.first; row = field.row }
 -- what is known in dense mode of the searches so far
 pub record AreReached (field : Field) (reached : Reached) (held : List Area) : Type 0 where
   pub lines : RowsReached reached.rows field.row held
-  pub positions : PositionsReached reached.positions (record { start = field.first; end = field.last }) (first_of field) (reach (length held)) held
+  pub positions : PositionsReached reached.positions.items (record { start = field.first; end = field.last }) (first_of field) (reach (length held)) held
 
--- in either mode
+-- what is known of the searches so far, in either mode
 abbrev pub Knows : Bool → Field → Reached → List Area → Type 0
 Knows true field reached held = AreReached field reached held
 Knows false field reached held = Unit {0}
@@ -90,11 +90,12 @@ row_from false field cursor reached columns l = if int_lt columns.start cursor.c
 
 -- where the search for so many columns and rows begins
 abbrev pub position_from : Bool → Field → Position → Reached → ℕ → ℕ → Position
-position_from true field cursor reached k l = position_reached reached.positions k l (first_of field)
+position_from true field cursor reached k l = position_reached reached.positions.items k l (first_of field)
 position_from false field cursor reached k l = cursor
 
 -- what one item does in the last step
-pub record IsNextStep (field : Field) (held : List Area) (cursor : Position) (column row : Spot) (found : Option Area) (now : List Area) (later : Position) (reached : Reached) : Type 0 where
+pub record IsNextStep (field : Field) (held : List Area) (cursor : Position) (column row : Spot) (found : Option Area) (now : List Area)
+    (later : Position) (reached : Reached) : Type 0 where
   pub area : found ≡ next_of field held cursor column row
   pub cells : now ≡ held ++ option_to_list (next_of field held cursor column row)
   pub cursor_is : position_of later ≡ cursor_after (position_of cursor) (next_of field held cursor column row)

@@ -16,3 +16,7 @@ pub record IsFirst (held : List Area) (k : ℕ) (rows : Span) (from end : ℤ) (
   pub within : columns.end ≤ℤ end
   pub free : is_free (record { columns = columns; rows = rows }) held ≡ true
   pub none : NoneFree held k rows from columns.start
+
+-- in the rows strictly between two rows, no place is free for so many columns and rows from a column on and before another
+pub record NoneBetween (held : List Area) (k l : ℕ) (from before row next : ℤ) : Type 0 where
+  pub taken : (x y : ℤ) → row <ℤ y → y <ℤ next → from ≤ℤ x → x <ℤ before → is_free (record { columns = to_end x k; rows = to_end y l }) held ≡ false

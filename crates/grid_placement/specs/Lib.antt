@@ -3,6 +3,7 @@ pub mod InRow
 pub mod Wishes
 pub mod Heights
 pub mod Dense
+pub mod Fitting
 pub mod Entries
 pub mod Starts
 pub mod Fields

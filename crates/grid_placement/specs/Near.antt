@@ -7,6 +7,6 @@ use Rattle.lunit.specs.declared.geometry.Area.{Area}
 abbrev pub ends_by : ℤ → Area → Bool
 ends_by line a = int_le a.columns.end line && int_le a.rows.end line
 
--- and each of these areas does
+-- each of these areas ends at this line or before
 pub record AllEndBy (line : ℤ) (areas : List Area) : Type 0 where
   pub each : IsTrue (list_all (ends_by line) areas)

@@ -13,11 +13,11 @@ abbrev pub is_within : Spot → Bool
 is_within (At s) = int_lt s.start s.end && int_le s.end (pos 20000)
 is_within (Free k) = nat_le k 20000
 
--- so in both axes
+-- an item can be placed in both axes
 abbrev pub is_placeable : Wish → Bool
 is_placeable w = is_within w.column && is_within w.row
 
--- each of these items
+-- each of these items can be placed
 abbrev pub are_placeable : List Wish → Bool
 are_placeable items = list_all is_placeable items
 
@@ -36,7 +36,7 @@ abbrev pub explicit_columns : Bool → Shape → ℕ
 explicit_columns true shape = shape.rows
 explicit_columns false shape = shape.columns
 
--- and the explicit rows
+-- the explicit rows as the flow sees them
 abbrev pub explicit_rows : Bool → Shape → ℕ
 explicit_rows true shape = shape.columns
 explicit_rows false shape = shape.rows

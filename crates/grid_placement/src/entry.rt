@@ -4,7 +4,8 @@ ghost use Rattle.part_rules.specs.Placement.{areas_of, begun, fixed_area, free_l
 ghost use Rattle.grid_placement.specs.Entries.{all_seen};
 ghost use Rattle.grid_placement.specs.Wishes.{area_in_flow, wish_in_flow};
 
-use lunit::{Area, NoMemory, Occupancy, Spot};
+use lunit::{Area, NoMemory, Spot};
+use occupancy::Occupancy;
 use part_rules::Wish;
 use std::alloc::Global;
 
@@ -73,7 +74,8 @@ pub fn hold<O: Occupancy>(cells: &mut O, area: Option<Area>) -> Result<(), NoMem
     Ok(())
 }
 
-/// The items as placement begins: those with both axes definite have their areas, and these cells are taken.
+/// The items as placement begins: those with both axes definite have their areas, and these cells
+/// are taken.
 pub fn begin<O: Occupancy>(
     alloc: Global,
     items: &[Wish],
@@ -81,8 +83,10 @@ pub fn begin<O: Occupancy>(
     cells: &mut O,
 ) -> Result<Vec<Entry>, NoMemory>
     requires { O.areas cells.old ≡ [] }
-    ensures entries { IfOk result (λ entries. all_seen entries.items ≡ map begun (map (wish_in_flow column_flow) items.now)) }
-    ensures cells { OnOk result (O.areas cells.new ≡ areas_of (map begun (map (wish_in_flow column_flow) items.now))) }
+    ensures entries { IfOk result
+        (λ entries. all_seen entries.items ≡ map begun (map (wish_in_flow column_flow) items.now)) }
+    ensures cells { OnOk result
+        (O.areas cells.new ≡ areas_of (map begun (map (wish_in_flow column_flow) items.now))) }
 {
     let mut entries = Vec::with_capacity(alloc, items.len())?;
     for item in items {

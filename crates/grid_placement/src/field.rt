@@ -8,12 +8,13 @@ ghost use Rattle.grid_placement.specs.Fields.{columns_in, range_on, rows_in, spa
 use crate::entry::Entry;
 use lunit::{Area, Span, Spot};
 
-/// Where the items that are left are placed: in these columns, in the rows from the first on, and in dense mode or not.
+/// Where the items that are left are placed: in these columns, in the rows from the first on, and
+/// in dense mode or not.
 #[derive(Clone, Copy)]
 pub struct Field {
     /// The first line of the columns.
     pub first: i32,
-    /// Their last line.
+    /// The last line of the columns.
     pub last: i64,
     /// The first row.
     pub row: i32,
@@ -83,10 +84,12 @@ fn waiting(entry: Entry) -> u32
     }
 }
 
-/// The field for items of which some have their areas: the columns are the least range that has the explicit ones, all
-/// definite column spans and all areas, and grow at their end to the greatest column span of the other items.
+/// The field for items of which some have their areas: the columns are the least range that has the
+/// explicit ones, all definite column spans and all areas, and grow at their end to the greatest
+/// column span of the other items.
 pub fn field_of(entries: &[Entry], explicit: u32, dense: bool) -> Field
-    ensures columns { (let columns : Span = record { start = result.first; end = result.last } in columns ≡ columns_for explicit (all_seen entries.now)) }
+    ensures columns { (let columns : Span = record { start = result.first; end = result.last } in
+        columns ≡ columns_for explicit (all_seen entries.now)) }
     ensures row { (rows : ℕ) → result.row ≡ first_row rows (all_seen entries.now) }
     ensures dense { result.dense ≡ dense }
 {

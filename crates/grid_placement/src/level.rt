@@ -1,5 +1,5 @@
-//! Items of one height that are free in both axes. In sparse mode they fill bands of rows, one band after another, and no cell has
-//! to be asked for (CSS Grid 2, 8.5, step 4).
+//! Items of one height that are free in both axes. In sparse mode they fill bands of rows, one band
+//! after another, and no cell has to be asked for (CSS Grid 2, 8.5, step 4).
 ghost use Rattle.std.specs.Prelude.{◌≡◌, ◌≤◌, ◌+ℤ◌, ◌≤ℤ◌, pos, int_le, true, false, length, map, IsTrue, IfOk};
 ghost use Rattle.std.specs.Int.{int_max};
 ghost use Rattle.part_rules.specs.Placement.{free_length, placed};
@@ -24,7 +24,8 @@ fn has_height(wish: Wish, rows: u32) -> bool
     }
 }
 
-/// Whether each item is free in both axes, of a column at least, and of so many rows, as the flow sees them.
+/// Whether each item is free in both axes, of a column at least, and of so many rows, as the flow
+/// sees them.
 fn have_height(items: &[Wish], column_flow: bool, rows: u32) -> bool
     ensures { result ≡ have_height column_flow rows items.now }
 {
@@ -33,7 +34,8 @@ fn have_height(items: &[Wish], column_flow: bool, rows: u32) -> bool
         .all(|item| has_height(wish_in_flow(column_flow, *item), rows))
 }
 
-/// The rows that the first item spans, as the flow sees it; 0 where it is definite in them, or there is none.
+/// The rows that the first item spans, as the flow sees it; 0 where it is definite in them, or
+/// there is none.
 fn first_height(items: &[Wish], column_flow: bool) -> u32 {
     match items.first() {
         Some(item) => free_length(wish_in_flow(column_flow, *item).row),
@@ -41,7 +43,8 @@ fn first_height(items: &[Wish], column_flow: bool) -> u32 {
     }
 }
 
-/// Whether all items are free in both axes and span the same number of rows, as the flow sees them: this number then, else 0.
+/// Whether all items are free in both axes and span the same number of rows, as the flow sees them:
+/// this number then, else 0.
 pub fn common_height(items: &[Wish], column_flow: bool) -> u32
     ensures { 1 ≤ result → have_height column_flow result items.now ≡ true }
 {
@@ -128,7 +131,8 @@ fn end_of(area: Area) -> Position
 }
 
 #[inline(always)]
-/// The areas of items that fill bands of rows in the columns up to a line, as the grid sees them, in one of the flows.
+/// The areas of items that fill bands of rows in the columns up to a line, as the grid sees them,
+/// in one of the flows.
 fn fill_along(
     alloc: Global,
     items: &[Wish],
@@ -137,7 +141,10 @@ fn fill_along(
 ) -> Result<Vec<Area>, NoMemory>
     requires count { length items.now ≤ 65536 }
     requires spans { IsTrue (are_placeable items.now) }
-    ensures { IfOk result (λ areas. areas.items ≡ map (area_in_flow column_flow) (in_bands last (pos 0) (pos 0) (map (wish_in_flow column_flow) items.now))) }
+    ensures { IfOk result
+        (λ areas. areas.items ≡
+        map (area_in_flow column_flow)
+        (in_bands last (pos 0) (pos 0) (map (wish_in_flow column_flow) items.now))) }
 {
     let mut areas = Vec::with_capacity(alloc, items.len())?;
     let mut end = Position { column: 0, row: 0 };
@@ -150,12 +157,15 @@ fn fill_along(
     Ok(areas)
 }
 
-/// The areas of items that fill bands of rows in the columns up to a line, as the grid sees them. Each flow has a loop of its own,
-/// which does not ask for the flow at each item.
+/// The areas of items that fill bands of rows in the columns up to a line, as the grid sees them.
+/// Each flow has a loop of its own, which does not ask for the flow at each item.
 fn fill(alloc: Global, items: &[Wish], column_flow: bool, last: i64) -> Result<Vec<Area>, NoMemory>
     requires count { length items.now ≤ 65536 }
     requires spans { IsTrue (are_placeable items.now) }
-    ensures { IfOk result (λ areas. areas.items ≡ map (area_in_flow column_flow) (in_bands last (pos 0) (pos 0) (map (wish_in_flow column_flow) items.now))) }
+    ensures { IfOk result
+        (λ areas. areas.items ≡
+        map (area_in_flow column_flow)
+        (in_bands last (pos 0) (pos 0) (map (wish_in_flow column_flow) items.now))) }
 {
     if column_flow {
         let areas = fill_along(alloc, items, true, last)?;

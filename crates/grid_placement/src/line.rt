@@ -4,10 +4,11 @@ ghost use Rattle.part_rules.specs.Placement.{to_end};
 
 use lunit::Span;
 
-/// No area lies farther, since each of at most 65,536 items moves the last line by at most 20,001 from 20,000 on.
+/// No area lies farther, since each of at most 65,536 items moves the last line by at most 20,001
+/// from 20,000 on.
 pub const FARTHEST: i32 = 1_310_805_536;
 
-/// So many tracks from a line on.
+/// The span of so many tracks from a line on.
 pub fn tracks_from(line: i32, tracks: u32) -> Span
     requires near { line ≤ℤ (FARTHEST +ℤ pos 1) }
     requires short { tracks ≤ 20000 }
@@ -16,18 +17,5 @@ pub fn tracks_from(line: i32, tracks: u32) -> Span
     Span {
         start: line,
         end: line + tracks as i32,
-    }
-}
-
-/// As many tracks, from the next line on.
-pub fn moved(span: Span) -> Span
-    requires start { span.start <ℤ FARTHEST }
-    requires end { span.end <ℤ pos 2147483647 }
-    ensures start { result.start ≡ span.start +ℤ pos 1 }
-    ensures end { result.end ≡ span.end +ℤ pos 1 }
-{
-    Span {
-        start: span.start + 1,
-        end: span.end + 1,
     }
 }

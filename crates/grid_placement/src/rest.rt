@@ -10,9 +10,12 @@ ghost use Rattle.grid_placement.specs.declared.search.Position.{Position};
 use crate::entry::{Entry, area_in_flow, free_length, hold};
 use crate::field::Field;
 use crate::line::FARTHEST;
-use crate::reached::{Reached, line_reached, position_reached, reach_line, reach_position};
+use crate::reached::{
+    Reached, SizeReached, line_reached, position_reached, reach_line, reach_position,
+};
 use crate::search::{Position, Sought, area_from, rows_from};
-use lunit::{Area, NoMemory, Occupancy, Span, Spot};
+use lunit::{Area, NoMemory, Span, Spot};
+use occupancy::Occupancy;
 use part_rules::Wish;
 use std::alloc::Global;
 use std::collections::BTreeMap;
@@ -23,8 +26,9 @@ const NO_AREA: Area = Area {
     rows: Span { start: 0, end: 0 },
 };
 
-/// The row at which the search for an item with a definite column begins: in dense mode the first one, or the one that a
-/// search of this size has come to; in sparse mode the cursor's, or the next where the column goes back.
+/// The row at which the search for an item with a definite column begins: in dense mode the first
+/// one, or the one that a search of this size has come to; in sparse mode the cursor's, or the next
+/// where the column goes back.
 fn row_from(field: Field, cursor: Position, reached: &Reached, columns: Span, tracks: u32) -> i32
     requires { cursor.row <ℤ FARTHEST }
     ensures { result ≡ row_from field.dense field cursor reached.now columns tracks }
@@ -38,8 +42,9 @@ fn row_from(field: Field, cursor: Position, reached: &Reached, columns: Span, tr
     cursor.row
 }
 
-/// The position at which the search for an item that is free in both axes begins: in dense mode the first one, or the one
-/// that a search of this size has come to; in sparse mode the cursor.
+/// The position at which the search for an item that is free in both axes begins: in dense mode the
+/// first one, or the last one that a search for no larger size has come to; in sparse mode the
+/// cursor.
 fn position_from(
     field: Field,
     cursor: Position,
@@ -99,7 +104,11 @@ fn next_area<O: Occupancy>(
 
 /// Keeps how far the search for an item came, in dense mode.
 fn keep(field: Field, reached: &mut Reached, wish: Wish, area: Area) -> Result<(), NoMemory>
-    ensures { OnOk result ((held : List Area) (cursor : Position) → Knows field.dense field reached.old held → IsSet held field cursor → HasRoom field.first field.last wish.column wish.row → Some area ≡ next_of field held cursor wish.column wish.row → Knows field.dense field reached.new (held ++ area ∷ [])) }
+    ensures { OnOk result
+        ((held : List Area) (cursor : Position) → Knows field.dense field reached.old held →
+        IsSet held field cursor → HasRoom field.first field.last wish.column wish.row →
+        Some area ≡ next_of field held cursor wish.column wish.row →
+        Knows field.dense field reached.new (held ++ area ∷ [])) }
 {
     if field.dense {
         let rows = free_length(wish.row);
@@ -108,11 +117,16 @@ fn keep(field: Field, reached: &mut Reached, wish: Wish, area: Area) -> Result<(
                 reach_line(&mut reached.rows, columns, rows, area.rows.start)?;
             }
             Spot::Free(columns) => {
-                let corner = Position {
+                let position = Position {
                     column: area.columns.start,
                     row: area.rows.start,
                 };
-                reach_position(&mut reached.positions, columns, rows, corner)?;
+                let here = SizeReached {
+                    columns,
+                    rows,
+                    position,
+                };
+                reach_position(&mut reached.positions, here)?;
             }
         }
     }
@@ -132,7 +146,9 @@ fn place_next<O: Occupancy>(
     requires fit { IsTrue (is_placeable wish) }
     requires room { HasRoom field.first field.last wish.column wish.row }
     requires knows { Knows field.dense field reached.old (O.areas cells.old) }
-    ensures { IfOk result (λ area. IsNextStep field (O.areas cells.old) cursor.old wish.column wish.row area (O.areas cells.new) cursor.new reached.new) }
+    ensures { IfOk result
+        (λ area. IsNextStep field (O.areas cells.old) cursor.old wish.column wish.row area
+        (O.areas cells.new) cursor.new reached.new) }
 {
     let area = next_area(field, *cursor, reached, wish, cells);
     hold(cells, area)?;
@@ -157,7 +173,8 @@ fn final_area(column_flow: bool, entry: Entry, area: Option<Area>) -> Area
     area_in_flow(column_flow, found.unwrap_or(NO_AREA))
 }
 
-/// Places the items that are left, in their order, and gives the areas of all items as the grid sees them.
+/// Places the items that are left, in their order, and gives the areas of all items as the grid
+/// sees them.
 pub fn place_rest<O: Occupancy>(
     alloc: Global,
     entries: &[Entry],
@@ -166,10 +183,15 @@ pub fn place_rest<O: Occupancy>(
     cells: &mut O,
 ) -> Result<Vec<Area>, NoMemory>
     requires count { length (O.areas cells.old) + count_left (all_seen entries.now) ≤ 65536 }
-    requires set { (start : Position) → start.column ≡ field.first → start.row ≡ field.row → IsSet (O.areas cells.old) field start }
+    requires set { (start : Position) → start.column ≡ field.first → start.row ≡ field.row →
+        IsSet (O.areas cells.old) field start }
     requires fit { IsTrue (can_be_placed (all_seen entries.now)) }
     requires room { AllHaveRoom field.first field.last (all_seen entries.now) }
-    ensures { IfOk result (λ areas. areas.items ≡ map (final_area column_flow) (rest_placed (field_of field) (O.areas cells.old) (record { column = field.first; row = field.row }) (all_seen entries.now))) }
+    ensures { IfOk result
+        (λ areas. areas.items ≡
+        map (final_area column_flow)
+        (rest_placed (field_of field) (O.areas cells.old)
+        (record { column = field.first; row = field.row }) (all_seen entries.now))) }
 {
     let mut areas = Vec::with_capacity(alloc, entries.len())?;
     let mut cursor = Position {
@@ -178,7 +200,7 @@ pub fn place_rest<O: Occupancy>(
     };
     let mut reached = Reached {
         rows: BTreeMap::new(alloc),
-        positions: BTreeMap::new(alloc),
+        positions: Vec::new(alloc),
     };
     for entry in entries {
         let area = place_next(field, &mut cursor, &mut reached, entry.wish, cells)?;

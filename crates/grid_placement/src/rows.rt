@@ -11,7 +11,8 @@ use crate::entry::{Entry, hold};
 use crate::line::FARTHEST;
 use crate::search::columns_from;
 use crate::starts::RowStarts;
-use lunit::{Area, NoMemory, Occupancy, Spot};
+use lunit::{Area, NoMemory, Spot};
+use occupancy::Occupancy;
 use part_rules::Wish;
 use std::alloc::Global;
 use std::collections::BTreeMap;
@@ -21,7 +22,8 @@ fn row_area<O: Occupancy>(wish: Wish, dense: bool, starts: &RowStarts, cells: &O
     requires near { AllEndBy FARTHEST (O.areas cells.now) }
     requires kept { AllBy FARTHEST starts.now }
     requires fit { IsTrue (is_placeable wish) }
-    ensures { (mine : List Area) → Keeps dense starts.now (O.areas cells.now) mine → result ≡ row_area dense (O.areas cells.now) mine wish.column wish.row }
+    ensures { (mine : List Area) → Keeps dense starts.now (O.areas cells.now) mine →
+        result ≡ row_area dense (O.areas cells.now) mine wish.column wish.row }
 {
     match (wish.column, wish.row) {
         (Spot::Free(tracks), Spot::At(rows)) => {
@@ -43,8 +45,13 @@ fn place_one<O: Occupancy>(
     requires room { length (O.areas cells.old) ≤ 65536 }
     requires ready { IsReady (O.areas cells.old) starts.old }
     requires fit { IsTrue (is_placeable entry.old.wish) }
-    ensures step { OnOk result ((mine : List Area) → Keeps dense starts.old (O.areas cells.old) mine → IsRowStep dense (O.areas cells.old) mine entry.old entry.new (O.areas cells.new) starts.new) }
-    ensures ready { OnOk result ((mine : List Area) → Keeps dense starts.old (O.areas cells.old) mine → IsReady (O.areas cells.new) starts.new) }
+    ensures step { OnOk result
+        ((mine : List Area) → Keeps dense starts.old (O.areas cells.old) mine →
+        IsRowStep dense (O.areas cells.old) mine entry.old entry.new (O.areas cells.new)
+        starts.new) }
+    ensures ready { OnOk result
+        ((mine : List Area) → Keeps dense starts.old (O.areas cells.old) mine →
+        IsReady (O.areas cells.new) starts.new) }
 {
     let area = row_area(entry.wish, dense, starts, cells);
     hold(cells, area)?;
@@ -65,8 +72,11 @@ pub fn place_rows<O: Occupancy>(
     requires near { AllEndBy (reach (length (O.areas cells.old))) (O.areas cells.old) }
     requires room { length (O.areas cells.old) + count_in_rows (all_seen entries.old) ≤ 65536 }
     requires fit { IsTrue (can_be_placed (all_seen entries.old)) }
-    ensures entries { OnOk result (all_seen entries.new ≡ rows_placed dense (O.areas cells.old) [] (all_seen entries.old)) }
-    ensures cells { OnOk result (O.areas cells.new ≡ O.areas cells.old ++ rows_added dense (O.areas cells.old) [] (all_seen entries.old)) }
+    ensures entries { OnOk result
+        (all_seen entries.new ≡ rows_placed dense (O.areas cells.old) [] (all_seen entries.old)) }
+    ensures cells { OnOk result
+        (O.areas cells.new ≡
+        O.areas cells.old ++ rows_added dense (O.areas cells.old) [] (all_seen entries.old)) }
     ensures near { OnOk result (AllEndBy (reach (length (O.areas cells.new))) (O.areas cells.new)) }
 {
     let mut starts = RowStarts {

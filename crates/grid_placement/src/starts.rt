@@ -33,8 +33,12 @@ impl RowStarts {
 
     /// Keeps where an item was placed.
     pub fn keep(&mut self, dense: bool, wish: Wish, area: Option<Area>) -> Result<(), NoMemory>
-        ensures kept { OnOk result ((held mine : List Area) → Keeps dense self.old held mine → area ≡ row_area dense held mine wish.column wish.row → Keeps dense self.new (held ++ option_to_list area) (mine ++ option_to_list area)) }
-        ensures by { OnOk result ((line : ℤ) → AllBy line self.old → EndsBy line area → AllBy line self.new) }
+        ensures kept { OnOk result
+            ((held mine : List Area) → Keeps dense self.old held mine →
+            area ≡ row_area dense held mine wish.column wish.row →
+            Keeps dense self.new (held ++ option_to_list area) (mine ++ option_to_list area)) }
+        ensures by { OnOk result
+            ((line : ℤ) → AllBy line self.old → EndsBy line area → AllBy line self.new) }
     {
         if let Some(area) = area {
             if dense {

@@ -131,7 +131,8 @@ parts_whole w d h = ap (λ (n : ℕ). n / 10 ^ length d) (digits_number-append w
 pub parts_rest : (w d : List ℕ) → all_digits d ≡ true → digits_number (w ++ d) % 10 ^ length d ≡ digits_number d
 parts_rest w d h = ap (λ (n : ℕ). n % 10 ^ length d) (digits_number-append w d) ∙ mod-mul-add (digits_number w) (10 ^ length d) (digits_number d) (below_place d h)
 
-pub rounded_parts : (negative : Bool) (w d : List ℕ) → are_parts w d ≡ true → rounded_or_none (decimal_or_none negative w d) ≡ Some (record { negative = negative; whole = min 4294967296 (digits_number w); millionths = digits_number d * 1000000 / 10 ^ length d; has_rest = nat_lt 0 (digits_number d) })
+pub rounded_parts : (negative : Bool) (w d : List ℕ) → are_parts w d ≡ true →
+    rounded_or_none (decimal_or_none negative w d) ≡ Some (record { negative = negative; whole = min 4294967296 (digits_number w); millionths = digits_number d * 1000000 / 10 ^ length d; has_rest = nat_lt 0 (digits_number d) })
 rounded_parts negative w d h =
     ap (λ (b : Bool). rounded_or_none (if b then Some (decimal_of negative w d) else None)) h
     ∙ ap (λ (n : ℕ). Some (rounded_as negative n (digits_number (w ++ d) % 10 ^ length d) (10 ^ length d))) (parts_whole w d good)

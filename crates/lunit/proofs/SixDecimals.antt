@@ -8,7 +8,7 @@ use Rattle.lunit.specs.Decimals.{is_digit, all_digits, digits_number, decimal_of
 use Rattle.lunit.proofs.Numerals.{parts_whole, parts_rest, six_make, power_above_zero}
 use Rattle.lunit.proofs.Allowed.{parts_are}
 
--- so many parts of the number: those of the whole, and those of its millionths
+-- the parts of a number: those of the whole, and those of its millionths
 parts_of : (scale : ℕ) (w xs : List ℕ) → IsScale scale → all_digits xs ≡ true → digits_number (w ++ xs) * scale / 10 ^ length xs ≡ digits_number w * scale + digits_number (take 6 xs) * 10 ^ (6 - length (take 6 xs)) / (1000000 / scale)
 parts_of scale w xs e h =
     sym (parts_are (digits_number (w ++ xs)) scale (10 ^ length xs) (1000000 / scale) e (power_above_zero (length xs)))

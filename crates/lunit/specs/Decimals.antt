@@ -86,7 +86,7 @@ is_allowed form d = not (passes form.most d) && (form.below_zero || not (is_belo
 abbrev pub signed : Bool → ℕ → ℤ
 signed negative size = if negative then neg_ℤ (pos size) else pos size
 
--- so many times the number, truncated toward zero (own rule)
+-- the number taken so many times, truncated toward zero (own rule)
 abbrev pub truncated : ℕ → Decimal → ℤ
 truncated scale d = signed d.negative (d.numerator * scale / 10 ^ d.places)
 
@@ -105,6 +105,6 @@ length_or_bad (Some units) = Ok units
 abbrev pub read_units : List ℕ → Result ℤ BadNumber
 read_units text = length_or_bad (read_number lengths text)
 
--- so many parts of one, of which a millionth is a whole number
+-- a scale: a number of parts of one of which a millionth is a whole number
 abbrev pub IsScale : ℕ → Type 0
 IsScale scale = scale * (1000000 / scale) ≡ 1000000

@@ -6,7 +6,7 @@ use Rattle.lunit.specs.declared.number.NumberForm.{NumberForm}
 abbrev pub lengths : NumberForm
 lengths = record { scale = 64; most = 1048576; below_zero = true }
 
--- the same without those below zero; `-0` is not below zero (own rule)
+-- px of at most 1,048,576 that are not below zero, in units of a sixty-fourth; `-0` is not below zero (own rule)
 abbrev pub sizes : NumberForm
 sizes = record { scale = 64; most = 1048576; below_zero = false }
 

@@ -19,4 +19,6 @@ abbrev pub of_spelling : List ℕ → Inside
 of_spelling text = record { bytes = padded text; len = length text }
 
 pub of_spelling_again : (a : Inside) → IsPadded a → of_spelling (spelling a) ≡ a
-of_spelling_again a h = ap (λ (p : List ℕ × ℕ). let r : Inside = record { bytes = p.0; len = p.1 } in r) (let e : length (take a.len a.bytes) ≡ a.len = omega (arith, length-take a.len a.bytes, h.room) in λ i. (h.padded_ok i, e i))
+of_spelling_again a h =
+    ap (λ (p : List ℕ × ℕ). let r : Inside = record { bytes = p.0; len = p.1 } in r)
+    (let e : length (take a.len a.bytes) ≡ a.len = omega (arith, length-take a.len a.bytes, h.room) in λ i. (h.padded_ok i, e i))

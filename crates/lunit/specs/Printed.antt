@@ -20,7 +20,7 @@ abbrev pub after_point : List ℕ → List ℕ
 after_point [] = []
 after_point (digit ∷ rest) = 46 ∷ digit ∷ rest
 
--- so many sixty-fourths as a decimal fraction; one is 15,625 millionths
+-- the decimal fraction of so many sixty-fourths; one is 15,625 millionths
 abbrev pub fraction_text : ℕ → List ℕ
 fraction_text parts = after_point (without_last_zeros (six_digits (parts * 15625)))
 

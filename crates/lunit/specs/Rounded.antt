@@ -19,8 +19,10 @@ rounded_or_none (Some d) = Some (rounded d)
 
 -- the form allows each number that is rounded to this
 abbrev pub allows : NumberForm → Rounded → Bool
-allows form r = (nat_lt r.whole form.most || (r.whole == form.most && not r.has_rest)) && (form.below_zero || (not r.negative || (r.whole == 0 && not r.has_rest)))
+allows form r =
+    (nat_lt r.whole form.most || (r.whole == form.most && not r.has_rest)) &&
+    (form.below_zero || (not r.negative || (r.whole == 0 && not r.has_rest)))
 
--- so many parts of the number, truncated
+-- the magnitude of the number in parts of the form's scale, truncated
 abbrev pub size_of : NumberForm → Rounded → ℕ
 size_of form r = r.whole * form.scale + r.millionths / (1000000 / form.scale)

@@ -28,7 +28,7 @@ impl<const AXIS: u8> Model for Along<AXIS> {
 }
 
 impl<const AXIS: u8> Along<AXIS> {
-    /// So many units along the axis.
+    /// A number of units along the axis.
     pub fn of(units: i64) -> Self
         ensures { result ≡ units }
     {

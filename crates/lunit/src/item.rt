@@ -14,8 +14,12 @@ pub enum Floor {
 /// contributions, in units (CSS Grid 2, 12.5).
 #[derive(Clone, Copy, Debug, PartialEq, Eq)]
 pub struct Item {
+    /// The lines that it lies between.
     pub span: Span,
+    /// The min-content contribution.
     pub low: Lu,
+    /// The max-content contribution.
     pub high: Lu,
+    /// The minimum contribution.
     pub floor: Floor,
 }

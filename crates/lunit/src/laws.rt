@@ -26,5 +26,6 @@ pub fn six_decimals_count(scale: u32, negative: bool, whole: &[u8], decimals: &[
     requires decimals { IsTrue (all_digits decimals.now) }
     requires six { length decimals.now ≡ 6 }
     requires more { IsTrue (all_digits more.now) }
-    ensures { truncated scale (decimal_of negative whole.now (decimals.now ++ more.now)) ≡ truncated scale (decimal_of negative whole.now decimals.now) }
+    ensures { truncated scale (decimal_of negative whole.now (decimals.now ++ more.now)) ≡
+        truncated scale (decimal_of negative whole.now decimals.now) }
 {}

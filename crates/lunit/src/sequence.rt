@@ -82,7 +82,8 @@ impl<T> Sequence<T> {
 
     /// Takes the last item out; `None` exactly where there is none.
     pub fn pop(&mut self) -> Option<T>
-        ensures { MatchOption result ((self.old ≡ []) × (self.new ≡ [])) (λ last. self.old ≡ self.new ++ last ∷ []) }
+        ensures { MatchOption result ((self.old ≡ []) × (self.new ≡ []))
+            (λ last. self.old ≡ self.new ++ last ∷ []) }
     {
         self.items.pop()
     }
@@ -150,7 +151,8 @@ impl<T> Sequence<T> {
     /// The item at an index, to be changed in place; `None` exactly where there are not so many.
     pub fn get_mut(&mut self, at: usize) -> Option<&mut T>
         ensures* writes_back { sem 𝓛 (lends_item T.row self.entry at result) }
-        ensures value { MatchOption result (slice_get self.old at ≡ None) (λ x. slice_get self.old at ≡ Some x.now) }
+        ensures value { MatchOption result (slice_get self.old at ≡ None)
+            (λ x. slice_get self.old at ≡ Some x.now) }
     {
         self.items.get_mut(at)
     }

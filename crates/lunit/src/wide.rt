@@ -53,7 +53,7 @@ impl Sub<Wide> for Wide {
 }
 
 impl Wide {
-    /// So many units.
+    /// A number of units as an exact number.
     pub fn of(units: i128) -> Wide
         requires { IsWide units }
         ensures { result ≡ units }
@@ -89,7 +89,7 @@ impl Wide {
         }
     }
 
-    /// So many times the number.
+    /// The number multiplied by another, which is not below zero.
     pub fn times(self, by: u64) -> Wide
         requires { IsWide (self *ℤ pos by) }
         ensures { result ≡ self *ℤ pos by }

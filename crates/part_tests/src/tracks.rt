@@ -37,7 +37,7 @@ struct Row {
 const FIRST: i32 = -2;
 
 #[tactic(auto, using(crate::proofs::Measurable::some_length))]
-/// So many units.
+/// A number of units as a length.
 fn units(number: u32) -> Lu
     ensures { pos 0 ≤ℤ result }
 {

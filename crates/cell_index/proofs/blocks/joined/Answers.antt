@@ -12,4 +12,5 @@ returns c = λ track.
     let same : to_z w32 (of_z w32 c.args.first.end) ≡ to_z w32 (of_z w32 c.args.second.start) = search rules in
     let low : c.args.first.start ≤ℤ c.args.first.end = search rules in
     let high : c.args.second.start ≤ℤ c.args.second.end = search rules in
-    joined_span c.args.first c.args.second (to_z w32 (of_z w32 c.args.first.start)) (to_z w32 (of_z w32 c.args.second.end)) track (to_z-of_z w32 c.args.first.start first_start) (to_z-of_z w32 c.args.second.end second_end) (sym (to_z-of_z w32 c.args.first.end first_end) ∙ same ∙ to_z-of_z w32 c.args.second.start second_start) low high
+    joined_span c.args.first c.args.second (to_z w32 (of_z w32 c.args.first.start)) (to_z w32 (of_z w32 c.args.second.end)) track (to_z-of_z w32 c.args.first.start first_start) (to_z-of_z w32 c.args.second.end second_end)
+    (sym (to_z-of_z w32 c.args.first.end first_end) ∙ same ∙ to_z-of_z w32 c.args.second.start second_start) low high

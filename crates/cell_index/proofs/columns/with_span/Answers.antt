@@ -10,7 +10,9 @@ returns c =
     let starts : SFits w32 c.args.columns.start = search rules in
     let ends : SFits w32 c.args.columns.end = search rules in
     let front : c.truncate.new.self.items ≡ take c.args.first c.args.edges.items = c.truncate.ensures.items in
-    let one : c.in_ok-edges.edges.items ≡ take c.args.first c.args.edges.items ++ one_if (c.args.first % 2 == 0) c.args.columns.start = c.in_ok-edges.ensures ∙ ap (λ l. l ++ one_if (c.args.first % 2 == 0) (to_z w32 (of_z w32 c.args.columns.start))) front ∙ ap (λ z. take c.args.first c.args.edges.items ++ one_if (c.args.first % 2 == 0) z) (to_z-of_z w32 c.args.columns.start starts) in
+    let one : c.in_ok-edges.edges.items ≡
+    take c.args.first c.args.edges.items ++ one_if (c.args.first % 2 == 0) c.args.columns.start = c.in_ok-edges.ensures ∙ ap (λ l. l ++ one_if (c.args.first % 2 == 0) (to_z w32 (of_z w32 c.args.columns.start))) front ∙
+    ap (λ z. take c.args.first c.args.edges.items ++ one_if (c.args.first % 2 == 0) z) (to_z-of_z w32 c.args.columns.start starts) in
     let two : c.in_ok-edges-2.edges.items ≡ c.in_ok-edges.edges.items ++ one_if (c.args.last % 2 == 0) c.args.columns.end = c.in_ok-edges-2.ensures ∙ ap (λ z. c.in_ok-edges.edges.items ++ one_if (c.args.last % 2 == 0) z) (to_z-of_z w32 c.args.columns.end ends) in
     let back : c.as_slice.result.now ≡ drop c.args.last c.args.edges.items = c.as_slice.ensures.value ∙ c.in_ok-behind.ensures.items ∙ take_rest c.deref.result.now c.args.last ∙ ap (λ l. drop c.args.last l) c.deref.ensures.value in
     let all : c.extend_from_slice.new.self.items ≡ c.in_ok-edges-2.edges.items ++ drop c.args.last c.args.edges.items = c.in_ok-extend_from_slice.ensures.items ∙ ap (λ l. c.in_ok-edges-2.edges.items ++ l) back in

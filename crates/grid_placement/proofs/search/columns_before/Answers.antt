@@ -1,48 +1,22 @@
-use Rattle.std.proofs.Common.{arith, ap, sym, ◌∙◌}
+use Rattle.std.proofs.Common.{arith, refl, ◌≡◌, pos}
 use Rattle.std.proofs.lemmas.Int.{ints}
-use Rattle.grid_placement.proofs.Near.{taken_starts, falls, moved_span}
-use Rattle.grid_placement.proofs.InRow.{none_yet, none_more, none_at_all}
+use Rattle.part_rules.specs.Placement.{free_column}
+use Rattle.grid_placement.proofs.InRow.{first_found, none_found}
+use Rattle.grid_placement.proofs.Least.{column_near, column_told}
 use Rattle.grid_placement.proofs.search.columns_before.Goals as goal
 
-pub returns-then-free : goal.returns-then-free
-returns-then-free g c = record {
-  span = c.search.invariant.span;
-  after = c.search.invariant.from;
-  within = omega (arith, ints);
-  free = sym c.free.ensures ∙ c.if-free.true;
-  none = c.search.invariant.none;
-}
+pub tracks_from-columns-requires-clause-near : goal.tracks_from-columns-requires-clause-near
+tracks_from-columns-requires-clause-near g c =
+    let told : c.next_column.result ≡ free_column (g.O.Occupancy.areas c.args.cells.now) c.args.sought.columns c.args.area.rows c.args.area.columns.start = column_told _ _ _ _ _ _ c.args.area refl c.requires.span refl c.next_column.ensures in
+    let near = column_near (pos 1310805536) (g.O.Occupancy.areas c.args.cells.now) c.args.sought.columns c.args.area.rows c.args.area.columns.start c.requires.ends c.requires.near in
+    omega (arith, ints, told, near)
 
-pub moved-columns-requires-clause-start : goal.moved-columns-requires-clause-start
-moved-columns-requires-clause-start g c = (taken_starts _ _ _ c.requires.ends (sym c.free.ensures ∙ c.if-free.false)).0
+pub returns-then-columns-sought : goal.returns-then-columns-sought
+returns-then-columns-sought g c =
+    let told : c.next_column.result ≡ free_column (g.O.Occupancy.areas c.args.cells.now) c.args.sought.columns c.args.area.rows c.args.area.columns.start = column_told _ _ _ _ _ _ c.args.area refl c.requires.span refl c.next_column.ensures in
+    first_found _ _ _ _ _ _ _ c.tracks_from-columns.ensures (omega (arith, ints, told)) (omega (arith, ints))
 
-pub moved-columns-requires-clause-end : goal.moved-columns-requires-clause-end
-moved-columns-requires-clause-end g c =
-    let start = (taken_starts _ _ _ c.requires.ends (sym c.free.ensures ∙ c.if-free.false)).0 in
-    let end = ap (λ s. s.end) c.search.invariant.span in
-    omega (arith, ints)
-
-pub search-smaller : goal.search-smaller
-search-smaller g c = falls _ _ _ (taken_starts _ _ _ c.requires.ends (sym c.free.ensures ∙ c.if-free.false)).0 c.moved-columns.ensures.start
-
-pub search-init : goal.search-init
-search-init g c = record {
-  span = c.requires.span;
-  from = omega (arith, ints);
-  near = c.requires.near;
-  none = none_yet _ _ _ _;
-}
-
-pub search-preserved : goal.search-preserved
-search-preserved g c =
-    let start = (taken_starts _ _ _ c.requires.ends (sym c.free.ensures ∙ c.if-free.false)).0 in
-    let i = c.search.invariant in
-    let e = c.moved-columns.ensures in record {
-      span = moved_span _ _ _ i.span e.start e.end;
-      from = omega (arith, ints);
-      near = omega (arith, ints);
-      none = none_more _ _ _ _ c.search.columns c.moved-columns.result i.none i.span e.start (sym c.free.ensures ∙ c.if-free.false);
-    }
-
-pub returns : goal.returns
-returns g c = none_at_all _ _ _ _ _ c.search.columns c.search.invariant.none (ap (λ s. s.end) c.search.invariant.span) (omega (arith, ints))
+pub returns-else-columns-sought : goal.returns-else-columns-sought
+returns-else-columns-sought g c =
+    let told : c.next_column.result ≡ free_column (g.O.Occupancy.areas c.args.cells.now) c.args.sought.columns c.args.area.rows c.args.area.columns.start = column_told _ _ _ _ _ _ c.args.area refl c.requires.span refl c.next_column.ensures in
+    none_found _ _ _ _ _ _ c.tracks_from-columns.result c.tracks_from-columns.ensures (omega (arith, ints, told)) (omega (arith, ints))

@@ -32,8 +32,11 @@ loop-row-preserved c =
       low = omega (arith, ints, e, c.next-next.ensures.later, r, c.loop-row.invariant.low);
       high = omega (arith, ints, e, c.next-next.ensures.within);
       added = λ row column.
-          let turn : (within (record { start = c.args.area.rows.start; end = to_z w32 c.loop-row.row-bits }) row || within (record { start = to_z w32 c.loop-row.row-bits; end = to_z w32 (of_z w32 c.next-next.result) }) row) ≡ within (record { start = c.args.area.rows.start; end = to_z w32 (of_z w32 c.next-next.result) }) row = in_turn c.args.area.rows.start (to_z w32 c.loop-row.row-bits) (to_z w32 (of_z w32 c.next-next.result)) row c.loop-row.invariant.low (omega (arith, ints, e, c.next-next.ensures.later)) in
+          let turn : (within (record { start = c.args.area.rows.start; end = to_z w32 c.loop-row.row-bits }) row || within (record { start = to_z w32 c.loop-row.row-bits; end = to_z w32 (of_z w32 c.next-next.result) }) row) ≡
+          within (record { start = c.args.area.rows.start; end = to_z w32 (of_z w32 c.next-next.result) }) row = in_turn c.args.area.rows.start (to_z w32 c.loop-row.row-bits) (to_z w32 (of_z w32 c.next-next.result)) row c.loop-row.invariant.low
+          (omega (arith, ints, e, c.next-next.ensures.later)) in
           c.in_ok-fill_band.ensures.added row column
           ∙ ap (λ b. b || (within (record { start = to_z w32 c.loop-row.row-bits; end = to_z w32 (of_z w32 c.next-next.result) }) row && within c.args.area.columns column)) (c.loop-row.invariant.added row column)
-          ∙ spread (held c.args.self.now row column) (within (record { start = c.args.area.rows.start; end = to_z w32 c.loop-row.row-bits }) row) (within (record { start = to_z w32 c.loop-row.row-bits; end = to_z w32 (of_z w32 c.next-next.result) }) row) (within (record { start = c.args.area.rows.start; end = to_z w32 (of_z w32 c.next-next.result) }) row) (within c.args.area.columns column) turn;
+          ∙ spread (held c.args.self.now row column) (within (record { start = c.args.area.rows.start; end = to_z w32 c.loop-row.row-bits }) row) (within (record { start = to_z w32 c.loop-row.row-bits; end = to_z w32 (of_z w32 c.next-next.result) }) row)
+          (within (record { start = c.args.area.rows.start; end = to_z w32 (of_z w32 c.next-next.result) }) row) (within c.args.area.columns column) turn;
     }

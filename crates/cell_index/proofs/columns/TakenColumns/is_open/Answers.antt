@@ -16,7 +16,9 @@ returns-then-first-ne0 c =
     let P : ℤ → Type 0 = λ z. AllByRecursion (λ edge. edge ≤ℤ z) (take c.count_through-first.result c.as_slice-edges.result.now) in
     let Q : ℤ → Type 0 = λ z. AllByRecursion (λ edge. z <ℤ edge) (drop c.count_through-first.result c.as_slice-edges.result.now) in
     let odd : (c.count_through-first.result % 2 == 0) ≡ false = search (rules, tests) in
-    let told : false ≡ leaves_open false c.as_slice-edges.result.now c.args.columns = sym (shut_where_taken c.as_slice-edges.result.now c.count_through-first.result c.args.columns c.count_through-first.ensures.within (subst P e c.count_through-first.ensures.through) (subst Q e c.count_through-first.ensures.after) odd) in
+    let told : false ≡
+    leaves_open false c.as_slice-edges.result.now c.args.columns = sym
+    (shut_where_taken c.as_slice-edges.result.now c.count_through-first.result c.args.columns c.count_through-first.ensures.within (subst P e c.count_through-first.ensures.through) (subst Q e c.count_through-first.ensures.after) odd) in
     open_told false c.as_slice-edges.result.now c.args.columns rising some told
     ∙ ap (λ l. is_open l c.args.columns) (c.as_slice-edges.ensures.value ∙ c.self.view_is)
 
