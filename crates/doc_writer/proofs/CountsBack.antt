@@ -34,7 +34,7 @@ abbrev pub one_if : Bool → ℕ
 one_if true = 1
 one_if false = 0
 
--- so many of the cells pass
+-- how many of the cells pass
 abbrev pub tally : (Placed → Bool) → List Placed → ℕ
 tally test [] = 0
 tally test (p ∷ cells) = one_if (test p) + tally test cells

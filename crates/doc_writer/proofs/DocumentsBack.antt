@@ -466,6 +466,6 @@ abbrev doc_or : Doc → Result Doc Fault → Doc
 doc_or other (Ok doc) = doc
 doc_or other (Err fault) = other
 
--- and that document is written as the same text
+-- the document that is read back is written as the same text
 pub written_again : (doc again : Doc) (text : List ℕ) (end : Place) → IsValid doc → canonical doc ≡ Ok text → document_of (lines_of text) end ≡ Ok again → canonical again ≡ Ok text
 written_again doc again text end v e r = subst (λ (d : Doc). canonical d ≡ Ok text) (ap (doc_or doc) (sym (document_back doc text end v e) ∙ r)) e

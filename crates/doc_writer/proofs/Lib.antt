@@ -3,7 +3,6 @@ pub mod Marks
 pub mod Runs
 pub mod Lists
 pub mod Short
-pub mod ShortLines
 pub mod NumbersBack
 pub mod WordsBack
 pub mod TextsBack

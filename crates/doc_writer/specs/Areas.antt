@@ -24,7 +24,7 @@ abbrev pub quote_if : Bool → List ℕ
 quote_if true = 34 ∷ []
 quote_if false = []
 
--- so many cells of a row from a column on. The first begins the string where the first argument says so, and the last ends it
+-- the cells of a row, so many from a column on. The first begins the string where the first argument says so, and the last ends it
 abbrev pub cells_from : Bool → List Named → ℕ → ℕ → ℕ → List Word
 cells_from opens areas row column zero = []
 cells_from opens areas row column (suc rest) =

@@ -11,7 +11,7 @@ use Rattle.track_text.specs.Words.{Word}
 abbrev pub decimals : ℕ → ℕ → List ℕ
 decimals scale parts = after_point (without_last_zeros (six_digits (parts * (1000000 / scale))))
 
--- so many parts of which `scale` are one, as an exact decimal
+-- the exact decimal of so many parts of which `scale` are one
 unfoldable pub number : ℕ → ℤ → Word
 number scale parts = minus_of parts ++ decimal (unsigned_abs parts / scale) ++ decimals scale (unsigned_abs parts % scale)
 

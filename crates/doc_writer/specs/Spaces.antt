@@ -31,7 +31,7 @@ words_after last (word ∷ words) = gap last word ++ (word ++ words_after (last_
 abbrev pub words_text : List Word → List ℕ
 words_text words = words_after 32 words
 
--- so much of the text with the words after it as is kept of a line: one byte more than a line may have
+-- the text with the words after it, as much as is kept of a line: one byte more than a line may have
 unfoldable pub put : List ℕ → List Word → List ℕ
 put text [] = text
 put text (word ∷ words) = take 65537 (text ++ words_after (last_or 32 text) (word ∷ words))

@@ -131,7 +131,7 @@ repeat_words often = codes "repeat" ∷ codes "(" ∷ often ∷ codes "," ∷ []
 abbrev pub repeated : ℕ → List Word → List Word
 repeated count words = if count == 1 then words else repeat_words (integer (pos count)) ++ (words ++ codes ")" ∷ [])
 
--- so often a repeat stands at most (own rule)
+-- a track that stands so often in a repeat may stand there once more: at most 10,000 times (own rule)
 abbrev pub has_room : ℕ → Bool
 has_room count = nat_lt count 10000
 
@@ -160,7 +160,7 @@ abbrev pub tracks_words : List (List Word) → List Track → List Word
 tracks_words lines [] = shown_set (first_set lines)
 tracks_words lines (track ∷ tracks) = shown_set (first_set lines) ++ run_words track 1 (drop 1 lines) tracks
 
--- the same without repeats
+-- tracks with the sets of their lines, written without repeats
 abbrev pub plain_words : List (List Word) → List Track → List Word
 plain_words lines [] = shown_set (first_set lines)
 plain_words lines (track ∷ tracks) = shown_set (first_set lines) ++ (track_words track ++ plain_words (drop 1 lines) tracks)

@@ -16,6 +16,3 @@ mod write;
 pub use errors::WriteError;
 pub use laws::{canonical_text_is_fixed, declarations_read_back, documents_read_back};
 pub use write::write_doc;
-
-#[cfg(test)]
-mod tests;

@@ -8,7 +8,8 @@ use lunit::NoMemory;
 use std::alloc::Global;
 use std::marker::Model;
 
-/// So many bytes of a line are kept: one more than a line may have, so that a longer line is known.
+/// How many bytes of a line are kept: one more than a line may have, so that a longer line is
+/// known.
 const KEPT: usize = 65_537;
 
 /// The bytes of a line that are kept. Contracts see them.

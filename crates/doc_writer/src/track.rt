@@ -15,7 +15,7 @@ use lunit::{Lu, NameSet, NoMemory};
 use style_types::{Repeat, Template, TrackFn, TrackList, Unit};
 use track_text::{Side, Track};
 
-/// So often a repeat stands at most (own rule).
+/// How often a repeat stands at most (own rule).
 const MOST_TIMES: u32 = 10_000;
 
 fn write_side(line: &mut LineText, side: Side) -> Result<(), NoMemory>

@@ -34,7 +34,7 @@ impl<'a> Units<'a> {
         Units { left: units }
     }
 
-    /// The same units.
+    /// These units once more.
     pub(crate) fn same(&self) -> Units<'a>
         ensures { result ≡ self.now }
     {

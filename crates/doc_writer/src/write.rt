@@ -14,7 +14,7 @@ use doc_text::{Doc, Plain};
 use lunit::{Lu, NoMemory};
 use std::alloc::Global;
 
-/// So many bytes the line of a node may have (own rule).
+/// How many bytes the line of a node may have (own rule).
 const LONGEST: usize = 65_536;
 
 /// Adds a line with its line feed.

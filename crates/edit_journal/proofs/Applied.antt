@@ -40,7 +40,7 @@ distinct_drop nodes zero d = d
 distinct_drop [] (suc i) d = tt
 distinct_drop (node ∷ nodes) (suc i) d = distinct_drop nodes i d.1.1.1.1
 
--- and of what stands below each
+-- the names of what stands below each node of a list differ
 pub distinct_child : (nodes : List Plain) (i : ℕ) (node : Plain) → IsDistinct (trees_of nodes) → i < length nodes → IsDistinct (tree_of_node (get_or nodes i node))
 distinct_child nodes i node d h =
     let e : IsDistinct (tree (label_of (get_or nodes i node)) (get_or nodes i node).children (trees_of (drop (i + 1) nodes))) = subst IsDistinct (trees_of-drop nodes i node h) (distinct_drop nodes i d) in

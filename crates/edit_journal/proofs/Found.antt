@@ -112,7 +112,7 @@ position_own name node = ap (or_position (child_of node.name (place_in name node
 
 pub ruleset positioning = (position_next, position_none, position_own)
 
--- so many more, if there is one
+-- a place that stands so many further on, if there is one
 abbrev pub past : ℕ → Option ℕ → Option ℕ
 past n None = None
 past n (Some place) = Some (n + place)

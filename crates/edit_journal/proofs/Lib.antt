@@ -5,4 +5,3 @@ pub mod Items
 pub mod Found
 pub mod Applied
 pub mod Stepping
-pub mod Tested

@@ -16,6 +16,3 @@ pub use journal::{Journal, NothingToRedo, NothingToUndo};
 pub use laws::{changes_are_edits, steps_lead_back};
 pub use steps::{forward_of, no_change, step_of};
 pub use values::{props_of, values_in, values_set, values_unset, with_values};
-
-#[cfg(test)]
-mod tests;

@@ -43,7 +43,7 @@ not_before edges box first j rising few begins h = false_from_ne_true (reaches_s
         let b : get_or edges first (pos 0) ≤ℤ box.y = begins (omega arith) in
         omega (arith, ints, clamps)
 
--- and none that begins where it ends or after that
+-- the box reaches no strip that begins where it ends or after that
 not_after : (edges : List ℤ) (box : Rect) (strip j : ℕ) → (pos 0 <ℤ box.height → AreRising edges) → (box.y +ℤ box.height) ≤ℤ get_or edges strip (pos 0) → strip ≤ j → j < 64 → reaches_strip edges box j ≡ false
 not_after edges box strip j rising ends h few = false_from_ne_true (reaches_strip edges box j) not
   where

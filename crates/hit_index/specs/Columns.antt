@@ -18,7 +18,7 @@ reaches_column range column = nat_le ((column + (2 ^ 8 - range.first)) % 2 ^ 8) 
 pub record IsRangeOf (grid : Grid) (box : Rect) (range : ColumnRange) : Type 0 where
   pub told : (x y : ℤ) → contains x y box ≡ true → reaches_column range (column_of grid x) ≡ true
 
--- so many boxes have their ranges, from the first on
+-- the first so many boxes have their ranges
 pub record AreRanges (grid : Grid) (boxes : List Rect) (count : ℕ) (ranges : List ColumnRange) : Type 0 where
   pub counted : length ranges ≡ count
   pub each : (k : ℕ) (box : Rect) (d : ColumnRange) → k < count → IsRangeOf grid (get_or boxes k box) (get_or ranges k d)

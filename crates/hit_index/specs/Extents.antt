@@ -16,7 +16,7 @@ lies_inside extent x y = is_between extent.left extent.right x && is_between ext
 pub record IsAround (boxes : List Rect) (numbers : List ℕ) (extent : Extent) : Type 0 where
   pub around : (x y : ℤ) → lies_inside extent x y ≡ false → filter (hits boxes x y) numbers ≡ []
 
--- so many runs of sixty-four numbers have their edges, from the first on
+-- each of the runs of sixty-four numbers, from the first on, has its edges
 pub record AreAround (boxes : List Rect) (numbers : List ℕ) (extents : List Extent) : Type 0 where
   pub each : (run : ℕ) (d : Extent) → run < length extents → IsAround boxes (take 64 (drop (run * 64) numbers)) (get_or extents run d)
 
@@ -24,7 +24,7 @@ pub record AreAround (boxes : List Rect) (numbers : List ℕ) (extents : List Ex
 abbrev pub CountsRuns : List ℕ → List Extent → Type 0
 CountsRuns numbers extents = (length numbers ≤ length extents * 64) × (length extents * 64 < length numbers + 64)
 
--- so many strips have the edges of their runs, from the first on
+-- the first so many strips have the edges of their runs
 pub record AreRuns (boxes : List Rect) (strips : List (List ℕ)) (count : ℕ) (extents : List (List Extent)) : Type 0 where
   pub counted : length extents ≡ count
   pub counts : (j : ℕ) → j < count → CountsRuns (get_or strips j []) (get_or extents j [])

@@ -39,7 +39,7 @@ pub record HasPoint (from to : ℤ) (box : Rect) : Type 0 where
   pub last : y <ℤ to
   pub is : contains x y box ≡ true
 
--- so many edges of the strips of these boxes, from the first on
+-- these are the first so many edges of the strips of the boxes
 pub record AreEdges (boxes : List Rect) (count : ℕ) (edges : List ℤ) : Type 0 where
   pub counted : length edges ≡ count
   pub each : (j : ℕ) → j < count → get_or edges j (pos 0) ≡ edge boxes j

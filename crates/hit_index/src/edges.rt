@@ -65,7 +65,7 @@ fn bottom_of(rects: &[Rect]) -> i64
     }
 }
 
-/// So many sixty-fourths of the way from the top to the bottom, rounded down.
+/// The place so many sixty-fourths of the way from the top to the bottom, rounded down.
 fn edge_between(top: i64, bottom: i64, strip: usize) -> i64
     requires top { unsigned_abs top ≤ 2 ^ 56 }
     requires bottom { unsigned_abs bottom ≤ 2 ^ 57 }

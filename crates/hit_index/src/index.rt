@@ -82,6 +82,3 @@ impl HitIndex {
         )
     }
 }
-
-#[cfg(test)]
-mod tests;
