@@ -144,7 +144,8 @@ uint8_t gridlay_count(gridlay *page, size_t *count);
  *   GRIDLAY_OK, GRIDLAY_ROOM, GRIDLAY_CLOSED, GRIDLAY_STALE */
 uint8_t gridlay_boxes(gridlay *page, gridlay_rect *room, size_t size, size_t *count);
 
-/* The box of a node, by its name.
+/* The box of a node, by its name, which is looked for from the first box on: who asks for many reads gridlay_boxes
+ * once.
  *   GRIDLAY_OK, GRIDLAY_CLOSED, GRIDLAY_STALE
  *   GRIDLAY_NONE     no node has this name */
 uint8_t gridlay_box_of(gridlay *page, const uint8_t *name, size_t size, gridlay_rect *box);

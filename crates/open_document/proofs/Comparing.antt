@@ -25,7 +25,7 @@ changed_more k before (b ∷ boxes) x = by_test (has_box before b) (changed_more
     by_test true e = e
     by_test false e = ap (λ (l : List ℕ). k ∷ l) e
 
-within_of : {A : Type 0} (xs : List A) (i : ℕ) (x : A) → slice_get xs i ≡ Some x → i < length xs
+pub within_of : {A : Type 0} (xs : List A) (i : ℕ) (x : A) → slice_get xs i ≡ Some x → i < length xs
 within_of [] i x at = absurd (true≢false (ap is_some (sym at)))
 within_of (y ∷ ys) zero x at = omega arith
 within_of (y ∷ ys) (suc i) x at = omega (arith, within_of ys i x at)
@@ -84,8 +84,6 @@ module _ (before boxes : List Box) (i : ℕ) where
 
 pub stepped_none : (before boxes : List Box) (changed : List ℕ) → changed ≡ [] → HasStepped before boxes 0 changed
 stepped_none before boxes changed e = record { within = omega arith; names = λ k l. absurd (omega arith); noted = e }
-
-pub ruleset stepping = (stepped, stepped_none)
 
 -- ---- out of step
 

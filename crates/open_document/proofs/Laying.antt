@@ -12,6 +12,7 @@ use Rattle.session.proofs.FewBoxes.{few_boxes}
 use Rattle.session.proofs.Points.{small_boxes}
 use Rattle.open_document.specs.Apart.{AreBoxes}
 use Rattle.open_document.specs.Changed.{changed_in}
+use Rattle.open_document.specs.Coming.{AreNext, Change, next_boxes}
 use Rattle.open_document.specs.Opened.{laid_out}
 use Rattle.open_document.proofs.Distinct.{boxes_apart}
 use Rattle.open_document.proofs.Editing.{opened_by, same_laid}
@@ -41,6 +42,18 @@ module _ (s s' : Standing) (same : IsSame s s') where
   laid_new last changed laid boxes now b c =
       let noted : now ≡ changed_in last (boxes_of (doc_of s)) = c ∙ ap (changed_in last) b in
       λ i. record { history = same_laid s s' same i; last = b i; changed = noted i; laid = true }
+
+-- what takes the place of the boxes before is what came
+pub record AreLaid (last new done : List Box) (changed : List ℕ) : Type 0 where
+  pub are : new ≡ done
+  pub told : changed ≡ changed_in last done
+
+pub next_laid : (last new before done : List Box) (changes : List Change) (apart : Bool) (boxes : List Box) (told changed : List ℕ) → before ≡ last → AreNext before done changes apart boxes told → new ≡ next_boxes apart last changes boxes → changed ≡ told → AreLaid last new done changed
+next_laid last new before done changes apart boxes told changed same next e f =
+    record {
+      are = e ∙ ap (λ (l : List Box). next_boxes apart l changes boxes) (sym same) ∙ next.are;
+      told = f ∙ next.told ∙ ap (λ (l : List Box). changed_in l done) same;
+    }
 
 pub ruleset laying = (found_boxes, still_stand, nothing_changed, boxes_stand, laid_new)
 

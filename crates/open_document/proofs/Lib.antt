@@ -1,8 +1,10 @@
 pub mod Naming
+pub mod SameNames
 pub mod Comparing
 pub mod Distinct
 pub mod Reading
 pub mod Editing
 pub mod Opening
+pub mod HaveCome
 pub mod Laying
 pub mod Scratch

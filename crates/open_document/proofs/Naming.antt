@@ -28,7 +28,7 @@ either_way a b = one_answer (bytes_eq a b) (bytes_eq b a) (bytes_eq-Decides a b)
 pub same_some : {A : Type 0} (x y : A) → Some x ≡ Some y → x ≡ y
 same_some x y e = ap (λ (o : Option _). unwrap_or o x) e
 
-some_is_none : {A X : Type 0} (x : A) → Some x ≡ None → X
+pub some_is_none : {A X : Type 0} (x : A) → Some x ≡ None → X
 some_is_none x e = absurd (true≢false (ap is_some e))
 
 -- ---- a name that none has

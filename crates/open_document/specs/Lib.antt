@@ -16,3 +16,4 @@ pub mod Runs
 pub mod Apart
 pub mod Steps
 pub mod Texts
+pub mod Coming

@@ -1,13 +1,13 @@
 //! Which boxes of a layout the layout before it does not have.
 
-ghost use Rattle.std.specs.Prelude.{◌≡◌, ◌++◌, ℕ, List, [], drop, slice_get, IfOk, OnOk};
+ghost use Rattle.std.specs.Prelude.{◌≡◌, ◌++◌, ℕ, List, drop, IfOk, OnOk};
 ghost use Rattle.std.specs.BTreeMap.{get};
 ghost use Rattle.std.specs.Ordering.{nat_cmp};
 ghost use Rattle.std.specs.Cmp.Lexicographic.{slice_cmp};
 ghost use Rattle.session.specs.Printing.{Box};
 ghost use Rattle.open_document.specs.Changed.{changed_in, has_box, rect_in, same_rect};
 ghost use Rattle.open_document.specs.Apart.{AreApart};
-ghost use Rattle.open_document.specs.Steps.{HasStepped, compared, noted};
+ghost use Rattle.open_document.specs.Steps.{HasStepped, noted};
 
 use lunit::{Name, NoMemory, Rect, Sequence};
 use std::alloc::Global;
@@ -15,7 +15,7 @@ use std::collections::BTreeMap;
 
 type Rects = BTreeMap<Name, Rect>;
 
-fn same_rect(a: &Rect, b: &Rect) -> bool
+pub(crate) fn same_rect(a: &Rect, b: &Rect) -> bool
     ensures { result ≡ same_rect a.now b.now }
 {
     a == b
@@ -33,20 +33,6 @@ pub(crate) fn rect_in(boxes: &[(Name, Rect)], name: &[u8]) -> Option<Rect>
     None
 }
 
-/// Whether the boxes of one index have the same rectangle. None where their names differ, or one of
-/// them is missing.
-fn compared(before: &[(Name, Rect)], boxes: &[(Name, Rect)], index: usize) -> Option<bool>
-    ensures { result ≡ compared (slice_get before.now index) (slice_get boxes.now index) }
-{
-    let (old_name, old) = before.get(index)?;
-    let (name, rect) = boxes.get(index)?;
-    if old_name == name {
-        Some(same_rect(old, rect))
-    } else {
-        None
-    }
-}
-
 /// Notes an index, where its box is not the same.
 fn note(changed: &mut Sequence<usize>, index: usize, same: bool) -> Result<(), NoMemory>
     ensures { OnOk result (changed.new ≡ changed.old ++ noted same index) }
@@ -57,30 +43,9 @@ fn note(changed: &mut Sequence<usize>, index: usize, same: bool) -> Result<(), N
     Ok(())
 }
 
-#[tactic(auto, using(crate::proofs::Comparing::stepping))]
-/// Compares the boxes one by one with those before, as long as the names are the same. Answers how
-/// many they are, and notes which of them changed.
-fn compare_in_step(
-    changed: &mut Sequence<usize>,
-    before: &[(Name, Rect)],
-    boxes: &[(Name, Rect)],
-) -> Result<usize, NoMemory>
-    requires fresh { changed.old ≡ [] }
-    requires apart { AreApart before.now }
-    ensures { IfOk result (λ count. HasStepped before.now boxes.now count changed.new) }
-{
-    for index in 0..boxes.len() {
-        match compared(before, boxes, index) {
-            Some(same) => note(changed, index, same)?,
-            None => return Ok(index),
-        }
-    }
-    Ok(boxes.len())
-}
-
 #[tactic(auto, using(crate::proofs::Naming::naming))]
 /// The rectangles of boxes by their names.
-fn by_name(alloc: Global, boxes: &[(Name, Rect)]) -> Result<Rects, NoMemory>
+pub(crate) fn by_name(alloc: Global, boxes: &[(Name, Rect)]) -> Result<Rects, NoMemory>
     requires { AreApart boxes.now }
     ensures { IfOk result
         (λ rects. (name : List ℕ) → get (slice_cmp nat_cmp) rects name ≡ rect_in boxes.now name) }
@@ -107,7 +72,7 @@ fn is_among(rects: &Rects, name: &Name, rect: &Rect) -> bool
 
 #[tactic(auto, using(crate::proofs::Comparing::comparing))]
 /// Notes which boxes from an index on changed, by the rectangles of those before from there on.
-fn note_others(
+pub(crate) fn note_others(
     changed: &mut Sequence<usize>,
     rects: &Rects,
     boxes: &[(Name, Rect)],
@@ -125,30 +90,8 @@ fn note_others(
     Ok(())
 }
 
-#[tactic(auto, using(crate::proofs::Comparing::comparing))]
-/// Which boxes changed from one layout to the next. Or `NoMemory`. The boxes before are looked up
-/// by their names only from the first name on that is another.
-pub(crate) fn changed_in(
-    alloc: Global,
-    before: &[(Name, Rect)],
-    boxes: &[(Name, Rect)],
-) -> Result<Sequence<usize>, NoMemory>
-    requires before { AreApart before.now }
-    requires boxes { AreApart boxes.now }
-    ensures { IfOk result (λ changed. changed ≡ changed_in before.now boxes.now) }
-{
-    let mut changed = Sequence::new(alloc);
-    let count = compare_in_step(&mut changed, before, boxes)?;
-    if count == boxes.len() {
-        return Ok(changed);
-    }
-    let rects = by_name(alloc, left(before, count))?;
-    note_others(&mut changed, &rects, boxes, count)?;
-    Ok(changed)
-}
-
 /// The boxes from an index on.
-fn left(boxes: &[(Name, Rect)], count: usize) -> &[(Name, Rect)]
+pub(crate) fn left(boxes: &[(Name, Rect)], count: usize) -> &[(Name, Rect)]
     ensures { result.now ≡ drop count boxes.now }
 {
     &boxes[count.min(boxes.len())..]

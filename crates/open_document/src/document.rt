@@ -10,11 +10,11 @@ ghost use Rattle.open_document.specs.Apart.{AreBoxes};
 ghost use Rattle.open_document.specs.Calls.{Applies, Edits, Opens, hit_in, moves, printed, rect_of};
 ghost use Rattle.open_document.specs.Opened.{boxes_in, changed_now, doc_of, laid_out};
 
-use crate::changed::{changed_in, rect_in};
+use crate::changed::rect_in;
+use crate::coming::{Coming, next_of, take_place};
 use crate::errors::OpenError;
 use crate::line::line_in;
 use crate::text::read;
-use box_layout::BoxList;
 use doc_text::{Doc, Edit, ReadError, read_edit};
 use doc_writer::{WriteError, write_doc};
 use hit_index::HitIndex;
@@ -60,7 +60,7 @@ pub struct OpenDocument {
     alloc: Global,
     engine: Engine,
     // The boxes of the last layout, and which of them the layout before it does not have.
-    last: Sequence<(Name, Rect)>,
+    last: Vec<(Name, Rect)>,
     changed: Sequence<usize>,
     // Whether no edit was accepted since.
     laid: bool,
@@ -79,7 +79,7 @@ impl Model for OpenDocument {
 
     ghost view = { λ a. record {
       history = history_of a.engine;
-      last = a.last;
+      last = a.last.items;
       changed = a.changed;
       laid = a.laid;
     } };
@@ -90,8 +90,8 @@ impl Model for OpenDocument {
     ghost use Rattle.session.specs.Standing.{doc_of};
     ghost use Rattle.open_document.specs.Apart.{AreBoxes};
 
-    ghost invariant = { λ a. (a.laid ≡ true → a.last ≡ boxes_of (doc_of a.engine)) ×
-        (AreBoxes a.last × IfSome a.index (λ rects. rects ≡ rects_of a.last)) };
+    ghost invariant = { λ a. (a.laid ≡ true → a.last.items ≡ boxes_of (doc_of a.engine)) ×
+        (AreBoxes a.last.items × IfSome a.index (λ rects. rects ≡ rects_of a.last.items)) };
 }
 
 impl OpenDocument {
@@ -106,7 +106,7 @@ impl OpenDocument {
         Ok(OpenDocument {
             alloc,
             engine,
-            last: Sequence::new(alloc),
+            last: Vec::new(alloc),
             changed: Sequence::new(alloc),
             laid: false,
             index: None,
@@ -187,13 +187,13 @@ impl OpenDocument {
     {
         let mut passes: Steps<L> = Steps::new(blank);
         let mut ruler = WordRuler::new();
-        let mut list = BoxList::new(self.alloc);
+        let mut coming = Coming::new(self.alloc, self.last.as_slice());
         self.engine.stays_valid();
-        let counted = self.engine.lay_out(0, &mut list, &mut ruler, &mut passes)?;
-        let boxes = Sequence::from_vec(list.boxes);
-        let changed = changed_in(self.alloc, self.last.as_slice(), boxes.as_slice())?;
-        self.last = boxes;
-        self.changed = changed;
+        let counted = self
+            .engine
+            .lay_out(0, &mut coming, &mut ruler, &mut passes)?;
+        let next = next_of(self.alloc, coming)?;
+        self.changed = take_place(&mut self.last, next);
         self.laid = true;
         self.index = None;
         Ok(counted)
@@ -226,8 +226,8 @@ impl OpenDocument {
         }
     }
 
-    /// The box of the node of a name. None where there is no such node, or the document was not
-    /// laid out since the last edit.
+    /// The box of the node of a name, which is looked for from the first box on. None where there
+    /// is no such node, or the document was not laid out since the last edit.
     pub fn box_of(&self, name: &[u8]) -> Option<Rect>
         ensures { result ≡ rect_of self.now name.now }
     {

@@ -3,10 +3,12 @@
 #![tactic(auto)]
 
 mod changed;
+mod coming;
 mod document;
 mod errors;
 mod laws;
 mod line;
+mod names;
 mod text;
 
 pub use doc_writer::WriteError;
