@@ -38,8 +38,8 @@ pub fn layouts_ask_what_is_listed(tree: &Arena<Node>)
     stands(tree);
 }
 
-/// And each question of these lists is asked of a node of its name, or stands on the path: the lists are all that may be asked, and all
-/// of the path.
+/// Each question that the definitions list for a tree is asked of a node of its name, and each one
+/// that they list for the path of the boxes stands on that path: the lists hold nothing else.
 pub fn what_is_listed_is_asked(tree: &Arena<Node>)
     ensures asked { (width height : ℤ) (t : ToNode) →
         Contains (asked_in width height (bare tree.now.tree)) t →

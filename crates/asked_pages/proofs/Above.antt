@@ -318,7 +318,7 @@ module _ (c : Change) (old : Doc) (before : IsShaped old.version (tree_of old)) 
       none_up leafless = tt
       none_up (tree x below after) = ((λ e. absurd (true≢false (sym e ∙ no_leaf below))), (none_up below, none_up after))
 
--- so of an edit
+-- what an edit touches passes up: with a leaf that it touches its parent is touched
 pub edit_touched_up : (e : Edit) (old new : Doc) → IsShaped old.version (tree_of old) → NamesItsNode e → edited e old ≡ Ok new → PassesUp (is_touched e old new) (tree_of new)
 edit_touched_up e old new before names made =
     let is : turned (forward_of e) old ≡ new = forward_is e old ∙ sym (is_applied old new e made) in

@@ -105,7 +105,7 @@ pub width_is : (b d : BareTrees) (m : Member) (x : ℤ) (g : GridStyle) (w : Giv
 width_is b d m x g w same e value =
     value ∙ ap (λ (h : GridStyle). given_box h.columns x) e ∙ ap (λ (z : BareTrees). given_box (sight_at z m.child).label.grid.columns x) same
 
--- and its answer the block size there
+-- the child's answer to what it is given is its block size there
 pub block_is : (b d : BareTrees) (m : Member) (x size : ℤ) (w : Given) → d ≡ b → w ≡ (rules.settled_at (member_of b m) x).inline → size ≡ ((kid_at d m.child).answers.down [] w).block → size ≡ block_of (rules.settled_at (member_of b m) x)
 block_is b d m x size w same is value =
     value ∙ ap (λ (z : BareTrees). ((kid_at z m.child).answers.down [] w).block) same ∙ ap (λ (v : Given). ((kid_at b m.child).answers.down [] v).block) is

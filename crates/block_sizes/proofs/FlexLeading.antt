@@ -63,13 +63,13 @@ column_settled_in b n width flow =
     settled_map (rules.column_box (flex_seen b n).label width) (flex_seen b n).members
     ∙ ap (λ (t : Bool). if t then rules.column_settled (flex_seen b n) width else rules.row_settled (flex_seen b n) (rules.row_lines (flex_seen b n) width)) (sym flow ∙ ap (λ (x : Label). x.content.column) (flex_label b n))
 
--- A question whose answer depends on the width leads from a row to each child, for its block size at its main size,
+-- A question whose answer depends on the width leads from a row to each child, for its block size at its main size.
 pub row_leads : (b : BareTrees) (n : NodeId) (width : ℤ) (q : Query) (boxes : List ℤ) → (sight_at b n).label.kind ≡ kind.Flex → (sight_at b n).label.content.column ≡ false → given_size q.inline ≡ width → needs_inline q.ask ≡ true →
     boxes ≡ (rules.row_lines (flex_seen b n) width).mains → LeadsTo b n boxes q
 row_leads b n width q boxes is flow w needs e =
     leads_by b n q boxes is needs (ap (settled_seen b n) e ∙ row_settled_in b n width flow ∙ ap (settled_in (flex_seen b n)) (sym w))
 
--- and from a column at the inline size that it has there.
+-- A question whose answer depends on the width leads from a column to each child, for its block size at the inline size that it has there.
 pub column_leads : (b : BareTrees) (n : NodeId) (width : ℤ) (q : Query) (boxes : List ℤ) → (sight_at b n).label.kind ≡ kind.Flex → (sight_at b n).label.content.column ≡ true → given_size q.inline ≡ width → needs_inline q.ask ≡ true → boxes ≡ column_boxes_seen b n width → LeadsTo b n boxes q
 column_leads b n width q boxes is flow w needs e =
     leads_by b n q boxes is needs (ap (settled_seen b n) e ∙ column_settled_in b n width flow ∙ ap (settled_in (flex_seen b n)) (sym w))

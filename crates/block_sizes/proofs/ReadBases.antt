@@ -16,7 +16,7 @@ module _ (b : BareTrees) (n : NodeId) (outer : List Pair) (width : Given) where
   pub read_grid : (parts : GridParts) (read : GridBase) → read ≡ parts.base → IsGrid b n outer width parts → IsGrid b n outer width (record parts { base = read })
   read_grid parts read is h = subst (λ (base : GridBase). IsGrid b n outer width (record parts { base = base })) (sym is) h
 
-  -- and in its columns
+  -- the grid in its columns is the same grid with the base that the code reads
   pub read_wide : (w : GridWide) (read : GridBase) → read ≡ w.parts.base → IsWide b n outer width w → IsWide b n outer width (record w { parts = record w.parts { base = read } })
   read_wide w read is h = subst (λ (base : GridBase). IsWide b n outer width (record w { parts = record w.parts { base = base } })) (sym is) h
 

@@ -74,7 +74,7 @@ module _ (b : BareTrees) (n : NodeId) (outer : List Pair) (width : Given) (w : G
             (subst (λ (s : Span). AreIn s.start (track_count s) (rows_seen b n outer width).items) (sym (tracks_are b n outer width w.parts wide.grid)) (h.inside.rows (columns_seen b n outer width) (h.rows ∙ own)));
       }
 
-  -- and their total is the block size of the grid
+  -- the total of the rows is the block size of the grid
   pub rows_total_is : (style : StyleMap) (pair : Pair) (spans : List Span) (items : List Item) (total : ℤ) → grid_of style ≡ (sight_at b n).label.grid → content_of style ≡ (sight_at b n).label.content →
       pair ≡ own_pair (record { name = []; kind = kind.Grid; grid = grid_of style; content = content_of style }) given.None → spans ≡ map (λ (e : NodeId × Area). e.1.rows) w.parts.base.placed.areas
       → items ≡ w.items → sees_rows (sight_at b n) ≡ false → HasItemsInTracks (sight_at b n) (grid_seen b n outer width)

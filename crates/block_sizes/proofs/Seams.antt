@@ -48,7 +48,7 @@ open_more moved gap k at rules sizes i r s made all h n c e =
     ∙ sym (ap (λ (es : Edges). made ++ es) (both-next moved gap k at rules sizes i r s h n ∙ open-one moved gap k at (get_or rules i r) (drop (i + 1) rules) (get_or sizes i s) (drop (i + 1) sizes) c))
     ∙ e
 
--- the same, by what the code made
+-- another track more, by what the code made
 pub open_step : (moved : ℕ → ℤ) (gap : ℤ) (k : ℕ) (at next : ℤ) (rules : List Rule) (sizes : List ℤ) (i : ℕ) (r : Rule) (s : ℤ) (track : ℤ × ℤ) (made all : Edges) → i < length rules → length sizes ≡ length rules → (get_or rules i r).collapsed ≡ false
     → s ≡ get_or sizes i s → track ≡ (at +ℤ moved k, at +ℤ moved k +ℤ s) → next ≡ at +ℤ s +ℤ gap
     → made ++ edges_from moved gap k at (drop i rules) (drop i sizes) ≡ all

@@ -28,7 +28,7 @@ map_step f xs k x old new y h so_far grown value =
 pub map_all : {A B : Type 0} (f : A → B) (xs : List A) (k : ℕ) (done : List B) → length xs ≤ k → done ≡ map f (take k xs) → done ≡ map f xs
 map_all f xs k done h so_far = so_far ∙ ap (map f) (take_all k xs h)
 
--- the same of a list that is itself a map
+-- one item more of a list that is itself a map
 pub mapped_step : {A B C : Type 0} (f : B → C) (g : A → B) (xs : List A) (k : ℕ) (x : A) (old new : List C) (y : C) → k < length xs → x ≡ get_or xs k x → old ≡ map f (map g (take k xs)) → new ≡ old ++ y ∷ [] → y ≡ f (g x) → new ≡ map f (map g (take (k + 1) xs))
 mapped_step f g xs k x old new y h is so_far grown value =
     grown ∙ (λ j. so_far j ++ (value ∙ ap (λ z. f (g z)) is) j ∷ [])

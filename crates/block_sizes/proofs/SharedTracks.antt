@@ -56,7 +56,7 @@ above_is : (z : ℤ) → pos 0 ≤ℤ z → pos (above_zero z) ≡ z
 above_is (pos n) h = refl
 above_is (negsuc n) h = absurd (omega (arith, ints, h))
 
--- so a range has as many tracks as lie between its ends
+-- a range that has line 0 has as many tracks as lie between its ends
 pub count_is : (r : Span) → HasZero r → pos (above_zero (r.end -ℤ r.start)) ≡ r.end -ℤ r.start
 count_is r h = above_is (r.end -ℤ r.start) (omega (arith, ints, h.start, h.end))
 

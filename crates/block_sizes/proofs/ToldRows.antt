@@ -218,7 +218,7 @@ rows_from b n base columns Counts t h =
     told_as Counts (TellsRows (sight_at b n) (kid_at b) base t.columns t.align) (TellsRows (sight_at b n) (kid_at b) base columns (sight_at b n).label.content.inline.items) t.children t.items t.ends h.told.told
     (tells_as (sight_at b n) (kid_at b) base base refl refl t.columns columns h.over t.align (sight_at b n).label.content.inline.items h.aligned)
 
--- and the other way round
+-- what is told for the rows is what the lists of the grid hold
 pub rows_in : (b : BareTrees) (n : NodeId) (base : GridBase) (columns : View 0) (Counts : ℕ → Type 0) (t : ToldRows) → t.columns ≡ columns → t.align ≡ (sight_at b n).label.content.inline.items → length t.children ≡ length base.placed.areas →
     AreTold Counts (TellsRows (sight_at b n) (kid_at b) base columns (sight_at b n).label.content.inline.items) t.children t.items t.ends → AreIn b n base columns Counts t
 rows_in b n base columns Counts t v w counted h =

@@ -155,7 +155,7 @@ turn b d is n outer width parts view e sizes k grid v next there number =
       number = ap (child_at b n) (sym (wide_number b n outer width e sizes)) ∙ subst (λ (z : BareTrees). child_at z n e.number ≡ Some e.child) is number;
     }
 
--- and by the base that the code reads
+-- the child that comes next, by the base that the code reads
 pub turn_read : (b d : BareTrees) → d ≡ b → (n : NodeId) (outer : List Pair) (width : Given) (parts : GridParts) (read : GridBase) → read ≡ parts.base → (view : View 0) (e : ChildArea) (sizes : ℤ × ℤ) (k : ℕ) → IsGrid b n outer width parts → view ≡ columns_seen b n outer width →
     drop k (entries_at d n parts.base.placed) ≡ entry_by d e ∷ drop (k + 1) (entries_at d n parts.base.placed) → drop k parts.inlines ≡ sizes ∷ drop (k + 1) parts.inlines → child_at d n e.number ≡ Some e.child → IsTurn b d n outer width read view e sizes k
 turn_read b d is n outer width parts read same view e sizes k grid v next there number =

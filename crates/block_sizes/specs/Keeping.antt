@@ -12,6 +12,6 @@ use Rattle.tree_rules.specs.declared.query.Query.{Query}
 abbrev pub GrowsBy : List (Query × Answer) → Query → ℤ → List (Query × Answer) → Type 0
 GrowsBy old q size new = (a : Answer) × ((plain_answer a ≡ block_size size) × (new ≡ kept_with old ((q, a) ∷ [])))
 
--- so it is where it kept none for the question
+-- where a node kept no answer to the question, it keeps one more now, this size
 abbrev pub KeepsSize : NodeId → Query → State → State → ℤ → Type 0
 KeepsSize n q old new size = answer_to q (kept_in old n) ≡ None → GrowsBy (kept_in old n) q size (kept_in new n)

@@ -35,7 +35,7 @@ pub record HasNoSides (g : GridAxis) : Type 0 where
   pub inner : inner g ≡ pos 0
   pub margins : margins g ≡ pos 0
 
--- the same gap and the same sums at the two sides
+-- the parts of two views have the same gap and the same sums at the two sides
 abbrev pub same_sides : ViewParts → ViewParts → Bool
 same_sides p q = int_eq p.gap q.gap && (int_eq p.before q.before && int_eq p.after q.after)
 

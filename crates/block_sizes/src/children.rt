@@ -4,7 +4,6 @@
 ghost use Rattle.std.specs.Prelude.{◌≡◌, ◌+◌, ◌^◌, ◌-ℤ◌, ◌≤ℤ◌, ℕ, false, length, pos, true, IfOk, OnOk};
 ghost use Rattle.lunit.specs.Units.{IsUnits};
 ghost use Rattle.part_rules.specs.Lists.{above_zero};
-ghost use Rattle.part_rules.specs.Views.{first_start};
 ghost use Rattle.placing.specs.Ranges.{IsGridAxis, IsGridStyle};
 ghost use Rattle.subgrid_view.specs.Ranges.{AreNear};
 ghost use Rattle.tree_rules.specs.Distribution.{given_view, view_in};
@@ -59,16 +58,6 @@ pub fn from_first(tracks: Span, span: Span) -> Span
     Span {
         start: line_from(tracks.start, span.start),
         end: line_from(tracks.start, span.end),
-    }
-}
-
-/// The start of the first of some tracks; 0 where there is none.
-pub fn first_start(tracks: &[(i64, i64)]) -> Wide
-    ensures { result ≡ first_start tracks.now }
-{
-    match tracks.first() {
-        Some(track) => Wide::of(track.0 as i128),
-        None => Wide::of(0),
     }
 }
 

@@ -68,7 +68,7 @@ fn free_space(size: Lu, sizes: &[Lu], gap: Lu, count: u32) -> Wide
     size.wide() - (sum_of(sizes) + gutters(gap, count))
 }
 
-/// So many units.
+/// A number of units as an exact number.
 fn units(number: i64) -> Wide
     ensures { result ≡ number }
 {

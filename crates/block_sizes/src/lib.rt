@@ -24,8 +24,7 @@ pub use again::same_view;
 pub use asking::wide_at;
 pub use block::{block_of, lend_rows};
 pub use children::{
-    child_block, child_inline, first_start, from_first, given_box, given_view, own_block,
-    own_inline,
+    child_block, child_inline, from_first, given_box, given_view, own_block, own_inline,
 };
 pub use edges::edges_in;
 pub use flex::{ColumnParts, RowParts};

@@ -123,7 +123,8 @@ fn size_of_rows(wide: &GridWide) -> Option<Lu>
     }
 }
 
-/// The same with the grid, which holds its rows if they are known at once. Where it holds them already, nothing is done.
+/// The block size of the content of a grid that sizes its rows, and the grid, which holds its rows
+/// if they are known at once. Where it holds them already, nothing is done.
 pub(crate) fn laid_rows<L: Ledger>(
     alloc: Global,
     tree: &Arena<Node>,

@@ -21,7 +21,7 @@ pub fn other_half(free: i64) -> i64
 }
 
 #[tactic(auto, using(crate::proofs::Parts::within))]
-/// So many of the equal parts of the space, rounded down, also below zero.
+/// The length of `count` of the `of` equal parts of the space, rounded down, also below zero.
 pub fn parts(free: i64, count: u64, of: u64) -> i64
     requires free { unsigned_abs free ≤ 2 ^ 56 }
     requires some { 0 < of }

@@ -98,7 +98,7 @@ module _ {A : Type 0} (b : Trees (NodeId × A)) (d : IsDistinct b) where
     pub not_sibling : m ≢ e
     not_sibling same_number = absurd (omega (arith, one_yes (same e m) (same_from e m (sym same_number)), none))
 
-    -- and does not stand below it
+    -- what stands below one child does not stand below another
     pub not_below : part_at (below_at b e) m ≡ None
     not_below = part_none (below_at b e) m (omega (arith, none))
 
@@ -115,6 +115,6 @@ module _ (b : BareTrees) (d : IsDistinct b) where
       let under : IsUnder b d c m = passes_under b c m r s way d in
       record { other = not_sibling b d n c e m i j is also apart under; below = not_below b d n c e m i j is also apart under }
 
-  -- and is not its parent
+  -- what is asked on the way below a child is not its parent
   pub passes_below : (n c m : NodeId) (i : ℕ) (r s : Query) → child_at b n i ≡ Some c → Passes b c r m s → m ≢ n
   passes_below n c m i r s is way = not_parent b d n c m i is (passes_under b c m r s way d)

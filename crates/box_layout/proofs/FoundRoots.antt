@@ -32,7 +32,7 @@ root_found b root width height f top child value fits near =
       near = near;
     }
 
--- so for the root by its number
+-- what a layout finds of the root, by the root's number
 module _ (b : BareTrees) (root : NodeId) (width height : ℤ) (r : RootFrame) (top : top_numbers b ≡ root ∷ []) (found : IsRootFrame b width height r) where
   child_is : r.frame.child ≡ root
   child_is = first_is r.frame.child root (sym found.top ∙ top)

@@ -84,6 +84,6 @@ pub kept_again : (b : BareTrees) (s : State) (n : NodeId) (reps pairs : List Pai
     → AreKeptBelow b n (frames_asked pairs f.inline f.block) s
 kept_again b s n reps pairs same f boxes found = subst (λ (r : List Pair). AreKeptBelow b n (frames_asked r f.inline f.block) s) same found.paths
 
--- so no grid on it is without its frames
+-- no grid on a way whose questions are kept is without its frames
 pub measured_again : (b : BareTrees) (n : NodeId) (q : Query) (s : State) → AreKeptBelow b n q s → MeasuresBelow b n q s s
 measured_again b n q s kept m r way grid none = absurd (false≢true (subst IsSome none (kept m r way)))

@@ -65,7 +65,7 @@ by_counted axis a false (given.Size x) h = own_counted axis a x
 by_counted axis a true (given.Tracks edges gap) h = h.0
 by_counted axis a false (given.Tracks edges gap) h = absurd h
 
--- and the gap between them is not below 0
+-- the gap between the tracks of an axis is not below 0
 pub by_gap : (axis : ℕ) (a : TrackAxis) (shared : Bool) (g : Given) → IsSize a.grid.gap → IsGivenFor true shared (track_count a.tracks) g → pos 0 ≤ℤ (view_by {axis = axis} a g).gap
 by_gap axis a true given.None s h = absurd h
 by_gap axis a false given.None s h = absurd h

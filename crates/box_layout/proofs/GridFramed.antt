@@ -155,7 +155,7 @@ module _ (b : BareTrees) (n : NodeId) (outer : List Pair) (width : Given) (wide 
   pub entry_is : w.entry ≡ entry_by b e
   entry_is = ap (λ (z : Wide). z.entry) made.is
 
-  -- and the code holds what is known of it
+  -- the code holds what is known of the child
   pub child_is : (other : WideChild) → get_or wide.children index other ≡ child_of w
   child_is other = ap (λ (l : List WideChild). get_or l index other) is.wide.children ∙ map_first child_of (wides_seen b n outer width) later index w other wides
 

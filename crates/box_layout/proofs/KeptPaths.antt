@@ -205,7 +205,7 @@ asked_kept n q s t a found keeps = go (answer_to q (kept_in s n)) refl
         let there : IsSome (answer_to q (kept_in s n)) = subst IsSome (sym is) refl in
         subst (λ l. IsSome (answer_to q l)) (ap (λ u. kept_in u n) (sym (found there))) there
 
--- so it is where the answer is a block size, with or without the grid in its columns
+-- the answer is kept where it is a block size, with or without the grid in its columns
 pub sized_kept : (n : NodeId) (q : Query) (s t : State) (size : ℤ) → Found n q s t → KeepsSize n q s t size → IsSome (answer_to q (kept_in t n))
 sized_kept n q s t size found keeps = go (answer_to q (kept_in s n)) refl
   where

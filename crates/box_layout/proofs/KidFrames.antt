@@ -36,7 +36,7 @@ pub record IsKidFrame (pairs : List Pair) (k : Kid) (f : Framed) : Type 0 where
   pub name : f.name ≡ k.label.name
   pub down : f.down ≡ k.answers.down (pairs_for k pairs) f.frame.inline
 
--- and has its number
+-- a frame is one of this child, and has its number
 record IsNumbered (pairs : List Pair) (e : ℕ × Kid) (f : ℕ × Framed) : Type 0 where
   number : pos e.0 ≡ pos f.0
   frame : IsKidFrame pairs e.1 f.1

@@ -22,7 +22,7 @@ asks_lead b _ _ _ _ (asks_itself n q) = itself n q
 asks_lead b _ _ _ _ (asks_through n c m q r s index is uses rest) =
     through n c m q r s index is (Contains-append_left (uses_at b n q) (passes_at b n q) (index, r) uses) (asks_lead b c m r s rest)
 
--- and what it passes on
+-- what a question passes on it leads to
 pub passed_leads : (b : BareTrees) (n : NodeId) (q r : Query) (index : ℕ) → Contains (passes_at b n q) (index, r) → Contains (leads_at b n q) (index, r)
 passed_leads b n q r index h = Contains-append_right (uses_at b n q) (passes_at b n q) (index, r) h
 

@@ -56,7 +56,7 @@ set_here [] k x y h = absurd cc
 set_here (z ∷ xs) zero x y h = some_same x y h
 set_here (z ∷ xs) (suc k) x y h = set_here xs k x y h
 
--- and all else as before
+-- what is set at one place leaves all other places as they were
 set_there : {A : Type 0} (xs : List A) (k i : ℕ) (x : A) → (i ≡ k → ⊥) → slice_get (slice_set xs k x) i ≡ slice_get xs i
 set_there [] k i x h = refl
 set_there (z ∷ xs) zero zero x h = absurd (h refl)
@@ -82,7 +82,7 @@ module _ (b : BareTrees) (n : NodeId) (framed : List (ℕ × Framed)) where
       subst (IsFrameOf b n (get_or framed p.0 no_frame)) (some_same g f y) (subst (λ (z : ℕ × ℤ). IsFrameOf b n (get_or framed z.0 no_frame) g) (some_same q p x) h.0)
   each_at (q ∷ ps) (g ∷ fs) (suc i) p f h x y = each_at ps fs i p f h.1 x y
 
-  -- and they are all, where each is
+  -- the frames are all of these children, where each is the one of its place
   all_at : (places : List (ℕ × ℤ)) (frames : List NodeFrame) → length frames ≡ length places → ((i : ℕ) (p : ℕ × ℤ) (f : NodeFrame) → slice_get places i ≡ Some p → slice_get frames i ≡ Some f → IsFrameOf b n (get_or framed p.0 no_frame) f) → AreFramesAt b n framed places frames
   all_at [] [] c h = tt
   all_at [] (f ∷ fs) c h = absurd (omega (arith, c))
@@ -252,7 +252,7 @@ module _ (b : BareTrees) (n : NodeId) (outer : List Pair) (width : Given) (wide 
             frame = λ c a there. record { same = λ g label placed. h.value ∙ value_is g k c a (entry_at whole k c a there) label placed };
           }
 
-      -- and the other way round
+      -- a frame that is told is one of the definitions
       told : (k : ℕ) (f : NodeFrame) → k < length wide.parts.base.placed.areas → TellsFrame (sight_at b n) (kid_at b) wide.parts.base wide.columns rows k f → IsFrameOf b n (get_or framed k no_frame) f
       unfolding frame_with
       told k f within t =

@@ -120,7 +120,7 @@ module _ (t : NodeTrees) (n : NodeId) (readable : AreReadable (bare t)) (numbere
   pub leaf_uses : UsesLeaves (bare t) n q frames
   leaf_uses i f rest at leaf = (measured_there i f rest at leaf).asked
 
-  -- so their answers at the widths of their frames are those at the content widths of their rectangles
+  -- the leaves' answers at the widths of their frames are those at the content widths of their rectangles
   pub leaves_kept : (s : State) → HoldLeaves (bare t) (length frames) frames s → AreLeavesKept (bare t) n q s
   leaves_kept s held i c f rest child leaf next =
       let from = from_there frame_of frames i f rest (ap (drop i) (sym seen) ∙ next) in

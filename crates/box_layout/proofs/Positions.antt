@@ -15,7 +15,7 @@ use Rattle.box_layout.specs.Stands.{IsGivenNear, StandBelow, StandsBelow, far_by
 pub next_place : (level : ℕ) (x r : ℤ) → IsWithin (far_by level) x → IsWithin farthest_child r → IsWithin (far_by (level + 1)) (x +ℤ r)
 next_place level x r h k = (omega (arith, ints, h.0, k.0), omega (arith, ints, h.1, k.1))
 
--- and so within the range of positions
+-- a place that is this far at a level lies within the range of positions
 pub place_near : (level : ℕ) (x : ℤ) → level ≤ 63 → IsWithin (far_by level) x → IsWithin (2 ^ 56) x
 place_near level x few h = (omega (arith, ints, few, h.0), omega (arith, ints, few, h.1))
 

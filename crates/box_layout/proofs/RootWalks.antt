@@ -57,7 +57,7 @@ module _ (width height : ℤ) (n : NodeId) (s t : State) (top : top_numbers (bar
     own_second =
         subst (λ (g : Given). Contains (first_asked width height (sight_at (bare_in s) n).label (sight_at (bare_in s) n).below) (0, bq g)) (sym is) (second_own width height (sight_at (bare_in s) n).label (sight_at (bare_in s) n).below)
 
-    -- both were answered
+    -- the first two questions were answered
     pub both_walked : Walked n (bq inline) t u → Walk (IsAsked (bare_in s) width height) 0 [] s u
     both_walked x = walk_more width height n s top t after_first (bq inline) own_second u (laid_first n (bq inline) t u x)
 

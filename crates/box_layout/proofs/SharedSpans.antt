@@ -56,7 +56,7 @@ above_is : (z : ℤ) → pos 0 ≤ℤ z → pos (above_zero z) ≡ z
 above_is (pos n) h = refl
 above_is (negsuc n) h = absurd (omega (arith, ints, h))
 
--- so it has as many tracks as lie between its ends
+-- the range of the spans has as many tracks as lie between its ends
 pub range_counted : (tracks : ℕ) (spans : List Span) → pos (track_count (range_of tracks spans)) ≡ (range_of tracks spans).end -ℤ (range_of tracks spans).start
 range_counted tracks spans =
     let r = range_around tracks spans in

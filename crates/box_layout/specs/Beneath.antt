@@ -52,7 +52,7 @@ abbrev pub pairs_held : Option HeldBase → List Pair
 pairs_held None = []
 pairs_held (Some h) = (base_held h).pairs
 
--- and its context
+-- the context that its subgrids see above them; another where no grid is held
 abbrev pub above_held : Option HeldBase → Above → Above
 above_held None other = other
 above_held (Some h) other = (base_held h).above
@@ -61,7 +61,7 @@ above_held (Some h) other = (base_held h).above
 abbrev pub pairs_to : ChildSeats → Frame → List Pair
 pairs_to seats f = if is_lower f then pairs_held seats.held else []
 
--- and its context
+-- the context that the child of a frame sees above it, where it is a subgrid of the node
 abbrev pub above_to : ChildSeats → Frame → Above
 above_to seats f = if is_lower f then above_held seats.held above.Nothing else above.Nothing
 

@@ -3,6 +3,6 @@ use Rattle.std.specs.Prelude.{ℤ, ◌+ℤ◌}
 use Rattle.tree_rules.specs.NodeSizes.{margin}
 use Rattle.box_layout.specs.declared.aligned.Margins.{Margins}
 
--- both margins, `auto` counting 0
+-- the two margins together, `auto` counting 0
 abbrev pub both_margins : Margins → ℤ
 both_margins m = margin m.start +ℤ margin m.end

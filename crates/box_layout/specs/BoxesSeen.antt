@@ -65,7 +65,7 @@ pub record IsNearRect (r : Rect) : Type 0 where
   pub width : IsWithin (2 ^ 56) r.width
   pub height : IsWithin (2 ^ 56) r.height
 
--- so in each of these boxes
+-- the rectangle of each of these boxes is near: its numbers have a magnitude of at most 2^56
 abbrev pub AreNear : List Box → Type 0
 AreNear [] = Unit {0}
 AreNear (b ∷ rest) = IsNearRect b.1 × AreNear rest

@@ -48,7 +48,7 @@ pub record IsOver (edges : List (ℤ × ℤ)) (span : Span) : Type 0 where
   pub near : AreNear edges
   pub spread : AreSpread (2 ^ 59) edges
 
--- so many tracks as a span has, which lie within range
+-- the tracks of a span are as many as it has, and lie within range
 pub record AreTracks (tracks : Span) (edges : List (ℤ × ℤ)) : Type 0 where
   pub counted : pos (length edges) ≡ (tracks.end -ℤ tracks.start)
   pub near : AreNear edges
@@ -85,7 +85,8 @@ AreFramesAt b n framed (p ∷ places) [] = ⊥
 AreFramesAt b n framed (p ∷ places) (f ∷ frames) = IsFrameOf b n (get_or framed p.0 no_frame) f × AreFramesAt b n framed places frames
 
 -- One frame for each of these places: those of the first places are right, and so are those of children that are marked.
-pub record AreAgain (b : BareTrees) (n : NodeId) (framed : List (ℕ × Framed)) (places : List (ℕ × ℤ)) (fresh : List Bool) (at : ℕ) (frames : List NodeFrame) : Type
+pub record AreAgain (b : BareTrees) (n : NodeId) (framed : List (ℕ × Framed))
+    (places : List (ℕ × ℤ)) (fresh : List Bool) (at : ℕ) (frames : List NodeFrame) : Type
     0 where
   pub counted : length frames ≡ length places
   pub each : (i : ℕ) (p : ℕ × ℤ) (f : NodeFrame) → slice_get places i ≡ Some p → slice_get frames i ≡ Some f → (i < at) ⊎ Marked fresh p.0 →

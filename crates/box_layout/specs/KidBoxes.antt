@@ -11,7 +11,7 @@ kid_boxes pairs at k f =
     let rect = moved_by at f.rect in
     (k.label.name, rect) ∷ (k.answers.down (pairs_for k pairs) f.inline).boxes f.block (rect.x, rect.y)
 
--- the same of all children, in document order
+-- the boxes of all these children and of all below them, in document order
 unfoldable pub boxes_from : List Pair → ℤ × ℤ → List Kid → List Frame → List Box
 boxes_from pairs at [] frames = []
 boxes_from pairs at (k ∷ kids) [] = []

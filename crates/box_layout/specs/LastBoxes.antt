@@ -50,7 +50,7 @@ pub record IsClose (r : Rect) : Type 0 where
   pub width : IsWithin (2 ^ 50) r.width
   pub height : IsWithin (2 ^ 50) r.height
 
--- so each of these boxes
+-- the rectangle of each of these boxes is close: its numbers have a magnitude of at most 2^50
 abbrev pub AreClose : List Box → Type 0
 AreClose [] = Unit {0}
 AreClose (b ∷ rest) = IsClose b.1 × AreClose rest
@@ -80,8 +80,10 @@ pub record IsFoundOf (n : NodeId) (q : Query) (own : Box) (listed : Option (List
   pub few : listed ≡ Some below
   pub boxes : f.boxes ≡ own ∷ below
 
--- The same with its own box and those below it, which come to the list of all. Nothing comes where they are not few.
-pub record IsPut (n : NodeId) (q : Query) (own : Box) (few : Option (List Box)) (slots : List ℕ) (containers : List (Option Below)) (boxes : List Box) (later : List ℕ) (now : List (Option Below)) (longer : List Box) : Type
+-- At most a container with its own box and those below it comes to those that are listed, and its boxes come to the list of all. Nothing
+-- comes where they are not few.
+pub record IsPut (n : NodeId) (q : Query) (own : Box) (few : Option (List Box)) (slots : List ℕ)
+    (containers : List (Option Below)) (boxes : List Box) (later : List ℕ) (now : List (Option Below)) (longer : List Box) : Type
     0 where
   pub listed : AreListed slots containers boxes → AreListed later now longer
   pub all : AreListed slots containers boxes → (f : Found) → Contains (all_found longer now) f →
@@ -96,7 +98,7 @@ pub record IsFound (b : BareTrees) (kept : NodeId → List (Query × Answer)) (f
   pub boxes : f.boxes ≡ ((sight_at b f.id).label.name, own) ∷ boxes_seen b f.id f.query (own.x, own.y)
   pub paths : (m : NodeId) (r : Query) → Passes b f.id f.query m r → IsSome (answer_to r (kept m))
 
--- so of each container that is in the tree
+-- the boxes that are kept of each container that is in the tree are right
 abbrev pub AreFound : BareTrees → (NodeId → List (Query × Answer)) → List Found → Type 0
 AreFound b kept all = (f : Found) → Contains all f → IsLive b f.id → IsFound b kept f
 

@@ -28,15 +28,15 @@ AreLeavesKept b n q s =
     drop i (frames_seen b n q) ≡ f ∷ rest
     → IsSome (answer_to (height_asked (sight_at b c).label f.rect.width) (kept_in s c))
 
--- So it is with a grid that did not keep these frames before.
+-- Each leaf among the children of a grid that did not keep these frames before keeps its block size now.
 abbrev pub MeasuresLeaves : BareTrees → NodeId → Query → State → State → Type 0
 MeasuresLeaves b n q old new = (sight_at b n).label.kind ≡ kind.Grid → answer_to q (kept_in old n) ≡ None → AreLeavesKept b n q new
 
--- so with a node and the containers below it to which its question for frames leads
+-- the leaves of a node and of the containers below it to which its question for frames leads keep theirs, where these are such grids
 abbrev pub MeasuresBelow : BareTrees → NodeId → Query → State → State → Type 0
 MeasuresBelow b n q old new = (m : NodeId) (r : Query) → Passes b n q m r → MeasuresLeaves b m r old new
 
--- so with each grid of a tree in a viewport of this width and height
+-- the leaves of each container on the path of a tree in a viewport of this width and height keep theirs, where it is such a grid
 abbrev pub AreMeasured : BareTrees → ℤ → ℤ → State → State → Type 0
 AreMeasured b width height old new = (m : NodeId) (q : Query) → IsOnPath b width height m q → MeasuresLeaves b m q old new
 
@@ -68,7 +68,7 @@ HoldLeaves b few frames s =
 abbrev pub IsLeafAsked : BareTrees → NodeFrame → State → State → Type 0
 IsLeafAsked b f old new = (new ≡ old) ⊎ ((is_leaf (sight_at b f.child).label.kind ≡ true) × Walked f.child (block_query false [] f.inline) old new)
 
--- the same where memory was wanting
+-- a child with this frame is a leaf, and memory was wanting when it was asked for its block size
 pub record IsLeafStopped (b : BareTrees) (f : NodeFrame) (old new : State) : Type 0 where
   pub leaf : is_leaf (sight_at b f.child).label.kind ≡ true
   pub stopped : Stopped f.child (block_query false [] f.inline) old new

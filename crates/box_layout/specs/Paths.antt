@@ -76,7 +76,7 @@ kept_state arena = state arena (record { measured = 0; added = 0; lost = false }
 abbrev pub IsPathKept : BareTrees → ℤ → ℤ → State → Type 0
 IsPathKept b width height s = (m : NodeId) (q : Query) → IsOnPath b width height m q → IsSome (answer_to q (kept_in s m))
 
--- so, and the root's own inline sizes and its block size are kept
+-- each container keeps its question of the path, and the root keeps its own inline sizes and its block size
 pub record IsAllKept (b : BareTrees) (width height : ℤ) (s : State) : Type 0 where
   pub inline : (root : NodeId) → top_numbers b ≡ root ∷ [] → IsSome (answer_to (inline_query false []) (kept_in s root))
   pub block : (root : NodeId) → top_numbers b ≡ root ∷ [] →
@@ -114,7 +114,8 @@ pub record IsLaidOut (n : NodeId) (q : Query) (old new : State) : Type 0 where
   pub walk : Walk (Leads (bare_in old) n q) 0 [] old new
   pub within : (m : NodeId) → IsOutside (bare_in old) n m → kept_in new m ≡ kept_in old m
 
--- The same where memory was wanting.
+-- Memory was wanting while the boxes below a node were found: all that was kept answers questions that its question leads to, and stands at
+-- the node and below it.
 pub record IsLaidPart (n : NodeId) (q : Query) (old new : State) : Type 0 where
   pub more : ℕ
   pub rest : List Event
@@ -126,6 +127,6 @@ pub record IsLaidPart (n : NodeId) (q : Query) (old new : State) : Type 0 where
 abbrev pub IsChildLaid : BareTrees → NodeId → Query → State → State → Type 0
 IsChildLaid b c r old new = (new ≡ old) ⊎ ((is_container (sight_at b c).label.kind ≡ true) × IsLaidOut c r old new)
 
--- the same where memory was wanting
+-- memory was wanting while the boxes of a child and of all below it were found, or nothing was asked
 abbrev pub IsChildPart : BareTrees → NodeId → Query → State → State → Type 0
 IsChildPart b c r old new = (new ≡ old) ⊎ ((is_container (sight_at b c).label.kind ≡ true) × IsLaidPart c r old new)

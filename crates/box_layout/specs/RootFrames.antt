@@ -23,8 +23,12 @@ abbrev pub root_frame_by : ℤ × ℤ → Label → ℤ → Given → ℤ → Fr
 root_frame_by viewport x across inline content =
     let height = height_by viewport.1 x content in
     record {
-      rect = record
-          { x = aligned_at root_justify x.grid.columns (pos 0) viewport.0 across; y = aligned_at root_align x.grid.rows (pos 0) viewport.1 height; width = across; height = height };
+      rect = record {
+        x = aligned_at root_justify x.grid.columns (pos 0) viewport.0 across;
+        y = aligned_at root_align x.grid.rows (pos 0) viewport.1 height;
+        width = across;
+        height = height;
+      };
       inline = inline;
       block = given_box x.grid.rows height;
     }

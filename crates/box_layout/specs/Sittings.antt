@@ -81,7 +81,7 @@ sitting_by column across container number child x main cross =
       block_inner = inner x.grid.rows;
     }
 
--- the same of a child of the definitions, where this is the child of each number
+-- a child of the definitions as its line places it, where this is the child of each number
 abbrev pub sitting_of : Bool → ℤ → Label → (ℕ → NodeId) → rules.Sitting → Sitting
 sitting_of column across container child s =
     sitting_by column across container s.settled.member.number (child s.settled.member.number) s.settled.member.kid.label s.main s.cross

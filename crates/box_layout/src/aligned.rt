@@ -96,7 +96,7 @@ pub fn fills<const AXIS: u8>(style: &Style, size: Lu, box_size: Lu) -> bool
 }
 
 #[tactic(auto, using(inline_sizes::proofs::Limits::both_pair))]
-/// Both margins, `auto` counting 0.
+/// The two margins together, `auto` counting 0.
 pub fn both_margins(margins: &Margins) -> Wide
     ensures value { result ≡ both_margins margins.now }
     ensures range { IsPair result }

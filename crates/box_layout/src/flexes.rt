@@ -114,7 +114,7 @@ fn own_crosses(
     Ok(sizes)
 }
 
-/// The same with the margins of each child.
+/// The hypothetical cross sizes of all children with their margins.
 fn own_outers(
     alloc: Global,
     tree: &Arena<Node>,

@@ -8,7 +8,7 @@ ghost use Rattle.tree_rules.specs.Frames.{moved_by};
 ghost use Rattle.tree_rules.specs.Labels.{grid_of};
 ghost use Rattle.tree_rules.specs.NodeSizes.{inner_start};
 ghost use Rattle.inline_sizes.specs.Styled.{grid_at};
-ghost use Rattle.box_layout.specs.Places.{frame_from, frame_in};
+ghost use Rattle.box_layout.specs.Places.{frame_from};
 ghost use Rattle.box_layout.specs.Ranges.{IsEdges, IsPlace, IsWithin};
 
 use inline_sizes::inner_start;
@@ -55,8 +55,9 @@ pub(crate) fn origin_of(parent: &Style) -> (Lu, Lu)
     (edges_before::<0>(parent), edges_before::<1>(parent))
 }
 
-/// The frame of a child that stands at these places in a content box that starts here in the border box of its parent: `frame_in`
-/// says more.
+/// The frame of a child that stands at these places in the content box of its parent, which starts here in the
+/// parent's border box, with a border box of these sizes, inline axis first, and is given this in the two axes. Its
+/// rectangle is told from the border box of the parent (CSS Grid 2, section 6).
 pub(crate) fn frame_from(
     origin: (Lu, Lu),
     child: NodeId,
@@ -87,29 +88,6 @@ pub(crate) fn frame_from(
         inline,
         block,
     }
-}
-
-/// The frame of a child that stands at these places in the content box of its parent, with a border box of these sizes, inline axis
-/// first, and is given this in the two axes. Its rectangle is told from the border box of the parent (CSS Grid 2, section 6).
-pub fn frame_in(
-    parent: &Style,
-    child: NodeId,
-    place: (Wide, Wide),
-    size: (Lu, Lu),
-    inline: Given,
-    block: Given,
-) -> Frame
-    requires style { IsGridStyle (grid_of parent.now) }
-    requires columns { IsPlace place.0 }
-    requires rows { IsPlace place.1 }
-    ensures child { result.child ≡ child }
-    ensures value { frame_of result ≡
-        frame_in parent.now (record { at = place.0; size = size.0; given = inline })
-        (record { at = place.1; size = size.1; given = block }) }
-    ensures x { (by : ℕ) → IsWithin by place.0 → IsWithin (by + 2 ^ 28) result.rect.x }
-    ensures y { (by : ℕ) → IsWithin by place.1 → IsWithin (by + 2 ^ 28) result.rect.y }
-{
-    frame_from(origin_of(parent), child, place, size, inline, block)
 }
 
 /// A rectangle in the border box of a parent, which stands at this position, as one in the viewport.

@@ -123,9 +123,9 @@ fn block_over(
     )
 }
 
-/// The frame of a child of a grid over its columns and rows, where the content box of the grid starts here in its border box:
-/// `frame_over` says more. `last` is what the last child that is a subgrid in these rows was given, which this one shares where it is
-/// the same.
+/// The frame of a child of a grid over its columns and rows, from the border box of the grid, in which its content box
+/// starts here (CSS Grid 2, sections 6, 9 and 11). `last` is what the last child that is a subgrid in these rows was
+/// given, which this one shares where it is the same. `NoMemory` where memory is wanting.
 pub(crate) fn frame_over_from(
     alloc: Global,
     container: &Style,
@@ -174,30 +174,4 @@ pub(crate) fn frame_over_from(
         inline,
         given,
     ))
-}
-
-/// The frame of a child of a grid over its columns and rows, from the border box of the grid (CSS Grid 2, sections 6, 9 and 11).
-/// `NoMemory` where memory is wanting.
-pub fn frame_over(
-    alloc: Global,
-    container: &Style,
-    columns: &View<0>,
-    rows: &View<1>,
-    child: &OverTracks<'_>,
-) -> Result<Frame, NoMemory>
-    requires container { IsGridStyle (grid_of container.now) }
-    requires style { IsGridStyle (grid_of child.now.style.now) }
-    requires columns { IsOver columns.now.edges child.now.columns }
-    requires rows { IsOver rows.now.edges child.now.rows }
-    requires gap { pos 0 ≤ℤ rows.now.gap }
-    ensures child { IfOk result (λ frame. frame.child ≡ child.now.child) }
-    ensures value { IfOk result
-        (λ frame. frame_of frame ≡
-        frame_over container.now child.now.style.now child.now.shares.0 child.now.shares.1
-        columns.now child.now.columns rows.now child.now.rows child.now.width
-        child.now.inline.now child.now.content) }
-{
-    let origin = origin_of(container);
-    let mut last = None;
-    frame_over_from(alloc, container, origin, columns, rows, child, &mut last)
 }

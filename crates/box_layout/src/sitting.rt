@@ -57,9 +57,11 @@ pub struct Sitting {
     pub across: Margins,
     /// How it is aligned in its line.
     pub align: Align,
-    /// The least size of its border box across the main axis: its hypothetical size, or where it is stretched its least one.
+    /// The least size of its border box across the main axis: its hypothetical cross size, or where
+    /// it is stretched its min cross size, but at least its borders and paddings.
     pub least: Lu,
-    /// The greatest size of its border box across the main axis: its hypothetical size, or where it is stretched its greatest one.
+    /// The greatest size of its border box across the main axis: its hypothetical cross size, or
+    /// where it is stretched its max cross size.
     pub most: Lu,
     /// The sum of its borders and paddings in the inline axis.
     pub inline_inner: Lu,

@@ -12,7 +12,8 @@ pub trait BoxSink {
     /// That it took these boxes between two of its states, the earlier one first.
     ghost adds: { Self → Self → List Box → Type 0 };
 
-    /// So many boxes will come. It may make room for them, and takes none; where there is no such room it takes them all the same.
+    /// Hears how many boxes will come. It may make room for them, and takes none; where there is no
+    /// such room it takes them all the same.
     fn make_room(&mut self, count: usize)
         ensures { adds self.old self.new [] };
 

@@ -20,7 +20,7 @@ below number = if nat_lt number (2 ^ 64) then Some number else None
 unfoldable pub number_of : Text → Option ℕ
 number_of text = if is_number text then below (digits_value 10 text) else None
 
--- so many nodes a document is made of: 1 to 20,000
+-- the number of nodes that a document can be made of: 1 to 20,000
 abbrev pub within : ℕ → Option ℕ
 within number = if nat_lt number 1 then None else (if nat_lt 20000 number then None else Some number)
 

@@ -44,7 +44,7 @@ has_dashes words = list_any (λ word. bytes_eq word (codes "--")) words
 unfoldable pub is_taken : App → List Text → Bool
 is_taken app words = is_empty (fault_of app words)
 
--- and this is then the value of the option
+-- the value of the option of this name, where the command takes the words
 unfoldable pub value_in : App → List Text → Text → Option Text
 value_in app words name = first_of name (matches_of app words)
 

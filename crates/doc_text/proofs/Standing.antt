@@ -137,7 +137,7 @@ left_graft parent i name new (tree x below after) o h =
     by_name true q hb ha b a = rw q (λ j. tree x (left_put i name new below o hb j) (unchanged name nothing after ha j))
     by_name false q hb ha b a = rw q (λ j. tree x (b j) (a j))
 
--- and it stands there
+-- the tree that is joined stands there
 tree_joined : (name : Word) (new t : Trees Label) → IsTreeOf name new → holds t name ≡ false → tree_at name (joined new t) ≡ new
 tree_joined name leafless t o h = no_tree name t h
 tree_joined name (tree x below leafless) t o h = rw o refl

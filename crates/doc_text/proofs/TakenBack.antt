@@ -88,7 +88,7 @@ went e h made c m = by_edit e c m
     by_edit (edit.Redo times at) c m = absurd c
     by_edit (edit.Hit x y) c m = absurd c
 
--- so many edits back there stood a document, after others
+-- a document stood so many edits back, after others
 record WasAt (n : ℕ) (h made : History) : Type 0 where
   future : List Doc
   many : length made.past ≡ n + length h.past

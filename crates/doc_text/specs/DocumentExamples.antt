@@ -62,7 +62,8 @@ unfolding property_rows properties_2 properties_3 properties_4 properties_5 prop
 headers = refl
 
 nodes : others head_1
-    (row [] 16 3 1 ∷ row (codes "\n# a\n") 16 5 1 ∷ row (codes "  main grid") 4 3 3 ∷ row (codes " main grid") 4 3 2 ∷ row (codes "main grid\n   a leaf 1 1") 4 4 4 ∷ row (codes "main grid\n    a leaf 1 1") 4 4 5
+    (row [] 16 3 1 ∷ row (codes "\n# a\n") 16 5 1 ∷ row (codes "  main grid") 4 3 3 ∷ row (codes " main grid") 4 3 2 ∷
+    row (codes "main grid\n   a leaf 1 1") 4 4 4 ∷ row (codes "main grid\n    a leaf 1 1") 4 4 5
     ∷ row (codes "main grid\na grid") 15 4 1 ∷ row (codes "main leaf 1 1\n  a leaf 1 1") 14 4 3 ∷
     row (codes "main words 1 1\n  a leaf 1 1") 14 4 3 ∷ row (codes "main grid\n  a leaf 1 1\n    b grid") 14 5 5
     ∷ row (codes "main tree") 7 3 6 ∷ row (codes "main") 7 3 5 ∷ row (codes "main { }") 7 3 6 ∷ row (codes "main # grid") 7 3 5 ∷
@@ -77,7 +78,8 @@ unfolding property_rows properties_2 properties_3 properties_4 properties_5 prop
 nodes = refl
 
 declarations : others head_1
-    (row (codes "main grid { width: 1px; width: 2px }") 10 3 25 ∷ row (codes "main grid { width: calc(1px) }") 11 3 20 ∷ row (codes "main grid { colour: 1 }") 8 3 13 ∷ row (codes "main grid { grid-template-areas: \"a b\" \"b a\" }") 9 3 34
+    (row (codes "main grid { width: 1px; width: 2px }") 10 3 25 ∷ row (codes "main grid { width: calc(1px) }") 11 3 20 ∷
+    row (codes "main grid { colour: 1 }") 8 3 13 ∷ row (codes "main grid { grid-template-areas: \"a b\" \"b a\" }") 9 3 34
     ∷ row (codes "main grid { grid-template-areas: \"a#b\" }") 9 3 34 ∷ row (codes "main grid { grid-template-columns: 100p") 9 3 36 ∷
     row (codes "main grid { float: left }") 11 3 13 ∷ row (codes "main grid { width: 2em }") 11 3 20
     ∷ row (codes "main grid { font-size: 1px }") 11 3 13 ∷ row (codes "main grid {") 9 3 12 ∷ row (codes "main grid { width: 1px") 9 3 23 ∷
@@ -94,7 +96,8 @@ declarations = refl
 
 -- a fault in every part of a line: the leftmost part is told, also where the line stands before
 several : others head_1
-    (row (codes " 9 tree { colour: 1; width } }") 4 3 2 ∷ row (codes "9 tree { colour: 1; width } }") 5 3 1 ∷ row (codes "m tree { colour: 1; width } }") 7 3 3 ∷ row (codes "m grid { colour: 1; width } }") 8 3 10
+    (row (codes " 9 tree { colour: 1; width } }") 4 3 2 ∷ row (codes "9 tree { colour: 1; width } }") 5 3 1 ∷
+    row (codes "m tree { colour: 1; width } }") 7 3 3 ∷ row (codes "m grid { colour: 1; width } }") 8 3 10
     ∷ row (codes "m grid { width: 1; width } }") 9 3 17 ∷ row (codes "m grid { width: 1px; width } }") 10 3 22 ∷
     row (codes "m grid { width: 1px } }") 9 3 23 ∷ row (codes "m grid\n   9\n tree") 4 4 4
     ∷ row (codes "m leaf 1 1\n  m tree") 6 4 3 ∷ row (codes "m leaf 1 1\n  a tree") 14 4 3 ∷ row (codes "m leaf 1 1\nm tree") 6 4 1 ∷

@@ -51,7 +51,7 @@ header form line =
 
 -- ---- the lines of nodes
 
--- so many nodes a document has at most; version 2 has at most 65,536 children of one node too (own rule)
+-- how many nodes a document has at most; version 2 has at most 65,536 children of one node too (own rule)
 abbrev pub node_limit : ℕ → ℕ
 node_limit version = if version == 2 then 131072 else 32768
 

@@ -41,7 +41,8 @@ others version (row ∷ rows) = if_other (is_fault row.1 row.2 (edit_of version 
   if_other false text rest = text ∷ rest
 
 faults : others 1
-    ((codes "frob main", 20, 1) ∷ (codes "  ; main", 20, 3) ∷ (codes "---", 20, 1) ∷ (codes "set", 5, 4) ∷ (codes "set 9 width: 1px", 5, 5) ∷ (codes "set main", 8, 9) ∷ (codes "set main width", 9, 15) ∷ (codes "set main ;", 8, 10)
+    ((codes "frob main", 20, 1) ∷ (codes "  ; main", 20, 3) ∷ (codes "---", 20, 1) ∷ (codes "set", 5, 4) ∷
+    (codes "set 9 width: 1px", 5, 5) ∷ (codes "set main", 8, 9) ∷ (codes "set main width", 9, 15) ∷ (codes "set main ;", 8, 10)
     ∷ (codes "set a colour: 1", 8, 7) ∷ (codes "set a width: 1px;;", 9, 18) ∷ (codes "set a width: 1px; x", 9, 19) ∷
     (codes "set a width: 1px }", 9, 14) ∷ (codes "set a width: 1em", 11, 14) ∷ (codes "set a float: left", 11, 7)
     ∷ (codes "unset", 5, 6) ∷ (codes "unset a", 8, 8) ∷ (codes "unset a width;", 9, 14) ∷ (codes "unset a colour", 8, 9) ∷

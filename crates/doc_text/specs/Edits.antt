@@ -88,7 +88,7 @@ abbrev pub duplicate_name : Doc → Edit → Option Place
 duplicate_name doc (edit.Insert parent index at named node) = where_ (holds (tree_of doc) named.name) named.at
 duplicate_name doc e = None
 
--- so many levels under a parent pass level 64
+-- what stands so many levels under a parent passes level 64
 abbrev pub passes_levels : Trees Label → Named → ℕ → Bool
 passes_levels trees parent levels = nat_lt 64 (level_of parent.name trees + levels)
 
@@ -98,7 +98,7 @@ too_deep doc (edit.Insert parent index at named node) = where_ (passes_levels (t
 too_deep doc (edit.Move named parent index at) = where_ (passes_levels (left_of named doc) parent (height_of (tree_at named.name (tree_of doc)))) named.at
 too_deep doc e = None
 
--- so many children of one node are more than the version allows
+-- the number of children of one node is more than the version allows
 abbrev pub are_too_many : ℕ → ℕ → Bool
 are_too_many version children = version == 2 && nat_lt 65536 children
 

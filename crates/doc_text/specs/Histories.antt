@@ -23,13 +23,13 @@ begins doc = record { past = []; doc = doc; future = [] }
 abbrev pub with_edited : History → Doc → History
 with_edited h doc = record { past = h.doc ∷ h.past; doc = doc; future = [] }
 
--- so many edits are taken back, the last one first
+-- the history after so many edits are taken back, the last one first
 abbrev pub undone : ℕ → List Doc → Doc → List Doc → History
 undone zero past doc future = record { past = past; doc = doc; future = future }
 undone (suc n) [] doc future = record { past = []; doc = doc; future = future }
 undone (suc n) (before ∷ past) doc future = undone n past before (doc ∷ future)
 
--- so many that were taken back are made again, the one first that was taken back last
+-- the history after so many edits that were taken back are made again, the one first that was taken back last
 abbrev pub redone : ℕ → List Doc → Doc → List Doc → History
 redone zero past doc future = record { past = past; doc = doc; future = future }
 redone (suc n) past doc [] = record { past = past; doc = doc; future = [] }

@@ -133,7 +133,7 @@ SoFar = List Word × DeclaredMap
 abbrev pub one_more : Text → SoFar → Settings → SoFar
 one_more text made settings = (made.0 ++ first_word text ∷ [], with_settings settings made.1)
 
--- the same with one declaration more; an empty one sets nothing
+-- the names and what is declared with one declaration more; an empty one sets nothing
 abbrev pub one_declared : ℕ → Text → SoFar → Result SoFar Fault
 one_declared version text made =
     if is_ended text then Ok made

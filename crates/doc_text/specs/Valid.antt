@@ -96,7 +96,7 @@ pub record IsValid (doc : Doc) : Type 0 where
 
 -- ---- lines
 
--- so many bytes a line of a text has at most (own rule)
+-- a line has at most 65,536 bytes (own rule)
 abbrev pub IsShort : Line → Type 0
 IsShort line = length line.bytes ≤ 65536
 

@@ -208,7 +208,7 @@ fn declaration_of(
 /// The properties of one pair of braces so far: their names, and what is declared.
 type SoFar<'a> = (Sequence<Held<'a>>, Declared);
 
-/// The same with the declaration of this text, which may be empty.
+/// The properties of one pair of braces with the declaration of this text, which may be empty.
 fn one_declared<'a>(
     alloc: Global,
     version: u8,

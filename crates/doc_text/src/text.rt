@@ -154,7 +154,7 @@ impl<'a> Text<'a> {
         }
     }
 
-    /// The same text.
+    /// This text once more.
     pub(crate) fn same(&self) -> Text<'a>
         ensures { result ≡ self.now }
     {

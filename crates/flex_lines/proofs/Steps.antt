@@ -17,7 +17,7 @@ sum_next f fs i d h = ap (λ (xs : List Flexible). sum_of (map f (pieces xs))) (
 pub drop_item : {A : Type 0} → (xs : List A) (i : ℕ) (x : A) → i < length xs → x ≡ get_or xs i x → drop i xs ≡ x ∷ drop (i + 1) xs
 drop_item xs i x h is = drop_more xs i x h ∙ ap (λ y. y ∷ drop (i + 1) xs) (sym is)
 
--- and what is left of two lists with their items
+-- what is left of two lists begins with their items
 both : {A B C : Type 0} → (f : List A → List B → C) (xs : List A) (ys : List B) (i : ℕ) (x : A) (y : B) → i < length xs → length ys ≡ length xs → x ≡ get_or xs i x → y ≡ get_or ys i y → f (drop i xs) (drop i ys) ≡ f (x ∷ drop (i + 1) xs) (y ∷ drop (i + 1) ys)
 both f xs ys i x y h l a b = ap (λ zs. f zs (drop i ys)) (drop_item xs i x h a) ∙ ap (f (x ∷ drop (i + 1) xs)) (drop_item ys i y (omega (arith, h, l)) b)
 

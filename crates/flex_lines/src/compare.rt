@@ -4,7 +4,7 @@ ghost use Rattle.std.specs.Prelude.{◌≡◌, int_le, int_lt};
 
 use lunit::Wide;
 
-/// So many units.
+/// A number of units as an exact number.
 pub fn units(number: i64) -> Wide
     ensures { result ≡ number }
 {

@@ -25,7 +25,7 @@ fn number(length: Lu) -> u128
     length.units() as u128
 }
 
-/// So many units.
+/// A number of units as an exact number.
 fn exact(number: u128) -> Wide
     requires { number ≤ 2 ^ 126 }
     ensures { result ≡ pos number }
@@ -45,7 +45,8 @@ fn part(space: Lu, whole: u128, weight: u128) -> Wide
     exact(number(space) * weight / whole)
 }
 
-/// The same, and nothing where the whole weight is 0.
+/// What items of so much weight make of the space, rounded down; nothing where the whole weight is
+/// 0 (own rule).
 fn reach(space: Lu, whole: u128, weight: u128) -> Wide
     requires space { pos 0 ≤ℤ space }
     requires within { weight ≤ whole }

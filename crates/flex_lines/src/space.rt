@@ -110,7 +110,7 @@ pub fn space_left(grow: bool, main: Wide, taken: Wide, outer: Wide) -> Lu
     }
 }
 
-/// So many thousandths of the initial space, but at most the whole space.
+/// The part of the initial space of so many thousandths, but at most the whole space.
 fn part_given(initial: Lu, whole: Lu, factors: u64) -> Lu
     requires initial { pos 0 ≤ℤ initial }
     requires whole { pos 0 ≤ℤ whole }

@@ -20,16 +20,15 @@ pub record IsSameLink (l m : Link) : Type 0 where
   pub children : m.children ≡ l.children
   pub way : m.way ≡ l.way
 
--- so is each grid of a chain, the nearest first
+-- each grid of a chain is the same in both trees, the nearest first
 abbrev pub AreSameLinks : List Link → List Link → Type 0
 AreSameLinks [] [] = ⊤
 AreSameLinks [] (m ∷ later) = ⊥
 AreSameLinks (l ∷ chain) [] = ⊥
 AreSameLinks (l ∷ chain) (m ∷ later) = IsSameLink l m × AreSameLinks chain later
 
--- Both trees have the node of this name, with the same values, the same trees below it and the same
--- chain
--- above it. All values are computed ones.
+-- The two trees have the node of this name, with the same values, the same trees below it and the same chain above it. All values are
+-- computed ones.
 pub record AgreeAt (name : List ℕ) (t u : Trees Label) : Type 0 where
   pub before : Seen
   pub after : Seen

@@ -51,7 +51,7 @@ pub record JoinedChild {A : Type 0} (subgrid : A → Bool) (t : Trees (NodeId ×
 abbrev pub forgot : {A : Type 0} → (A → A) → NodeId → Trees (NodeId × A) → Trees (NodeId × A)
 forgot f n = mapped (λ k v. if same k n then f v else v)
 
--- the same for each of these numbers in turn
+-- the tree once the kept answers of each of these numbers are gone, one number after another
 abbrev pub forgets : {A : Type 0} → (A → A) → List NodeId → Trees (NodeId × A) → Trees (NodeId × A)
 forgets f [] t = t
 forgets f (n ∷ ns) t = forgets f ns (forgot f n t)

@@ -80,7 +80,8 @@ impl<A: Drop> Kept<A> {
         }
     }
 
-    /// The same, looked for from the oldest pair on: a question about sizes comes before the frames.
+    /// The answer to the question of these parts, looked for from the oldest pair on: a question
+    /// about sizes comes before the frames.
     fn find_from_oldest(
         &self,
         ask: Ask,
@@ -105,8 +106,9 @@ impl<A: Drop> Kept<A> {
     }
 
     #[tactic(auto, using(crate::proofs::Distinct::newest_laws))]
-    /// The same, looked for from the newest pair back: the frames are mostly asked last. As no question stands twice, it is the same
-    /// answer.
+    /// The answer to the question of these parts, looked for from the newest pair back: the frames
+    /// are mostly asked last. As no question stands twice, it is the one that is found from the
+    /// oldest pair on.
     fn find_from_newest(
         &self,
         ask: Ask,

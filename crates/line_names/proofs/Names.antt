@@ -109,7 +109,7 @@ named_more name xs x =
     let ends : ends_before (named_from name (pos 0) xs) (pos (length xs)) ≡ true = ends_before-from (named_from name (pos 0) xs) (pos (length xs)) (λ i h. omega (arith, ints, at, named_from-high name (pos 0) xs (pos (length xs)) i h)) in
     named_from-append name (pos 0) xs (x ∷ []) ∙ ap (λ z. named_from name (pos 0) xs ++ named_from name z (x ∷ [])) at ∙ marked_end (holds_name name x) (named_from name (pos 0) xs) (pos (length xs)) ends
 
--- the same of the lines up to one of them
+-- the lines of a name among the lines up to one of them
 pub named_step : (name : List ℕ) (xs : List (List (List ℕ))) (k : ℕ) (d : List (List ℕ)) → k < length xs → named_from name (pos 0) (take (k + 1) xs) ≡ marked (holds_name name (get_or xs k d)) (named_from name (pos 0) (take k xs)) (pos k)
 named_step name xs k d h =
     let n : length (take k xs) ≡ k = omega (arith, length-take k xs) in

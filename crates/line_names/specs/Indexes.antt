@@ -23,7 +23,7 @@ ends_before lines line = precedes (slice_get lines (length lines - 1)) line
 abbrev pub noted : List ℤ → ℤ → List ℤ
 noted lines line = if ends_before lines line then lines ++ line ∷ [] else lines
 
--- the same where the line has the name
+-- the lines of a name with this line, where the line has the name
 abbrev pub marked : Bool → List ℤ → ℤ → List ℤ
 marked held lines line = if held then noted lines line else lines
 

@@ -14,7 +14,7 @@ is_area tracks a = nat_le (length a.0) 58 && (int_le (pos 0) a.1.start && (int_l
 abbrev pub are_areas : ℕ → List NamedSpan → Bool
 are_areas tracks areas = list_all (is_area tracks) areas
 
--- so many lines, each with the names that a function gives it
+-- a list of so many lines, each with the names that a function gives it
 pub record AreLines (names : ℕ → List (List ℕ)) (count : ℕ) (lines : List (List (List ℕ))) : Type 0 where
   pub counted : length lines ≡ count
   pub named : (line : ℕ) → line < count → get_or lines line [] ≡ names line

@@ -4,7 +4,7 @@ ghost use Rattle.std.specs.Prelude.{◌≡◌, ◌≤◌, ◌<◌, ◌+◌, ◌-
 ghost use Rattle.part_rules.specs.LineNames.{going_back, going_on};
 ghost use Rattle.line_names.specs.Counting.{IsNear, IsFar, AreAscending};
 
-/// So many lines after this one.
+/// The line that lies so many lines after this one.
 pub(crate) fn after(line: i64, more: u32) -> i64
     requires { IsFar line }
     ensures value { result ≡ line +ℤ pos more }
@@ -13,7 +13,7 @@ pub(crate) fn after(line: i64, more: u32) -> i64
     line + more as i64
 }
 
-/// So many lines before this one.
+/// The line that lies so many lines before this one.
 pub(crate) fn before(line: i64, more: u32) -> i64
     requires { IsFar line }
     ensures value { result ≡ line -ℤ pos more }

@@ -22,7 +22,7 @@ fn sum(lengths: &[Lu]) -> Wide
     sum
 }
 
-/// So many gutters.
+/// The length of so many gutters.
 fn gutters(gap: Lu, count: u64) -> Wide
     requires { pos 0 ≤ℤ gap }
     ensures value { result ≡ gap *ℤ pos count }

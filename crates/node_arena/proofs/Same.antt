@@ -29,7 +29,7 @@ same_not a b h = false_from_ne_true (same a b) (λ e. h (same_is a b e))
 pub not_same : (a b : NodeId) → same a b ≡ false → a ≢ b
 not_same a b e h = absurd (false≢true (sym e ∙ same_from a b h))
 
--- the same slot and the same turn
+-- numbers with the same slot and the same turn are the same
 pub same_both : (a b : NodeId) → a.slot ≡ b.slot → a.turn ≡ b.turn → a ≡ b
 same_both a b s t = λ i. record { slot = s i; turn = t i }
 

@@ -13,7 +13,7 @@ abbrev pub Answers : {X : Type 0} → Option ArenaError → Result X ArenaError 
 Answers None result = IsOk result
 Answers (Some error) result = result ≡ Err error
 
--- the same, where memory may be wanting for an Ok
+-- the call answers this error, or it answers Ok or, where memory is wanting, NoMemory
 abbrev pub AnswersOrNoMemory : {X : Type 0} → Option ArenaError → Result X ArenaError → Type 0
 AnswersOrNoMemory None (Ok x) = ⊤
 AnswersOrNoMemory None (Err error) = error ≡ NoMemory

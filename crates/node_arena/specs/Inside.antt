@@ -74,12 +74,12 @@ module _ {T : Type 0} where
   unlisted n None = None
   unlisted n (Some s) = Some (record s { children = dropped n s.children })
 
-  -- and once a number is one, at an index
+  -- what a slot shows once a number is a child of it, at an index
   abbrev pub listed : ℕ → NodeId → Option (Shown T) → Option (Shown T)
   listed index n None = None
   listed index n (Some s) = Some (record s { children = insert s.children index n })
 
-  -- and once it has another parent
+  -- what a slot shows once it has another parent
   abbrev pub below_parent : NodeId → Option (Shown T) → Option (Shown T)
   below_parent parent None = None
   below_parent parent (Some s) = Some (record s { parent = Some parent })

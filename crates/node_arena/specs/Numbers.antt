@@ -3,7 +3,7 @@ use Rattle.std.specs.Prelude.{◌≡◌, ℕ, ◌+◌, ◌≤◌, ◌==◌, ◌&
 use Rattle.plain_tree.specs.Trees.{Trees, leafless, tree, count_of}
 use Rattle.node_arena.specs.declared.number.NodeId.{NodeId}
 
--- the same slot and the same turn
+-- two numbers have the same slot and the same turn
 unfoldable pub same : NodeId → NodeId → Bool
 same a b = (a.slot == b.slot) && (a.turn == b.turn)
 

@@ -10,7 +10,7 @@ Box = List ℕ × Rect
 
 -- ---- numbers modulo 2^64
 
--- so many times 2^64 more make the number a natural one
+-- a whole number that is natural once some times 2^64 are added
 record IsLifted (z : ℤ) : Type 0 where
   pub times : ℕ
   pub number : ℕ

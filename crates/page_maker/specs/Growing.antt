@@ -7,7 +7,7 @@ use Rattle.doc_text.specs.Label.{Label}
 abbrev pub child_count : ℕ → ℕ → ℕ
 child_count nodes i = min 8 (nodes - (8 * i + 1))
 
--- so many siblings from a first one on, with all below them in so many levels
+-- the trees of so many siblings from a first one on, with all below them in so many levels
 unfoldable pub grown : (ℕ → Label) → ℕ → ℕ → ℕ → ℕ → Trees Label
 grown label nodes zero first count = leafless
 grown label nodes (suc levels) first zero = leafless

@@ -23,7 +23,7 @@ use Rattle.doc_text.specs.NodeText.{with_settings}
 use Rattle.page_maker.specs.declared.choice.Choice.{Choice}
 use Rattle.page_maker.specs.declared.choice.Choice.TheVariants as choice
 
--- so many px in units
+-- a number of px in units
 abbrev pub px : ℕ → ℤ
 px n = pos (64 * n)
 

@@ -7,7 +7,7 @@ use Rattle.lunit.specs.declared.geometry.Rect.{Rect}
 unfoldable pub weighted : Rect → ℤ
 weighted rect = (rect.x +ℤ rect.y *ℤ pos 3) +ℤ (rect.width *ℤ pos 5 +ℤ rect.height *ℤ pos 7)
 
--- the same over all boxes
+-- the sum of these over all boxes
 abbrev pub sum_of : List (List ℕ × Rect) → ℤ
 sum_of [] = pos 0
 sum_of (box ∷ boxes) = weighted box.1 +ℤ sum_of boxes

@@ -14,7 +14,7 @@ use style_types::{
 };
 
 #[tactic(auto, unfolding(lunit::specs::Units::clamp))]
-/// So many px.
+/// A number of px as a length.
 pub(crate) fn px(number: u64) -> Lu
     requires { number ≤ 1000 }
     ensures { result ≡ px number }
@@ -42,7 +42,7 @@ fn declare_px(style: &mut Declared, alloc: Global, p: Prop, number: u64) -> Resu
     style.set(p, DeclaredValue { value, units })
 }
 
-/// So many lines without names.
+/// A list of lines without names, as long as `count` says.
 fn bare_lines(alloc: Global, count: usize) -> Result<Sequence<NameSet>, NoMemory>
     ensures { IfOk result (λ lines. lines ≡ replicate count []) }
 {

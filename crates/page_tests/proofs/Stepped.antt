@@ -16,7 +16,7 @@ use Rattle.page_tests.specs.Ready.{IsReady}
 pub back_fits : (e : Edit) (doc mid : Doc) (step : Step) → step ≡ step_for doc e → FitsBothWays (step_for doc e) doc (turned step.forward doc) → mid ≡ turned step.forward doc → Fits step.back mid
 back_fits e doc mid step is fits made = subst (λ (d : Doc). Fits step.back d) (sym made) (subst (λ (s : Step). Fits s.back (turned step.forward doc)) (sym is) fits.back)
 
--- and after it the document is as it was
+-- the document after the return is as it was
 pub ready_again : (e : Edit) (old mid new : Held) (step : Step) → step ≡ step_for (document_of old) e → Leads (step_for (document_of old) e) (document_of old) (turned step.forward (document_of old)) →
     document_of mid ≡ turned step.forward (document_of old) → document_of new ≡ turned step.back (document_of mid) → IsRight new.nodes.tree → IsReady old → IsReady new
 ready_again e old mid new step is leads made back right ready = record { valid = subst IsValid (sym same) ready.valid; right = right }

@@ -79,7 +79,7 @@ module _ (parent : NodeId) (index : ℕ) (label : Label) (id : NodeId) (t w : No
   pub added_lone : IsLone id w
   added_lone = record { value = a.value; part = ap (λ u. part_at u id) a.is ∙ grafted_new parent index (id, a.value) leafless t a.fresh (part_there t parent live) (few parent) }
 
-  -- and filled
+  -- the new node is filled where it stands
   pub added_within : (new : NodeTrees) → filled id new w ≡ grafted parent index (tree (id, a.value) new leafless) t
   added_within new = ap (filled id new) a.is ∙ grafted_within id parent (with_below new) index (tree (id, a.value) leafless leafless) t a.fresh ∙ ap (λ u. grafted parent index u t) (alone_edited (id, a.value) (with_below new))
 
@@ -110,7 +110,7 @@ module _ (parent : NodeId) (index : ℕ) (label : Label) (id : NodeId) (t w : No
         is = f.is ∙ added_within f.new;
       }
 
-  -- and taken out again
+  -- the filled node is taken out again
   pub added_back : (u : NodeTrees) → Fills (λ s. ⊤) id w u → removed id u ≡ t
   added_back u f = ap (removed id) (f.is ∙ ap (filled id f.new) a.is) ∙ taken_back parent index (id, a.value) f.new t a.fresh
 

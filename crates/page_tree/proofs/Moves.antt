@@ -91,7 +91,7 @@ way_in (tree x below after) n c few l e =
     beside g (inl q) h = absurd (omega (arith, h, ap (times c) (tree_none n after (omega (arith, few, one_yes (same x.0 n) q)))))
     beside g (inr q) h = omega (arith, h, times_joined (tree_at n below) (tree_at n after), ap (times c) (cond_no (same x.0 n) (tree x below leafless) (joined (tree_at n below) (tree_at n after)) q))
 
--- and nothing else
+-- what does not have a number on its way up does not stand in the tree of that number
 pub way_out : (t : NodeTrees) (n c : NodeId) → IsSome (part_at t n) → times n t ≤ 1 → times c t ≤ 1 → is_among n (way_up t c) ≡ false → times c (tree_at n t) ≡ 0
 way_out t n c live few fewer e = at (part_at t n) refl live
   where
@@ -238,7 +238,7 @@ moved_registered find n c index t live few r =
       distinct = λ m. omega (arith, times_summed m (moved n c index t), moved_sum (λ x. one (same x.0 m)) n c index t live few, times_summed m t, r.distinct m);
     }
 
--- the same where the arena may have refused
+-- the register of the names after a move, where the arena may have refused it
 pub moved_either : (find : List ℕ → Option NodeId) (n c : NodeId) (index : ℕ) (r : Result (Unit {0}) ArenaError) (old new : Nodes Node) → IsSome (part_at (removed n old.tree) c) → times c (removed n old.tree) ≤ 1 → IsRegister find old.tree →
     OnOk r (new ≡ with_move n c index old) → OnErr r (new ≡ old) → IsRegister find new.tree
 moved_either find n c index (Ok x) old new live once r a b = subst (λ (m : Nodes Node). IsRegister find m.tree) (sym a) (moved_registered find n c index old.tree live once r)

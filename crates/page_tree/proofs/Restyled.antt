@@ -267,7 +267,7 @@ font_stays em font parent n v t page d value above f has styles e = subst (λ s.
           ));
         }
 
--- and where it changes
+-- a node and all below it under another parent, where its font size changes
 pub font_changes : (em font : ℤ) (parent n : NodeId) (v : Node) (style : StyleMap) (t : NodeTrees) → IsDistinct t → Some v ≡ value_at t n → HasFont em parent t → font ≡ font_of em (root_font_of t) v.declared → style ≡ computed_style font (root_font_of t) v.declared → (styles : Styles) →
     styles ≡ (n, style) ∷ styles_of font (root_font_of t) (below_at t n) → RestylesUnder parent styles n t
 font_changes em font parent n v style t d value above f s styles e = at (part_at t n) refl value e
@@ -282,7 +282,8 @@ font_changes em font parent n v style t d value above f s styles e = at (part_at
           font = em;
           has = above;
           new = subst (λ u. Restyles em (root_font_of t) styles u) (sym (tree_is n t q (d n) g)) (all_restyles em (root_font_of t) styles (tree (n, q.0) q.1 leafless) (part_distinct n q t d g)
-              (k ∙ (λ i. (n, style_is i) ∷ styles_of (own i) (root_font_of t) (below_of (g i))) ∙ ap (λ l. (n, computed_style (font_of em (root_font_of t) q.0.declared) (root_font_of t) q.0.declared) ∷ l) (sym (append-nil (styles_of (font_of em (root_font_of t) q.0.declared) (root_font_of t) q.1)))));
+              (k ∙ (λ i. (n, style_is i) ∷ styles_of (own i) (root_font_of t) (below_of (g i))) ∙
+              ap (λ l. (n, computed_style (font_of em (root_font_of t) q.0.declared) (root_font_of t) q.0.declared) ∷ l) (sym (append-nil (styles_of (font_of em (root_font_of t) q.0.declared) (root_font_of t) q.1)))));
         }
 
 -- ---- a node with other values
@@ -300,7 +301,7 @@ put_after n v x below after e d = λ i. tree (x.0, cond_no (same x.0 n) v x.1 e 
 own_style : (em r : ℤ) (v : Node) (font : ℤ) (style : StyleMap) → style ≡ v.style → HasStyle em r v → font ≡ em → style ≡ computed_style font r v.declared
 own_style em r v font style e s f = e ∙ s ∙ ap (λ z. computed_style z r v.declared) (sym f)
 
--- so, and all below it with other styles
+-- each of the trees has its computed style where a node and all below it have got other styles
 put_below : (p r em : ℤ) (n : NodeId) (v : Node) (styles : Styles) (q : Part Node) (t : NodeTrees) → part_at t n ≡ Some q → GetsFontBelow em v.declared p r n t → HasStyle em r v → Restyles em r styles q.1 → IsDistinct t →
     AreStyled p r t → AreStyled p r (restyled styles (replaced n v t))
 put_below p r em n v styles q leafless e f s w d h = tt

@@ -65,7 +65,7 @@ node_subgrid em rem v s = λ i. kind_grid v.kind i && (columns i || rows i)
     rows : is_subgrid (template_in (value_of v.style prop.GridTemplateRows)) ≡ tells_subgrid (finmap.get v.declared prop.GridTemplateRows)
     rows = ap (λ (m : StyleMap). is_subgrid (template_in (value_of m prop.GridTemplateRows))) s ∙ of_style em rem v.declared prop.GridTemplateRows refl
 
--- so for each node of a page
+-- each node of a page tells by its declared values whether it is a subgrid
 abbrev pub AreSubgrids : NodeTrees → Type 0
 AreSubgrids t = EachNode (λ x. node_sub x.1 ≡ is_subgrid_node (label_of x.1)) t
 

@@ -78,7 +78,7 @@ longer k n r h t = record {
   outside = t.outside;
 }
 
--- the same in a string
+-- what is read of so many words, in a string
 record IsWithin (k : ℕ) (r : Reading) : Type 0 where
   pub within : r.within ≡ true
   pub column : r.column ≤ suc k

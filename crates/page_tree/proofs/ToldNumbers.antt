@@ -9,7 +9,7 @@ use Rattle.lunit.specs.declared.number.NumberForm.{NumberForm}
 use Rattle.lunit.proofs.Allowed.{size_signed}
 use Rattle.page_tree.proofs.ToldOptions.{some_where, both_true, not_true, other_true}
 
--- so many parts, below zero only where the form allows it
+-- a number within the bounds of a form, below zero only where the form allows it
 pub record IsNumber (form : NumberForm) (z : ℤ) : Type 0 where
   pub size : unsigned_abs z ≤ form.most * form.scale
   pub sign : form.below_zero ≡ false → pos 0 ≤ℤ z

@@ -65,7 +65,7 @@ BringsAtMostOne (change.Shift name parent index) = ⊤
 BringsAtMostOne (change.Kind name kind) = ⊤
 BringsAtMostOne (change.View width height) = ⊤
 
--- so after a change that wanted memory; but for one that brings more than one node nothing at all is changed
+-- after a change that wanted memory all is as before; but for one that brings more than one node nothing at all is changed
 pub record IsUndone (c : Change) (old new : Held) : Type 0 where
   pub before : IsAsBefore old new
   pub same : BringsAtMostOne c → new ≡ old

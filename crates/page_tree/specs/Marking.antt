@@ -26,7 +26,7 @@ use Rattle.placing.specs.Nodes.{NodeTrees}
 abbrev pub AreMarked : (Word → Bool) → NodeTrees → List NodeId → Type 0
 AreMarked mark t numbers = EachNode (λ x. is_among x.0 numbers ≡ mark x.1.name) t
 
--- so as one fact
+-- these numbers are those of the nodes of the marked names, as one fact
 pub record IsMarking (mark : Word → Bool) (t : NodeTrees) (numbers : List NodeId) : Type 0 where
   pub each : AreMarked mark t numbers
 
@@ -48,7 +48,7 @@ pub record IsNextBelow (old new root : ℤ) (t : NodeTrees) (n : NodeId) (index 
   pub old_is : font_of old root value.declared ≡ old_font
   pub new_is : font_of new root value.declared ≡ new_font
 
--- so of what a change brings; of a node that is shifted; and of a node that gets another kind
+-- these numbers are those of the nodes that are marked by a change that brings a node; that shifts one; that gives one another kind
 pub record MarksBrought (parent : Word) (node : Plain) (t : NodeTrees) (numbers : List NodeId) : Type 0 where
   pub each : AreMarked (λ w. bytes_eq w parent || holds (tree_of_node node) w) t numbers
 

@@ -58,7 +58,7 @@ pub record Stands (t : NodeTrees) : Type 0 where
   pub distinct : IsDistinct t
   pub low : height_of t ≤ 64
 
--- the same but for the nodes
+-- two pages differ in nothing but the nodes
 pub record IsAround (old new : Held) : Type 0 where
   pub version : new.version ≡ old.version
   pub width : new.width ≡ old.width

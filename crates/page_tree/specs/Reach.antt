@@ -80,7 +80,8 @@ has_other_font old new root (tree x below after) name =
     (bytes_eq x.name name && not (int_eq (font_of old root x.style) (font_of new root x.style)))
     || (has_other_font (font_of old root x.style) (font_of new root x.style) root below name || has_other_font old new root after name)
 
--- so below the first of these trees, whose font size is `old`, where it stands below a node of the font size `parent`
+-- the node of a name below the first of these trees, whose font size is `old`, has another font size where that tree stands below a node of
+-- the font size `parent`
 abbrev pub gets_other_font : ℤ → ℤ → ℤ → Trees Label → Word → Bool
 gets_other_font old parent root leafless name = false
 gets_other_font old parent root (tree x below after) name = has_other_font old (font_of parent root x.style) root below name
@@ -163,7 +164,7 @@ pub record KeepsOn (touched : Bool) (old : NodeTrees) (x : NodeId × Node) : Typ
   pub kept : x.1.kept ≡ (if touched then [] else kept_at old x.0)
   pub stood : touched ≡ false → (v : Node) × ((value_at old x.0 ≡ Some v) × ((v.name ≡ x.1.name) × (v.kind ≡ x.1.kind)))
 
--- so each node of a page after a change, and after an edit
+-- each node of a page keeps what it kept after a change, and after an edit, but for those that it touches
 abbrev pub LeavesOthers : Change → Held → Held → Type 0
 LeavesOthers c old new = EachNode (λ x. KeepsOn (touches c (document_of old) (document_of new) x.1.name) old.nodes.tree x) new.nodes.tree
 

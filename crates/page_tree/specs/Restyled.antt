@@ -40,7 +40,7 @@ pub record Restyles (parent root : ℤ) (styles : Styles) (t : NodeTrees) : Type
   pub apart : (k : NodeId) → times k t ≡ 0 → (old : StyleMap) → styled_from styles k old ≡ old
   pub styled : AreStyled parent root (restyled styles t)
 
--- so for the tree of a number under another parent
+-- after these styles the tree of a number has its computed styles where it stands under another parent
 pub record RestylesUnder (parent : NodeId) (styles : Styles) (n : NodeId) (t : NodeTrees) : Type 0 where
   pub font : ℤ
   pub has : HasFont font parent t

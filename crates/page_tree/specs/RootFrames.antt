@@ -21,7 +21,7 @@ IsKeptIn nodes root = IsPathKept (bare nodes.tree) root.width root.height (kept_
 abbrev pub boxes_in : Nodes Node → RootFrame → List Box
 boxes_in nodes root = bare_boxes root.width root.height (bare nodes.tree)
 
--- so in the viewport of a page
+-- the frame of the root of a page in the page's viewport
 abbrev pub IsRootOf : Held → RootFrame → Type 0
 IsRootOf page root = IsRootFrame (bare page.nodes.tree) page.width page.height root
 

@@ -80,7 +80,7 @@ pub record Shifts (name parent : Word) (index : ℕ) (t u : NodeTrees) : Type 0 
   pub under : RestylesUnder to styles id t
   pub is : u ≡ restyled styles (moved id to index t)
 
--- so for each change
+-- the trees of a page after a change of each kind
 abbrev pub IsChanged : Change → NodeTrees → NodeTrees → Type 0
 IsChanged (change.Style name values) t u = Relabels name (with_style values) t u
 IsChanged (change.Take name) t u = Removes name t u

@@ -39,7 +39,7 @@ between_first safe free n = ap (λ (z : ℤ). if int_lt free (pos 0) && (safe ||
     first true e = refl
     first false e = floor_div-none free (n - 1) (omega (arith, leb-false))
 
--- And it moves the last to the end.
+-- Space between the subjects moves the last to the end.
 pub between_last : (safe : Bool) (free : ℤ) (n : ℕ) → pos 0 ≤ℤ free → 1 < n → content_moved Between safe free (n - 1) n ≡ free
 between_last safe free n some two =
     second (int_lt free (pos 0) && (safe || true)) (pos 0) (moved Between free (n - 1) n) (not_below free (safe || true) some)

@@ -121,7 +121,7 @@ used_rises level (s ∷ rest) = go (is_above level (end_of s.room)) refl (used_r
 used_next : (level k : ℕ) (rows : List Share) → used (level + suc k) rows ≡ used (level + k) rows + above (level + k) rows
 used_next level k rows = ap (λ (l : ℕ). used l rows) (let e : level + suc k ≡ suc (level + k) = omega arith in e) ∙ used_rises (level + k) rows
 
--- So many whole rounds, where there are units for them.
+-- This many whole rounds fill the rows by as many levels, where there are units for them.
 rounds_fill : (k level n : ℕ) (rows : List Share) → used (level + k) rows ≤ used level rows + n
     → rounds k (plain (map (filled_to level) rows) n) ≡ plain (map (filled_to (level + k)) rows) (used level rows + n - used (level + k) rows)
 unfolding rounds
@@ -197,7 +197,7 @@ up_to_above level (Some end) e = ap (λ (b : Bool). part b level end) e
 times_more : (k a : ℕ) → k * suc a ≡ k + k * a
 times_more k a = grind arith
 
--- So many units for each row that takes more are enough to fill the rows so much higher.
+-- To fill the rows so much higher takes at most so many units for each row that takes more.
 pub used_most : (level k : ℕ) (rows : List Share) → used (level + k) rows ≤ used level rows + k * above level rows
 used_most level k [] = omega arith
 used_most level k (s ∷ rest) = go (is_above level (end_of s.room)) refl (used_most level k rest)
@@ -211,7 +211,7 @@ used_grows : (level k : ℕ) (rows : List Share) → used level rows ≤ used (l
 used_grows level zero rows = omega (arith, ap (λ (l : ℕ). used l rows) (let e : level + 0 ≡ level = omega arith in e))
 used_grows level (suc k) rows = omega (arith, used_grows level k rows, used_next level k rows)
 
--- And a unit for each of them is given.
+-- To fill the rows higher takes at least one unit for each row that takes more.
 pub used_least : (level k : ℕ) (rows : List Share) → 0 < k → used level rows + above level rows ≤ used (level + k) rows
 used_least level zero rows some = absurd (omega arith)
 used_least level (suc k) rows some = omega (arith, used_rises level rows, used_grows (suc level) k rows, ap (λ (l : ℕ). used l rows) (let e : suc level + k ≡ level + suc k = omega arith in e))
@@ -267,7 +267,7 @@ up_to_grows level k (Some end) = go (nat_lt level end) (nat_lt (level + k) end) 
     go false true e f = omega (arith, ltb-false level end e)
     go false false e f = omega arith
 
--- So many units more are given to each row that takes more than the higher level.
+-- To fill the rows so much higher takes at least so many units for each row that takes more than the higher level.
 used_least_times : (level k : ℕ) (rows : List Share) → used level rows + k * above (level + k) rows ≤ used (level + k) rows
 used_least_times level k [] = omega arith
 used_least_times level k (s ∷ rest) = go (is_above (level + k) (end_of s.room)) refl (used_least_times level k rest)

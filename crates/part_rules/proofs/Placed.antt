@@ -76,7 +76,7 @@ above_least : (z : ℤ) → z ≤ℤ pos (above_zero z)
 above_least (pos n) = omega (arith, ints)
 above_least (negsuc n) = omega (arith, ints)
 
--- The column found in a row is free,
+-- The column found in a row is free.
 pub free_column_free : (placed : List Area) (k : ℕ) (rows : Span) (from : ℤ) → is_free (record { columns = to_end (free_column placed k rows from) k; rows = rows }) placed ≡ true
 free_column_free placed k rows from = go (either_free (λ c. record { columns = to_end c k; rows = rows }) placed (above_zero (far_column placed from -ℤ from)) from)
   where
@@ -85,7 +85,7 @@ free_column_free placed k rows from = go (either_free (λ c. record { columns = 
     go (inl h) = h
     go (inr h) = past_columns placed from (to_end (free_column placed k rows from) k) rows (omega (arith, ints, h, above_least (far_column placed from -ℤ from)))
 
--- and so is the row found in columns.
+-- The row found in columns is free.
 pub free_row_free : (placed : List Area) (columns : Span) (l : ℕ) (from : ℤ) → is_free (record { columns = columns; rows = to_end (free_row placed columns l from) l }) placed ≡ true
 free_row_free placed columns l from = go (either_free (λ r. record { columns = columns; rows = to_end r l }) placed (above_zero (far_row placed from -ℤ from)) from)
   where

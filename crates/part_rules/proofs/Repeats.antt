@@ -102,7 +102,7 @@ fitting_fails (negsuc n) room d j high h = omega (arith, ints)
 falls : (n j m : ℕ) → j ≤ m → (negsuc n *ℤ pos m) ≤ℤ (negsuc n *ℤ pos j)
 falls n j m h = omega (arith, ints, at_least_times j m (suc n) h)
 
--- So many of a step fit the room, and one more does not.
+-- This many of a step fit the room, and one more does not.
 pub record FitsTimes (step room : ℤ) (k : ℕ) : Type 0 where
   pub most : k ≤ 9999
   pub passes : 0 < k → (step *ℤ pos k) ≤ℤ room
@@ -140,7 +140,7 @@ filling_fails : (q room : ℤ) (s j : ℕ) → (q *ℤ pos (suc s)) ≤ℤ (room
 filling_fails (pos n) room s j low h = omega (arith, ints, more_times j n (suc s) h)
 filling_fails (negsuc n) room s j low h = absurd (omega arith)
 
--- So many of a step fill the room, if any number up to the most does, and fewer do not.
+-- This many of a step fill the room, if any number up to the most does, and fewer do not.
 pub record FillsTimes (step room : ℤ) (k : ℕ) : Type 0 where
   pub most : k ≤ 9999
   pub passes : k < 9999 → room ≤ℤ (step *ℤ pos k)

@@ -10,7 +10,7 @@ after b n s rest = if b then after_row (one_more s) (round n rest) else after_ro
 pub takes : (n : ℕ) (s : Share) (rest : List Share) → has_room s ≡ true → round (suc n) (s ∷ rest) ≡ after_row (one_more s) (round n rest)
 takes n s rest e = ap (λ (b : Bool). after b n s rest) e
 
--- and one without room is passed
+-- a row without room is passed
 pub passes : (n : ℕ) (s : Share) (rest : List Share) → has_room s ≡ false → round n (s ∷ rest) ≡ after_row s (round n rest)
 passes zero s rest e = refl
 passes (suc n) s rest e = ap (λ (b : Bool). after b n s rest) e

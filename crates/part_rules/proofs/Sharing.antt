@@ -90,12 +90,12 @@ got_zero : (rooms : List (Option ℤ)) → map (λ (s : Share). s.got) (map with
 got_zero [] = refl
 got_zero (r ∷ rooms) = ap (λ (t : List ℤ). pos 0 ∷ t) (got_zero rooms)
 
--- By the rooms alone the shares are those of rows with these rooms,
+-- By the rooms alone the shares are those of rows with these rooms.
 pub shares_are : (space : ℤ) (rooms : List (Option ℤ)) → shares space rooms ≡ map (λ (s : Share). s.got) (shared_rows space (map roomy rooms))
 shares_are (pos n) rooms = ap (λ (h : Handed). map (λ (s : Share). s.got) h.rows) (handed_roomy n rooms)
 shares_are (negsuc n) rooms = sym (got_zero rooms)
 
--- and so is what is left.
+-- What is left by the rooms alone is what is left of rows with these rooms.
 pub unshared_is : (space : ℤ) (rooms : List (Option ℤ)) → unshared space rooms ≡ left_over space (map roomy rooms)
 unshared_is (pos n) rooms = ap (λ (h : Handed). pos h.left) (handed_roomy n rooms)
 unshared_is (negsuc n) rooms = refl

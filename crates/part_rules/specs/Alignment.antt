@@ -66,7 +66,7 @@ between_row_2 : content_moved Between false (pos 4480) 2 3 ≡ pos 4480
 unfolding floor_div
 between_row_2 = refl
 
--- The same with tracks of 2560: -1280 are free, so all is start.
+-- Three tracks of 2560 in 6400: -1280 are free, so all is start.
 between_overflow : content_moved Between false (negsuc 1279) 2 3 ≡ pos 0
 between_overflow = refl
 

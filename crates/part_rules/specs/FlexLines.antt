@@ -231,7 +231,7 @@ shrinks : line_sizes (pos 100) (pos 0) (item (pos 100) (pos 0) None 0 1000 ∷ i
 unfolding resolved clamp floor_div handed_by_level
 shrinks = refl
 
--- The same with a minimum of 90 for the first: 67 is raised by 23, so it alone is frozen, and the second gives all 40 that lack.
+-- With a minimum of 90 for the first of these items 67 is raised by 23, so it alone is frozen, and the second gives all 40 that lack.
 shrinks_to_minimum : line_sizes (pos 100) (pos 0) (item (pos 100) (pos 90) None 0 1000 ∷ item (pos 50) (pos 0) None 0 1000 ∷ []) ≡ pos 90 ∷ pos 10 ∷ []
 unfolding resolved clamp floor_div handed_by_level
 shrinks_to_minimum = refl

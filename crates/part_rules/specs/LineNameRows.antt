@@ -93,7 +93,7 @@ before_the_start_of_a_subgrid = refl
 automatic_span_in_a_subgrid : resolved (subgrid_table (own_table [] 4 []) (span (pos 3) (pos 4)) (([]) ∷ []) []) Auto Auto 2 ≡ Free 1
 automatic_span_in_a_subgrid = refl
 
--- And so is a span of 2 that the item asks for.
+-- A span of 2 that the item asks for is no longer than the one track either.
 free_span_in_a_subgrid : resolved
     (subgrid_table (own_table [] 3 (area a (pos 0) (pos 3) ∷ [])) (span (pos 1) (pos 2)) ((a ∷ []) ∷ (a ∷ []) ∷ []) []) Auto (Reach 2 None) 1
     ≡ Free 1

@@ -24,6 +24,7 @@ pub record Table : Type 0 where
   pub tracks : ℕ
   pub lines : List (List (List ℕ))
   pub areas : List NamedSpan
+  -- the first and the last line of the limit
   pub low : ℤ
   pub high : ℤ
 
@@ -44,7 +45,7 @@ abbrev pub names_at : Table → ℤ → List (List ℕ)
 names_at t (pos line) = get_or t.lines line []
 names_at t (negsuc line) = []
 
--- so many lines from this one on, with the names that a function gives them
+-- a list of so many lines from this one on, with the names that a function gives them
 abbrev pub lines_by : (ℕ → List (List ℕ)) → ℕ → ℕ → List (List (List ℕ))
 lines_by names zero line = []
 lines_by names (suc more) line = names line ∷ lines_by names more (line + 1)
@@ -155,7 +156,7 @@ abbrev pub span_on : Table → ℤ → ℕ → Option (List ℕ) → ℤ
 span_on t start k None = start +ℤ pos k
 span_on t start k (Some name) = going_on (filter (λ l. int_lt start l) (named_lines t name)) k (int_max (pos t.tracks) start)
 
--- and from a line back
+-- a span that ends at a line: so many tracks, or back to the so-manyth line of a name before it
 abbrev pub span_back : Table → ℤ → ℕ → Option (List ℕ) → ℤ
 span_back t end k None = end -ℤ pos k
 span_back t end k (Some name) = going_back (filter (λ l. int_lt l end) (named_lines t name)) k (int_min (pos 0) end)

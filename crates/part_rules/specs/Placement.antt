@@ -13,7 +13,7 @@ use Rattle.part_rules.specs.Lists.{above_zero, greatest_with}
 
 -- ---- ranges and least places
 
--- so many tracks from a line on
+-- the span of so many tracks from a line on
 abbrev pub to_end : ℤ → ℕ → Span
 to_end start k = record { start = start; end = start +ℤ pos k }
 
@@ -35,7 +35,7 @@ first_free area placed (suc more) from = if is_free (area from) placed then from
 abbrev pub far_column : List Area → ℤ → ℤ
 far_column placed from = greatest_with from (map (λ (a : Area). a.columns.end) placed)
 
--- the same of rows
+-- where all areas have ended in the rows, at or after this position
 abbrev pub far_row : List Area → ℤ → ℤ
 far_row placed from = greatest_with from (map (λ (a : Area). a.rows.end) placed)
 
@@ -157,11 +157,11 @@ pub record Field : Type 0 where
 abbrev pub column_search_start : Field → Position → Span → ℤ
 column_search_start f cursor columns = if f.dense then f.first else if int_lt columns.start cursor.column then cursor.row +ℤ pos 1 else cursor.row
 
--- and the position for one that is free in both axes
+-- The position at which the search for an item that is free in both axes begins: in dense mode the first one; in sparse mode the cursor.
 abbrev pub free_search_start : Field → Position → Position
 free_search_start f cursor = if f.dense then record { column = f.columns.start; row = f.first } else cursor
 
--- so many columns and rows from a position on
+-- the area of so many columns and rows from a position on
 abbrev pub area_at : Position → ℕ → ℕ → Area
 area_at p k l = record { columns = to_end p.column k; rows = to_end p.row l }
 

@@ -77,7 +77,7 @@ abbrev pub cycled : {A : Type 0} → List A → ℕ → Option A
 cycled [] n = None
 cycled (x ∷ xs) n = slice_get (x ∷ xs) (n % length (x ∷ xs))
 
--- the same going back from the last item
+-- the item of a list that repeats without end, counted back from its last item
 abbrev pub cycled_back : {A : Type 0} → List A → ℕ → Option A
 cycled_back [] n = None
 cycled_back (x ∷ xs) n = slice_get (x ∷ xs) (length xs - n % length (x ∷ xs))
@@ -132,7 +132,8 @@ at_most_10000 : repetitions [] (pos 64 ∷ []) (pos 0) (Fits (pos 1073741824)) �
 unfolding repetitions greatest_passing
 at_most_10000 = refl
 
--- The same rows by division. 22400 - 6400 = 16000 has room for two steps of 7040; 13600 is reached by two of them.
+-- How often the tracks of the rows above stand, by division. 22400 - 6400 = 16000 has room for two steps of 7040; 13600 is reached by two
+-- of them.
 three_fit_by_division : repetitions_by_division [] (pos 6400 ∷ []) (pos 640) (Fits (pos 22400)) ≡ 3
 unfolding floor_div
 three_fit_by_division = refl

@@ -25,7 +25,7 @@ pub record Handed : Type 0 where
   pub rows : List Share
   pub left : ℕ
 
--- the same with this row before the others
+-- rows with what each has got, with this row before the others
 abbrev pub after_row : Share → Handed → Handed
 after_row s h = record { rows = s ∷ h.rows; left = h.left }
 
@@ -36,7 +36,7 @@ round zero rows = record { rows = rows; left = 0 }
 round (suc n) [] = record { rows = []; left = suc n }
 round (suc n) (s ∷ rest) = if has_room s then after_row (one_more s) (round n rest) else after_row s (round (suc n) rest)
 
--- So many rounds, each with the units that the last one left.
+-- What is handed out after so many rounds, each with the units that the last one left.
 unfoldable pub rounds : ℕ → Handed → Handed
 rounds zero h = h
 rounds (suc k) h = rounds k (round h.left h.rows)
@@ -45,7 +45,7 @@ rounds (suc k) h = rounds k (round h.left h.rows)
 abbrev pub with_nothing : Share → Share
 with_nothing s = record s { got = pos 0 }
 
--- So many units handed out (own rule). A round that gives no unit finds no row with room, so after as many rounds as there are
+-- What is handed out of so many units (own rule). A round that gives no unit finds no row with room, so after as many rounds as there are
 -- units either no unit is left or no row has room.
 abbrev pub handed : ℕ → List Share → Handed
 handed n rows = rounds n (record { rows = map with_nothing rows; left = n })
@@ -120,8 +120,8 @@ pub record IsLevel (n : ℕ) (rows : List Share) (level : ℕ) : Type 0 where
   pub fits : used level rows ≤ n
   pub greatest : (n < used (suc level) rows) ⊎ (above level rows ≡ 0)
 
--- So many units handed out by one level (own rule): all rows rise to it together, and the odd units go to the first rows that take
--- more, as in one round. It is what the rounds hand out (see the laws), and computes at any size.
+-- What is handed out of so many units by one level (own rule): all rows rise to it together, and the odd units go to the first rows that
+-- take more, as in one round. It is what the rounds hand out (see the laws), and computes at any size.
 unfoldable pub handed_by_level : ℕ → List Share → Handed
 handed_by_level n rows =
     let level = level_of n rows in
@@ -133,7 +133,7 @@ roomy None = record { room = None; got = pos 0 }
 roomy (Some (pos n)) = record { room = Some (pos n); got = pos 0 }
 roomy (Some (negsuc n)) = record { room = Some (negsuc n); got = pos 0 }
 
--- So many units handed out to rows with these rooms.
+-- What is handed out of so many units to rows with these rooms.
 abbrev pub handed_to : ℕ → List (Option ℤ) → Handed
 handed_to n rooms = handed_by_level n (map roomy rooms)
 
@@ -142,7 +142,7 @@ abbrev pub shares : ℤ → List (Option ℤ) → List ℤ
 shares (pos n) rooms = map (λ (s : Share). s.got) (handed_to n rooms).rows
 shares (negsuc n) rooms = map (λ (r : Option ℤ). pos 0) rooms
 
--- And what is left.
+-- What is left of the space when the rows have got theirs (own rule).
 abbrev pub unshared : ℤ → List (Option ℤ) → ℤ
 unshared (pos n) rooms = pos (handed_to n rooms).left
 unshared (negsuc n) rooms = negsuc n

@@ -31,7 +31,7 @@ flex w = rule least.Auto (most.Flex w)
 abbrev content_item : ℤ → ℤ → ℤ → ℤ → ℤ → Item
 content_item start end low high size = record { span = record { start = start; end = end }; low = low; high = high; floor = Content size (pos 0) (pos 0) }
 
--- the same with margins, and with borders and paddings
+-- an item with an automatic minimum of this content size, with margins, and with borders and paddings
 abbrev boxed_item : ℤ → ℤ → ℤ → ℤ → ℤ → ℤ → ℤ → Item
 boxed_item start end low high size margins inner = record
     { span = record { start = start; end = end }; low = low; high = high; floor = Content size margins inner }
@@ -95,7 +95,7 @@ smallest : track_sizes (autos ∷ []) (pos 0) (item (pos 0) (pos 1) (pos 30) (po
 unfolding sized group_fitted spans_fitted handed_by_level left_flexible clamp floor_div
 smallest = refl
 
--- And under a max-content space the max-content contribution.
+-- An `auto` track under a max-content space has the max-content contribution.
 greatest : track_sizes (autos ∷ []) (pos 0) (item (pos 0) (pos 1) (pos 30) (pos 80) (pos 30) ∷ []) (within MaxContent false) ≡ pos 80 ∷ []
 unfolding sized group_fitted spans_fitted handed_by_level left_flexible clamp floor_div
 greatest = refl

@@ -27,14 +27,17 @@ use Rattle.part_rules.specs.Fractions.{found, expanded, no_fraction}
 pub record Track : Type 0 where
   -- the coordinate of its first line
   pub at : ℤ
+  -- its min and its max track sizing function
   pub rule : Rule
+  -- the base size
   pub base : ℤ
-  -- the growth limit; None is without end
+  -- the growth limit; None is without end, infinite in the words of CSS
   pub limit : Option ℤ
-  -- infinitely growable (CSS Grid 2, 12.5, step 3)
+  -- the growth limit is infinitely growable (CSS Grid 2, 12.5, step 3)
   pub endless : Bool
-  -- what the item at hand has given it, and the greatest that one of the items gave it (CSS Grid 2, 12.5.1)
+  -- the item-incurred increase: what the item at hand has given it (CSS Grid 2, 12.5.1)
   pub incurred : ℤ
+  -- the planned increase: the greatest that one of the items gave it (CSS Grid 2, 12.5.1)
   pub planned : ℤ
 
 -- a flexible max function (CSS Grid 2, 7.2.4)
@@ -51,12 +54,12 @@ abbrev pub factor_of : Most → Option ℕ
 factor_of (most.Flex w) = Some w
 factor_of other = None
 
--- a min function that is fixed
+-- a min track sizing function that is fixed
 abbrev pub fixed_least : Least → Option ℤ
 fixed_least (least.Fixed x) = Some x
 fixed_least other = None
 
--- a max function that is fixed
+-- a max track sizing function that is fixed
 abbrev pub fixed_most : Most → Option ℤ
 fixed_most (most.Fixed x) = Some x
 fixed_most other = None
@@ -415,7 +418,7 @@ base_planned_by s gap ts i =
     then map plan (base_incurred_by s i (needed base_of gap (s.asks ts i) ts i) ts)
     else ts
 
--- and all items of the group, one after another
+-- base sizes after all items of the group, one after another
 abbrev pub base_planned_by_all : BaseStep → ℤ → List Item → List Track → List Track
 base_planned_by_all s gap [] ts = ts
 base_planned_by_all s gap (i ∷ rest) ts = base_planned_by_all s gap rest (base_planned_by s gap ts i)
@@ -427,7 +430,7 @@ limit_planned_by s gap ts i =
     then map plan (limit_incurred_by s i (needed limit_of gap (s.asks i) ts i) ts)
     else ts
 
--- and all items of the group, one after another
+-- growth limits after all items of the group, one after another
 abbrev pub limit_planned_by_all : LimitStep → ℤ → List Item → List Track → List Track
 limit_planned_by_all s gap [] ts = ts
 limit_planned_by_all s gap (i ∷ rest) ts = limit_planned_by_all s gap rest (limit_planned_by s gap ts i)
@@ -466,7 +469,7 @@ base_step crossing affected receives asks = record { crossing = crossing; affect
 abbrev pub is_without_limit : Track → Bool
 is_without_limit t = is_none t.limit
 
--- one that had no end, or is infinitely growable
+-- a growth limit that had no end, or that is infinitely growable
 abbrev pub is_endless : Track → Bool
 is_endless t = is_none t.limit || t.endless
 

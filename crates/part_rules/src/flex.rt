@@ -5,9 +5,9 @@ use lunit::Lu;
 pub struct FlexItem {
     /// The flex base size, which is at least `inner`.
     pub base: Lu,
-    /// The least main size.
+    /// The least main size: the min main size, or the automatic minimum in its place.
     pub min: Lu,
-    /// The greatest main size, or `None` where it has no end.
+    /// The greatest main size: the max main size, or `None` where it has no end.
     pub max: Option<Lu>,
     /// The sum of the two margins, which can be below zero.
     pub margins: Lu,

@@ -25,7 +25,9 @@ pub enum Most {
 /// How one track is sized.
 #[derive(Clone, Copy, Debug, PartialEq, Eq)]
 pub struct Rule {
+    /// The min track sizing function.
     pub least: Least,
+    /// The max track sizing function.
     pub most: Most,
     /// An empty track of `auto-fit`: its size is 0 and no gutter stands beside it.
     pub collapsed: bool,
@@ -42,6 +44,7 @@ pub enum Space<const AXIS: u8> {
 /// What the tracks of an axis are sized for.
 #[derive(Clone, Copy, Debug, PartialEq, Eq)]
 pub struct Fit<const AXIS: u8> {
+    /// The available space.
     pub space: Space<AXIS>,
     /// The declared minimum of the grid, as a content size, where it is a length.
     pub min: Option<Lu>,

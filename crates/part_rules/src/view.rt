@@ -19,6 +19,6 @@ pub struct Level {
     pub outer_gap: Lu,
     /// The subgrid's margin, border and padding at its start.
     pub before: Lu,
-    /// The same at its end.
+    /// The subgrid's margin, border and padding at its end.
     pub after: Lu,
 }

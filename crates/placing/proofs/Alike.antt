@@ -59,7 +59,7 @@ module _ (a c : Nodes Node) (h : IsAlike a c) (tally : Tally) (passes : ℕ) (lo
   pub from_stopped_alike : (new : State) (n : NodeId) (q : Query) → Stopped n q (state c tally passes log) new → Stopped n q (state a tally passes log) new
   from_stopped_alike new n q w = stopped_alike a c h.bare h.frame h.kept tally passes log new n q w
 
-  -- and what ends before it ends after it
+  -- what ends before the change ends after it
   walk_to_alike : (old : State) (May : NodeId → Query → Type 0) (more : ℕ) (rest : List Event) → Walk May more rest old (state a tally passes log) → Walk May more rest old (state c tally passes log)
   walk_to_alike old May more rest w =
       record {

@@ -112,7 +112,7 @@ module _ (b : BareTrees) (id : NodeId) (p : Placed) (i n : ℕ) (e : NodeId × A
       go (x ∷ es) zero rest h all = let same : x ≡ e = cc in subst (λ (z : NodeId × Area). IsInside c z.1) same all.0
       go (x ∷ es) (suc k) rest h all = go es k rest h all.1
 
-  -- and it is the area of its number
+  -- the area of the entry is that of its number
   own_area : (c : rules.Context) → IsPlaced b id c p → e.1 ≡ rules.area_of (placed_of p) n
   own_area c placed = sym (of_number_at no_area (placed_of p).areas (zipped numbered_area (drop (i + 1) p.numbers) (drop (i + 1) p.areas)) i n e.1 differ area_there)
     where

@@ -19,7 +19,7 @@ use Rattle.placing.specs.declared.wide.GridBase.{GridBase}
 use Rattle.placing.proofs.Stale.{turns_are}
 use Rattle.placing.proofs.Tellings.{get_last, get_old, length_push, some_same}
 
--- so many marks, where each child that is marked is fresh
+-- the marks of the first so many children, of which each that is marked is fresh
 pub record AreMarked (turn : NodeId → ℕ) (areas : List (NodeId × Area)) (turns : List ℕ) (count : ℕ) (marks : List Bool) : Type 0 where
   pub counted : length marks ≡ count
   pub fresh : (k : ℕ) → slice_get marks k ≡ Some true → is_fresh turn areas turns k ≡ true

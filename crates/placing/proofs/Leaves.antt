@@ -49,7 +49,7 @@ pub counts_first : (old new : Tally) (a b c : Option (List Event)) (x y : Event)
 counts_first old new a b c x y e log stays =
     record { done = x ∷ []; left = y ∷ []; whole = refl; counts = record { added = ap (λ t. t.added) e; lost = ap (λ t. t.lost) e; measured = ap (λ t. t.measured) e; log = adds_stays a b c (x ∷ []) log stays } }
 
--- both were
+-- the first and the second of two were measured
 pub counts_both : (old mid new : Tally) (a b c : Option (List Event)) (x y : Event) → mid ≡ record old { measured = one_more old.measured } → new ≡ record mid { measured = one_more mid.measured } → Adds a b (x ∷ []) → Adds b c (y ∷ []) → Counts old new a c (x ∷ y ∷ [])
 counts_both old mid new a b c x y e f p q =
     record {

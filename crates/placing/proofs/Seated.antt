@@ -69,7 +69,7 @@ found_is b n id way (m ∷ ms) (e ∷ es) there only h = go (same e.0 id) (m == 
         let other : e.0 ≡ id = (let s : Some e.0 ≡ Some id = sym first ∙ ap (child_at b n) place ∙ there in cc) in
         absurd (true≢false (sym (same_refl id) ∙ ap (λ (x : NodeId). same x id) (sym other) ∙ p))
 
--- and lies within the limits
+-- the area of such a child lies within the limits
 found_inside : (b : BareTrees) (n id : NodeId) (c : rules.Context) (way : ℕ) (numbers : List ℕ) (areas : List (NodeId × Area)) → child_at b n way ≡ Some id
     → map (child_at b n) numbers ≡ map child_in areas → AreInside c (map (λ (e : NodeId × Area). e.1) areas) → has way numbers ≡ true → IsInside c (found_area id areas)
 found_inside b n id c way [] areas there h inside held = absurd (true≢false (sym held))

@@ -34,7 +34,7 @@ length_set [] k x = refl
 length_set (y ∷ xs) zero x = refl
 length_set (y ∷ xs) (suc k) x = ap suc (length_set xs k x)
 
--- and where none of these is another one than before, nothing has changed
+-- the first so many are written; where none of them is another one than before, nothing has changed
 pub record IsRewritten {A : Type 0} (old own : List A) (start at : ℕ) (other : Bool) (now : List A) : Type 0 where
   pub written : IsWritten old own start at now
   pub same : other ≡ false → now ≡ old

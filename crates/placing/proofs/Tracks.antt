@@ -195,7 +195,7 @@ get_last [] b (suc n) h = absurd (omega arith)
 get_last (f ∷ flags) b zero h = absurd (omega arith)
 get_last (f ∷ flags) b (suc n) h = get_last flags b n (omega arith)
 
--- the same flags by another rule
+-- the flags of one rule are those of another that says the same
 same_flags : (flag other : ℕ → Bool) (count : ℕ) (flags : List Bool) → ((at : ℕ) → at < count → flag at ≡ other at) → AreFlags flag count flags → AreFlags other count flags
 same_flags flag other count flags same f = record { counted = f.counted; told = λ at h. f.told at h ∙ same at h }
 

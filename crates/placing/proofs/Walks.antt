@@ -161,7 +161,7 @@ walked_none n q s r = record { walk = walk_none (Asks (bare_in s) n q) s r; with
 pub found_walked : (n : NodeId) (q : Query) (s : State) → IsRight s.arena.tree → Walked n q s s
 found_walked n q s r = record { walk = walk_none (Asks (bare_in s) n q) s r; within = λ m out. refl }
 
--- so many passes more
+-- a walk with so many passes more
 pub ticked : (n : NodeId) (q : Query) (more k : ℕ) (s t : State) (passes : ℕ) → passes ≤ t.passes + k → WalkedBelow n q more s t → WalkedBelow n q (more + k) s (record t { passes = passes })
 ticked n q more k s t passes h w =
     record {

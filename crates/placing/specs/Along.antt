@@ -32,6 +32,6 @@ own_along axis g count = rules.own_context (grid_axis axis g) (cells_along axis 
 abbrev pub shared_along : ℕ → rules.AxisContext → Span → GridStyle → rules.AxisContext
 shared_along axis parent span g = rules.shared_context parent span (grid_axis axis g) (named_along axis g.areas)
 
--- and of either, under a parent
+-- the context along an axis of a grid under a parent, of either kind
 abbrev pub along_under : ℕ → rules.AxisContext → Span → GridStyle → ℕ → rules.AxisContext
 along_under axis parent span g count = rules.context_under parent span (grid_axis axis g) (cells_along axis g.areas) (named_along axis g.areas) count

@@ -13,7 +13,7 @@ abbrev pub listed : Option GridBase → List GridBase
 listed None = []
 listed (Some base) = base ∷ []
 
--- the same counts
+-- two lists hold the same counts
 abbrev pub same_pairs : List Pair → List Pair → Bool
 same_pairs xs ys = same_items (λ (x : Pair) (y : Pair). (x.0 == y.0) && (x.1 == y.1)) xs ys
 
@@ -30,7 +30,7 @@ pub record HoldsPlaces (s : Seen) (kids : List NodeId) (base : GridBase) : Type 
   pub context : IsAbove (context_at s base.pairs) base.above
   pub placed : HoldsAreas s kids (context_at s base.pairs) base.placed
 
--- so each of these
+-- each of these is of a node of which the rules see this and which has these children
 abbrev pub AreOf : Seen → List NodeId → List GridBase → Type 0
 AreOf s kids [] = Unit {0}
 AreOf s kids (base ∷ rest) = HoldsPlaces s kids base × AreOf s kids rest

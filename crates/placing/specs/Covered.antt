@@ -24,7 +24,7 @@ pub record AreMarked (first : ℤ) (areas : List Span) (count : ℕ) (marks : Li
   pub counted : length marks ≡ count
   pub told : (at : ℕ) → at < count → list_any (nat_lt at) (take (at + 1) marks) ≡ list_any (covers (first +ℤ pos at)) areas
 
--- so many flags, each by its place
+-- a list of so many flags, each as a function gives it for its place
 pub record AreFlags (flag : ℕ → Bool) (count : ℕ) (flags : List Bool) : Type 0 where
   pub counted : length flags ≡ count
   pub told : (at : ℕ) → at < count → get_or flags at false ≡ flag at

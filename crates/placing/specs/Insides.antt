@@ -14,7 +14,7 @@ pub record IsWithin (first last : ℤ) (s : Span) : Type 0 where
   pub some : s.start <ℤ s.end
   pub high : s.end ≤ℤ last
 
--- so in both axes, within the limits of a context
+-- an area of at least one track in both axes, which lies within the limits of a context
 pub record IsInside (c : rules.Context) (a : Area) : Type 0 where
   pub columns : IsWithin c.columns.table.low c.columns.table.high a.columns
   pub rows : IsWithin c.rows.table.low c.rows.table.high a.rows

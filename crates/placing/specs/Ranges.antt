@@ -92,7 +92,7 @@ spans_some (line.Line number name) = true
 spans_some (line.Reach count name) = nat_le 1 count
 spans_some (line.Named name) = true
 
--- so, and a bare name is short enough for the names of the edges of an area
+-- a value for a line that spans at least one track or line, and whose bare name is short enough for the names of the edges of an area
 pub record IsLine (l : LineValue) : Type 0 where
   pub edges : IsTrue (has_edges l)
   pub some : IsTrue (spans_some l)

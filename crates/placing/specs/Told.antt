@@ -183,7 +183,7 @@ pub record AreColumns (s : Seen) (kid : NodeId → Kid) (Counts : ℕ → Type 0
   pub counted : length t.parts.inlines ≡ length t.parts.base.placed.areas
   pub told : AreTold Counts (TellsColumns s kid t.parts.base) t.parts.inlines t.parts.items t.ends
 
--- and for the rows, by this grid before its children are asked
+-- what the children told for the rows, by this grid before its children are asked
 pub record AreRows (s : Seen) (kid : NodeId → Kid) (base : GridBase) (Counts : ℕ → Type 0) (t : ToldRows) : Type 0 where
   pub counted : length t.children ≡ length base.placed.areas
   pub told : AreTold Counts (TellsRows s kid base t.columns t.align) t.children t.items t.ends
@@ -206,7 +206,7 @@ Fresh turn areas turns k = is_fresh turn areas turns k ≡ true
 abbrev pub columns_in : KeptWide → ToldColumns
 columns_in w = record { parts = w.wide.parts; ends = w.column_ends }
 
--- and of its rows
+-- what it keeps of its rows
 abbrev pub rows_in : KeptWide → ToldRows
 rows_in w = record { columns = w.wide.columns; align = w.align; children = w.wide.children; items = w.wide.items; ends = w.row_ends }
 
@@ -216,7 +216,7 @@ pub record HoldsColumns (b : BareTrees) (turn : NodeId → ℕ) (n : NodeId) (w 
   pub turns : AreTurns turn w.told.parts.base.placed.areas w.turns
   pub told : AreColumns (sight_at b n) (kid_at b) (Fresh turn w.told.parts.base.placed.areas w.turns) w.told
 
--- and for the rows too
+-- What a node keeps of what its children told for the columns and for the rows: those count whose answers did not go since.
 pub record HoldsTold (b : BareTrees) (turn : NodeId → ℕ) (n : NodeId) (w : KeptWide) : Type 0 where
   pub places : HoldsPlaces (sight_at b n) (children_at b n) w.wide.parts.base
   pub turns : AreTurns turn w.wide.parts.base.placed.areas w.turns
@@ -250,14 +250,14 @@ pub record IsPastColumns (b : BareTrees) (n : NodeId) (p : PastColumns) : Type 0
   pub stale : All (λ k. k < length p.told.parts.base.placed.areas) p.stale
   pub told : AreColumns (sight_at b n) (kid_at b) (AllBut p.stale) p.told
 
--- and for the rows
+-- what the children told for the rows, without those that must be asked again
 pub record IsPastRows (b : BareTrees) (n : NodeId) (p : PastRows) : Type 0 where
   pub places : HoldsPlaces (sight_at b n) (children_at b n) p.base
   pub stale : All (λ k. k < length p.base.placed.areas) p.stale
   pub told : AreRows (sight_at b n) (kid_at b) p.base (AllBut p.stale) p.told
   pub laid : IfSome p.rows (AreRowsFor (sight_at b n) p.base p.told.items)
 
--- both
+-- what the children told for the columns and for the rows, without those that must be asked again
 pub record IsPastWide (b : BareTrees) (n : NodeId) (p : PastWide) : Type 0 where
   pub columns : IsPastColumns b n p.columns
   pub rows : IsPastRows b n p.rows

@@ -2,7 +2,7 @@
 use Rattle.std.specs.Prelude.{ℕ, ◌+◌, ℤ, pos, List, [], ◌∷◌}
 use Rattle.tree_rules.specs.Orders.{sorted_by}
 
--- so many numbers, each with its place, from this one on
+-- pairs of numbers with their places, counted from this one on
 abbrev pub pairs_from : ℕ → List ℕ → List (ℕ × ℤ)
 pairs_from at [] = []
 pairs_from at (n ∷ rest) = (at, pos n) ∷ pairs_from (at + 1) rest

@@ -141,7 +141,8 @@ pub record Walked (n : NodeId) (q : Query) (old new : State) : Type 0 where
   pub walk : Walk (Asks (bare_in old) n q) 0 [] old new
   pub within : (m : NodeId) → IsOutside (bare_in old) n m → kept_in new m ≡ kept_in old m
 
--- The same while it is not answered: at most so many passes were made for the answer itself, and the node's own answers are as before.
+-- A question was put to a node and is not answered yet: at most so many passes were made for the answer itself, and the node's own answers
+-- are as before.
 pub record WalkedBelow (n : NodeId) (q : Query) (more : ℕ) (old new : State) : Type 0 where
   pub walk : Walk (Asks (bare_in old) n q) more [] old new
   pub within : (m : NodeId) → IsOutside (bare_in old) n m → kept_in new m ≡ kept_in old m
@@ -171,6 +172,6 @@ pub record IsStep (b : BareTrees) (n : NodeId) (index : ℕ) (c : NodeId) : Type
   pub stops : (q r : Query) (more : ℕ) (old mid new : State) → Contains (uses_at b n q) (index, r) → bare_in mid ≡ b →
       WalkedBelow n q more old mid → Stopped c r mid new → Stopped n q old new
 
--- the same of every child of a tree
+-- what follows from a walk of any child of a tree, after one of its parent
 abbrev pub StepsDown : BareTrees → Type 0
 StepsDown b = (n c : NodeId) (index : ℕ) → child_at b n index ≡ Some c → IsStep b n index c

@@ -78,7 +78,7 @@ pub record HoldsBase (s : Seen) (kids : List NodeId) (outer : List Pair) (width 
   pub pair : base.pair ≡ own_pair s.label width
   pub pairs : base.pairs ≡ outer ++ base.pair ∷ []
 
--- and with what its children answer
+-- the grid with what its children answer
 pub record HoldsGrid (s : Seen) (kids : List NodeId) (outer : List Pair) (width : Given) (parts : GridParts) : Type 0 where
   pub base : HoldsBase s kids outer width parts.base
   pub pairs : parts.base.pairs ≡ (grid_in s outer width).pairs

@@ -11,7 +11,7 @@ ghost use Rattle.placing.specs.Covered.{AreFlags, AreMarked, IsNear, is_covered,
 use lunit::{NoMemory, Sequence, Span};
 use std::alloc::Global;
 
-/// So many units as a whole number, none below 0.
+/// A whole number as a count: 0 where it is below 0.
 fn above_zero(number: i64) -> usize
     ensures { result ≡ above_zero number }
 {
@@ -68,7 +68,7 @@ fn mark(marks: &mut Sequence<usize>, start: usize, end: usize)
     }
 }
 
-/// So many zeros.
+/// A list of zeros, as long as `count` says.
 fn zeros(alloc: Global, count: usize) -> Result<Sequence<usize>, NoMemory>
     ensures { IfOk result (λ zeros. zeros ≡ replicate count 0) }
 {
@@ -201,7 +201,7 @@ fn left(
     Ok(flags)
 }
 
-/// So many tracks that do not collapse.
+/// For each of so many tracks, that it does not collapse.
 fn none(alloc: Global, count: usize) -> Result<Sequence<bool>, NoMemory>
     ensures { IfOk result (AreFlags (λ _. false) count) }
 {

@@ -41,7 +41,7 @@ pub struct Frame {
 /// What a question to a node is answered by.
 #[derive(Drop)]
 pub enum Answer {
-    /// The two intrinsic inline sizes of the content.
+    /// The two intrinsic inline sizes of the content: the min-content size and the max-content size.
     Sizes(Lu, Lu),
     /// The items that a subgrid lends.
     Lent(Sequence<Item>),

@@ -47,7 +47,7 @@ fn numbers_of(alloc: Global, pairs: &[(usize, i32)]) -> Result<Sequence<usize>, 
     Ok(Sequence::from_vec(numbers))
 }
 
-/// So many numbers, from 0 on.
+/// The numbers from 0 on, as many as `count` says.
 pub(crate) fn numbers_as_they_come(alloc: Global, count: usize) -> Result<Sequence<usize>, NoMemory>
     ensures { IfOk result (λ numbers. numbers ≡ range_with_len 0 count) }
 {

@@ -217,7 +217,8 @@ fn autos_of<const AXIS: u8>(style: &Style) -> &[TrackFn]
 /// The most tracks of a template that are kept (own rule).
 const MOST_REPEATED: u64 = 10_000;
 
-/// The same of a list.
+/// The repeated tracks of `auto-fit` in a track list: the first of them and the one after the last;
+/// `None` for a list without them.
 fn fit_of_list(list: &TrackList, count: u32) -> Option<(u64, u64)>
     requires { IsTrackList list.now }
     ensures value { result ≡ (list_written list.now count).fit }

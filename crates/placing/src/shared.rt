@@ -38,7 +38,8 @@ impl SharedFrames {
         })
     }
 
-    /// The same frames once more. Takes no memory; `NoMemory` only where they are shared more often than can be counted.
+    /// These frames once more. Takes no memory; `NoMemory` only where they are shared more often
+    /// than can be counted.
     pub fn again(&self) -> Result<SharedFrames, NoMemory>
         ensures { IfOk result (λ other. other ≡ self.now) }
     {
@@ -90,7 +91,8 @@ impl SharedBase {
         })
     }
 
-    /// The same grid once more. Takes no memory; `NoMemory` only where it is shared more often than can be counted.
+    /// This grid once more. Takes no memory; `NoMemory` only where it is shared more often than can
+    /// be counted.
     pub fn again(&self) -> Result<SharedBase, NoMemory>
         ensures { IfOk result (λ other. other ≡ self.now) }
     {
@@ -134,7 +136,8 @@ impl SharedWide {
         })
     }
 
-    /// The same grid once more. Takes no memory; `NoMemory` only where it is shared more often than can be counted.
+    /// This grid once more. Takes no memory; `NoMemory` only where it is shared more often than can
+    /// be counted.
     pub fn again(&self) -> Result<SharedWide, NoMemory>
         ensures { IfOk result (λ other. other ≡ self.now) }
     {

@@ -244,7 +244,8 @@ fn written_track(
     track(after, left - all)
 }
 
-/// The same among the tracks that are kept.
+/// The track of this place, where one repetition after another stands between the tracks before and
+/// after, if it is among the tracks that are kept.
 fn kept_track(
     before: &[TrackFn],
     repeated: &[TrackFn],

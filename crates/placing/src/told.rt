@@ -115,7 +115,8 @@ pub struct PastFrames {
     pub fresh: Sequence<bool>,
 }
 
-/// Both.
+/// What the children of a grid told for its columns and its rows, some of which must be asked
+/// again.
 #[derive(Drop)]
 pub struct PastWide {
     /// What they told for the columns.

@@ -26,7 +26,7 @@ labels_to (tree label below after) [] = []
 labels_to (tree label below after) (zero ∷ path) = label ∷ labels_to below path
 labels_to (tree label below after) (suc place ∷ path) = labels_to after (place ∷ path)
 
--- the same subtree with each label by a function
+-- a subtree with each label by a function
 abbrev pub map_subtree : {A B : Type 0} → (A → B) → Option (Subtree A) → Option (Subtree B)
 map_subtree f None = None
 map_subtree f (Some part) = Some (f part.0, map_trees f part.1)

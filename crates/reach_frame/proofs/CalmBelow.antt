@@ -62,7 +62,7 @@ calm_child root b rb d touched grid p n i e calm =
     felt zero f = f
     felt (suc k) f = above k f.0 (rb.one f.0 p n f.1.0 i f.1.1.0 e) f.1.1.1.1
 
--- so a child of a node that is not reached is not reached
+-- a child of a node that is not reached is not reached
 pub child_not_found : (root : NodeId) (t : NodeTrees) → IsRooted root (bare t) → IsDistinct t → (ts : List NodeId) (grid : Bool) (p n : NodeId) (i : ℕ) → child_at (bare t) p i ≡ Some n → IsSome (part_at t p) → is_among p (reached_by node_sub t ts grid) ≡ false →
     is_among n (reached_by node_sub t ts grid) ≡ false
 child_not_found root t rb d ts grid p n i e live calm =

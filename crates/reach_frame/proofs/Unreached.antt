@@ -165,7 +165,7 @@ module _ (t u : NodeTrees) (dt : IsDistinct t) (du : IsDistinct u) (root : NodeI
       marked : (m : NodeId) → (grid && is_among m ts) ≡ false
       marked m = ap (λ g. g && is_among m ts) calm
 
-  -- so where a node is not reached
+  -- a node that is not reached has the same chain, children and kept answers
   same_seen : (n : NodeId) → IsSome (part_at t n) → IsSome (part_at u n) → is_among n (reached_by node_sub t ts grid) ≡ false → past_at u n ≡ past_at t n → HoldsSame t u n
   same_seen n old new e same =
       let s = same_sight n old new e in

@@ -28,7 +28,7 @@ module _ (touches : Touches) where
       (Agrees touches k c line × Follows touches (k + 1) (next_course c line) (lines ++ more)) (Agrees touches k c line × Follows touches (k + 1) (next_course c line) lines)
       (λ q. follows_first k c lines more q) (λ q. (q.0, follows_first (k + 1) (next_course c line) lines more q.1)) p
 
-  -- and the line behind them
+  -- the line behind the first lines touches what its number says
   AgreesNext : ℕ → Course → List Line → Line → Type 0
   AgreesNext k c lines last = is_skipped last ≡ false → Agrees touches (k + length (made_in c.history lines)) (last_course c lines) last
 

@@ -57,7 +57,7 @@ left_step k nodes doc x some few =
     ∙ first_line (9 - (k + 1)) nodes k doc' x'
     ∙ ap (λ (n : ℕ). made_line k (boxes_of doc') ++ made_lines n (later (edited_from (9 - (k + 1)) nodes doc' x'))) next
 
--- the same of a document and a state that are told to be those
+-- one edit more of a document and a state that are told to be those
 pub left_next : (k nodes : ℕ) (doc edited now : Doc) (x y : ℕ) → 0 < k → k < 9 → edited ≡ applied (edit_from nodes x).0 doc → now ≡ edited → y ≡ (edit_from nodes x).1
     → lines_left (9 - k) nodes doc x ≡ made_line k (boxes_of edited) ++ lines_left (9 - (k + 1)) nodes now y
 left_next k nodes doc edited now x y some few d n s =

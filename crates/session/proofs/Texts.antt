@@ -71,7 +71,7 @@ ended_text : (before now : Option (List ℕ)) (lines : List Line) (last : Line) 
     → HasEnded before now stream ended lines
 ended_text before now lines last stream ended e p = record { last = last; end = e; given = p }
 
--- so far in the text of the document: these lines are held, of so many
+-- reading is in the text of the document: these lines are held, of so many
 pub record IsInText (before now : Option (List ℕ)) (stream : Stream) (ended : Bool) (held : Held) (count : ℕ) : Type 0 where
   pub given : List Line
   pub unended : has_end given ≡ false

@@ -88,7 +88,7 @@ module _ (first second : List ℕ → Bool) (a b c : Held) where
       by_second x on true e = keeps_touched x on e
       by_second x on false e = keeps_kept x p on e
 
--- the same names by another test
+-- what spreads by one test of names spreads by another that says the same
 spreads_same : (test other : List ℕ → Bool) (a b : Held) → ((name : List ℕ) → test name ≡ other name) → Spreads test a b → Spreads other a b
 spreads_same test other a b same s = subst (λ (f : List ℕ → Bool). Spreads f a b) (λ i. λ (name : List ℕ). same name i) s
 

@@ -37,13 +37,13 @@ no_steps = record { done = []; undone = [] }
 abbrev pub with_step : Step → Steps → Steps
 with_step step steps = record { done = step ∷ steps.done; undone = [] }
 
--- so many steps are taken back
+-- the steps after so many of them are taken back
 abbrev pub taken_back : ℕ → List Step → List Step → Steps
 taken_back zero done undone = record { done = done; undone = undone }
 taken_back (suc n) [] undone = record { done = []; undone = undone }
 taken_back (suc n) (step ∷ done) undone = taken_back n done (step ∷ undone)
 
--- so many that were taken back are made again
+-- the steps after so many that were taken back are made again
 abbrev pub made_again : ℕ → List Step → List Step → Steps
 made_again zero done undone = record { done = done; undone = undone }
 made_again (suc n) done [] = record { done = done; undone = [] }

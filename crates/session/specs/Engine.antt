@@ -65,13 +65,13 @@ pub record Traced : Type 0 where
 abbrev pub history_in : Traced → History
 history_in t = history_by t.steps (document_of t.page)
 
--- so many steps were taken back
+-- a held document after so many steps were taken back
 pub record TakesBack (n : ℕ) (old new : Traced) : Type 0 where
   pub history : history_in new ≡ undone n (history_in old).past (history_in old).doc (history_in old).future
   pub steps : new.steps ≡ taken_back n old.steps.done old.steps.undone
   pub spreads : Spreads (touched_along back_of n old.steps.done (document_of old.page)) old.page new.page
 
--- so many that were taken back were made again
+-- a held document after so many steps that were taken back were made again
 pub record MakesAgain (n : ℕ) (old new : Traced) : Type 0 where
   pub history : history_in new ≡ redone n (history_in old).past (history_in old).doc (history_in old).future
   pub steps : new.steps ≡ made_again n old.steps.done old.steps.undone
@@ -151,7 +151,7 @@ Applies (Err error.NoMemory) e old new = StopsAt e old new
 
 -- ---- a layout
 
--- the same document, with the same steps, after as many calls of apply
+-- two engines hold the same document, with the same steps, after as many calls of apply
 pub record IsSame (old new : Standing) : Type 0 where
   pub document : doc_of new ≡ doc_of old
   pub steps : new.steps ≡ old.steps

@@ -124,7 +124,7 @@ pub record AsksSoFar (left left' : Option (List ℕ)) (asked asked' count : ℕ)
   pub within : count ≤ limit
   pub each : asked' ≤ asked + count + end_asked ended
 
--- so while reading goes on; where it stopped once more is counted
+-- how often a source was asked while reading goes on; where it stopped once more is counted
 abbrev pub AsksOn : {T : Type 0} → (left left' : Option (List ℕ)) → (asked asked' count : ℕ) → Bool → Result T Status → Type 0
 AsksOn left left' asked asked' count ended (Ok x) = AsksSoFar left left' asked asked' count ended
 AsksOn left left' asked asked' count ended (Err status) = AsksOnce left left' asked asked'

@@ -37,7 +37,7 @@ pub record KeepsMore (old new : Held) : Type 0 where
   pub kept : (n : NodeId) → kept_at new.nodes.tree n ≡ kept_with (kept_at old.nodes.tree n) (entries_of n entries)
   pub fresh : AreFresh (kept_at old.nodes.tree) [] entries
 
--- so many were kept, in at most four passes each
+-- answers were kept, in at most four passes each
 pub record Keeps (old new : Held) (before after passes passes' : ℕ) : Type 0 where
   pub more : KeepsMore old new
   pub count : after ≡ rising before (length more.entries)
@@ -75,7 +75,7 @@ kept_state page = state page.nodes (record { measured = 0; added = 0; lost = fal
 abbrev pub KeepsPath : Held → Held → Type 0
 KeepsPath old new = IsPathKept (bare old.nodes.tree) old.width old.height (kept_state new)
 
--- so, and the root keeps its inline sizes and its block size
+-- each container of the page keeps the question for its frames, and the root keeps its inline sizes and its block size
 abbrev pub KeepsAll : Held → Type 0
 KeepsAll page = IsAllKept (bare page.nodes.tree) page.width page.height (kept_state page)
 

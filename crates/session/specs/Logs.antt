@@ -48,7 +48,7 @@ pub record InTwo (First Later : List Event → Type 0) (events : List Event) : T
   pub front : First first
   pub back : Later later
 
--- the same of all that was made, in order and numbered from k on
+-- these events are told of all that was made, in order and numbered from k on
 abbrev pub TellsAll : ℕ → List (Result Doc Said) → List Event → Type 0
 TellsAll k [] events = events ≡ []
 TellsAll k (made ∷ rest) events = InTwo (Tells k made) (TellsAll (k + 1) rest) events

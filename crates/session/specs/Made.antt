@@ -57,7 +57,7 @@ TellsLayouts touches events events' passes passes' k made = Replies false None N
 unfoldable pub touched_by_draw : ℕ → Doc → ℕ → List ℕ → Bool
 touched_by_draw nodes doc x name = is_touched (edit_from nodes x).0 doc (applied (edit_from nodes x).0 doc) name
 
--- so many edits, numbered from k on, the first of them of this document
+-- what so many edits touch, numbered from k on, the first of them of this document
 unfoldable pub touched_drawn : ℕ → ℕ → ℕ → Doc → ℕ → Touches
 touched_drawn zero k nodes doc x n name = false
 touched_drawn (suc count) k nodes doc x n name =
@@ -113,7 +113,7 @@ layouts_left count nodes doc x = all_laid (later (edited_from count nodes doc x)
 abbrev pub AgreesDraw : Touches → ℕ → ℕ → Doc → ℕ → Type 0
 AgreesDraw touches k nodes doc x = (name : List ℕ) → touches k name ≡ touched_by_draw nodes doc x name
 
--- so do so many edits, numbered from k on
+-- each of so many edits that are drawn, numbered from k on, touches what its number says
 unfoldable pub AgreeDraws : Touches → ℕ → ℕ → ℕ → Doc → ℕ → Type 0
 AgreeDraws touches zero k nodes doc x = ⊤
 AgreeDraws touches (suc count) k nodes doc x =
@@ -126,8 +126,10 @@ pub record LogsAllBut (before after : Option (List Event)) (first next : ℕ) (r
   pub number : first + length done ≡ next
   pub log : Logs before after first done
 
--- the same, with what each layout measures, keeps and takes
-pub record TellsAllBut (touches : Touches) (before after : Option (List Event)) (passes passes' : ℕ) (first next : ℕ) (rest whole : List (Result Doc Said)) : Type
+-- the log grew by what is told of the first layouts of a whole, with what each layout measures, keeps and takes; these are left, numbered
+-- from `next` on
+pub record TellsAllBut (touches : Touches) (before after : Option (List Event))
+    (passes passes' : ℕ) (first next : ℕ) (rest whole : List (Result Doc Said)) : Type
     0 where
   pub done : List (Result Doc Said)
   pub parts : done ++ rest ≡ whole

@@ -58,8 +58,8 @@ AreExact (r ∷ replies) = (r.kept < 2 ^ 64 - 1) × AreExact replies
 abbrev pub is_new : Touches → ℕ → List ℕ → Bool
 is_new touches k name = k == 0 || touches k name
 
--- So many answers were kept by one layout of this document: on a page that held it, where what is new kept nothing, each to a question that the layout can ask
--- and that was not kept where its answer was put. The measurings are the events of these answers, and of no others.
+-- One layout of this document kept so many answers: on a page that held it, where what is new kept nothing, each to a question that the
+-- layout can ask and that was not kept where its answer was put. The measurings are the events of these answers, and of no others.
 pub record HasAdded (test : List ℕ → Bool) (doc : Doc) (measured : List Event) (kept : ℕ) : Type 0 where
   pub page : Held
   pub document : document_of page ≡ doc
@@ -121,7 +121,8 @@ AreReplies stats touches k (made ∷ rest) (r ∷ replies) = IsReply stats touch
 -- ---- a sink, a log and passes
 
 -- the reply of a text was told, in at most four passes for each answer that was kept
-pub record HasReply (stats : Bool) (touches : Touches) (events events' : Option (List Event)) (passes passes' k : ℕ) (made : Result Doc Said) (bytes : List ℕ) : Type
+pub record HasReply (stats : Bool) (touches : Touches) (events events' : Option (List Event))
+    (passes passes' k : ℕ) (made : Result Doc Said) (bytes : List ℕ) : Type
     0 where
   pub reply : Reply
   pub is : IsReply stats touches k made reply

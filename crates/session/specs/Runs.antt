@@ -151,7 +151,8 @@ IsOverComplete left reads reads' writes writes' status =
     ⊎ (((status ≡ InputLimit) × ¬ IsEarlyFault (early_lines b)) ⊎ ((status ≡ BadDocument) × IsEarlyFault (early_lines b))))
 
 -- what is known of a run over all bytes of its input, with the counts of each layout or without
-pub record HasRun (stats : Bool) (left left' held held' : Option (List ℕ)) (events events' : Option (List Event)) (reads reads' writes writes' : ℕ) (status : Status) : Type
+pub record HasRun (stats : Bool) (left left' held held' : Option (List ℕ))
+    (events events' : Option (List Event)) (reads reads' writes writes' : ℕ) (status : Status) : Type
     0 where
   -- what was taken, written and logged, by the answer
   pub runs : Runs stats left left' held held' events events' status

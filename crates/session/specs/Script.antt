@@ -85,7 +85,7 @@ abbrev pub made_in : History → List Line → List (Result Doc Said)
 made_in h [] = []
 made_in h (line ∷ lines) = if is_skipped line then made_in h lines else doc_made (made_of h line) ∷ made_in (next_history h (made_of h line)) lines
 
--- the same with the document in front, which is made first; one that has a fault is all that is made
+-- what a document and its edit lines make, the document first; one that has a fault is all that is made
 abbrev pub made_from : Result Doc Fault → List Line → List (Result Doc Said)
 made_from (Err fault) script = Err (saying.Refused fault) ∷ []
 made_from (Ok doc) script = Ok doc ∷ made_in (begins doc) script

@@ -90,7 +90,9 @@ grown =
     leafless leafless)
 
 -- edits are taken back and made again, the last one first; too many are refused at their number
-taken_back_and_made_again : all_made (lines_of (codes "gridlay 1\nviewport 100 50\nmain flex\n  a leaf 20 10\n  b leaf 30 10\n---\nremove a\nset b flex-grow: 1\nundo 2\nredo 1\nundo 3\nredo 2\n"))
+taken_back_and_made_again : all_made
+    (lines_of (codes
+    "gridlay 1\nviewport 100 50\nmain flex\n  a leaf 20 10\n  b leaf 30 10\n---\nremove a\nset b flex-grow: 1\nundo 2\nredo 1\nundo 3\nredo 2\n"))
     ≡ Ok two ∷ Ok one ∷ Ok grown ∷ Ok two ∷ Ok one ∷ fault_at 25 11 6 ∷ fault_at 26 12 6 ∷ []
 unfolding property_rows properties_2 properties_3 properties_4 properties_5 properties_6 properties_7 properties_8 properties_9 properties_10
     document_of_lines made_of past first_word word_place after_word text_of size_of_word
@@ -115,7 +117,7 @@ no_document : all_made (lines_of (codes "gridlay 1\n---\nremove a\n")) ≡ fault
 unfolding document_of_lines made_of past first_word word_place after_word text_of size_of_word
 no_document = refl
 
--- and without one behind its last line
+-- where the document has no root its fault stands behind its last line
 no_root : all_made (lines_of (codes "gridlay 1\nviewport 1 1\n# none\n")) ≡ fault_at 16 4 1 ∷ []
 unfolding document_of_lines made_of past first_word word_place after_word text_of size_of_word
 no_root = refl

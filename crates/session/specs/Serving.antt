@@ -96,14 +96,16 @@ pub record IsLaid (given : List Line) (c : Course) (k : ℕ) (bad : Bool) : Type
   pub refused : bad ≡ some_refused (made_in (begins first) (after_end given))
   pub few : k ≤ length given
 
--- and all of these answers were written and logged
-pub record HasAnswered (stats : Bool) (held held' : Option (List ℕ)) (events events' : Option (List Event)) (given : List Line) (c : Course) (k : ℕ) (bad : Bool) : Type
+-- the lines so far led to this point, and all their answers were written and logged
+pub record HasAnswered (stats : Bool) (held held' : Option (List ℕ))
+    (events events' : Option (List Event)) (given : List Line) (c : Course) (k : ℕ) (bad : Bool) : Type
     0 where
   pub laid : IsLaid given c k bad
   pub output : WritesAll stats held held' events events' given
 
 -- these lines were given and answered, and nothing else was written or logged
-pub record IsAt (stats : Bool) (before now held held' : Option (List ℕ)) (events events' : Option (List Event)) (stream : Stream) (ended : Bool) (c : Course) (k : ℕ) (bad : Bool) : Type
+pub record IsAt (stats : Bool) (before now held held' : Option (List ℕ)) (events events' : Option (List Event))
+    (stream : Stream) (ended : Bool) (c : Course) (k : ℕ) (bad : Bool) : Type
     0 where
   pub given : List Line
   pub input : HasGiven before now given stream ended

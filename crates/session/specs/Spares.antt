@@ -21,14 +21,14 @@ module _ (touches : Touches) (before now : Option (List Event)) where
     pub added : Adds before now events
     pub sparing : Sparing touches events
 
-  -- and what the leaves of a page keep is the last of what was measured for them
+  -- no leaf was measured needlessly in what was told, and what the leaves of a page keep is the last of what was measured for them
   pub record SparesPage (page : Held) : Type 0 where
     pub events : List Event
     pub added : Adds before now events
     pub sparing : Sparing touches events
     pub recalls : Recalls touches (bare page.nodes.tree) events (kept_at page.nodes.tree)
 
-  -- the same once the layout with the number k begins
+  -- what was told spares the leaves of a page, and they keep the last of it, once the layout with the number k begins
   pub record SparesDue (k : ℕ) (page : Held) : Type 0 where
     pub events : List Event
     pub added : Adds before now events

@@ -35,12 +35,12 @@ abbrev pub Either : Bool → Type 0 → Type 0 → Type 0
 Either true A B = A
 Either false A B = B
 
--- the same of each edit line, numbered from this number on
+-- each edit line touches what its number says, numbered from this number on
 abbrev pub Follows : Touches → ℕ → Course → List Line → Type 0
 Follows touches k c [] = ⊤
 Follows touches k c (line ∷ lines) =
     Either (is_skipped line) (Follows touches k c lines) (Agrees touches k c line × Follows touches (k + 1) (next_course c line) lines)
 
--- and of those of an input
+-- each edit line of an input touches what its number says
 abbrev pub FollowsLines : Touches → List Line → Type 0
 FollowsLines touches given = (first : Doc) → document_of_lines (before_end given) ≡ Ok first → Follows touches 1 (begun first) (after_end given)

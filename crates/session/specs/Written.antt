@@ -21,7 +21,7 @@ pub record IsLaidOut (stats : Bool) (k : ℕ) (doc : Doc) (bytes : List ℕ) (ev
   pub added : ℕ
   pub text : bytes ≡ text_of k (Ok doc) ++ counts stats (rising 0 (length measured)) added
 
--- the same of what was made: where nothing is laid out the line that says so is written, and nothing is told
+-- what is written and told of what was made: where nothing is laid out the line that says so is written, and nothing is told
 abbrev pub Told : Bool → ℕ → Result Doc Said → List ℕ → List Event → Type 0
 Told stats k (Ok doc) bytes events = IsLaidOut stats k doc bytes events
 Told stats k (Err said) bytes events = (bytes ≡ text_of k (Err said)) × (events ≡ [])
@@ -39,7 +39,7 @@ pub record InParts (First Later : List ℕ → List Event → Type 0) (bytes : L
   pub front : First text first
   pub back : Later texts later
 
--- the same of all that was made, in order and numbered from k on
+-- what is written and told of all that was made, in order and numbered from k on
 abbrev pub ToldAll : Bool → ℕ → List (Result Doc Said) → List ℕ → List Event → Type 0
 ToldAll stats k [] bytes events = (bytes ≡ []) × (events ≡ [])
 ToldAll stats k (made ∷ rest) bytes events = InParts (Told stats k made) (ToldAll stats (k + 1) rest) bytes events

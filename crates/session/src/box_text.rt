@@ -110,7 +110,8 @@ fn fraction(parts: usize) -> &'static [u8; 8]
     &FRACTIONS[parts]
 }
 
-/// The same of so many sixty-fourths.
+/// Puts the fraction of so many sixty-fourths before what stands from `end` on, and answers where
+/// it starts.
 fn put_fraction(room: &mut [u8; ROOM], end: usize, parts: usize) -> usize
     requires space { 8 ≤ end }
     requires within { end ≤ 192 }
@@ -124,7 +125,7 @@ fn put_fraction(room: &mut [u8; ROOM], end: usize, parts: usize) -> usize
     end - row[0] as usize
 }
 
-/// The same of a whole number.
+/// Puts a whole number before what stands from `end` on, and answers where it starts.
 fn put_whole(room: &mut [u8; ROOM], end: usize, whole: u64) -> usize
     requires space { 20 ≤ end }
     requires within { end ≤ 192 }
@@ -150,7 +151,7 @@ fn put_minus(room: &mut [u8; ROOM], end: usize, units: i64) -> usize
 }
 
 #[inline(always)]
-/// The same of a number of px, with a space before it.
+/// Puts a space and a number of px before what stands from `end` on, and answers where they start.
 fn put_px(room: &mut [u8; ROOM], end: usize, units: i64) -> usize
     requires space { 29 ≤ end }
     requires within { end ≤ 192 }
@@ -165,7 +166,8 @@ fn put_px(room: &mut [u8; ROOM], end: usize, units: i64) -> usize
     put_byte(room, start, b' ')
 }
 
-/// The same of two numbers of px, each with a space before it.
+/// Puts two numbers of px, each with a space before it, before what stands from `end` on, and
+/// answers where they start.
 fn put_pair(room: &mut [u8; ROOM], end: usize, inline: Along<INLINE>, block: Along<BLOCK>) -> usize
     requires space { 58 ≤ end }
     requires within { end ≤ 192 }

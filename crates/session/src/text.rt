@@ -28,7 +28,7 @@ pub(crate) struct Text {
     pub(crate) has_script: bool,
 }
 
-/// So many lines a document has at most that are not skipped: two of its head, and one for each
+/// How many lines a document has at most that are not skipped: two of its head, and one for each
 /// node.
 const MOST_LINES: usize = 131_074;
 

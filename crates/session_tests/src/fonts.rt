@@ -15,7 +15,7 @@ main grid { font-size: 20px; grid-template-columns: 2em 1rem; column-gap: 0.5em 
 set main font-size: 10px
 ";
 
-/// Both leaves are measured for the document, and again for the edit of its root.
+/// The two leaves are measured for the document, and again for the edit of its root.
 fn check_events(rt: &impl Abort, events: &[Event]) {
     for k in 0..2 {
         let measured = measured_in(events, k);

@@ -18,6 +18,7 @@ mod limits;
 #[cfg(test)]
 mod logs;
 #[cfg(test)]
+mod printed;
 #[cfg(test)]
 mod reach;
 #[cfg(test)]

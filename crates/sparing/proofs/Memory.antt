@@ -177,7 +177,7 @@ since_marks touches name done (w ∷ ws) =
     ∙ ap (λ (l : List Width). l ++ ws) (since_more touches name [] done (Measured name w ∷ []) ∙ since_own touches name (since touches name [] done) w [])
     ∙ append_assoc (since touches name [] done) (w ∷ []) ws
 
--- and not for another leaf
+-- the widths of one leaf change nothing for another leaf
 since_other : (touches : Touches) (name other : List ℕ) (found ws : List Width) → bytes_eq name other ≡ false → since touches other found (marks name ws) ≡ found
 unfolding since
 since_other touches name other found [] h = refl

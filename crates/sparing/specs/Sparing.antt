@@ -57,7 +57,7 @@ IsSpared touches done (Begin k) = ⊤
 IsSpared touches done (Measured name width) =
     (before between : List Event) → done ≡ before ++ Measured name width ∷ between → (is_reached touches name between ≡ true) ⊎ HasOthers name width between
 
--- the same of each of the events that follow
+-- each of the events that follow these is no needless measuring
 abbrev pub AreSpared : Touches → List Event → List Event → Type 0
 AreSpared touches done [] = ⊤
 AreSpared touches done (event ∷ rest) = IsSpared touches done event × AreSpared touches (done ++ event ∷ []) rest

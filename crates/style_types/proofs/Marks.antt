@@ -191,7 +191,7 @@ pub record IsTaken {V : Type 0} (es fs : Entries V) (i : ℕ) (d : Prop × V) : 
   pub moved : i + 1 < length es → get_or fs i d ≡ get_or es (length es - 1) d
   pub stays : (j : ℕ) → j ≢ i → j + 1 < length es → get_or fs j d ≡ get_or es j d
 
--- the same of the places
+-- the places without the one at i, in whose place the last one has come
 record PlacesTaken (es fs : List ℕ) (i z : ℕ) : Type 0 where
   shorter : length fs + 1 ≡ length es
   last : get_or es (length fs) 0 ≡ z

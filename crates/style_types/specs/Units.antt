@@ -18,7 +18,7 @@ differ false b = b
 abbrev pub signed : Bool → ℕ → ℤ
 signed negative size = if negative then neg_ℤ (pos size) else pos size
 
--- so many millionths of a font size, truncated toward zero and limited (own rule)
+-- the length of so many millionths of a font size, truncated toward zero and limited (own rule)
 unfoldable pub relative : ℤ → ℤ → ℤ
 relative millionths font = signed (differ (is_negative millionths) (is_negative font)) (size_of millionths font)
 

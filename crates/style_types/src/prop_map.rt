@@ -186,8 +186,8 @@ impl<T: Drop> PropMap<T> {
 
 impl PropMap<DeclaredValue> {
     #[tactic(auto, using(crate::proofs::Computing::style_of_entries))]
-    /// The same properties with the computed value of each, where the font size of the node is `em` and that of the
-    /// root `rem`.
+    /// These properties with the computed value of each, where the font size of the node is `em`
+    /// and that of the root `rem`.
     pub(crate) fn computed(
         &self,
         alloc: Global,

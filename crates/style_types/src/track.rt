@@ -26,9 +26,9 @@ pub enum Breadth {
 /// `minmax(auto, max-content)` with the cap l in `fit`.
 #[derive(Clone, Copy, Debug, PartialEq, Eq)]
 pub struct TrackFn {
-    /// The min function; never a factor.
+    /// The min track sizing function; never a factor.
     pub least: Breadth,
-    /// The max function.
+    /// The max track sizing function.
     pub most: Breadth,
     /// The argument of `fit-content`, a length or a percentage.
     pub fit: Option<Breadth>,

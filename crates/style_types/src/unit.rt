@@ -8,9 +8,10 @@ use lunit::Lu;
 pub enum Unit {
     /// The length is in units of 1/64 px, as it stands.
     Px,
-    /// So many millionths of the font size of the node (of its parent in `font-size` itself).
+    /// The length is so many millionths of the font size of the node (of its parent in `font-size`
+    /// itself).
     Em(i64),
-    /// So many millionths of the font size of the root.
+    /// The length is so many millionths of the font size of the root.
     Rem(i64),
 }
 
@@ -51,7 +52,8 @@ fn signed(negative: bool, size: u64) -> Lu
 }
 
 #[tactic(auto, unfolding(crate::specs::Units::relative))]
-/// So many millionths of a font size: truncated toward zero, then limited to a magnitude of 2^26 units (own rule).
+/// The length of so many millionths of a font size: truncated toward zero, then limited to a
+/// magnitude of 2^26 units (own rule).
 fn relative(millionths: i64, font: Lu) -> Lu
     ensures { result ≡ relative millionths font }
 {

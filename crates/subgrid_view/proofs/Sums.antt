@@ -18,7 +18,7 @@ nested l m a b y h k =
 moved : (s z : ℤ) → lim (s -ℤ top) (s +ℤ top) (s +ℤ z) ≡ s +ℤ lim bottom top z
 moved s z = omega (arith, ints, int_max_is (s -ℤ top) (int_min (s +ℤ top) (s +ℤ z)), int_min_is (s +ℤ top) (s +ℤ z), int_max_is bottom (int_min top z), int_min_is top z)
 
--- The limits with one level more are still in order,
+-- The limits with one level more are still in order.
 pub limits_in_order : (s : Limited) (sum least most : ℤ) → least ≡ lim s.least s.most (s.sum -ℤ top) → most ≡ lim s.least s.most (s.sum +ℤ top) → IsOrdered s → IsOrdered (record { sum = sum; least = least; most = most })
 limits_in_order s sum least most e f h =
     let a : ℤ = s.sum -ℤ top in
@@ -30,7 +30,7 @@ limits_in_order s sum least most e f h =
       order = omega (arith, ints, e, f, ordered);
     }
 
--- and what the levels above give is limited as it is level by level.
+-- What the levels above give with one level more is limited as it is level by level.
 pub with_one_more : (s : Limited) (margin sum least most : ℤ) → sum ≡ s.sum +ℤ margin → least ≡ lim s.least s.most (s.sum -ℤ top) → most ≡ lim s.least s.most (s.sum +ℤ top) → IsOrdered s → IsWithLevel s margin (record { sum = sum; least = least; most = most })
 unfolding clamp
 with_one_more s margin sum least most d e f h outer =

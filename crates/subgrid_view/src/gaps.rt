@@ -6,7 +6,7 @@ ghost use Rattle.subgrid_view.specs.Ranges.{IsDifference};
 
 use lunit::{Lu, Wide};
 
-/// So many units.
+/// A number of units as an exact number.
 pub fn units(number: i64) -> Wide
     ensures { result ≡ number }
 {

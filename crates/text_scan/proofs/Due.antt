@@ -22,7 +22,7 @@ due_at_end ended held h = ap (λ (b : Bool). b || (ended && not (is_empty held))
 pub length_by_feed : (ended : Bool) (held : List ℕ) → position_or_len is_line_feed held < length held → Some (position_or_len is_line_feed held) ≡ due_length ended held
 length_by_feed ended held h = sym (cond-true (is_line_due ended held) _ _ (due_by_feed ended held h))
 
--- and where they have none
+-- the length of the line that is due, where the held bytes have no line feed
 pub length_at_end : (ended : Bool) (held : List ℕ) → position_or_len is_line_feed held ≡ length held → cond (ended && not (is_empty held)) (Some (length held)) None ≡ due_length ended held
 length_at_end ended held h = ap (λ (n : ℕ). cond (ended && not (is_empty held)) (Some n) None) (sym h) ∙ ap (λ (b : Bool). cond b (Some (position_or_len is_line_feed held)) None) (sym (due_at_end ended held h))
 

@@ -43,7 +43,7 @@ pub split_line : (bytes more : List ℕ) → position_or_len is_line_feed bytes 
 split_line [] more h = absurd (omega arith)
 split_line (b ∷ bs) more h = line_step (is_line_feed b) b (position_or_len is_line_feed bs) bs more refl (split_line bs more) h
 
--- and the bytes before and after its line feed
+-- the bytes of such a line, before and after its line feed
 pub split_bytes : (bytes : List ℕ) → position_or_len is_line_feed bytes < length bytes → bytes ≡ before_first is_line_feed bytes ++ 10 ∷ after_first is_line_feed bytes
 split_bytes bytes h =
     split_at_first is_line_feed bytes 0 h

@@ -11,7 +11,7 @@ stream_of a = record { number = a.number; fed = a.fed; held = drop a.start a.hel
 
 pub record IsKept (a : Inside) : Type 0 where
   pub within : a.start ≤ length a.held.items
-  -- so many of the held bytes are known to have no line feed
+  -- the bytes that count as searched have no line feed
   pub searched : a.searched ≤ position_or_len is_line_feed (drop a.start a.held.items)
   pub stored : length a.held.items ≤ a.fed
   pub from_one : 1 ≤ a.number

@@ -25,7 +25,7 @@ pub struct Lines {
     held: Vec<u8>,
     // The bytes before this index are taken.
     start: usize,
-    // So many bytes from `start` on hold no line feed.
+    // How many bytes from `start` on are known to hold no line feed.
     searched: usize,
     // The number of the next line.
     number: u32,
@@ -105,7 +105,8 @@ impl Lines {
         ensures reads { (fed : List ℕ) (taken : List Line) → HasRead fed taken self.old →
             IfOk result (λ found. Takes ended fed taken found self.new) }
         ensures drained { ended ≡ true → result ≡ Ok None → self.new.held ≡ [] }
-        // So a loop that takes lines until none is due ends.
+        // A line that is given leaves fewer bytes, so a loop that takes lines until none is due
+        // ends.
         ensures falls { IfOk result
             (λ found. OnSome found (length self.new.held < length self.old.held)) }
     {

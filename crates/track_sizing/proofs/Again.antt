@@ -221,7 +221,7 @@ sizes_last {axis} rules first items fit sizes g h s e t d u =
     let sum : t ≡ total gap (map full (contents again rules first items)) = d ∙ ap (total_of_sizes rules gap) made ∙ sym (total_full again rules first items untouched) in
     sizes_by again rules first items untouched (definite_rest fit t items (contents again rules first items) g steady_again (limited_content {axis = axis} (Definite t) gap items start steady_again) sum u) ∙ sym made
 
--- The same by the tracks as they were initialised.
+-- Sizing for the total gives the same sizes, by the tracks as they were initialised.
 pub started_last : {axis : ℕ} (rules : List Rule) (first at : ℤ) (items : List Item) (fit : Fit axis) (rows : List Track) (sizes : List ℤ) → pos 0 ≤ℤ fit.gap → HaveFixed rules → rows ≡ initialised at rules → at ≡ first → AreToLast fit items rows → sizes ≡ sizes_from fit items rows →
     DoLast rules first items fit sizes
 started_last rules first at items fit rows sizes g h r a s e =

@@ -56,7 +56,7 @@ low_fixed : (x : ℤ) (mine : List Item) → greatest_with (pos 0) (map (λ (i :
 low_fixed x [] = omega (arith, ints, clamps)
 low_fixed x (i ∷ rest) = omega (arith, ints, clamps, low_fixed x rest)
 
--- the same growth limit for either base size, also where it has no end
+-- a track has the same growth limit for either base size, also where it has no end
 abbrev IsSameEnd : ℤ → ℤ → Option ℤ → Type 0
 IsSameEnd less more o = (option_map (int_max less) o ≡ option_map (int_max more) o) × (unwrap_or (option_map (int_max less) o) less ≡ unwrap_or (option_map (int_max more) o) more)
 

@@ -10,7 +10,7 @@ use Rattle.track_sizing.specs.Placed.{IsReady, marked_limit_by}
 use Rattle.track_sizing.proofs.Groups.{Keeps}
 use Rattle.track_sizing.proofs.Shares.{shares_length}
 
--- the same growth limits
+-- two lists of tracks have the same growth limits
 abbrev pub SameLimits : List Track → List Track → Type 0
 SameLimits [] [] = Unit {0}
 SameLimits [] (y ∷ ys) = ⊥

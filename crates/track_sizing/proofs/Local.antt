@@ -280,7 +280,7 @@ limit_same i a second = (
   (only_same i (affected_by (affected_of a) i) (affected_of a) (limit_room (limit_step_in a second)) (affected_test i (affected_of a)), tt),
 )
 
--- And so does a step on growth limits.
+-- A step on growth limits gives an item's tracks what it would give them alone.
 pub limit_local : (i : Item) (a : Affected) (second : Bool) (gap : ℤ) (before mine behind : List Track) → IsAround i before mine behind → AreReady before → AreReady behind
     → limit_planned_by (limit_step_in a second) gap (before ++ (mine ++ behind)) i ≡ before ++ (limit_planned_of a second gap i mine ++ behind)
 limit_local i a second gap before mine behind h r s =

@@ -146,7 +146,7 @@ round_full zero rows h = refl
 round_full (suc n) [] h = refl
 round_full (suc n) (s ∷ rest) h = passes (suc n) s rest h.0 ∙ ap (after_row s) (round_full (suc n) rest h.1)
 
--- the same with other rows before and behind
+-- what is handed out, with other rows before and behind
 abbrev pub beside : List Share → List Share → Handed → Handed
 beside before behind h = record { rows = before ++ (h.rows ++ behind); left = h.left }
 

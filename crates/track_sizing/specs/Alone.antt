@@ -45,7 +45,7 @@ single_none t = record { some = 0; base = t.base; most = pos 0 }
 abbrev pub single_more : {axis : ℕ} → Space axis → ℤ → List Track → Item → Track → Single → Single
 single_more space gap ts i t s = record { some = 1; base = base_more space gap ts i t.rule.least s.base; most = int_max (limit_ask t.rule.most i) s.most }
 
--- the same where the item spans the track alone and it is not flexible
+-- a track with one item more, where the item spans the track alone and the track is not flexible
 abbrev pub single_by : {axis : ℕ} → Space axis → ℤ → List Track → Item → Track → Single → Single
 single_by space gap ts i t s = if is_alone i t && not (flexible t) then single_more space gap ts i t s else s
 

@@ -16,7 +16,7 @@ pub record IsSure (t : Track) : Type 0 where
   pub base_some : pos 0 ≤ℤ t.base
   pub limit_some : pos 0 ≤ℤ limit_of t
 
--- and that is not flexible
+-- a track that stays as it is there, and is not flexible
 pub record IsCalm (t : Track) : Type 0 where
   pub sure : IsSure t
   pub fixed : flexible t ≡ false

@@ -19,7 +19,7 @@ IsKnownSpace MaxContent = Unit {0}
 abbrev pub IsFixed : Rule → Type 0
 IsFixed r = IsLimit (fixed_least r.least)
 
--- and each of them
+-- the min function of each of these rules is at least 0, where it is fixed
 abbrev pub HaveFixed : List Rule → Type 0
 HaveFixed [] = Unit {0}
 HaveFixed (r ∷ rest) = IsFixed r × HaveFixed rest

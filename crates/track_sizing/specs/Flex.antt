@@ -18,7 +18,7 @@ filled_fraction base w space =
     let weight = max 1000 w in
     if int_lt (left *ℤ pos w) (base *ℤ pos weight) then no_fraction else record { space = left; weight = weight }
 
--- and with one track
+-- the fraction that fills a space with one track; none where the track is not flexible
 abbrev pub lone_fraction : ℤ → Option ℕ → ℤ → Fraction
 lone_fraction base None space = no_fraction
 lone_fraction base (Some w) space = filled_fraction base w space

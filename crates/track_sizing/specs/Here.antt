@@ -39,7 +39,7 @@ is_content_based_of mine i = list_any (λ (t : Track). is_auto_least t.rule.leas
 abbrev pub fixed_of : List Track → Option ℤ
 fixed_of mine = sum_of_known (map (λ (t : Track). fixed_most t.rule.most) mine)
 
--- the same, as which the argument of `fit-content` counts
+-- the sum of the max functions where each is fixed, as which the argument of `fit-content` counts
 abbrev pub capped_of : List Track → Option ℤ
 capped_of mine = sum_of_known (map (λ (t : Track). capped_most t.rule.most) mine)
 
@@ -149,7 +149,7 @@ abbrev pub base_planned_of : Affected → Kind → Bool → ℤ → Asks → Ite
 base_planned_of a receives definite gap asks i mine =
     if list_any (affected_of a) mine then map plan (base_given_of a receives (needed_of base_of gap (asked_of definite gap asks mine i) mine i) mine) else mine
 
--- and in a step on growth limits
+-- what an item gives its tracks in a step on growth limits
 abbrev pub limit_planned_of : Affected → Bool → ℤ → Item → List Track → List Track
 limit_planned_of a second gap i mine =
     if list_any (affected_of a) mine then map plan (limit_given_of a second (needed_of limit_of gap (if second then i.high else i.low) mine i) mine) else mine

@@ -27,7 +27,7 @@ noted_by test s t = if test t then note_of true else s
 abbrev pub noted_for : Affected → List Track → List Share → Item → List Share
 noted_for a ts notes i = zipped (noted_by (affected_by (affected_of a) i)) notes ts
 
--- and after all of them
+-- the notes after all items
 abbrev pub all_noted : Affected → List Item → List Track → List Share → List Share
 all_noted a [] ts notes = notes
 all_noted a (i ∷ rest) ts notes = all_noted a rest ts (noted_for a ts notes i)
@@ -36,7 +36,7 @@ all_noted a (i ∷ rest) ts notes = all_noted a rest ts (noted_for a ts notes i)
 abbrev pub raised_where : Track → Share → Track
 raised_where t s = if is_noted s then raised_limit t else t
 
--- the same, with the mark for the next step
+-- a growth limit that is raised where that is noted, with the mark for the next step
 abbrev pub marked_where : Track → Share → Track
 marked_where t s = mark_endless t (raised_where t s)
 
@@ -45,7 +45,7 @@ pub record Stays (t : Track) : Type 0 where
   pub raised : raised_limit t ≡ t
   pub marked : mark_endless t t ≡ t
 
--- and each of them
+-- each of these tracks stays as it is
 abbrev pub AllStay : List Track → Type 0
 AllStay [] = Unit {0}
 AllStay (t ∷ ts) = Stays t × AllStay ts

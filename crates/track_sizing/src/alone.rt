@@ -26,7 +26,8 @@ struct Single {
     some: u32,
     /// The base size.
     base: Lu,
-    /// The greatest contribution by which the growth limit goes.
+    /// The greatest contribution by which the growth limit goes: the min-content contribution where
+    /// the max track sizing function is `min-content`, else the max-content contribution.
     most: Lu,
 }
 

@@ -225,7 +225,8 @@ fn raised_where(row: &Row, note: &Share) -> Row
     }
 }
 
-/// The same, with the mark for the next step: infinitely growable where the growth limit had no end and has one now.
+/// The track with its growth limit raised, where it is noted, and with the mark for the next step:
+/// infinitely growable where the growth limit had no end and has one now.
 fn marked_where(row: &Row, note: &Share) -> Row
     ensures { result ≡ marked_where row.now note.now }
 {

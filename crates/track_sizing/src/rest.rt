@@ -114,7 +114,7 @@ fn close_limits(rows: &mut [Row])
     }
 }
 
-/// The same, of tracks that are set.
+/// Gives each growth limit that still has no end the base size, of tracks that are set.
 pub fn close_set_limits(first: Wide, rows: &mut [Row])
     requires { AreSet first rows.old }
     ensures rows { rows.new ≡ map close_limit rows.old }

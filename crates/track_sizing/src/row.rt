@@ -18,11 +18,17 @@ use std::marker::Model;
 pub struct Row {
     /// The coordinate of its first line, by which contracts tell which items span the track.
     at: i64,
+    /// Its min and its max track sizing function.
     rule: Rule,
+    /// The base size.
     base: Lu,
+    /// The growth limit; `None` is without end, infinite in the words of CSS.
     limit: Option<Lu>,
+    /// Whether the growth limit is infinitely growable (CSS Grid 2, 12.5, step 3).
     endless: bool,
+    /// The item-incurred increase: what the item at hand has given it (CSS Grid 2, 12.5.1).
     incurred: Lu,
+    /// The planned increase: the greatest that one of the items gave it (CSS Grid 2, 12.5.1).
     planned: Lu,
 }
 
@@ -40,7 +46,7 @@ impl Model for Row {
     ghost inverse = { row_of };
 }
 
-/// The min function, where it is fixed.
+/// The min track sizing function, where it is fixed.
 pub fn fixed_least(least: &Least) -> Option<Lu>
     ensures { result ≡ fixed_least least.now }
 {
@@ -50,7 +56,7 @@ pub fn fixed_least(least: &Least) -> Option<Lu>
     }
 }
 
-/// The max function, where it is fixed.
+/// The max track sizing function, where it is fixed.
 pub fn fixed_most(most: &Most) -> Option<Lu>
     ensures { result ≡ fixed_most most.now }
 {

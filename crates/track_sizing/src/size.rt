@@ -128,7 +128,7 @@ fn sizes_from<const AXIS: u8>(
     base_sizes(alloc, rows)
 }
 
-/// The same, and whether they last.
+/// The sizes of tracks that are initialised, once they are sized, and whether they last.
 fn lasting_from<const AXIS: u8>(
     alloc: Global,
     fit: &Fit<AXIS>,
@@ -183,9 +183,11 @@ pub fn size_axis<const AXIS: u8, L: Ledger>(
     sizes_from(alloc, fit, first, items, &mut rows)
 }
 
-/// The same sizes, and whether they last: whether the tracks surely have these sizes for their own total as a definite space too,
-/// where that total is a length. So it is where the space is max-content, declared lengths do not bind the total, no track is flexible,
-/// no min-content contribution is above the max-content contribution, and items of two tracks or more ask for nothing.
+/// The sizes of the tracks of one axis, as `size_axis` gives them, and whether they last: whether
+/// the tracks surely have these sizes for their own total as a definite space too, where that total
+/// is a length. They last where the space is max-content, declared lengths do not bind the total,
+/// no track is flexible, no min-content contribution is above the max-content contribution, and
+/// items of two tracks or more ask for nothing.
 pub fn size_axis_lasting<const AXIS: u8, L: Ledger>(
     alloc: Global,
     rules: &[Rule],

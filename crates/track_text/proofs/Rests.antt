@@ -9,7 +9,7 @@ use Rattle.track_text.specs.Words.{Word, Form, bind, past, front, one_more_taken
 use Rattle.track_text.specs.NameSets.{is_line_name, name_first}
 use Rattle.track_text.specs.Gives.{behind, Gives}
 
--- so many words were taken before
+-- what is read where so many words were taken before
 abbrev pub taken_before : {A : Type 0} → ℕ → A × ℕ → A × ℕ
 taken_before count read = (read.0, count + read.1)
 

@@ -29,7 +29,7 @@ abbrev pub joined : {A : Type 0} → List (List A) → List A
 joined [] = []
 joined (xs ∷ rest) = xs ++ joined rest
 
--- so many times the list
+-- the list, so many times one after another
 abbrev pub times : {A : Type 0} → ℕ → List A → List A
 times count xs = joined (replicate count xs)
 

@@ -68,7 +68,7 @@ all_of form taken [] = Some []
 all_of form (suc taken) (word ∷ words) = all_of form taken words
 all_of form zero (word ∷ words) = bind (form (word ∷ words)) (λ read. option_map (with_first read.0) (all_of form read.1 words))
 
--- the same as far as the word that closes, and how many words are taken up to and with that word
+-- what the words stand for as far as the word that closes, and how many words are taken up to and with that word
 abbrev pub up_to : {A : Type 0} → Word → Form A → ℕ → List Word → Option (List A × ℕ)
 up_to close form taken [] = None
 up_to close form (suc taken) (word ∷ words) = option_map one_more_taken (up_to close form taken words)
@@ -76,7 +76,7 @@ up_to close form zero (word ∷ words) =
     if bytes_eq word close then Some ([], 1)
     else bind (form (word ∷ words)) (λ read. option_map (with_first_taken read.0) (up_to close form read.1 words))
 
--- the same with the words that are left
+-- what the words stand for as far as the word that closes, with the words that are left
 unfoldable pub rest_up_to : {A : Type 0} → Word → Form A → List Word → Option (List A × List Word)
 rest_up_to close form words = option_map (past words) (up_to close form 0 words)
 

@@ -20,7 +20,7 @@ pub enum Filling {
 /// How often a repeat stands in a list.
 #[derive(Clone, Copy, Debug)]
 pub enum Often {
-    /// So many times.
+    /// A fixed number of times.
     Times(u32),
     /// As often as there is room.
     Automatic(Filling),

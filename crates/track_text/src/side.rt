@@ -28,9 +28,9 @@ pub enum Side {
 /// The size of a track as it is read (CSS Grid 2, section 7.2.1).
 #[derive(Clone, Copy, Debug)]
 pub struct Track {
-    /// The min function; never a factor.
+    /// The min track sizing function; never a factor.
     pub least: Side,
-    /// The max function.
+    /// The max track sizing function.
     pub most: Side,
     /// The argument of `fit-content`.
     pub fit: Option<Side>,

@@ -70,7 +70,7 @@ pub record IsFrameOf (k : Kid) (f : Framed) : Type 0 where
   pub inline : Given
   pub down : f.down ≡ k.answers.down pairs inline
 
--- and has its number
+-- a frame is one of this child, and has its number
 record IsNumbered (e : ℕ × Kid) (f : ℕ × Framed) : Type 0 where
   number : pos e.0 ≡ pos f.0
   frame : IsFrameOf e.1 f.1

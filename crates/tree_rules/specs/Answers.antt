@@ -33,7 +33,7 @@ pub record Down : Type 0 where
 
 -- The answers of a node, each by the counts of the repetitions of the grids that it sees above it, the topmost first.
 pub record Answers : Type 0 where
-  -- the two intrinsic inline sizes of its content
+  -- the two intrinsic inline sizes of its content: the min-content size and the max-content size
   pub inline : List Pair → ℤ × ℤ
   -- the items that it lends to the grid that sizes its columns
   pub lend_columns : List Pair → List Item

@@ -127,7 +127,7 @@ passes_on x chain kids q =
     all_of
     (zipped (passed_to (pairs_below x.kind x chain kids q)) (numbered_from 0 kids) (((step x chain kids).down q.reps q.inline).frames q.block))
 
--- and only from frames
+-- the questions that are passed on, which come from frames alone
 abbrev pub passes_from : Ask → Label → List Link → List Kid → Query → List ToChild
 passes_from ask.Frames x chain kids q = passes_on x chain kids q
 passes_from a x chain kids q = []

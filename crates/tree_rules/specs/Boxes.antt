@@ -62,8 +62,16 @@ root_framed width height r =
     let h = root_height height r d in
     record {
       name = x.name;
-      frame = record
-          { rect = record { x = aligned_at root_justify x.grid.columns (pos 0) width w; y = aligned_at root_align x.grid.rows (pos 0) height h; width = w; height = h }; inline = root_inline r w; block = root_block r h };
+      frame = record {
+        rect = record {
+          x = aligned_at root_justify x.grid.columns (pos 0) width w;
+          y = aligned_at root_align x.grid.rows (pos 0) height h;
+          width = w;
+          height = h;
+        };
+        inline = root_inline r w;
+        block = root_block r h;
+      };
       down = d;
     }
 

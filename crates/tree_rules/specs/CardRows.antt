@@ -35,7 +35,7 @@ card n count after =
     leaf (numbered (codes "y") n) (px 60) (px 24) (record plain_grid { columns = record plain_axis { margin_start = None } })
     plain_content ∷ [])) leafless))) after
 
--- so many cards from this one on, of twelve words each, but the seventh has so many
+-- the cards from this one on, so many, of twelve words each, but the seventh has so many
 abbrev cards_from : ℕ → ℕ → ℕ → Trees Label
 cards_from seventh zero n = leafless
 cards_from seventh (suc more) n = card n (if n == 7 then seventh else 12) (cards_from seventh more (n + 1))

@@ -33,7 +33,7 @@ pub record AxisContext : Type 0 where
   pub gap : ℤ
   pub levels : List Level
 
--- And in both.
+-- What a grid has in its two axes.
 pub record Context : Type 0 where
   pub columns : AxisContext
   pub rows : AxisContext
@@ -52,7 +52,7 @@ abbrev pub named_columns : Option Areas → List NamedSpan
 named_columns None = []
 named_columns (Some a) = map (λ (n : List ℕ × Area). (n.0, n.1.columns)) a.named
 
--- and along the rows
+-- the named areas of `grid-template-areas` along the rows
 abbrev pub named_rows : Option Areas → List NamedSpan
 named_rows None = []
 named_rows (Some a) = map (λ (n : List ℕ × Area). (n.0, n.1.rows)) a.named
@@ -62,7 +62,7 @@ abbrev pub column_cells : Option Areas → ℕ
 column_cells None = 0
 column_cells (Some a) = a.columns
 
--- and along the rows
+-- the number of cells of `grid-template-areas` along the rows
 abbrev pub row_cells : Option Areas → ℕ
 row_cells None = 0
 row_cells (Some a) = a.rows
@@ -151,7 +151,7 @@ abbrev pub first_pair : List Pair → Pair
 first_pair [] = (1, 1)
 first_pair (p ∷ outer) = p
 
--- and those of the grids above it
+-- the counts of the repetitions of the grids above it
 abbrev pub outer_pairs : List Pair → List Pair
 outer_pairs [] = []
 outer_pairs (p ∷ outer) = outer
@@ -192,8 +192,11 @@ child g = record { name = []; is_grid = false; grid = g }
 abbrev upper : GridStyle
 upper =
     record plain_grid {
-      columns = record plain_axis
-          { template = template.Tracks (record { sizes = px_track 100 ∷ px_track 100 ∷ px_track 100 ∷ []; names = (z_name ∷ []) ∷ [] ∷ [] ∷ [] ∷ []; repeat = None }); gap = size.Length (pos 8) };
+      columns = record plain_axis {
+        template = template.Tracks
+            (record { sizes = px_track 100 ∷ px_track 100 ∷ px_track 100 ∷ []; names = (z_name ∷ []) ∷ [] ∷ [] ∷ [] ∷ []; repeat = None });
+        gap = size.Length (pos 8);
+      };
       areas = Some
           (record { columns = 4; rows = 2; named = (a_name, record { columns = from_line (pos 2) (pos 4); rows = from_line (pos 0) (pos 2) }) ∷ [] });
     }
@@ -209,7 +212,12 @@ explicit_rows : upper_context.rows.table.tracks ≡ 2
 explicit_rows = refl
 
 -- An item at the area `a`, and one that is free: it stands in the first cell. An item before it in order is told before it.
-in_area : (placed_children upper_context upper (child plain_grid ∷ child (record plain_grid { columns = record plain_axis { start_line = line.Named a_name; end_line = line.Named a_name }; rows = record plain_axis { start_line = line.Named a_name; end_line = line.Named a_name }; order = negsuc 0 }) ∷ [])).areas
+in_area : (placed_children upper_context upper (child plain_grid ∷
+    child (record plain_grid {
+      columns = record plain_axis { start_line = line.Named a_name; end_line = line.Named a_name };
+      rows = record plain_axis { start_line = line.Named a_name; end_line = line.Named a_name };
+      order = negsuc 0;
+    }) ∷ [])).areas
     ≡ (1, record { columns = from_line (pos 2) (pos 4); rows = from_line (pos 0) (pos 2) }) ∷
     (0, record { columns = from_line (pos 0) (pos 1); rows = from_line (pos 0) (pos 1) }) ∷ []
 unfolding placed_by_rows
@@ -249,7 +257,8 @@ spans_one : automatic_span false (template.Subgrid ([] ∷ [] ∷ [] ∷ [])) �
 spans_one = refl
 
 -- Line -7 of four tracks lies at -2, so an item of one column from there on makes the columns begin at -2.
-range_reaches_out : (placed_children upper_context upper (child (record plain_grid { columns = record plain_axis { start_line = line.Line (negsuc 6) None } }) ∷ [])).columns
+range_reaches_out :
+    (placed_children upper_context upper (child (record plain_grid { columns = record plain_axis { start_line = line.Line (negsuc 6) None } }) ∷ [])).columns
     ≡ from_line (negsuc 1) (pos 4)
 unfolding placed_by_rows
 range_reaches_out = refl

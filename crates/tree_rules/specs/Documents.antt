@@ -61,7 +61,8 @@ boxes_of width height x below =
 root_of_20px : font_with first_font first_font (value.Size (size.Length (px 20))) (unit.Px ∷ []) ≡ px 20
 root_of_20px = refl
 
-its_columns : (computed_tracks (px 20) (px 20) (fixed 0 ∷ fixed 0 ∷ []) (unit.Em (pos 2000000) ∷ unit.Em (pos 2000000) ∷ unit.Rem (pos 1000000) ∷ unit.Rem (pos 1000000) ∷ [])).0
+its_columns : (computed_tracks (px 20) (px 20) (fixed 0 ∷ fixed 0 ∷ []) (unit.Em (pos 2000000) ∷
+    unit.Em (pos 2000000) ∷ unit.Rem (pos 1000000) ∷ unit.Rem (pos 1000000) ∷ [])).0
     ≡ fixed 40 ∷ fixed 20 ∷ []
 unfolding relative
 its_columns = refl

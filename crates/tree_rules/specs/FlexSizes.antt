@@ -213,8 +213,10 @@ abbrev a_child : ContentStyle → Label
 a_child c = record {
   name = [];
   kind = kind.Flex;
-  grid = record plain_grid
-      { columns = record plain_axis { padding_start = pos 4; margin_end = Some (pos 3) }; rows = record plain_axis { padding_start = pos 4; margin_end = Some (pos 3) } };
+  grid = record plain_grid {
+    columns = record plain_axis { padding_start = pos 4; margin_end = Some (pos 3) };
+    rows = record plain_axis { padding_start = pos 4; margin_end = Some (pos 3) };
+  };
   content = c;
 }
 
@@ -232,7 +234,8 @@ unfolding clamp
 by_width = refl
 
 -- The basis `content` passes over the width.
-by_basis_content : (flex_item false (Some (pos 100)) (a_child (record plain_content { inline = record plain_content_axis { size = size.Length (pos 10) }; basis = size.Content })) (pos 20, pos 30)).base
+by_basis_content : (flex_item false (Some (pos 100))
+    (a_child (record plain_content { inline = record plain_content_axis { size = size.Length (pos 10) }; basis = size.Content })) (pos 20, pos 30)).base
     ≡ pos 34
 unfolding clamp
 by_basis_content = refl
@@ -251,7 +254,8 @@ scrolling : (flex_item false (Some (pos 100)) (a_child (record plain_content { s
 unfolding clamp
 scrolling = refl
 
-minimum_of_nothing : (flex_item true None (a_child (record plain_content { block = record plain_content_axis { least = size.Percent 50000 } })) (pos 20, pos 30)).min
+minimum_of_nothing :
+    (flex_item true None (a_child (record plain_content { block = record plain_content_axis { least = size.Percent 50000 } })) (pos 20, pos 30)).min
     ≡ pos 24
 unfolding clamp
 minimum_of_nothing = refl

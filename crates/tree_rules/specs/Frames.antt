@@ -44,7 +44,7 @@ boxes_at at (f ∷ rest) =
     let rect = moved_by at f.frame.rect in
     (f.name, rect) ∷ f.down.boxes f.frame.block (rect.x, rect.y) ++ boxes_at at rest
 
--- The same boxes elsewhere.
+-- These boxes, moved.
 abbrev pub moved_boxes : ℤ × ℤ → List Box → List Box
 moved_boxes by [] = []
 moved_boxes by (b ∷ rest) = (b.0, moved_by by b.1) ∷ moved_boxes by rest
@@ -99,8 +99,11 @@ row_extent g rows w =
 abbrev pub framed_at : Label → Label → Extent → Extent → Down → Framed
 framed_at parent x i b d = record {
   name = x.name;
-  frame = record
-      { rect = record { x = inner_start parent.grid.columns +ℤ i.at; y = inner_start parent.grid.rows +ℤ b.at; width = i.size; height = b.size }; inline = i.given; block = b.given };
+  frame = record {
+    rect = record { x = inner_start parent.grid.columns +ℤ i.at; y = inner_start parent.grid.rows +ℤ b.at; width = i.size; height = b.size };
+    inline = i.given;
+    block = b.given;
+  };
   down = d;
 }
 
@@ -304,7 +307,7 @@ told_in_order : boxes_at (pos 10, pos 20)
     (codes "c", record { x = pos 16; y = pos 29; width = pos 5; height = pos 6 }) ∷ []
 told_in_order = refl
 
--- The same two boxes by 7 to the left and by 5 down.
+-- The two boxes of the row above, moved by 7 to the left and by 5 down.
 moved_together : moved_boxes (neg_ℤ (pos 7), pos 5)
     ((codes "a", record { x = pos 13; y = pos 24; width = pos 5; height = pos 6 }) ∷
     (codes "c", record { x = pos 16; y = pos 29; width = pos 5; height = pos 6 }) ∷ [])

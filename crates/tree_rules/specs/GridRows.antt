@@ -214,7 +214,12 @@ named_areas : boxes (px 300) (px 50)
       rows = record plain_axis
           { autos = fixed 10 ∷ [] };
       areas = Some
-          (record { columns = 2; rows = 2; named = (name_a, cells (pos 0) (pos 2) (pos 0) (pos 1)) ∷ (name_b, cells (pos 0) (pos 1) (pos 1) (pos 2)) ∷ (name_c, cells (pos 1) (pos 2) (pos 1) (pos 2)) ∷ [] });
+          (record {
+            columns = 2;
+            rows = 2;
+            named = (name_a, cells (pos 0) (pos 2) (pos 0) (pos 1)) ∷
+                (name_b, cells (pos 0) (pos 1) (pos 1) (pos 2)) ∷ (name_c, cells (pos 1) (pos 2) (pos 1) (pos 2)) ∷ [];
+          });
     })
     plain_content)
     (side_by_side (leaf name_p (px 1) (px 1) (in_area name_c) plain_content ∷ leaf name_s (px 1) (px 1) (in_area name_a) plain_content ∷ []))

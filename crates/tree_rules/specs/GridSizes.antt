@@ -155,7 +155,7 @@ pub record Grid : Type 0 where
 abbrev pub column_spans : Placed → List Span
 column_spans p = map (λ (a : ℕ × Area). a.1.columns) p.areas
 
--- and along the rows
+-- the spans of the children along the rows
 abbrev pub row_spans : Placed → List Span
 row_spans p = map (λ (a : ℕ × Area). a.1.rows) p.areas
 

@@ -55,7 +55,9 @@ pub record GridStyle : Type 0 where
 -- of `justify`, of the block axis `height`, `min-height`, `max-height` and the three of `align`.
 pub record ContentAxis : Type 0 where
   pub size : Size
+  -- `min-width` or `min-height`
   pub least : Size
+  -- `max-width` or `max-height`
   pub most : Size
   -- `justify-content` or `align-content`
   pub distribution : Align

@@ -68,9 +68,13 @@ border_size border_box p v = if border_box then int_max v p else v +ℤ p
 
 -- A node's declared sizes in one axis, as border-box sizes.
 pub record Bounds : Type 0 where
+  -- the sum of borders and paddings
   pub inner : ℤ
+  -- the preferred size
   pub size : Option ℤ
+  -- the minimum size
   pub least : Option ℤ
+  -- the maximum size
   pub most : Option ℤ
 
 -- The declared sizes, where percentages are of this size; without one they are none: a percentage size behaves as `auto`, a percentage

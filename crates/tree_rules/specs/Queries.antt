@@ -104,7 +104,7 @@ pub record Fits (s : Seen) (q : Query) : Type 0 where
 
 -- ---- equal questions
 
--- the same is asked
+-- what is asked, as a number
 abbrev pub ask_number : Ask → ℕ
 ask_number ask.Inline = 0
 ask_number ask.LendColumns = 1
@@ -119,14 +119,14 @@ same_items same [] (y ∷ ys) = false
 same_items same (x ∷ xs) [] = false
 same_items same (x ∷ xs) (y ∷ ys) = same x y && same_items same xs ys
 
--- the same is given
+-- two questions are given the same
 abbrev pub same_given : Given → Given → Bool
 same_given given.None given.None = true
 same_given (given.Size x) (given.Size y) = int_eq x y
 same_given (given.Tracks e g) (given.Tracks f h) = same_items (λ (a : ℤ × ℤ) (b : ℤ × ℤ). int_eq a.0 b.0 && int_eq a.1 b.1) e f && int_eq g h
 same_given a b = false
 
--- the same question
+-- two questions are the same
 abbrev pub same_query : Query → Query → Bool
 same_query q r =
     (ask_number q.ask == ask_number r.ask) &&

@@ -17,7 +17,7 @@ use Rattle.tree_rules.specs.declared.kind.NodeKind.TheVariants as kind
 use Rattle.tree_rules.specs.Answers.{Box}
 use Rattle.tree_rules.specs.Labels.{ContentStyle, GridStyle, Label, plain_axis, plain_content, plain_grid}
 
--- so many px, in units
+-- a number of px, in units
 abbrev pub px : ℕ → ℤ
 px n = pos (n * 64)
 
@@ -67,7 +67,7 @@ aligned m = record { mode = m; safe = None }
 abbrev pub in_columns : Template → GridStyle
 in_columns t = record plain_grid { columns = record plain_axis { template = t } }
 
--- and with this gap between them
+-- a grid with these columns and this gap between them
 abbrev pub with_gap : Template → ℕ → GridStyle
 with_gap t gap = record plain_grid { columns = record plain_axis { template = t; gap = px_size gap } }
 

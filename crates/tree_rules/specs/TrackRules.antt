@@ -25,7 +25,7 @@ abbrev pub least_percent : Option ℤ → ℕ → Least
 least_percent None t = least.Auto
 least_percent (Some x) t = least.Fixed (percent x t)
 
--- The min function. No factor is one.
+-- The min track sizing function. No factor is one.
 abbrev pub least_of : Option ℤ → Breadth → Least
 least_of base (breadth.Length x) = least.Fixed x
 least_of base (breadth.Percent t) = least_percent base t
@@ -46,7 +46,7 @@ abbrev pub most_percent : Option ℤ → Least → ℕ → Most
 most_percent None l t = most.Auto
 most_percent (Some x) l t = fixed_above l (percent x t)
 
--- The max function, beside this min function.
+-- The max track sizing function, beside this min track sizing function.
 abbrev pub most_of : Option ℤ → Least → Breadth → Most
 most_of base l (breadth.Length x) = fixed_above l x
 most_of base l (breadth.Percent t) = most_percent base l t
@@ -76,7 +76,7 @@ rule_of base f collapsed =
 
 -- ---- all tracks of an axis
 
--- so many coordinates from this one on
+-- the coordinates from this one on, so many
 abbrev pub coordinates : ℕ → ℤ → List ℤ
 coordinates zero at = []
 coordinates (suc n) at = at ∷ coordinates n (at +ℤ pos 1)

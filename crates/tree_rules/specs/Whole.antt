@@ -52,7 +52,7 @@ row_down f width =
     let settled = row_settled f lines in
     down_of (row_block f lines settled) [] (row_framed f width lines settled)
 
--- and of a column
+-- what is known of a column by its inline size
 abbrev pub column_down : Flex → ℤ → Down
 column_down f width =
     let settled = column_settled f width in

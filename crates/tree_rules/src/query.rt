@@ -5,7 +5,8 @@ use std::alloc::Global;
 /// What is asked of a node.
 #[derive(Clone, Copy, Debug, PartialEq, Eq)]
 pub enum Ask {
-    /// The two intrinsic inline sizes of its content (CSS Sizing 3, section 5).
+    /// The two intrinsic inline sizes of its content, min-content and max-content (CSS Sizing 3,
+    /// section 5).
     Inline,
     /// The items that a subgrid lends to the grid that sizes its columns (CSS Grid 2, section 9).
     LendColumns,

@@ -39,7 +39,8 @@ impl SharedTracks {
         })
     }
 
-    /// The same tracks once more. Takes no memory; `NoMemory` only where they are shared more often than can be counted.
+    /// These tracks once more. Takes no memory; `NoMemory` only where they are shared more often
+    /// than can be counted.
     pub fn again(&self) -> Result<SharedTracks, NoMemory>
         ensures { IfOk result (λ other. other ≡ self.now) }
     {

@@ -68,7 +68,8 @@ word s = value.Size s
 -- ---- which property each name is
 
 all_longhands : map sets
-    (codes "grid-template-columns: none" ∷ codes "grid-template-rows: none" ∷ codes "grid-template-areas: none" ∷ codes "grid-auto-columns: auto" ∷ codes "grid-auto-rows: auto" ∷ codes "grid-auto-flow: row"
+    (codes "grid-template-columns: none" ∷ codes "grid-template-rows: none" ∷ codes "grid-template-areas: none" ∷
+    codes "grid-auto-columns: auto" ∷ codes "grid-auto-rows: auto" ∷ codes "grid-auto-flow: row"
     ∷ codes "grid-column-start: 1" ∷ codes "grid-column-end: 1" ∷ codes "grid-row-start: 1" ∷ codes "grid-row-end: 1" ∷ codes "order: 1" ∷
     codes "row-gap: 0" ∷ codes "column-gap: 0" ∷ codes "margin-top: 0" ∷ codes "margin-right: 0"
     ∷ codes "margin-bottom: 0" ∷ codes "margin-left: 0" ∷ codes "padding-top: 0" ∷ codes "padding-right: 0" ∷ codes "padding-bottom: 0" ∷
@@ -79,7 +80,8 @@ all_longhands : map sets
     codes "justify-self: end" ∷ codes "align-self: end" ∷ codes "flex-direction: row"
     ∷ codes "flex-wrap: wrap" ∷ codes "flex-grow: 1" ∷ codes "flex-shrink: 1" ∷ codes "flex-basis: 0" ∷ [])
     ≡ map (λ p. p ∷ [])
-    (prop.GridTemplateColumns ∷ prop.GridTemplateRows ∷ prop.GridTemplateAreas ∷ prop.GridAutoColumns ∷ prop.GridAutoRows ∷ prop.GridAutoFlow ∷ prop.GridColumnStart ∷ prop.GridColumnEnd ∷ prop.GridRowStart
+    (prop.GridTemplateColumns ∷ prop.GridTemplateRows ∷ prop.GridTemplateAreas ∷ prop.GridAutoColumns ∷
+    prop.GridAutoRows ∷ prop.GridAutoFlow ∷ prop.GridColumnStart ∷ prop.GridColumnEnd ∷ prop.GridRowStart
     ∷ prop.GridRowEnd ∷ prop.Order ∷ prop.RowGap ∷ prop.ColumnGap ∷ prop.MarginTop ∷ prop.MarginRight ∷ prop.MarginBottom ∷ prop.MarginLeft ∷
     prop.PaddingTop ∷ prop.PaddingRight ∷ prop.PaddingBottom ∷ prop.PaddingLeft
     ∷ prop.BorderTopWidth ∷ prop.BorderRightWidth ∷ prop.BorderBottomWidth ∷ prop.BorderLeftWidth ∷ prop.Width ∷ prop.Height ∷ prop.MinWidth ∷
@@ -106,7 +108,8 @@ all_shorthands = refl
 -- ---- sizes
 
 sizes : map (read 1)
-    (codes "width: auto" ∷ codes "width:10px" ∷ codes " height :  1.5px " ∷ codes "min-width: 50%" ∷ codes "min-height: 0" ∷ codes "max-width: none" ∷ codes "max-height: 1048576px" ∷ codes "width: 1000%" ∷ codes "width: 0.0009%"
+    (codes "width: auto" ∷ codes "width:10px" ∷ codes " height :  1.5px " ∷ codes "min-width: 50%" ∷ codes "min-height: 0" ∷
+    codes "max-width: none" ∷ codes "max-height: 1048576px" ∷ codes "width: 1000%" ∷ codes "width: 0.0009%"
     ∷ codes "width: -0px" ∷ codes "width: +.5px" ∷ codes "row-gap: normal" ∷ codes "column-gap: 2%" ∷ codes "margin-top: auto" ∷
     codes "margin-left: -1048576px" ∷ codes "padding-top: 3px" ∷ codes "border-top-width: 0.02px"
     ∷ codes "flex-basis: content" ∷ codes "flex-basis: auto" ∷ codes "margin-right: -0.001px" ∷ [])
@@ -120,7 +123,8 @@ unfolding property_rows properties_2 properties_3 properties_4 properties_5 prop
 sizes = refl
 
 relative_sizes : map (read_units 2)
-    (codes "width: 2em" ∷ codes "width: 0.5rem" ∷ codes "width: 0em" ∷ codes "width: 0" ∷ codes "width: 1px" ∷ codes "width: 50%" ∷ codes "width: auto" ∷ codes "margin-left: -1.5em" ∷ codes "font-size: 0.0000019em"
+    (codes "width: 2em" ∷ codes "width: 0.5rem" ∷ codes "width: 0em" ∷ codes "width: 0" ∷ codes "width: 1px" ∷
+    codes "width: 50%" ∷ codes "width: auto" ∷ codes "margin-left: -1.5em" ∷ codes "font-size: 0.0000019em"
     ∷ codes "font-size: 10000rem" ∷ codes "gap: 1em 2px" ∷ codes "flex: 1 1 3em" ∷ codes "flex: 1" ∷ codes "margin: 1px 2em auto" ∷ [])
     ≡ ((unit.Em (pos 2000000) ∷ []) ∷ []) ∷ ((unit.Rem (pos 500000) ∷ []) ∷ []) ∷ ((unit.Em (pos 0) ∷ []) ∷ []) ∷ ((unit.Px ∷ []) ∷ []) ∷
     ((unit.Px ∷ []) ∷ []) ∷ ([] ∷ []) ∷ ([] ∷ []) ∷ ((unit.Em (neg_ℤ (pos 1500000)) ∷ []) ∷ [])
@@ -157,7 +161,8 @@ abbrev flex : ℕ → ℕ → Value → List Value
 flex grow shrink basis = value.Factor grow ∷ value.Factor shrink ∷ basis ∷ []
 
 flexes : map (read 1)
-    (codes "flex: none" ∷ codes "flex: auto" ∷ codes "flex: 1" ∷ codes "flex: 2 3" ∷ codes "flex: 2 3 4px" ∷ codes "flex: 2 4px" ∷ codes "flex: 10%" ∷ codes "flex: content" ∷ codes "flex: 0" ∷ codes "flex: 1 0" ∷ codes "flex: 1 1 0"
+    (codes "flex: none" ∷ codes "flex: auto" ∷ codes "flex: 1" ∷ codes "flex: 2 3" ∷ codes "flex: 2 3 4px" ∷
+    codes "flex: 2 4px" ∷ codes "flex: 10%" ∷ codes "flex: content" ∷ codes "flex: 0" ∷ codes "flex: 1 0" ∷ codes "flex: 1 1 0"
     ∷ codes "flex: 0.0005 auto" ∷ codes "flex: 10000" ∷ codes "flex: 0px" ∷ [])
     ≡ flex 0 0 (word size.Auto) ∷ flex 1000 1000 (word size.Auto) ∷ flex 1000 1000 (px (pos 0)) ∷ flex 2000 3000 (px (pos 0)) ∷
     flex 2000 3000 (px (pos 256)) ∷ flex 2000 1000 (px (pos 256)) ∷ flex 1000 1000 (word (size.Percent 10000))
@@ -176,19 +181,22 @@ abbrev lines : List LineValue → List Value
 lines all = map value.Line all
 
 line_values : map (read 1)
-    (codes "grid-column-start: auto" ∷ codes "grid-column-start: 3" ∷ codes "grid-column-start: -1" ∷ codes "grid-column-start: 2 a" ∷ codes "grid-column-start: a 2" ∷ codes "grid-column-start: a" ∷ codes "grid-column-start: span 2"
+    (codes "grid-column-start: auto" ∷ codes "grid-column-start: 3" ∷ codes "grid-column-start: -1" ∷
+    codes "grid-column-start: 2 a" ∷ codes "grid-column-start: a 2" ∷ codes "grid-column-start: a" ∷ codes "grid-column-start: span 2"
     ∷ codes "grid-column-start: span a" ∷ codes "grid-column-start: span 2 a" ∷ codes "grid-column-start: span a 2" ∷
     codes "grid-column-start: +1000000" ∷ codes "grid-column-start: none" ∷ codes "grid-column-start: dense" ∷ [])
     ≡ map alone
     (lines
-    (line.Auto ∷ line.Line (pos 3) None ∷ line.Line (neg_ℤ (pos 1)) None ∷ line.Line (pos 2) (Some a) ∷ line.Line (pos 2) (Some a) ∷ line.Named a ∷ line.Reach 2 None ∷ line.Reach 1 (Some a) ∷ line.Reach 2 (Some a) ∷ line.Reach 2 (Some a)
+    (line.Auto ∷ line.Line (pos 3) None ∷ line.Line (neg_ℤ (pos 1)) None ∷ line.Line (pos 2) (Some a) ∷ line.Line (pos 2) (Some a) ∷
+    line.Named a ∷ line.Reach 2 None ∷ line.Reach 1 (Some a) ∷ line.Reach 2 (Some a) ∷ line.Reach 2 (Some a)
     ∷ line.Line (pos 1000000) None ∷ line.Named (codes "none") ∷ line.Named (codes "dense") ∷ []))
 unfolding property_rows properties_2 properties_3 properties_4 properties_5 properties_6 properties_7 properties_8 properties_9 properties_10
     name_of line_number span_count size_of
 line_values = refl
 
 line_lists : map (read 1)
-    (codes "grid-column: 1 / 3" ∷ codes "grid-column: 1" ∷ codes "grid-column: a" ∷ codes "grid-row: a 2" ∷ codes "grid-row: span 2/span a" ∷ codes "grid-area: a" ∷ codes "grid-area: 1" ∷ codes "grid-area: 1 / a" ∷ codes "grid-area: a / 2"
+    (codes "grid-column: 1 / 3" ∷ codes "grid-column: 1" ∷ codes "grid-column: a" ∷ codes "grid-row: a 2" ∷
+    codes "grid-row: span 2/span a" ∷ codes "grid-area: a" ∷ codes "grid-area: 1" ∷ codes "grid-area: 1 / a" ∷ codes "grid-area: a / 2"
     ∷ codes "grid-area: a / 2 / 3" ∷ codes "grid-area: 1 / 2 / 3 / 4" ∷ codes "grid-column: auto / a" ∷ [])
     ≡ lines (line.Line (pos 1) None ∷ line.Line (pos 3) None ∷ []) ∷ lines (line.Line (pos 1) None ∷ line.Auto ∷ []) ∷
     lines (line.Named a ∷ line.Named a ∷ []) ∷ lines (line.Line (pos 2) (Some a) ∷ line.Auto ∷ [])
@@ -212,23 +220,27 @@ abbrev guarded_align : Bool → AlignMode → Value
 guarded_align safe m = value.Align (record { mode = m; safe = Some safe })
 
 alignments : map (read 1)
-    (codes "justify-content: normal" ∷ codes "align-content: stretch" ∷ codes "justify-content: space-between" ∷ codes "justify-content: space-around" ∷ codes "align-content: space-evenly" ∷ codes "justify-items: start"
+    (codes "justify-content: normal" ∷ codes "align-content: stretch" ∷ codes "justify-content: space-between" ∷
+    codes "justify-content: space-around" ∷ codes "align-content: space-evenly" ∷ codes "justify-items: start"
     ∷ codes "align-items: center" ∷ codes "justify-self: auto" ∷ codes "align-self: flex-start" ∷ codes "align-self: flex-end" ∷
     codes "align-self: safe end" ∷ codes "justify-content: unsafe center" ∷ codes "align-items: stretch" ∷ codes "justify-items: normal" ∷ [])
     ≡ map alone
-    (plain_align mode.Normal ∷ plain_align mode.Stretch ∷ plain_align mode.Between ∷ plain_align mode.Around ∷ plain_align mode.Evenly ∷ plain_align mode.Start ∷ plain_align mode.Center ∷ plain_align mode.Auto ∷ plain_align mode.FlexStart
+    (plain_align mode.Normal ∷ plain_align mode.Stretch ∷ plain_align mode.Between ∷ plain_align mode.Around ∷
+    plain_align mode.Evenly ∷ plain_align mode.Start ∷ plain_align mode.Center ∷ plain_align mode.Auto ∷ plain_align mode.FlexStart
     ∷ plain_align mode.FlexEnd ∷ guarded_align true mode.End ∷ guarded_align false mode.Center ∷ plain_align mode.Stretch ∷ plain_align mode.Normal ∷ [])
 unfolding property_rows properties_2 properties_3 properties_4 properties_5 properties_6 properties_7 properties_8 properties_9 properties_10
     name_of line_number span_count size_of
 alignments = refl
 
 keywords : map (read 1)
-    (codes "grid-auto-flow: row" ∷ codes "grid-auto-flow: column" ∷ codes "grid-auto-flow: dense" ∷ codes "grid-auto-flow: dense column" ∷ codes "grid-auto-flow: row dense" ∷ codes "box-sizing: content-box" ∷ codes "box-sizing: border-box"
+    (codes "grid-auto-flow: row" ∷ codes "grid-auto-flow: column" ∷ codes "grid-auto-flow: dense" ∷ codes "grid-auto-flow: dense column" ∷
+    codes "grid-auto-flow: row dense" ∷ codes "box-sizing: content-box" ∷ codes "box-sizing: border-box"
     ∷ codes "overflow: visible" ∷ codes "overflow: clip" ∷ codes "overflow: hidden" ∷ codes "overflow: scroll" ∷ codes "overflow: auto" ∷
     codes "flex-direction: column" ∷ codes "flex-direction: row" ∷ codes "flex-wrap: wrap" ∷ codes "flex-wrap: nowrap"
     ∷ codes "order: -1000000" ∷ codes "order: +7" ∷ codes "flex-grow: 10000" ∷ codes "flex-shrink: .0019" ∷ codes "flex-grow: -0" ∷ [])
     ≡ map alone
-    (value.Flow false false ∷ value.Flow true false ∷ value.Flow false true ∷ value.Flow true true ∷ value.Flow false true ∷ value.BorderBox false ∷ value.BorderBox true
+    (value.Flow false false ∷ value.Flow true false ∷ value.Flow false true ∷
+    value.Flow true true ∷ value.Flow false true ∷ value.BorderBox false ∷ value.BorderBox true
     ∷ value.Overflow scroll.Visible ∷ value.Overflow scroll.Clip ∷ value.Overflow scroll.Hidden ∷ value.Overflow scroll.Scroll ∷
     value.Overflow scroll.Auto ∷ value.Column true ∷ value.Column false ∷ value.Wrap true ∷ value.Wrap false
     ∷ value.Order (neg_ℤ (pos 1000000)) ∷ value.Order (pos 7) ∷ value.Factor 10000000 ∷ value.Factor 1 ∷ value.Factor 0 ∷ [])

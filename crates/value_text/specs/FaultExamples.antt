@@ -133,7 +133,8 @@ bad_shorthands = refl
 
 bad_areas : others 1
     ((codes "grid-template-areas: a", 9, 22) ∷
-    (codes "grid-template-areas: \"a", 9, 22) ∷ (codes "grid-template-areas: \"a.b\"", 9, 22) ∷ (codes "grid-template-areas: \"a\"\"b\"", 9, 22) ∷ (codes "grid-template-areas: \"a\" \"b c\"", 9, 22)
+    (codes "grid-template-areas: \"a", 9, 22) ∷ (codes "grid-template-areas: \"a.b\"", 9, 22) ∷
+    (codes "grid-template-areas: \"a\"\"b\"", 9, 22) ∷ (codes "grid-template-areas: \"a\" \"b c\"", 9, 22)
     ∷ (codes "grid-template-areas: \"a b a\"", 9, 22) ∷ (codes "grid-template-areas: \"a b\" \"b a\"", 9, 22) ∷
     (codes "grid-template-areas: \"a a\" \"a .\"", 9, 22) ∷ (codes "grid-template-areas: \"a,b\"", 9, 22) ∷
     (codes "grid-template-areas: \"span\"", 9, 22)

@@ -56,7 +56,7 @@ abbrev pub size_first : Bool → SizeForm → List Word → Option (Measured × 
 size_first relative form [] = None
 size_first relative form (word ∷ words) = option_map (λ measured. (measured, words)) (size_of relative form word)
 
--- the same, or this where no words are left
+-- the first of the words as a size, and the words after it; this size where no words are left
 abbrev pub size_or : Bool → SizeForm → Measured → List Word → Option (Measured × List Word)
 size_or relative form default [] = Some (default, [])
 size_or relative form default (word ∷ words) = size_first relative form (word ∷ words)

@@ -72,7 +72,8 @@ fn read_value(
     }
 }
 
-/// The same, where perhaps no tokens are left.
+/// What the value at these tokens sets, or its fault at its place: a bad value where no tokens are
+/// left.
 fn value_at(
     alloc: Global,
     at: Place,

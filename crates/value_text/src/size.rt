@@ -128,7 +128,8 @@ fn size_first<'a>(relative: bool, form: SizeForm, words: Words<'a>) -> Option<(M
     Some((measured, words))
 }
 
-/// The same, or this size where no words are left.
+/// The first of the words as a size, and the words after it; the size `default` where no words are
+/// left.
 fn size_or<'a>(
     relative: bool,
     form: SizeForm,

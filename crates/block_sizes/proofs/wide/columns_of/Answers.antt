@@ -34,7 +34,8 @@ returns-clause-value g c =
 pub returns-clause-counted : goal.returns-clause-counted
 returns-clause-counted g c =
     subst (λ (base : GridBase). pos (length c.in_ok-view.view.edges) ≡ (base.placed.columns.end -ℤ base.placed.columns.start)) c.grid-base.ensures
-    (count_placed (bare c.args.tree.now.tree) c.args.id c.args.reps.now c.args.width.now (record c.args.parts.now { base = c.grid-base.result.now }) (read_grid (bare c.args.tree.now.tree) c.args.id c.args.reps.now c.args.width.now c.args.parts.now c.grid-base.result.now c.grid-base.ensures c.requires.grid) (c.columns_reach.ensures.zero c.args.reps.now c.args.width.now) _
+    (count_placed (bare c.args.tree.now.tree) c.args.id c.args.reps.now c.args.width.now (record c.args.parts.now { base = c.grid-base.result.now })
+    (read_grid (bare c.args.tree.now.tree) c.args.id c.args.reps.now c.args.width.now c.args.parts.now c.grid-base.result.now c.grid-base.ensures c.requires.grid) (c.columns_reach.ensures.zero c.args.reps.now c.args.width.now) _
     (c.in_ok-view.ensures.counted (sees_columns (sight_at (bare c.args.tree.now.tree) c.args.id))
     (shared_for (bare c.args.tree.now.tree) c.args.id c.args.reps.now c.args.width.now (record c.args.parts.now { base = c.grid-base.result.now })
     (read_grid (bare c.args.tree.now.tree) c.args.id c.args.reps.now c.args.width.now c.args.parts.now c.grid-base.result.now c.grid-base.ensures c.requires.grid) (c.columns_reach.ensures.shared c.args.reps.now c.args.width.now) c.requires.inline)))

@@ -32,7 +32,8 @@ wide_for-requires g c =
     let seat : IsSeat (sight_at (bare c.args.tree.now.tree) c.args.id) c.as_slice-reps.result.now c.args.above.now c.args.area = subst (λ (r : List Pair). IsSeat (sight_at (bare c.args.tree.now.tree) c.args.id) r c.args.above.now c.args.area) (sym c.as_slice-reps.ensures) c.requires.seat in
     let inline : IsGivenFor true (sees_columns (sight_at (bare c.args.tree.now.tree) c.args.id)) (outer_context (sight_at (bare c.args.tree.now.tree) c.args.id) c.as_slice-reps.result.now).columns.table.tracks c.args.query.inline =
     (subst (λ (r : List Pair). IsGivenFor true (sees_columns (sight_at (bare c.args.tree.now.tree) c.args.id)) (outer_context (sight_at (bare c.args.tree.now.tree) c.args.id) r).columns.table.tracks c.args.query.inline) (sym c.as_slice-reps.ensures)
-    (subst (λ (t : Bool). IsGivenFor t (sees_columns (sight_at (bare c.args.tree.now.tree) c.args.id)) (outer_context (sight_at (bare c.args.tree.now.tree) c.args.id) c.args.query.reps).columns.table.tracks c.args.query.inline) (ap (λ (q : Query). needs_inline q.ask) c.requires.query) c.requires.fits.inline)) in
+    (subst (λ (t : Bool). IsGivenFor t (sees_columns (sight_at (bare c.args.tree.now.tree) c.args.id)) (outer_context (sight_at (bare c.args.tree.now.tree) c.args.id) c.args.query.reps).columns.table.tracks c.args.query.inline)
+    (ap (λ (q : Query). needs_inline q.ask) c.requires.query) c.requires.fits.inline)) in
     let spread : IsSpread (farthest (level_at (bare c.args.tree.now.tree) c.args.id)) c.args.query.inline = c.requires.columns in
     search rules
 
@@ -91,7 +92,9 @@ keep_last-requires-clause-live g c = subst (λ (z : BareTrees). IsLive z c.args.
 pub keep_last-requires-clause-places : goal.keep_last-requires-clause-places
 keep_last-requires-clause-places g c =
     places_held (bare c.take_frames.new.tree.tree) c.args.id c.as_slice-reps.result.now c.args.query.inline c.grid-held.result.now.parts.base
-    (subst (λ (w : GridWide). IsWide (bare c.take_frames.new.tree.tree) c.args.id c.as_slice-reps.result.now c.args.query.inline w) (sym c.grid-held.ensures) (subst (λ (z : BareTrees). IsWide z c.args.id c.as_slice-reps.result.now c.args.query.inline c.in_ok-wide.wide) (sym (c.take_frames.ensures.alike.bare ∙ (c.in_ok-wide.ensures.below c.args.query (sym c.as_slice-reps.ensures) refl (ap (λ (q : Query). needs_inline q.ask) c.requires.query)).walk.bare_same)) c.in_ok-wide.ensures.value)).grid.base
+    (subst (λ (w : GridWide). IsWide (bare c.take_frames.new.tree.tree) c.args.id c.as_slice-reps.result.now c.args.query.inline w) (sym c.grid-held.ensures)
+    (subst (λ (z : BareTrees). IsWide z c.args.id c.as_slice-reps.result.now c.args.query.inline c.in_ok-wide.wide)
+    (sym (c.take_frames.ensures.alike.bare ∙ (c.in_ok-wide.ensures.below c.args.query (sym c.as_slice-reps.ensures) refl (ap (λ (q : Query). needs_inline q.ask) c.requires.query)).walk.bare_same)) c.in_ok-wide.ensures.value)).grid.base
 
 pub keep_last-requires-clause-frames : goal.keep_last-requires-clause-frames
 keep_last-requires-clause-frames g c =

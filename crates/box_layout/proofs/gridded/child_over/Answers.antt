@@ -18,11 +18,13 @@ returns-clause-entry c =
 
 pub returns-clause-columns : goal.returns-clause-columns
 returns-clause-columns c =
-    (area_lies (bare c.args.tree.now.tree) c.args.id c.args.reps.now c.args.width.now c.args.wide.now c.args.index c.entry.result c.requires.wide (read_next (bare c.args.tree.now.tree) c.args.id c.args.wide.now.parts.base c.grid-base.result.now c.grid-base.ensures c.args.index c.entry.result c.entry.ensures.next) c.items_lie_in_their_tracks.ensures.items).0
+    (area_lies (bare c.args.tree.now.tree) c.args.id c.args.reps.now c.args.width.now c.args.wide.now c.args.index c.entry.result c.requires.wide
+    (read_next (bare c.args.tree.now.tree) c.args.id c.args.wide.now.parts.base c.grid-base.result.now c.grid-base.ensures c.args.index c.entry.result c.entry.ensures.next) c.items_lie_in_their_tracks.ensures.items).0
 
 pub returns-clause-rows : goal.returns-clause-rows
 returns-clause-rows c =
-    (area_lies (bare c.args.tree.now.tree) c.args.id c.args.reps.now c.args.width.now c.args.wide.now c.args.index c.entry.result c.requires.wide (read_next (bare c.args.tree.now.tree) c.args.id c.args.wide.now.parts.base c.grid-base.result.now c.grid-base.ensures c.args.index c.entry.result c.entry.ensures.next) c.items_lie_in_their_tracks.ensures.items).1
+    (area_lies (bare c.args.tree.now.tree) c.args.id c.args.reps.now c.args.width.now c.args.wide.now c.args.index c.entry.result c.requires.wide
+    (read_next (bare c.args.tree.now.tree) c.args.id c.args.wide.now.parts.base c.grid-base.result.now c.grid-base.ensures c.args.index c.entry.result c.entry.ensures.next) c.items_lie_in_their_tracks.ensures.items).1
 
 pub returns-clause-there : goal.returns-clause-there
 returns-clause-there c =

@@ -342,21 +342,24 @@ pub grid_sizes-grid_inline-requires-clause-live : goal.grid_sizes-grid_inline-re
 grid_sizes-grid_inline-requires-clause-live g t c =
     subst (λ (z : BareTrees). IsLive z c.args.id)
     (sym
-    (from_alike c.args.tree.now c.take_columns.new.tree c.take_columns.ensures.alike c.args.tally.now c.args.passes.now (g.R.Ruler.log c.args.ruler.now) (state c.grid_at.new.tree c.grid_at.new.tally c.grid_at.new.passes (g.R.Ruler.log c.grid_at.new.ruler)) c.args.id c.args.query.now 0 (c.in_ok-told.ensures.below c.args.query.now (sym c.as_slice-reps.ensures) refl)).walk.bare_same)
+    (from_alike c.args.tree.now c.take_columns.new.tree c.take_columns.ensures.alike c.args.tally.now c.args.passes.now (g.R.Ruler.log c.args.ruler.now)
+    (state c.grid_at.new.tree c.grid_at.new.tally c.grid_at.new.passes (g.R.Ruler.log c.grid_at.new.ruler)) c.args.id c.args.query.now 0 (c.in_ok-told.ensures.below c.args.query.now (sym c.as_slice-reps.ensures) refl)).walk.bare_same)
     c.requires.live
 
 pub grid_sizes-grid_inline-requires-clause-readable : goal.grid_sizes-grid_inline-requires-clause-readable
 grid_sizes-grid_inline-requires-clause-readable g t c =
     subst AreReadable
     (sym
-    (from_alike c.args.tree.now c.take_columns.new.tree c.take_columns.ensures.alike c.args.tally.now c.args.passes.now (g.R.Ruler.log c.args.ruler.now) (state c.grid_at.new.tree c.grid_at.new.tally c.grid_at.new.passes (g.R.Ruler.log c.grid_at.new.ruler)) c.args.id c.args.query.now 0 (c.in_ok-told.ensures.below c.args.query.now (sym c.as_slice-reps.ensures) refl)).walk.bare_same)
+    (from_alike c.args.tree.now c.take_columns.new.tree c.take_columns.ensures.alike c.args.tally.now c.args.passes.now (g.R.Ruler.log c.args.ruler.now)
+    (state c.grid_at.new.tree c.grid_at.new.tally c.grid_at.new.passes (g.R.Ruler.log c.grid_at.new.ruler)) c.args.id c.args.query.now 0 (c.in_ok-told.ensures.below c.args.query.now (sym c.as_slice-reps.ensures) refl)).walk.bare_same)
     c.requires.readable
 
 pub grid_sizes-grid_inline-requires-clause-own : goal.grid_sizes-grid_inline-requires-clause-own
 grid_sizes-grid_inline-requires-clause-own g t c =
     subst (λ (z : BareTrees). sees_columns (sight_at z c.args.id) ≡ false)
     (sym
-    (from_alike c.args.tree.now c.take_columns.new.tree c.take_columns.ensures.alike c.args.tally.now c.args.passes.now (g.R.Ruler.log c.args.ruler.now) (state c.grid_at.new.tree c.grid_at.new.tally c.grid_at.new.passes (g.R.Ruler.log c.grid_at.new.ruler)) c.args.id c.args.query.now 0 (c.in_ok-told.ensures.below c.args.query.now (sym c.as_slice-reps.ensures) refl)).walk.bare_same)
+    (from_alike c.args.tree.now c.take_columns.new.tree c.take_columns.ensures.alike c.args.tally.now c.args.passes.now (g.R.Ruler.log c.args.ruler.now)
+    (state c.grid_at.new.tree c.grid_at.new.tally c.grid_at.new.passes (g.R.Ruler.log c.grid_at.new.ruler)) c.args.id c.args.query.now 0 (c.in_ok-told.ensures.below c.args.query.now (sym c.as_slice-reps.ensures) refl)).walk.bare_same)
     (sizes_fit (sight_at (bare c.args.tree.now.tree) c.args.id) c.args.query.now (ap (λ (z : Query). z.ask) c.requires.query) c.requires.fits)
 
 pub grid_sizes-grid_inline-requires-clause-grid : goal.grid_sizes-grid_inline-requires-clause-grid
@@ -382,13 +385,15 @@ pub grid_sizes-keep_told-requires-clause-live : goal.grid_sizes-keep_told-requir
 grid_sizes-keep_told-requires-clause-live g t c =
     subst (λ (z : BareTrees). IsLive z c.args.id)
     (sym
-    (from_alike c.args.tree.now c.take_columns.new.tree c.take_columns.ensures.alike c.args.tally.now c.args.passes.now (g.R.Ruler.log c.args.ruler.now) (state c.grid_at.new.tree c.grid_at.new.tally c.grid_at.new.passes (g.R.Ruler.log c.grid_at.new.ruler)) c.args.id c.args.query.now 0 (c.in_ok-told.ensures.below c.args.query.now (sym c.as_slice-reps.ensures) refl)).walk.bare_same)
+    (from_alike c.args.tree.now c.take_columns.new.tree c.take_columns.ensures.alike c.args.tally.now c.args.passes.now (g.R.Ruler.log c.args.ruler.now)
+    (state c.grid_at.new.tree c.grid_at.new.tally c.grid_at.new.passes (g.R.Ruler.log c.grid_at.new.ruler)) c.args.id c.args.query.now 0 (c.in_ok-told.ensures.below c.args.query.now (sym c.as_slice-reps.ensures) refl)).walk.bare_same)
     c.requires.live
 
 pub grid_sizes-keep_told-requires-clause-places : goal.grid_sizes-keep_told-requires-clause-places
 grid_sizes-keep_told-requires-clause-places g t c =
     places_held (bare c.grid_at.new.tree.tree) c.args.id c.args.query.now.reps given.None c.in_ok-told.told.parts.base
-    (subst (λ (z : BareTrees). IsGrid z c.args.id c.args.query.now.reps given.None c.in_ok-told.told.parts) (sym (c.in_ok-told.ensures.below c.args.query.now (sym c.as_slice-reps.ensures) refl).walk.bare_same) (subst (λ (o : List Pair). IsGrid (bare c.take_columns.new.tree.tree) c.args.id o given.None c.in_ok-told.told.parts) c.as_slice-reps.ensures
+    (subst (λ (z : BareTrees). IsGrid z c.args.id c.args.query.now.reps given.None c.in_ok-told.told.parts) (sym (c.in_ok-told.ensures.below c.args.query.now (sym c.as_slice-reps.ensures) refl).walk.bare_same)
+    (subst (λ (o : List Pair). IsGrid (bare c.take_columns.new.tree.tree) c.args.id o given.None c.in_ok-told.told.parts) c.as_slice-reps.ensures
     (subst (λ (w : Given). IsGrid (bare c.take_columns.new.tree.tree) c.args.id c.as_slice-reps.result.now w c.in_ok-told.told.parts) (ap (λ (z : Query). z.inline) c.requires.query) c.in_ok-told.ensures.value))).base
 
 pub grid_sizes-keep_told-requires-clause-told : goal.grid_sizes-keep_told-requires-clause-told
@@ -397,13 +402,17 @@ grid_sizes-keep_told-requires-clause-told g t c = subst (λ (z : BareTrees). Are
 pub grid_sizes-returns-clause-value : goal.grid_sizes-returns-clause-value
 grid_sizes-returns-clause-value g t c =
     ap inline_sizes
-    (c.in_ok-sizes.ensures.value c.args.query.now.reps given.None (subst (λ (z : BareTrees). IsGrid z c.args.id c.args.query.now.reps given.None c.in_ok-told.told.parts) (sym (c.in_ok-told.ensures.below c.args.query.now (sym c.as_slice-reps.ensures) refl).walk.bare_same) (subst (λ (o : List Pair). IsGrid (bare c.take_columns.new.tree.tree) c.args.id o given.None c.in_ok-told.told.parts) c.as_slice-reps.ensures
-    (subst (λ (w : Given). IsGrid (bare c.take_columns.new.tree.tree) c.args.id c.as_slice-reps.result.now w c.in_ok-told.told.parts) (ap (λ (z : Query). z.inline) c.requires.query) c.in_ok-told.ensures.value)))) ∙ grid_answer (bare c.grid_at.new.tree.tree) c.args.id c.args.query.now (subst (λ (z : BareTrees). (sight_at
+    (c.in_ok-sizes.ensures.value c.args.query.now.reps given.None
+    (subst (λ (z : BareTrees). IsGrid z c.args.id c.args.query.now.reps given.None c.in_ok-told.told.parts) (sym (c.in_ok-told.ensures.below c.args.query.now (sym c.as_slice-reps.ensures) refl).walk.bare_same)
+    (subst (λ (o : List Pair). IsGrid (bare c.take_columns.new.tree.tree) c.args.id o given.None c.in_ok-told.told.parts) c.as_slice-reps.ensures
+    (subst (λ (w : Given). IsGrid (bare c.take_columns.new.tree.tree) c.args.id c.as_slice-reps.result.now w c.in_ok-told.told.parts) (ap (λ (z : Query). z.inline) c.requires.query) c.in_ok-told.ensures.value)))) ∙
+    grid_answer (bare c.grid_at.new.tree.tree) c.args.id c.args.query.now (subst (λ (z : BareTrees). (sight_at
     z c.args.id).label.kind ≡ kind.Grid) (sym (from_alike c.args.tree.now c.take_columns.new.tree c.take_columns.ensures.alike c.args.tally.now c.args.passes.now (g.R.Ruler.log c.args.ruler.now)
     (state c.grid_at.new.tree c.grid_at.new.tally c.grid_at.new.passes (g.R.Ruler.log c.grid_at.new.ruler)) c.args.id c.args.query.now 0 (c.in_ok-told.ensures.below c.args.query.now (sym c.as_slice-reps.ensures) refl)).walk.bare_same) c.requires.grid) (ap (λ (z :
     Query). z.ask) c.requires.query)
     ∙ ap (λ (z : BareTrees). answer_of (sight_at z c.args.id) c.args.query.now)
-    (from_alike c.args.tree.now c.take_columns.new.tree c.take_columns.ensures.alike c.args.tally.now c.args.passes.now (g.R.Ruler.log c.args.ruler.now) (state c.grid_at.new.tree c.grid_at.new.tally c.grid_at.new.passes (g.R.Ruler.log c.grid_at.new.ruler)) c.args.id c.args.query.now 0 (c.in_ok-told.ensures.below c.args.query.now (sym c.as_slice-reps.ensures) refl)).walk.bare_same
+    (from_alike c.args.tree.now c.take_columns.new.tree c.take_columns.ensures.alike c.args.tally.now c.args.passes.now (g.R.Ruler.log c.args.ruler.now)
+    (state c.grid_at.new.tree c.grid_at.new.tally c.grid_at.new.passes (g.R.Ruler.log c.grid_at.new.ruler)) c.args.id c.args.query.now 0 (c.in_ok-told.ensures.below c.args.query.now (sym c.as_slice-reps.ensures) refl)).walk.bare_same
 
 pub grid_sizes-returns-clause-below : goal.grid_sizes-returns-clause-below
 grid_sizes-returns-clause-below g t c =
@@ -507,7 +516,8 @@ flex_anew-put-requires-clause-fits g t c = subst (λ (z : BareTrees). Fits (sigh
 pub columns_anew-put-requires-clause-value : goal.columns_anew-put-requires-clause-value
 columns_anew-put-requires-clause-value g t c =
     ap lent_items (c.in_ok-items.ensures (bare c.args.tree.now.tree) c.args.id c.args.query.reps given.None (subst (λ (o : List Pair). IsGrid (bare c.args.tree.now.tree) c.args.id o given.None c.in_ok-told.told.parts) c.as_slice-reps.ensures
-    (subst (λ (w : Given). IsGrid (bare c.args.tree.now.tree) c.args.id c.as_slice-reps.result.now w c.in_ok-told.told.parts) (ap (λ (q : Query). q.inline) c.requires.query) c.in_ok-told.ensures.value))) ∙ lent_answer (bare c.args.tree.now.tree) c.args.id c.args.query (c.subgrids_are_grids.ensures (lent_fit
+    (subst (λ (w : Given). IsGrid (bare c.args.tree.now.tree) c.args.id c.as_slice-reps.result.now w c.in_ok-told.told.parts) (ap (λ (q : Query). q.inline) c.requires.query) c.in_ok-told.ensures.value))) ∙
+    lent_answer (bare c.args.tree.now.tree) c.args.id c.args.query (c.subgrids_are_grids.ensures (lent_fit
     (sight_at (bare c.args.tree.now.tree) c.args.id) c.args.query (ap (λ (q : Query). q.ask) c.requires.query) c.requires.fits)) (ap (λ (q : Query). q.ask) c.requires.query)
     ∙ ap (λ (z : BareTrees). answer_of (sight_at z c.args.id) c.args.query) (sym (c.in_ok-told.ensures.below c.args.query (sym c.as_slice-reps.ensures) refl).walk.bare_same)
 
@@ -515,7 +525,8 @@ pub columns_anew-returns-clause-value : goal.columns_anew-returns-clause-value
 columns_anew-returns-clause-value g t c =
     ap lent_items (c.in_ok-lent.ensures ∙ c.as_slice.ensures) ∙
     ap lent_items (c.in_ok-items.ensures (bare c.args.tree.now.tree) c.args.id c.args.query.reps given.None (subst (λ (o : List Pair). IsGrid (bare c.args.tree.now.tree) c.args.id o given.None c.in_ok-told.told.parts) c.as_slice-reps.ensures
-    (subst (λ (w : Given). IsGrid (bare c.args.tree.now.tree) c.args.id c.as_slice-reps.result.now w c.in_ok-told.told.parts) (ap (λ (q : Query). q.inline) c.requires.query) c.in_ok-told.ensures.value))) ∙ lent_answer (bare c.args.tree.now.tree) c.args.id c.args.query (c.subgrids_are_grids.ensures (lent_fit
+    (subst (λ (w : Given). IsGrid (bare c.args.tree.now.tree) c.args.id c.as_slice-reps.result.now w c.in_ok-told.told.parts) (ap (λ (q : Query). q.inline) c.requires.query) c.in_ok-told.ensures.value))) ∙
+    lent_answer (bare c.args.tree.now.tree) c.args.id c.args.query (c.subgrids_are_grids.ensures (lent_fit
     (sight_at (bare c.args.tree.now.tree) c.args.id) c.args.query (ap (λ (q : Query). q.ask) c.requires.query) c.requires.fits)) (ap (λ (q : Query). q.ask) c.requires.query)
 
 pub columns_anew-returns-clause-walked : goal.columns_anew-returns-clause-walked
@@ -637,7 +648,11 @@ flex_at-loop-number-preserved g t c =
           (sizes_are _ _ c.in_ok-inline.ensures.value ∙ ap (λ (z : BareTrees). (kid_at z c.child-child.result).answers.inline []) c.loop-number.invariant.same)
           c.in_ok-push.ensures.ok c.loop-number.invariant.members;
       children = subst (All (IsChild (bare c.args.tree.now.tree) c.args.id)) (sym c.in_ok-push.ensures.ok)
-          (All-push (IsChild (bare c.args.tree.now.tree) c.args.id) _ _ c.loop-number.invariant.children (record { number = (subst (λ (z : BareTrees). IsNext z c.args.id (get_or c.as_slice-number-items.result.now c.loop-number.number-index 0) c.child-child.result) c.loop-number.invariant.same c.child-child.ensures.next).number; live = (subst (λ (z : BareTrees). IsNext z c.args.id (get_or c.as_slice-number-items.result.now c.loop-number.number-index 0) c.child-child.result) c.loop-number.invariant.same c.child-child.ensures.next).live }));
+          (All-push (IsChild (bare c.args.tree.now.tree) c.args.id) _ _ c.loop-number.invariant.children
+          (record {
+            number = (subst (λ (z : BareTrees). IsNext z c.args.id (get_or c.as_slice-number-items.result.now c.loop-number.number-index 0) c.child-child.result) c.loop-number.invariant.same c.child-child.ensures.next).number;
+            live = (subst (λ (z : BareTrees). IsNext z c.args.id (get_or c.as_slice-number-items.result.now c.loop-number.number-index 0) c.child-child.result) c.loop-number.invariant.same c.child-child.ensures.next).live;
+          }));
     }
 
 pub flex_at-returns-clause-value : goal.flex_at-returns-clause-value

@@ -6,7 +6,8 @@ use Rattle.placing.proofs.telling.move_ends.Goals.{in-Some, in_default}
 
 pub overflow_sub-moved : goal.overflow_sub-moved
 overflow_sub-moved c =
-    (movable_at c.args.ends.now c.args.index c.args.less c.args.more c.loop-at.at c.in-Some.end.now c.requires c.loop-at.invariant.from (moved_next c.args.ends.now c.loop-at.ends c.args.index c.args.less c.args.more c.loop-at.at c.in-Some.end.now c.loop-at.invariant (sym c.get.ensures.value ∙ ap option_copied c.in-Some.is))).low
+    (movable_at c.args.ends.now c.args.index c.args.less c.args.more c.loop-at.at c.in-Some.end.now c.requires c.loop-at.invariant.from
+    (moved_next c.args.ends.now c.loop-at.ends c.args.index c.args.less c.args.more c.loop-at.at c.in-Some.end.now c.loop-at.invariant (sym c.get.ensures.value ∙ ap option_copied c.in-Some.is))).low
 
 pub overflow_add-moved : goal.overflow_add-moved
 overflow_add-moved c =

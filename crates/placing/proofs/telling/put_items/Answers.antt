@@ -5,7 +5,8 @@ use Rattle.placing.proofs.telling.put_items.Goals as goal
 
 pub overflow_sub-end : goal.overflow_sub-end
 overflow_sub-end c =
-    (lies_at c.args.items.now c.args.ends.now c.requires.parts.parts c.args.index c.start_of-start.result (get_or c.as_slice-2.result.now c.args.index 0) c.requires.parts.joined c.requires.parts.ended c.requires.index (c.start_of-start.ensures c.requires.parts.parts (c.as_slice.ensures ∙ c.requires.parts.ended)) (ap (λ l. get_or l c.args.index 0) c.as_slice-2.ensures)).forth
+    (lies_at c.args.items.now c.args.ends.now c.requires.parts.parts c.args.index c.start_of-start.result (get_or c.as_slice-2.result.now c.args.index 0) c.requires.parts.joined c.requires.parts.ended c.requires.index
+    (c.start_of-start.ensures c.requires.parts.parts (c.as_slice.ensures ∙ c.requires.parts.ended)) (ap (λ l. get_or l c.args.index 0) c.as_slice-2.ensures)).forth
 
 pub write_items-requires-clause-within : goal.write_items-requires-clause-within
 write_items-requires-clause-within c =
@@ -35,7 +36,8 @@ splice_items-requires c =
 
 pub overflow_sub-end-2 : goal.overflow_sub-end-2
 overflow_sub-end-2 c =
-    (lies_at c.args.items.now c.args.ends.now c.requires.parts.parts c.args.index c.start_of-start.result (get_or c.as_slice-2.result.now c.args.index 0) c.requires.parts.joined c.requires.parts.ended c.requires.index (c.start_of-start.ensures c.requires.parts.parts (c.as_slice.ensures ∙ c.requires.parts.ended)) (ap (λ l. get_or l c.args.index 0) c.as_slice-2.ensures)).forth
+    (lies_at c.args.items.now c.args.ends.now c.requires.parts.parts c.args.index c.start_of-start.result (get_or c.as_slice-2.result.now c.args.index 0) c.requires.parts.joined c.requires.parts.ended c.requires.index
+    (c.start_of-start.ensures c.requires.parts.parts (c.as_slice.ensures ∙ c.requires.parts.ended)) (ap (λ l. get_or l c.args.index 0) c.as_slice-2.ensures)).forth
 
 pub move_ends-requires : goal.move_ends-requires
 move_ends-requires c =

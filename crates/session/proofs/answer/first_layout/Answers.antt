@@ -38,5 +38,6 @@ returns-clause-steps g c = c.layout_text.ensures.same.steps ∙ c.in_ok-engine.e
 pub returns-in_err-write-clause-prefix : goal.returns-in_err-write-clause-prefix
 returns-in_err-write-clause-prefix g c =
     on_any c.from_residual-in_err-write.result
-    (laid_prefix c.args.stats (g.K.Sink.written c.args.sink.now) (g.K.Sink.written c.write.new.sink) (g.R.Ruler.log c.args.ruler.now) (g.R.Ruler.log c.layout_text.new.ruler) 0 c.args.doc (doc_of c.in_ok-engine.engine) c.in_ok-engine.ensures.document c.in_ok-text.text.items c.in_ok-text.ensures.prints
+    (laid_prefix c.args.stats (g.K.Sink.written c.args.sink.now) (g.K.Sink.written c.write.new.sink) (g.R.Ruler.log c.args.ruler.now)
+    (g.R.Ruler.log c.layout_text.new.ruler) 0 c.args.doc (doc_of c.in_ok-engine.engine) c.in_ok-engine.ensures.document c.in_ok-text.text.items c.in_ok-text.ensures.prints
     (subst (λ (x : List ℕ). AddsPrefix (g.K.Sink.written c.args.sink.now) (g.K.Sink.written c.write.new.sink) x) c.deref.ensures.value c.in_err-write.ensures.err))

@@ -17,7 +17,8 @@ pub sub-requires : goal.sub-requires
 sub-requires c =
     let weight : c.loop-row.sum + c.weight-sum.result ≡ c.loop-row.sum + weight_of c.args.affected.now c.row-item.result = omega (arith, c.weight-sum.ensures.value ∙ ap (weight_of c.args.affected.now) (sym c.row-item.is)) in
     let upper : c.floor_div-upper.result ≡ part c.args.space c.args.total (c.loop-row.sum + c.weight-sum.result) = c.floor_div-upper.ensures.value ∙ ap (λ (z : ℤ). floor_div z c.args.total) (c.times.ensures ∙ ap (λ (z : ℤ). z *ℤ pos (c.loop-row.sum + c.weight-sum.result)) c.wide.ensures.value) in
-    (next_part c.args.affected.now c.args.space c.args.total c.args.rows.now c.loop-row.rows c.loop-row.row-index c.loop-row.sum (c.loop-row.sum + c.weight-sum.result) c.loop-row.lower c.floor_div-upper.result c.row-item.result c.loop-row.invariant c.requires.flexible c.requires.some (omega (arith, ints, c.wide.ensures.value)) (omega arith) c.row-item.is weight upper).wide
+    (next_part c.args.affected.now c.args.space c.args.total c.args.rows.now c.loop-row.rows c.loop-row.row-index c.loop-row.sum
+    (c.loop-row.sum + c.weight-sum.result) c.loop-row.lower c.floor_div-upper.result c.row-item.result c.loop-row.invariant c.requires.flexible c.requires.some (omega (arith, ints, c.wide.ensures.value)) (omega arith) c.row-item.is weight upper).wide
 
 pub incur-requires-clause-some : goal.incur-requires-clause-some
 incur-requires-clause-some c =
