@@ -3,8 +3,8 @@
     tools/figures.py [--list] [CRATE ..]
 For each crate, or for those that are named: how many functions it has; how many have more than eight parameters, and how many a
 contract of more than 30 lines of 100 columns; how many clauses it has, and how many pass 100 columns; and how many lines of specs/
-pass 160 columns and of proofs/ 300. Last stand the sums. With --list each such
-function is named. It needs python3, as the kit's command rt does."""
+pass 160 columns and of proofs/ 300, but for imports, which the layout tool puts in one line each. Last stand the sums. With --list
+each such function is named. It needs python3, as the kit's command rt does."""
 
 import re
 import sys
@@ -12,6 +12,7 @@ from pathlib import Path
 
 CRATES = Path(__file__).resolve().parent.parent / "crates"
 HEAD = re.compile(r"\s*(?:pub(?:\([^)]*\))? )?(?:unsafe )?(?:extern \"C\" )?(?:ghost )?fn (\w+)")
+BODY = ("{", "{}")
 CLAUSE = re.compile(r"\s*(?:requires|ensures)\b")
 
 
@@ -57,12 +58,15 @@ def functions(lines):
             at += 1
             continue
         head, contract = [], []
-        while at < len(lines) and lines[at].strip() != "{" and not (lines[at].rstrip().endswith("{") and not contract):
+        while at < len(lines) and lines[at].strip() not in BODY and not (lines[at].rstrip().endswith("{") and not contract):
             if CLAUSE.match(lines[at]) or contract:
                 contract.append(lines[at])
             else:
                 head.append(lines[at])
             at += 1
+            # (a method of a trait has no body)
+            if lines[at - 1].rstrip().endswith(";"):
+                break
         if at < len(lines) and not contract:
             head.append(lines[at])
         yield found[1], parameters(" ".join(head)[found.end(1) :]), contract
@@ -70,7 +74,8 @@ def functions(lines):
 
 
 def long_lines(folder, columns):
-    return sum(len(line.rstrip("\n")) > columns for path in folder.rglob("*.antt") for line in path.open())
+    lines = (line.rstrip("\n") for path in folder.rglob("*.antt") for line in path.open())
+    return sum(len(line) > columns for line in lines if not line.startswith("use "))
 
 
 def figures(crate):

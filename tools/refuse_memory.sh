@@ -15,6 +15,8 @@ export LC_ALL=C
 # shellcheck source=program.sh
 . "$(dirname -- "$(readlink -f -- "${BASH_SOURCE[0]}")")/program.sh"
 take_program "$@"
+# shellcheck source=memory/inputs.sh
+. "$top/tools/memory/inputs.sh"
 command -v gcc >/dev/null || stop "gcc is not installed"
 gcc -shared -fPIC -O2 -Wall -Wextra -Werror -fno-builtin -o "$room/shim.so" "$top/tools/memory/shim.c" || stop "the shim was not compiled"
 head -c 8 /dev/zero >"$room/none"
@@ -60,21 +62,8 @@ refuse() {
     printf '%-44s %6d requests, %6d refusals changed the outcome, the last is %d\n' "$title" "$all" "$changed" "$last"
 }
 
-for name in repeated-names lent-names-move cards; do
-    refuse "$name" "$data/rows/$name.in"
-done
-while IFS= read -r edit; do
-    sed '/^---$/q' "$data/rows/lent-names-move.in" >"$room/input"
-    printf '%s\n' "$edit" >>"$room/input"
-    refuse "lent-names-move, $edit" "$room/input"
-done <<'EDITS'
-set b width: 5px
-set p grid-row: 1
-set t row-gap: 2px
-viewport 10 10
-EDITS
-sed '/^---$/q' "$data/rows/lent-names-move.in" >"$room/input"
-printf '%s\n' 'remove s' 'set b width: 5px' 'move b main 0' 'undo 3' 'redo 2' >>"$room/input"
+for_each_input refuse
+reached 'remove s' 'set b width: 5px' 'move b main 0' 'undo 3' 'redo 2'
 refuse "lent-names-move, undo 3 and redo 2" "$room/input"
 refuse "lent-names-move, undo 3 and redo 2, written" "$room/input" write
 printf 'runs that ended otherwise: %d\n' "$bad"

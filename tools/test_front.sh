@@ -93,11 +93,11 @@ wants_same() {
 
 # ---- calls
 
-# try WORD..: runs a command with nothing to read, for at most a minute, also on a busy machine. What it wrote is in $room/out and
+# try WORD..: runs a command with nothing to read, for at most four minutes, also on a busy machine. What it wrote is in $room/out and
 # $room/err, its status in $status.
 try() {
     status=0
-    timeout 60 "$@" </dev/null >"$room/out" 2>"$room/err" || status=$?
+    timeout 240 "$@" </dev/null >"$room/out" 2>"$room/err" || status=$?
 }
 
 # A checkout without what is built, and a machine that has a few tools and no kit.
@@ -155,6 +155,8 @@ had() {
 . "$top/tools/front/compare.sh"
 # shellcheck source=front/memory.sh
 . "$top/tools/front/memory.sh"
+# shellcheck source=front/again.sh
+. "$top/tools/front/again.sh"
 # shellcheck source=front/size.sh
 . "$top/tools/front/size.sh"
 # shellcheck source=front/written.sh

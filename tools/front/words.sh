@@ -46,6 +46,7 @@ slip "no such file: nowhere.gridlay" --unproved nowhere.gridlay
 slip "$fresh/examples is a folder: name a file in it" "$fresh/examples"
 slip "no such word or file: chek; did you mean check?" chek
 slip "no such word or file: layuot; did you mean layout?" layuot
+slip "no such word: chek; did you mean check?" chek examples/first.gridlay
 slip "no such option: --unprovd; did you mean --unproved?" --unprovd examples/first.gridlay
 slip "no such option: --hlep; did you mean --help?" --hlep
 slip "layout has no option --stat; did you mean --stats?" layout --stat
