@@ -114,7 +114,7 @@ write_page() {
         data_block "example-$example" "$top/examples/$example.gridlay" | sed "s/^<script /&data-example=\"$example\" /"
     done
     printf '<script type="text/plain" id="worker">\n'
-    cat "$view/page/worker.js"
+    cat "$view/page/changes.js" "$view/page/worker.js"
     printf '</script>\n'
     page_scripts "$view/page" engine editor edges dragging play_page
 }

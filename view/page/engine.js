@@ -57,7 +57,8 @@
     }
 
     /**
-     * What the program prints for a text: `{ output, status, time }`, or `{ trouble, time }` where it was stopped.
+     * What the program prints for a text: `{ output, status, time, edits }`, or `{ trouble, time }` where it was stopped. `edits`
+     * made the document that is kept what it is since it was opened; null where the text is not kept.
      * While one text is laid out, only the latest other one waits: where a text never gets its turn, its answer is null.
      */
     layout(text) {
@@ -95,14 +96,14 @@
       this.worker.postMessage({ number: this.last, input }, [input.buffer]);
     }
 
-    hear({ number, status, output, trouble, time, box }) {
+    hear({ number, status, output, trouble, time, edits, box }) {
       if (this.asked.has(number)) {
         this.asked.get(number)(box);
         this.asked.delete(number);
       }
       if (this.running?.number !== number) return;
       this.text = trouble ? null : this.running.text;
-      this.answer(trouble ? { trouble, time } : { status, output: new TextDecoder().decode(output), time });
+      this.answer(trouble ? { trouble, time } : { status, output: new TextDecoder().decode(output), time, edits });
     }
 
     /** The worker itself failed: a new one takes its place. */

@@ -57,8 +57,9 @@
       this.window.replaceChildren(...rows);
     }
 
-    /** Scrolls as little as is needed so that a row is seen. */
+    /** Scrolls as little as is needed so that a row is seen; nothing where the list is hidden. */
     reveal(index) {
+      if (!this.room) return;
       const top = index * this.height;
       if (top < this.top || top + this.height > this.top + this.room) {
         this.element.scrollTop = top - (this.room - this.height) / 2;

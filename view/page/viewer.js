@@ -62,6 +62,8 @@
       const { kind, name } = this.answer, { boxes } = this.side.lists, isHit = kind === 'hit';
       this.chosen = scene.boxes.places.get(isHit ? name : this.nameOf(this.chosen)) ?? -1;
       this.pointed = -1;
+      // (what it tells is of a box of the scene before)
+      this.part.tip.hidden = true;
       this.scene = scene;
       this.stage.view.fit(scene.extent);
       boxes.show(scene.count);

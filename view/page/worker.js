@@ -1,11 +1,14 @@
 // The worker in which the engine runs: a text comes, and what the program writes for it goes back. The engine is the library, so a
-// document stays in it: where only the script is another one, the edits from the first other one on are taken back, and the new
-// ones are made. What stops the engine is told, and it begins anew with the next text.
+// document stays in it. Where only the script is another one, the edits from the first other one on are taken back, and the new
+// ones are made; where a few lines of the document are other ones, edits make them so (changes.js), and else it is opened anew.
+// What stops the engine is told, and it begins anew with the next text.
 'use strict';
 
 const OK = 0, ROOM = 1, NONE = 2, REFUSED = 3, MEMORY = 6;
-/** The statuses of the program: all done; some edits refused. */
-const DONE = 0, SOME_REFUSED = 3;
+/** After so many edits a document is opened anew, since the engine keeps each of them. */
+const MOST_EDITS = 1000;
+/** The statuses of the program: all done; the document refused; some edits refused. */
+const DONE = 0, BAD_DOCUMENT = 2, SOME_REFUSED = 3;
 const UNKNOWN_EDIT = 20;
 const FAULTS = {
   1: 'bad-byte', 2: 'line-too-long', 3: 'bad-header', 4: 'bad-indent', 5: 'bad-name', 6: 'duplicate-name', 7: 'unknown-kind',
@@ -84,7 +87,7 @@ class Library {
 
   told(answer) {
     const view = new DataView(this.calls.memory.buffer, Number(this.fault), 12);
-    return { answer, column: view.getUint32(4, true), fault: view.getUint8(8) };
+    return { answer, line: view.getUint32(0, true), column: view.getUint32(4, true), fault: view.getUint8(8) };
   }
 
   open(bytes) {
@@ -169,39 +172,65 @@ class Kept {
   constructor(module) {
     this.library = new Library(module);
     this.document = null;
+    /** The boxes of the document before its script, and how many edits made it what it is. */
     this.first = null;
+    this.count = 0;
     /** The edits in their order: `{ text, boxes }`, `{ text, fault, column }` or `{ text, name }` of a hit. */
     this.edits = [];
     this.isLaid = false;
+    /** Whether the text that came last is answered from here. */
+    this.isShown = false;
   }
 
   /** What the program writes for an input, and its status. */
   lay(input) {
     const { document, size, script } = parted(input);
-    if (script.some(it => MOVES.test(it.text))) return this.whole(input);
-    if (document !== this.document && !this.open(document, input.subarray(0, size))) return this.whole(input);
+    this.isShown = false;
+    if (script.some(it => MOVES.test(it.text))) return { ...this.library.answer(input), edits: null };
+    // (where a document is refused, the one that is kept stays: the text is mended soon)
+    const refusal = this.take(document, input.subarray(0, size));
+    if (refusal) return { status: BAD_DOCUMENT, output: ASCII.encode(refusal), edits: null };
+    this.isShown = true;
     let same = 0;
     while (same < Math.min(this.edits.length, script.length) && this.edits[same].text === script[same].text) same++;
     this.takeBack(same);
     for (const { text } of script.slice(same)) this.edits.push({ text, ...this.make(text) });
-    return this.written(script);
+    return { ...this.written(script), edits: this.count };
   }
 
-  /** The whole input is answered at once, and no document is kept. */
-  whole(input) {
-    this.document = null;
-    return this.library.answer(input);
+  /** Makes a document the one that is kept; answers what is written where it is refused, and else nothing. */
+  take(document, bytes) {
+    return document === this.document || this.change(document) ? '' : this.open(document, bytes);
+  }
+
+  /** Makes the kept document another one by edits; answers whether it could. */
+  change(document) {
+    const edits = this.document === null || this.count > MOST_EDITS ? null : editsBetween(this.document, document);
+    if (!edits) return false;
+    if (edits.length) this.takeBack(0);
+    for (const [at, edit] of edits.entries()) {
+      const { answer } = this.library.edit(ASCII.encode(edit));
+      if (answer === REFUSED) {
+        if (at) this.move(`undo ${at}`);
+        return false;
+      }
+      want(answer, edit);
+    }
+    if (edits.length) this.first = this.laidOut();
+    this.count += edits.length;
+    this.document = document;
+    return true;
   }
 
   open(document, bytes) {
-    this.document = null;
-    this.edits = [];
-    const { answer } = this.library.open(bytes);
-    if (answer === REFUSED) return false;
+    const { answer, line, column, fault } = this.library.open(bytes);
+    if (answer === REFUSED) return `refused 0 ${line}:${column} ${FAULTS[fault]}\n`;
     want(answer, 'gridlay_open');
+    this.edits = [];
+    this.count = 0;
     this.first = this.laidOut();
     this.document = document;
-    return true;
+    return '';
   }
 
   laidOut() {
@@ -255,9 +284,9 @@ class Kept {
     return { status, output: joined(pieces) };
   }
 
-  /** The index of the box at a point after so many edits; null where no document is kept. */
+  /** The index of the box at a point after so many edits; null where that text is not kept. */
   hitAfter(count, x, y) {
-    if (this.document === null) return null;
+    if (!this.isShown) return null;
     const made = this.edits.slice(count).filter(it => it.boxes).length;
     if (made) this.move(`undo ${made}`);
     if (!this.isLaid) this.laidOut();

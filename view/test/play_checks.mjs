@@ -99,6 +99,48 @@ async function checkKeys(checks, tools, page) {
   });
 }
 
+/** Lays a text out beside the editor, and holds the answer to that of the program; gives the answer. */
+async function answered(page, program, source) {
+  const answer = await page.value(`gridlay.page.engine.layout(${JSON.stringify(source)})`);
+  assert.equal(answer.output, printedBy(program, source), source);
+  return answer;
+}
+
+/** What typing makes of a line, one after another: numbers that grow, pieces that are missing, and what is put behind it. */
+function typedInto(line) {
+  const number = /\d+(?=\D*$)/.exec(line), at = number ? number.index + number[0].length : line.length;
+  const grown = `${line.slice(0, at)}0${line.slice(at)}`;
+  return [
+    grown, `${grown} # a comment`, line.slice(0, Math.ceil(line.length * 0.7)), grown, line.replace(/:[^;}]*/, ': 3px'), line.replace(/\{.*/, ''),
+    line.replace(/ *\}? *$/, '; order: 2 }'), line.replace(/\{ */, '{ margin: 1px 2px; margin-top: 3px; '), line.replace(/\{ */, '{ margin: 1px 2px; '),
+    line.replace(/\{ */, '{ margin-top: 3px; margin: 1px 2px; '), line.replace(/(leaf|words) .*/, 'words 10 2 20 30 40'), line.replace(/(grid|flex)/, 'flex'),
+    line.replace(/[a-z]/, 'q'), `${line}\n`, `# before\n${line}`, line,
+  ];
+}
+
+async function checkTyping(checks, tools, page) {
+  const { program, examples } = tools;
+  await checks.check('lines that are typed into, also beside faults, are answered as by the program', async () => {
+    for (const name of ['cards', 'form', 'edits']) {
+      const lines = text(join(examples, `${name}.gridlay`)).split('\n');
+      for (const [at, line] of lines.slice(0, lines.indexOf('---')).entries()) {
+        for (const it of new Set(typedInto(line))) {
+          await answered(page, program, [...lines.slice(0, at), it, ...lines.slice(at + 1)].join('\n'));
+        }
+      }
+    }
+  });
+  await checks.check('a line that is typed into is an edit for the engine, also where a fault was mended; other texts are opened anew', async () => {
+    const source = text(join(examples, 'cards.gridlay')), last = 'align-self: center }\n', edits = [];
+    const texts = [
+      source, source.replace('20 60\n', '20 60 7\n'), source.replace('20 60\n', '20 60 x\n'), source.replace('20 60\n', '20 60 75\n'),
+      source.replace(last, 'align-self: center } # a comment\n'), source.replace('viewport 640', 'viewport 600'), source.replace(last, `${last}    new leaf 1 1\n`),
+    ];
+    for (const it of texts) edits.push((await answered(page, program, it)).edits);
+    assert.deepEqual(edits, [0, 1, null, 2, 3, 4, 0]);
+  });
+}
+
 async function checkCaret(checks, tools, page) {
   const { examples } = tools;
   await checks.check('the picture shows the layout of the line where the caret stands', async () => {
@@ -446,7 +488,7 @@ async function checkLargeTexts(checks, tools, page) {
 }
 
 const CHECKS = [
-  checkWords, checkExamples, checkKeys, checkCaret, checkFault, checkRefused, checkDragging, checkScript, checkLatest, checkKept,
+  checkWords, checkExamples, checkKeys, checkTyping, checkCaret, checkFault, checkRefused, checkDragging, checkScript, checkLatest, checkKept,
   checkHit, checkTrap, checkWorker, checkChosen, checkSpeed, checkDragSpeed, checkLargeTexts, checkMarks, checkNarrow, checkQuiet,
 ];
 
