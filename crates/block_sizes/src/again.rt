@@ -1,27 +1,29 @@
 //! What the children of a grid told when they were asked last: what of it serves again, and how it is kept (own rule).
 
-ghost use Rattle.std.specs.Prelude.{◌≡◌, ◌&&◌, ℤ, true, IfOk, IfSome};
+ghost use Rattle.std.specs.Prelude.{◌≡◌, ◌&&◌, ℕ, ℤ, true, IfOk, IfSome};
 ghost use Rattle.std.specs.Ordering.{int_eq};
 ghost use Rattle.placing.specs.Bases.{HoldsPlaces};
-ghost use Rattle.placing.specs.Kept.{IsRight};
 ghost use Rattle.placing.specs.Nodes.{bare, children_at, kid_at, sight_at, IsLive};
 ghost use Rattle.placing.specs.Told.{AreColumns, AreRows, AreRowsFor, Each, IsPastColumns, IsPastRows};
-ghost use Rattle.placing.specs.Walks.{IsAlike};
+ghost use Rattle.placing.specs.Walks.{State, Stopped, WalkedBelow};
 ghost use Rattle.tree_rules.specs.Queries.{same_items};
+ghost use Rattle.tree_rules.specs.declared.query.Query.{Query};
+ghost use Rattle.walker.specs.Walkers.{nodes, seen, SameParts, Stands};
 ghost use Rattle.inline_sizes.specs.Grids.{IsGrid};
 ghost use Rattle.block_sizes.specs.Told.{ArePastIn};
 
 use layout_cache::{Given, same_counts};
 use lunit::{Lu, NoMemory, Sequence};
 use node_arena::{Arena, NodeId};
+use outside::Ruler;
 use part_rules::View;
 use placing::style::items;
 use placing::{
-    GridParts, GridWide, MANY, Node, PastColumns, PastRows, PastWide, SharedWide, keep_wide,
-    node_at, take_wide,
+    GridParts, GridWide, MANY, Node, PastColumns, PastRows, PastWide, SharedWide, node_at,
 };
-use std::alloc::Global;
+use std::sync::ledger::Ledger;
 use style_types::Align;
+use walker::Walker;
 
 /// A grid in its columns with its children in them, and where the items of each child end.
 #[derive(Drop)]
@@ -36,19 +38,24 @@ pub struct ToldWide {
 
 /// What the children of a grid told last for its columns, and for its rows, with those that must be asked again. A walk goes on
 /// after it as before it. `NoMemory` where memory is wanting; it is lost then.
-pub(crate) fn take_past(
-    alloc: Global,
-    tree: &mut Arena<Node>,
+pub(crate) fn take_past<R: Ruler, L: Ledger>(
+    walk: &mut Walker<R, L>,
     id: NodeId,
 ) -> Result<(Option<PastColumns>, Option<PastRows>), NoMemory>
-    requires live { IsLive (bare tree.old.tree) id }
-    requires right { IsRight tree.old.tree }
-    ensures columns { IfOk result (λ past. IfSome past.0 (IsPastColumns (bare tree.old.tree) id)) }
-    ensures rows { IfOk result (λ past. IfSome past.1 (IsPastRows (bare tree.old.tree) id)) }
-    ensures right { IsRight tree.new.tree }
-    ensures alike { IsAlike tree.old tree.new }
+    requires stands { Stands walk.old }
+    requires live { IsLive (nodes walk.old) id }
+    ensures columns { IfOk result (λ past. IfSome past.0 (IsPastColumns (nodes walk.old) id)) }
+    ensures rows { IfOk result (λ past. IfSome past.1 (IsPastRows (nodes walk.old) id)) }
+    ensures stands { Stands walk.new }
+    ensures parts { SameParts walk.old walk.new }
+    ensures bare { nodes walk.new ≡ nodes walk.old }
+    ensures below { (q : Query) (more : ℕ) (new : State) →
+        WalkedBelow id q more (seen R.log walk.new) new →
+        WalkedBelow id q more (seen R.log walk.old) new }
+    ensures stopped { (q : Query) (new : State) → Stopped id q (seen R.log walk.new) new →
+        Stopped id q (seen R.log walk.old) new }
 {
-    match take_wide(alloc, tree, id)? {
+    match walk.take_wide(id)? {
         Some(past) => {
             let PastWide { columns, rows } = past;
             Ok((Some(columns), Some(rows)))
@@ -146,40 +153,40 @@ pub(crate) fn past_for(
 
 /// Keeps what the children of a grid told, where they are many. A walk goes on after it as before it. `NoMemory` where memory is
 /// wanting; nothing has changed then.
-pub(crate) fn keep_told(
-    alloc: Global,
-    tree: &mut Arena<Node>,
+pub(crate) fn keep_told<R: Ruler, L: Ledger>(
+    walk: &mut Walker<R, L>,
     id: NodeId,
     held: &SharedWide,
     column_ends: Sequence<usize>,
     row_ends: Sequence<usize>,
 ) -> Result<(), NoMemory>
-    requires live { IsLive (bare tree.old.tree) id }
-    requires right { IsRight tree.old.tree }
-    requires places { HoldsPlaces (sight_at (bare tree.old.tree) id)
-        (children_at (bare tree.old.tree) id) held.now.parts.base }
-    requires columns { AreColumns (sight_at (bare tree.old.tree) id) (kid_at (bare tree.old.tree))
-        Each (record { parts = held.now.parts; ends = column_ends }) }
-    requires rows { AreRows (sight_at (bare tree.old.tree) id) (kid_at (bare tree.old.tree))
+    requires stands { Stands walk.old }
+    requires live { IsLive (nodes walk.old) id }
+    requires places { HoldsPlaces (sight_at (nodes walk.old) id) (children_at (nodes walk.old) id)
+        held.now.parts.base }
+    requires columns { AreColumns (sight_at (nodes walk.old) id) (kid_at (nodes walk.old)) Each
+        (record { parts = held.now.parts; ends = column_ends }) }
+    requires rows { AreRows (sight_at (nodes walk.old) id) (kid_at (nodes walk.old))
         held.now.parts.base Each
         (record {
           columns = held.now.columns;
-          align =
-              (sight_at (bare tree.old.tree) id).label.content.inline.items;
-          children =
-              held.now.children;
+          align = (sight_at (nodes walk.old) id).label.content.inline.items;
+          children = held.now.children;
           items = held.now.items;
           ends = row_ends;
         }) }
     requires laid { IfSome held.now.rows
-        (AreRowsFor (sight_at (bare tree.old.tree) id) held.now.parts.base held.now.items) }
-    ensures right { IsRight tree.new.tree }
-    ensures alike { IsAlike tree.old tree.new }
+        (AreRowsFor (sight_at (nodes walk.old) id) held.now.parts.base held.now.items) }
+    ensures stands { Stands walk.new }
+    ensures parts { SameParts walk.old walk.new }
+    ensures below { (q : Query) (more : ℕ) (old : State) →
+        WalkedBelow id q more old (seen R.log walk.old) →
+        WalkedBelow id q more old (seen R.log walk.new) }
 {
     if row_ends.len() < MANY {
         return Ok(());
     }
-    let align = items::<0>(&node_at(tree, id).style);
+    let align = items::<0>(&node_at(walk.tree, id).style);
     let shared = held.again()?;
-    keep_wide(alloc, tree, id, shared, align, column_ends, row_ends)
+    walk.keep_wide(id, shared, align, column_ends, row_ends)
 }

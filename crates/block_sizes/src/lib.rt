@@ -34,4 +34,4 @@ pub use last_tracks::{LastTracks, ViewParts, box_after};
 pub use laws::{children_of_grids_are_as_defined, lines_are_as_defined};
 pub use queries::{block_query, kept_wide};
 pub use views::{view_by, view_for};
-pub use walk::{block_at, column_at, lend_rows_at, row_at};
+pub use walk::{block_in, column_in, lend_rows_at, row_in};

@@ -3,18 +3,17 @@
 
 ghost use Rattle.std.specs.Prelude.{◌≡◌, ◌∷◌, [], true, false, map, IfOk, OnOk, OnErr};
 ghost use Rattle.placing.specs.Keeping.{is_leaf};
-ghost use Rattle.placing.specs.Kept.{kept_at, IsRight};
 ghost use Rattle.placing.specs.Nodes.{bare, level_at, sight_at, IsLive};
-ghost use Rattle.placing.specs.Ranges.{AreReadable};
-ghost use Rattle.placing.specs.Seats.{IsSeat};
-ghost use Rattle.placing.specs.Walks.{kept_with, state, Stopped, Walked, WalkedBelow};
+ghost use Rattle.placing.specs.Walks.{kept_with, Stopped, Walked, WalkedBelow};
 ghost use Rattle.placing.specs.declared.node.Answer.TheVariants as answer;
 ghost use Rattle.tree_rules.specs.AskedQueries.{block_query};
 ghost use Rattle.tree_rules.specs.Chains.{has_chain, is_grid_kind};
 ghost use Rattle.tree_rules.specs.KeptAnswers.{IsAbsent};
 ghost use Rattle.tree_rules.specs.Queries.{answer_of, block_size, lent_items, needs_inline, Fits};
 ghost use Rattle.tree_rules.specs.declared.kind.NodeKind.TheVariants as kind;
+ghost use Rattle.tree_rules.specs.declared.query.Ask.TheVariants as ask;
 ghost use Rattle.tree_rules.specs.declared.query.Query.{Query};
+ghost use Rattle.walker.specs.Walkers.{kept, nodes, seen, HasSeat, SameParts, Stands};
 ghost use Rattle.inline_sizes.specs.Calls.{Found, Keeps};
 ghost use Rattle.placing.specs.Spread.{IsSpread};
 ghost use Rattle.block_sizes.specs.Keeping.{GrowsBy, KeepsSize};
@@ -34,15 +33,15 @@ use crate::flexes::row_lines;
 use crate::queries::{block_query, kept_block, kept_rows};
 use crate::row_sizes::laid_rows;
 use crate::wide::lent_rows;
-use inline_sizes::{Member, flex_at};
+use inline_sizes::{Member, flex_in};
 use layout_cache::{Given, Query};
-use lunit::{Area, Item, Lu, NoMemory, Sequence, Span, Steps};
+use lunit::{Area, Item, Lu, NoMemory, Sequence, Span};
 use node_arena::{Arena, NodeId};
-use outside::{Ruler, Tally};
+use outside::Ruler;
 use placing::style::is_column;
-use placing::{Above, Answer, Node, NodeKind, SharedWide, leaf_height, node_at, parent, put, root};
-use std::alloc::Global;
+use placing::{Above, Answer, Node, NodeKind, SharedWide, node_at, parent, root};
 use std::sync::ledger::Ledger;
+use walker::{Seat, Walker};
 
 /// No area.
 const NO_AREA: Area = Area {
@@ -84,50 +83,42 @@ fn subgrids_are_grids(tree: &Arena<Node>, id: NodeId)
 #[cycle(walk)]
 /// The block size of the content of each child of a flex container, with border boxes of these inline sizes.
 fn ask_members<R: Ruler, L: Ledger>(
-    alloc: Global,
-    tree: &mut Arena<Node>,
+    walk: &mut Walker<R, L>,
     id: NodeId,
     members: &[Member],
     boxes: &[Lu],
-    ruler: &mut R,
-    tally: &mut Tally,
-    passes: &mut Steps<L>,
 ) -> Result<Sequence<Lu>, NoMemory>
-    requires live { IsLive (bare tree.old.tree) id }
-    requires right { IsRight tree.old.tree }
-    requires readable { AreReadable (bare tree.old.tree) }
-    requires flex { (sight_at (bare tree.old.tree) id).label.kind ≡ kind.Flex }
-    requires members { AreMembers (bare tree.old.tree) id members.now }
-    requires roomy { AreRoomy (flex_seen (bare tree.old.tree) id).members boxes.now }
+    requires stands { Stands walk.old }
+    requires live { IsLive (nodes walk.old) id }
+    requires flex { (sight_at (nodes walk.old) id).label.kind ≡ kind.Flex }
+    requires members { AreMembers (nodes walk.old) id members.now }
+    requires roomy { AreRoomy (flex_seen (nodes walk.old) id).members boxes.now }
     ensures value { IfOk result
-        (λ blocks. blocks ≡ map block_of (settled_seen (bare tree.old.tree) id boxes.now)) }
-    ensures right { IsRight tree.new.tree }
+        (λ blocks. blocks ≡ map block_of (settled_seen (nodes walk.old) id boxes.now)) }
+    ensures stands { Stands walk.new }
+    ensures parts { SameParts walk.old walk.new }
     ensures below { OnOk result
-        ((q : Query) → LeadsTo (bare tree.old.tree) id boxes.now q →
-        WalkedBelow id q 0 (state tree.old tally.old passes.old (R.log ruler.old))
-        (state tree.new tally.new passes.new (R.log ruler.new))) }
+        ((q : Query) → LeadsTo (nodes walk.old) id boxes.now q →
+        WalkedBelow id q 0 (seen R.log walk.old) (seen R.log walk.new)) }
     ensures stopped { OnErr result
-        ((q : Query) → LeadsTo (bare tree.old.tree) id boxes.now q →
-        Stopped id q (state tree.old tally.old passes.old (R.log ruler.old))
-        (state tree.new tally.new passes.new (R.log ruler.new))) }
+        ((q : Query) → LeadsTo (nodes walk.old) id boxes.now q →
+        Stopped id q (seen R.log walk.old) (seen R.log walk.new)) }
 {
-    root(tree);
-    let mut blocks = Sequence::new(alloc);
+    root(walk.tree);
+    let mut blocks = Sequence::new(walk.alloc);
     for index in 0..members.len() {
         let member = member_at(members, index);
-        let width = given_box::<0>(&node_at(tree, member.child).style, box_at(boxes, index));
-        let block = block_at(
-            alloc,
-            tree,
-            member.child,
-            &[],
-            &Above::Nothing,
-            NO_AREA,
-            &width,
-            ruler,
-            tally,
-            passes,
-        )?;
+        let width = given_box::<0>(
+            &node_at(walk.tree, member.child).style,
+            box_at(boxes, index),
+        );
+        let above = Above::Nothing;
+        let seat = Seat {
+            reps: &[],
+            above: &above,
+            area: NO_AREA,
+        };
+        let block = block_in(walk, member.child, &seat, &width)?;
         blocks.push(block)?;
     }
     Ok(blocks)
@@ -136,45 +127,36 @@ fn ask_members<R: Ruler, L: Ledger>(
 #[cycle(walk)]
 /// A row of a known inline size: the lines and the main sizes of its children, and the block size of each at its main size (CSS
 /// Flexbox 1, 9.3 and 9.4). Nothing is kept for the container itself. It makes one step. `NoMemory` where memory is wanting.
-pub fn row_at<R: Ruler, L: Ledger>(
-    alloc: Global,
-    tree: &mut Arena<Node>,
+pub fn row_in<R: Ruler, L: Ledger>(
+    walk: &mut Walker<R, L>,
     id: NodeId,
     width: Lu,
-    ruler: &mut R,
-    tally: &mut Tally,
-    passes: &mut Steps<L>,
 ) -> Result<RowParts, NoMemory>
-    requires live { IsLive (bare tree.old.tree) id }
-    requires right { IsRight tree.old.tree }
-    requires readable { AreReadable (bare tree.old.tree) }
-    requires flex { (sight_at (bare tree.old.tree) id).label.kind ≡ kind.Flex }
-    requires direction { (sight_at (bare tree.old.tree) id).label.content.column ≡ false }
-    ensures value { IfOk result (IsRow (bare tree.old.tree) id width) }
-    ensures right { IsRight tree.new.tree }
+    requires stands { Stands walk.old }
+    requires live { IsLive (nodes walk.old) id }
+    requires flex { (sight_at (nodes walk.old) id).label.kind ≡ kind.Flex }
+    requires direction { (sight_at (nodes walk.old) id).label.content.column ≡ false }
+    ensures value { IfOk result (IsRow (nodes walk.old) id width) }
+    ensures stands { Stands walk.new }
+    ensures parts { SameParts walk.old walk.new }
     ensures below { OnOk result
         ((q : Query) → given_size q.inline ≡ width → needs_inline q.ask ≡ true →
-        WalkedBelow id q 1 (state tree.old tally.old passes.old (R.log ruler.old))
-        (state tree.new tally.new passes.new (R.log ruler.new))) }
+        WalkedBelow id q 1 (seen R.log walk.old) (seen R.log walk.new)) }
     ensures stopped { OnErr result
         ((q : Query) → given_size q.inline ≡ width → needs_inline q.ask ≡ true →
-        Stopped id q (state tree.old tally.old passes.old (R.log ruler.old))
-        (state tree.new tally.new passes.new (R.log ruler.new))) }
+        Stopped id q (seen R.log walk.old) (seen R.log walk.new)) }
 {
-    let parts = flex_at(alloc, tree, id, ruler, tally, passes)?;
+    let parts = flex_in(walk, id)?;
     let members = parts.members;
-    let items = items_in_row(alloc, tree, id, width, members.as_slice())?;
-    let lines = row_lines(alloc, &node_at(tree, id).style, width, &items, passes)?;
-    let blocks = ask_members(
-        alloc,
-        tree,
-        id,
-        members.as_slice(),
-        lines.mains.as_slice(),
-        ruler,
-        tally,
-        passes,
+    let items = items_in_row(walk.alloc, walk.tree, id, width, members.as_slice())?;
+    let lines = row_lines(
+        walk.alloc,
+        &node_at(walk.tree, id).style,
+        width,
+        &items,
+        walk.passes,
     )?;
+    let blocks = ask_members(walk, id, members.as_slice(), lines.mains.as_slice())?;
     Ok(RowParts {
         members,
         lines,
@@ -185,44 +167,29 @@ pub fn row_at<R: Ruler, L: Ledger>(
 #[cycle(walk)]
 /// A column of a known inline size: the inline size of each child, and its block size there (CSS Flexbox 1, 9.3 and 9.4). Nothing is
 /// kept for the container itself. `NoMemory` where memory is wanting.
-pub fn column_at<R: Ruler, L: Ledger>(
-    alloc: Global,
-    tree: &mut Arena<Node>,
+pub fn column_in<R: Ruler, L: Ledger>(
+    walk: &mut Walker<R, L>,
     id: NodeId,
     width: Lu,
-    ruler: &mut R,
-    tally: &mut Tally,
-    passes: &mut Steps<L>,
 ) -> Result<ColumnParts, NoMemory>
-    requires live { IsLive (bare tree.old.tree) id }
-    requires right { IsRight tree.old.tree }
-    requires readable { AreReadable (bare tree.old.tree) }
-    requires flex { (sight_at (bare tree.old.tree) id).label.kind ≡ kind.Flex }
-    requires direction { (sight_at (bare tree.old.tree) id).label.content.column ≡ true }
-    ensures value { IfOk result (IsColumn (bare tree.old.tree) id width) }
-    ensures right { IsRight tree.new.tree }
+    requires stands { Stands walk.old }
+    requires live { IsLive (nodes walk.old) id }
+    requires flex { (sight_at (nodes walk.old) id).label.kind ≡ kind.Flex }
+    requires direction { (sight_at (nodes walk.old) id).label.content.column ≡ true }
+    ensures value { IfOk result (IsColumn (nodes walk.old) id width) }
+    ensures stands { Stands walk.new }
+    ensures parts { SameParts walk.old walk.new }
     ensures below { OnOk result
         ((q : Query) → given_size q.inline ≡ width → needs_inline q.ask ≡ true →
-        WalkedBelow id q 0 (state tree.old tally.old passes.old (R.log ruler.old))
-        (state tree.new tally.new passes.new (R.log ruler.new))) }
+        WalkedBelow id q 0 (seen R.log walk.old) (seen R.log walk.new)) }
     ensures stopped { OnErr result
         ((q : Query) → given_size q.inline ≡ width → needs_inline q.ask ≡ true →
-        Stopped id q (state tree.old tally.old passes.old (R.log ruler.old))
-        (state tree.new tally.new passes.new (R.log ruler.new))) }
+        Stopped id q (seen R.log walk.old) (seen R.log walk.new)) }
 {
-    let parts = flex_at(alloc, tree, id, ruler, tally, passes)?;
+    let parts = flex_in(walk, id)?;
     let members = parts.members;
-    let boxes = boxes_in_column(alloc, tree, id, width, members.as_slice())?;
-    let blocks = ask_members(
-        alloc,
-        tree,
-        id,
-        members.as_slice(),
-        boxes.as_slice(),
-        ruler,
-        tally,
-        passes,
-    )?;
+    let boxes = boxes_in_column(walk.alloc, walk.tree, id, width, members.as_slice())?;
+    let blocks = ask_members(walk, id, members.as_slice(), boxes.as_slice())?;
     Ok(ColumnParts {
         members,
         boxes,
@@ -235,226 +202,196 @@ pub fn column_at<R: Ruler, L: Ledger>(
 #[cycle(walk)]
 /// The block size of the content of a grid that keeps none for this question. The grid in its columns is kept with it.
 fn grid_anew<R: Ruler, L: Ledger>(
-    alloc: Global,
-    tree: &mut Arena<Node>,
+    walk: &mut Walker<R, L>,
     id: NodeId,
     query: Query,
-    above: &Above,
-    area: Area,
-    ruler: &mut R,
-    tally: &mut Tally,
-    passes: &mut Steps<L>,
+    seat: &Seat,
 ) -> Result<Lu, NoMemory>
-    requires live { IsLive (bare tree.old.tree) id }
-    requires right { IsRight tree.old.tree }
-    requires readable { AreReadable (bare tree.old.tree) }
-    requires grid { (sight_at (bare tree.old.tree) id).label.kind ≡ kind.Grid }
-    requires query { query ≡ block_query false query.reps query.inline }
-    requires fits { Fits (sight_at (bare tree.old.tree) id) query }
-    requires absent { IsAbsent query (kept_at tree.old.tree id) }
-    requires seat { IsSeat (sight_at (bare tree.old.tree) id) query.reps above.now area }
-    requires spread { IsSpread (farthest (level_at (bare tree.old.tree) id)) query.inline }
+    requires stands { Stands walk.old }
+    requires live { IsLive (nodes walk.old) id }
+    requires grid { (sight_at (nodes walk.old) id).label.kind ≡ kind.Grid }
+    requires query { query ≡ block_query false seat.now.reps.now query.inline }
+    requires fits { Fits (sight_at (nodes walk.old) id) query }
+    requires absent { IsAbsent query (kept walk.old id) }
+    requires seat { HasSeat (sight_at (nodes walk.old) id) seat.now }
+    requires spread { IsSpread (farthest (level_at (nodes walk.old) id)) query.inline }
     ensures value { IfOk result
-        (λ size. block_size size ≡ answer_of (sight_at (bare tree.old.tree) id) query) }
-    ensures right { IsRight tree.new.tree }
+        (λ size. block_size size ≡ answer_of (sight_at (nodes walk.old) id) query) }
+    ensures stands { Stands walk.new }
+    ensures parts { SameParts walk.old walk.new }
     ensures walked { OnOk result
-        (Walked id query (state tree.old tally.old passes.old (R.log ruler.old))
-        (state tree.new tally.new passes.new (R.log ruler.new))) }
+        (Walked id query (seen R.log walk.old) (seen R.log walk.new)) }
     ensures stopped { OnErr result
-        (Stopped id query (state tree.old tally.old passes.old (R.log ruler.old))
-        (state tree.new tally.new passes.new (R.log ruler.new))) }
+        (Stopped id query (seen R.log walk.old) (seen R.log walk.new)) }
     ensures own { IfOk result
-        (λ size. GrowsBy (kept_at tree.old.tree id) query size (kept_at tree.new.tree id)) }
+        (λ size. GrowsBy (kept walk.old id) query size (kept walk.new id)) }
 {
-    let reps = query.reps.as_slice();
     let width = &query.inline;
-    let told = told_wide_at(
-        alloc, tree, id, reps, above, area, width, ruler, tally, passes,
-    )?;
+    let told = told_wide_at(walk, id, seat, width)?;
     let ToldWide {
         wide,
         column_ends,
         row_ends,
     } = told;
-    let (size, laid) = laid_rows(alloc, tree, id, reps, width, wide, passes)?;
-    let held = SharedWide::new(alloc, laid)?;
-    keep_told(alloc, tree, id, &held, column_ends, row_ends)?;
-    put(tree, id, query, Answer::Laid(size, held), tally)?;
+    let (size, laid) = laid_rows(
+        walk.alloc,
+        walk.tree,
+        id,
+        seat.reps,
+        width,
+        wide,
+        walk.passes,
+    )?;
+    let held = SharedWide::new(walk.alloc, laid)?;
+    keep_told(walk, id, &held, column_ends, row_ends)?;
+    walk.put(id, query, Answer::Laid(size, held))?;
     Ok(size)
 }
 
 #[cycle(walk)]
 /// The block size of the content of a column that keeps none for this question.
 fn column_anew<R: Ruler, L: Ledger>(
-    alloc: Global,
-    tree: &mut Arena<Node>,
+    walk: &mut Walker<R, L>,
     id: NodeId,
     query: Query,
-    ruler: &mut R,
-    tally: &mut Tally,
-    passes: &mut Steps<L>,
 ) -> Result<Lu, NoMemory>
-    requires live { IsLive (bare tree.old.tree) id }
-    requires right { IsRight tree.old.tree }
-    requires readable { AreReadable (bare tree.old.tree) }
-    requires flex { (sight_at (bare tree.old.tree) id).label.kind ≡ kind.Flex }
-    requires direction { (sight_at (bare tree.old.tree) id).label.content.column ≡ true }
-    requires query { query ≡ block_query false query.reps query.inline }
-    requires fits { Fits (sight_at (bare tree.old.tree) id) query }
-    requires absent { IsAbsent query (kept_at tree.old.tree id) }
-    requires spread { IsSpread (farthest (level_at (bare tree.old.tree) id)) query.inline }
+    requires stands { Stands walk.old }
+    requires live { IsLive (nodes walk.old) id }
+    requires flex { (sight_at (nodes walk.old) id).label.kind ≡ kind.Flex }
+    requires direction { (sight_at (nodes walk.old) id).label.content.column ≡ true }
+    requires ask { query.ask ≡ ask.Block }
+    requires fits { Fits (sight_at (nodes walk.old) id) query }
+    requires absent { IsAbsent query (kept walk.old id) }
+    requires spread { IsSpread (farthest (level_at (nodes walk.old) id)) query.inline }
     ensures value { IfOk result
-        (λ size. block_size size ≡ answer_of (sight_at (bare tree.old.tree) id) query) }
-    ensures right { IsRight tree.new.tree }
+        (λ size. block_size size ≡ answer_of (sight_at (nodes walk.old) id) query) }
+    ensures stands { Stands walk.new }
+    ensures parts { SameParts walk.old walk.new }
     ensures walked { OnOk result
-        (Walked id query (state tree.old tally.old passes.old (R.log ruler.old))
-        (state tree.new tally.new passes.new (R.log ruler.new))) }
+        (Walked id query (seen R.log walk.old) (seen R.log walk.new)) }
     ensures stopped { OnErr result
-        (Stopped id query (state tree.old tally.old passes.old (R.log ruler.old))
-        (state tree.new tally.new passes.new (R.log ruler.new))) }
+        (Stopped id query (seen R.log walk.old) (seen R.log walk.new)) }
     ensures own { IfOk result
-        (λ size. kept_at tree.new.tree id ≡
-        kept_with (kept_at tree.old.tree id) ((query, answer.Block size) ∷ [])) }
+        (λ size. kept walk.new id ≡
+        kept_with (kept walk.old id) ((query, answer.Block size) ∷ [])) }
 {
     let width = size_of(&query.inline);
-    let parts = column_at(alloc, tree, id, width, ruler, tally, passes)?;
-    let size = column_size(alloc, tree, id, width, &parts)?;
-    put(tree, id, query, Answer::Block(size), tally)?;
+    let parts = column_in(walk, id, width)?;
+    let size = column_size(walk.alloc, walk.tree, id, width, &parts)?;
+    walk.put(id, query, Answer::Block(size))?;
     Ok(size)
 }
 
 #[cycle(walk)]
 /// The block size of the content of a row that keeps none for this question.
 fn row_anew<R: Ruler, L: Ledger>(
-    alloc: Global,
-    tree: &mut Arena<Node>,
+    walk: &mut Walker<R, L>,
     id: NodeId,
     query: Query,
-    ruler: &mut R,
-    tally: &mut Tally,
-    passes: &mut Steps<L>,
 ) -> Result<Lu, NoMemory>
-    requires live { IsLive (bare tree.old.tree) id }
-    requires right { IsRight tree.old.tree }
-    requires readable { AreReadable (bare tree.old.tree) }
-    requires flex { (sight_at (bare tree.old.tree) id).label.kind ≡ kind.Flex }
-    requires direction { (sight_at (bare tree.old.tree) id).label.content.column ≡ false }
-    requires query { query ≡ block_query false query.reps query.inline }
-    requires fits { Fits (sight_at (bare tree.old.tree) id) query }
-    requires absent { IsAbsent query (kept_at tree.old.tree id) }
-    requires spread { IsSpread (farthest (level_at (bare tree.old.tree) id)) query.inline }
+    requires stands { Stands walk.old }
+    requires live { IsLive (nodes walk.old) id }
+    requires flex { (sight_at (nodes walk.old) id).label.kind ≡ kind.Flex }
+    requires direction { (sight_at (nodes walk.old) id).label.content.column ≡ false }
+    requires ask { query.ask ≡ ask.Block }
+    requires fits { Fits (sight_at (nodes walk.old) id) query }
+    requires absent { IsAbsent query (kept walk.old id) }
+    requires spread { IsSpread (farthest (level_at (nodes walk.old) id)) query.inline }
     ensures value { IfOk result
-        (λ size. block_size size ≡ answer_of (sight_at (bare tree.old.tree) id) query) }
-    ensures right { IsRight tree.new.tree }
+        (λ size. block_size size ≡ answer_of (sight_at (nodes walk.old) id) query) }
+    ensures stands { Stands walk.new }
+    ensures parts { SameParts walk.old walk.new }
     ensures walked { OnOk result
-        (Walked id query (state tree.old tally.old passes.old (R.log ruler.old))
-        (state tree.new tally.new passes.new (R.log ruler.new))) }
+        (Walked id query (seen R.log walk.old) (seen R.log walk.new)) }
     ensures stopped { OnErr result
-        (Stopped id query (state tree.old tally.old passes.old (R.log ruler.old))
-        (state tree.new tally.new passes.new (R.log ruler.new))) }
+        (Stopped id query (seen R.log walk.old) (seen R.log walk.new)) }
     ensures own { IfOk result
-        (λ size. kept_at tree.new.tree id ≡
-        kept_with (kept_at tree.old.tree id) ((query, answer.Block size) ∷ [])) }
+        (λ size. kept walk.new id ≡
+        kept_with (kept walk.old id) ((query, answer.Block size) ∷ [])) }
 {
     let width = size_of(&query.inline);
-    let parts = row_at(alloc, tree, id, width, ruler, tally, passes)?;
-    let size = row_size(alloc, tree, id, width, &parts)?;
-    put(tree, id, query, Answer::Block(size), tally)?;
+    let parts = row_in(walk, id, width)?;
+    let size = row_size(walk.alloc, walk.tree, id, width, &parts)?;
+    walk.put(id, query, Answer::Block(size))?;
     Ok(size)
 }
 
 #[cycle(walk)]
 /// The block size of the content of a node in its seat that keeps none for this question: it is found, and kept last.
 pub(crate) fn block_anew<R: Ruler, L: Ledger>(
-    alloc: Global,
-    tree: &mut Arena<Node>,
+    walk: &mut Walker<R, L>,
     id: NodeId,
     query: Query,
-    above: &Above,
-    area: Area,
-    ruler: &mut R,
-    tally: &mut Tally,
-    passes: &mut Steps<L>,
+    seat: &Seat,
 ) -> Result<Lu, NoMemory>
-    requires live { IsLive (bare tree.old.tree) id }
-    requires right { IsRight tree.old.tree }
-    requires readable { AreReadable (bare tree.old.tree) }
-    requires query { query ≡ block_query false query.reps query.inline }
-    requires fits { Fits (sight_at (bare tree.old.tree) id) query }
-    requires absent { IsAbsent query (kept_at tree.old.tree id) }
-    requires seat { IsSeat (sight_at (bare tree.old.tree) id) query.reps above.now area }
-    requires spread { IsSpread (farthest (level_at (bare tree.old.tree) id)) query.inline }
+    requires stands { Stands walk.old }
+    requires live { IsLive (nodes walk.old) id }
+    requires query { query ≡ block_query false seat.now.reps.now query.inline }
+    requires fits { Fits (sight_at (nodes walk.old) id) query }
+    requires absent { IsAbsent query (kept walk.old id) }
+    requires seat { HasSeat (sight_at (nodes walk.old) id) seat.now }
+    requires spread { IsSpread (farthest (level_at (nodes walk.old) id)) query.inline }
     ensures value { IfOk result
-        (λ size. block_size size ≡ answer_of (sight_at (bare tree.old.tree) id) query) }
-    ensures right { IsRight tree.new.tree }
+        (λ size. block_size size ≡ answer_of (sight_at (nodes walk.old) id) query) }
+    ensures stands { Stands walk.new }
+    ensures parts { SameParts walk.old walk.new }
     ensures walked { OnOk result
-        (Walked id query (state tree.old tally.old passes.old (R.log ruler.old))
-        (state tree.new tally.new passes.new (R.log ruler.new))) }
+        (Walked id query (seen R.log walk.old) (seen R.log walk.new)) }
     ensures stopped { OnErr result
-        (Stopped id query (state tree.old tally.old passes.old (R.log ruler.old))
-        (state tree.new tally.new passes.new (R.log ruler.new))) }
+        (Stopped id query (seen R.log walk.old) (seen R.log walk.new)) }
     ensures own { IfOk result
-        (λ size. GrowsBy (kept_at tree.old.tree id) query size (kept_at tree.new.tree id)) }
+        (λ size. GrowsBy (kept walk.old id) query size (kept walk.new id)) }
 {
-    let kind = &node_at(tree, id).kind;
+    let kind = &node_at(walk.tree, id).kind;
     if is_grid(kind) {
-        return grid_anew(alloc, tree, id, query, above, area, ruler, tally, passes);
+        return grid_anew(walk, id, query, seat);
     }
     if is_leaf(kind) {
-        return leaf_height(tree, id, query, ruler, tally);
+        return walk.leaf_height(id, query);
     }
-    if is_column(&node_at(tree, id).style) {
-        return column_anew(alloc, tree, id, query, ruler, tally, passes);
+    if is_column(&node_at(walk.tree, id).style) {
+        return column_anew(walk, id, query);
     }
-    row_anew(alloc, tree, id, query, ruler, tally, passes)
+    row_anew(walk, id, query)
 }
 
 #[cycle(walk)]
 /// The block size of the content of a node in its seat, by the counts of the repetitions above it and what it is given in the
 /// inline axis.
-pub fn block_at<R: Ruler, L: Ledger>(
-    alloc: Global,
-    tree: &mut Arena<Node>,
+pub fn block_in<R: Ruler, L: Ledger>(
+    walk: &mut Walker<R, L>,
     id: NodeId,
-    reps: &[(u32, u32)],
-    above: &Above,
-    area: Area,
+    seat: &Seat,
     width: &Given,
-    ruler: &mut R,
-    tally: &mut Tally,
-    passes: &mut Steps<L>,
 ) -> Result<Lu, NoMemory>
-    requires live { IsLive (bare tree.old.tree) id }
-    requires right { IsRight tree.old.tree }
-    requires readable { AreReadable (bare tree.old.tree) }
-    requires fits { Fits (sight_at (bare tree.old.tree) id) (block_query false reps.now width.now) }
-    requires seat { IsSeat (sight_at (bare tree.old.tree) id) reps.now above.now area }
-    requires spread { IsSpread (farthest (level_at (bare tree.old.tree) id)) width.now }
+    requires stands { Stands walk.old }
+    requires live { IsLive (nodes walk.old) id }
+    requires fits { Fits (sight_at (nodes walk.old) id)
+        (block_query false seat.now.reps.now width.now) }
+    requires seat { HasSeat (sight_at (nodes walk.old) id) seat.now }
+    requires spread { IsSpread (farthest (level_at (nodes walk.old) id)) width.now }
     ensures value { IfOk result
         (λ size. block_size size ≡
-        answer_of (sight_at (bare tree.old.tree) id) (block_query false reps.now width.now)) }
-    ensures right { IsRight tree.new.tree }
+        answer_of (sight_at (nodes walk.old) id) (block_query false seat.now.reps.now width.now)) }
+    ensures stands { Stands walk.new }
+    ensures parts { SameParts walk.old walk.new }
     ensures walked { OnOk result
-        (Walked id (block_query false reps.now width.now)
-        (state tree.old tally.old passes.old (R.log ruler.old))
-        (state tree.new tally.new passes.new (R.log ruler.new))) }
+        (Walked id (block_query false seat.now.reps.now width.now)
+        (seen R.log walk.old) (seen R.log walk.new)) }
     ensures stopped { OnErr result
-        (Stopped id (block_query false reps.now width.now)
-        (state tree.old tally.old passes.old (R.log ruler.old))
-        (state tree.new tally.new passes.new (R.log ruler.new))) }
-    ensures found { Found id (block_query false reps.now width.now)
-        (state tree.old tally.old passes.old (R.log ruler.old))
-        (state tree.new tally.new passes.new (R.log ruler.new)) }
+        (Stopped id (block_query false seat.now.reps.now width.now)
+        (seen R.log walk.old) (seen R.log walk.new)) }
+    ensures found { Found id (block_query false seat.now.reps.now width.now)
+        (seen R.log walk.old) (seen R.log walk.new) }
     ensures own { IfOk result
-        (λ size. KeepsSize id (block_query false reps.now width.now)
-        (state tree.old tally.old passes.old (R.log ruler.old))
-        (state tree.new tally.new passes.new (R.log ruler.new)) size) }
+        (λ size. KeepsSize id (block_query false seat.now.reps.now width.now)
+        (seen R.log walk.old) (seen R.log walk.new) size) }
 {
-    if let Some(size) = kept_block(tree, id, reps, width) {
+    if let Some(size) = kept_block(walk.tree, id, seat.reps, width) {
         return Ok(size);
     }
-    let query = block_query(alloc, false, reps, width)?;
-    block_anew(alloc, tree, id, query, above, area, ruler, tally, passes)
+    let query = block_query(walk.alloc, false, seat.reps, width)?;
+    block_anew(walk, id, query, seat)
 }
 
 // ---- the items that a subgrid lends along the rows
@@ -463,46 +400,36 @@ pub fn block_at<R: Ruler, L: Ledger>(
 /// The items that a subgrid in the rows lends in its seat, of which it keeps none for this question: they are found, and kept
 /// last.
 pub(crate) fn rows_anew<R: Ruler, L: Ledger>(
-    alloc: Global,
-    tree: &mut Arena<Node>,
+    walk: &mut Walker<R, L>,
     id: NodeId,
     query: Query,
-    above: &Above,
-    area: Area,
-    ruler: &mut R,
-    tally: &mut Tally,
-    passes: &mut Steps<L>,
+    seat: &Seat,
 ) -> Result<Sequence<Item>, NoMemory>
-    requires live { IsLive (bare tree.old.tree) id }
-    requires right { IsRight tree.old.tree }
-    requires readable { AreReadable (bare tree.old.tree) }
-    requires query { query ≡ block_query true query.reps query.inline }
-    requires fits { Fits (sight_at (bare tree.old.tree) id) query }
-    requires absent { IsAbsent query (kept_at tree.old.tree id) }
-    requires seat { IsSeat (sight_at (bare tree.old.tree) id) query.reps above.now area }
-    requires spread { IsSpread (farthest (level_at (bare tree.old.tree) id)) query.inline }
+    requires stands { Stands walk.old }
+    requires live { IsLive (nodes walk.old) id }
+    requires query { query ≡ block_query true seat.now.reps.now query.inline }
+    requires fits { Fits (sight_at (nodes walk.old) id) query }
+    requires absent { IsAbsent query (kept walk.old id) }
+    requires seat { HasSeat (sight_at (nodes walk.old) id) seat.now }
+    requires spread { IsSpread (farthest (level_at (nodes walk.old) id)) query.inline }
     ensures value { IfOk result
-        (λ items. lent_items items ≡ answer_of (sight_at (bare tree.old.tree) id) query) }
-    ensures right { IsRight tree.new.tree }
+        (λ items. lent_items items ≡ answer_of (sight_at (nodes walk.old) id) query) }
+    ensures stands { Stands walk.new }
+    ensures parts { SameParts walk.old walk.new }
     ensures walked { OnOk result
-        (Walked id query (state tree.old tally.old passes.old (R.log ruler.old))
-        (state tree.new tally.new passes.new (R.log ruler.new))) }
+        (Walked id query (seen R.log walk.old) (seen R.log walk.new)) }
     ensures stopped { OnErr result
-        (Stopped id query (state tree.old tally.old passes.old (R.log ruler.old))
-        (state tree.new tally.new passes.new (R.log ruler.new))) }
+        (Stopped id query (seen R.log walk.old) (seen R.log walk.new)) }
     ensures own { IfOk result
-        (λ items. kept_at tree.new.tree id ≡
-        kept_with (kept_at tree.old.tree id) ((query, answer.Lent items) ∷ [])) }
+        (λ items. kept walk.new id ≡
+        kept_with (kept walk.old id) ((query, answer.Lent items) ∷ [])) }
 {
-    subgrids_are_grids(tree, id);
-    let reps = query.reps.as_slice();
+    subgrids_are_grids(walk.tree, id);
     let width = &query.inline;
-    let wide = wide_at(
-        alloc, tree, id, reps, above, area, width, ruler, tally, passes,
-    )?;
-    let items = lent_rows(alloc, tree, id, reps, width, &wide)?;
-    let lent = Sequence::from_slice(alloc, items.as_slice())?;
-    put(tree, id, query, Answer::Lent(items), tally)?;
+    let wide = wide_at(walk, id, seat, width)?;
+    let items = lent_rows(walk.alloc, walk.tree, id, seat.reps, width, &wide)?;
+    let lent = Sequence::from_slice(walk.alloc, items.as_slice())?;
+    walk.put(id, query, Answer::Lent(items))?;
     Ok(lent)
 }
 
@@ -510,46 +437,37 @@ pub(crate) fn rows_anew<R: Ruler, L: Ledger>(
 /// The items that a subgrid in the rows lends in its seat, by the counts of the repetitions above it and what it is given in the
 /// inline axis.
 pub fn lend_rows_at<R: Ruler, L: Ledger>(
-    alloc: Global,
-    tree: &mut Arena<Node>,
+    walk: &mut Walker<R, L>,
     id: NodeId,
-    reps: &[(u32, u32)],
-    above: &Above,
-    area: Area,
+    seat: &Seat,
     width: &Given,
-    ruler: &mut R,
-    tally: &mut Tally,
-    passes: &mut Steps<L>,
 ) -> Result<Sequence<Item>, NoMemory>
-    requires live { IsLive (bare tree.old.tree) id }
-    requires right { IsRight tree.old.tree }
-    requires readable { AreReadable (bare tree.old.tree) }
-    requires fits { Fits (sight_at (bare tree.old.tree) id) (block_query true reps.now width.now) }
-    requires seat { IsSeat (sight_at (bare tree.old.tree) id) reps.now above.now area }
-    requires spread { IsSpread (farthest (level_at (bare tree.old.tree) id)) width.now }
+    requires stands { Stands walk.old }
+    requires live { IsLive (nodes walk.old) id }
+    requires fits { Fits (sight_at (nodes walk.old) id)
+        (block_query true seat.now.reps.now width.now) }
+    requires seat { HasSeat (sight_at (nodes walk.old) id) seat.now }
+    requires spread { IsSpread (farthest (level_at (nodes walk.old) id)) width.now }
     ensures value { IfOk result
         (λ items. lent_items items ≡
-        answer_of (sight_at (bare tree.old.tree) id) (block_query true reps.now width.now)) }
-    ensures right { IsRight tree.new.tree }
+        answer_of (sight_at (nodes walk.old) id) (block_query true seat.now.reps.now width.now)) }
+    ensures stands { Stands walk.new }
+    ensures parts { SameParts walk.old walk.new }
     ensures walked { OnOk result
-        (Walked id (block_query true reps.now width.now)
-        (state tree.old tally.old passes.old (R.log ruler.old))
-        (state tree.new tally.new passes.new (R.log ruler.new))) }
+        (Walked id (block_query true seat.now.reps.now width.now)
+        (seen R.log walk.old) (seen R.log walk.new)) }
     ensures stopped { OnErr result
-        (Stopped id (block_query true reps.now width.now)
-        (state tree.old tally.old passes.old (R.log ruler.old))
-        (state tree.new tally.new passes.new (R.log ruler.new))) }
-    ensures found { Found id (block_query true reps.now width.now)
-        (state tree.old tally.old passes.old (R.log ruler.old))
-        (state tree.new tally.new passes.new (R.log ruler.new)) }
+        (Stopped id (block_query true seat.now.reps.now width.now)
+        (seen R.log walk.old) (seen R.log walk.new)) }
+    ensures found { Found id (block_query true seat.now.reps.now width.now)
+        (seen R.log walk.old) (seen R.log walk.new) }
     ensures own { IfOk result
-        (λ items. Keeps id (block_query true reps.now width.now)
-        (state tree.old tally.old passes.old (R.log ruler.old))
-        (state tree.new tally.new passes.new (R.log ruler.new)) (answer.Lent items)) }
+        (λ items. Keeps id (block_query true seat.now.reps.now width.now)
+        (seen R.log walk.old) (seen R.log walk.new) (answer.Lent items)) }
 {
-    if let Some(items) = kept_rows(tree, id, reps, width) {
-        return Sequence::from_slice(alloc, items.as_slice());
+    if let Some(items) = kept_rows(walk.tree, id, seat.reps, width) {
+        return Sequence::from_slice(walk.alloc, items.as_slice());
     }
-    let query = block_query(alloc, true, reps, width)?;
-    rows_anew(alloc, tree, id, query, above, area, ruler, tally, passes)
+    let query = block_query(walk.alloc, true, seat.reps, width)?;
+    rows_anew(walk, id, query, seat)
 }

@@ -58,3 +58,4 @@ pub mod Steps
 pub mod Sums
 pub mod TrackSizes
 mod Unframed
+pub mod Sinks

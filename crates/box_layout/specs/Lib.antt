@@ -2,6 +2,7 @@ pub mod Adding
 pub mod Asking
 pub mod Beneath
 pub mod BothMargins
+pub mod Boxed
 pub mod Filling
 pub mod BoxesSeen
 pub mod FlexFrames
@@ -20,3 +21,4 @@ pub mod Seats
 pub mod Shares
 pub mod Sittings
 pub mod Stands
+pub mod Tracked

@@ -2,10 +2,9 @@
 
 ghost use Rattle.std.specs.Prelude.{◌≡◌, false, length, true, IfOk, OnErr, OnOk};
 ghost use Rattle.flex_lines.specs.Lines.{AreRanges};
-ghost use Rattle.placing.specs.Kept.{IsRight};
 ghost use Rattle.placing.specs.Nodes.{bare, sight_at, IsLive};
 ghost use Rattle.placing.specs.Ranges.{AreReadable};
-ghost use Rattle.placing.specs.Walks.{Stopped, WalkedBelow, state};
+ghost use Rattle.placing.specs.Walks.{Stopped, WalkedBelow};
 ghost use Rattle.tree_rules.specs.Frames.{given_size};
 ghost use Rattle.tree_rules.specs.Queries.{needs_inline};
 ghost use Rattle.tree_rules.specs.declared.kind.NodeKind.TheVariants as kind;
@@ -13,17 +12,20 @@ ghost use Rattle.tree_rules.specs.declared.query.Query.{Query};
 ghost use Rattle.inline_sizes.specs.Flexes.{flex_seen};
 ghost use Rattle.block_sizes.specs.Flexes.{lines_of};
 ghost use Rattle.block_sizes.specs.Settling.{IsColumn, IsRow};
+ghost use Rattle.walker.specs.Walkers.{nodes, seen, SameParts, Stands};
 ghost use Rattle.box_layout.specs.FlexFrames.{AreFrames, AreStyled, AsksWidths, column_lines_seen, column_seen, row_seen, settled_by};
 
 use crate::columns::column_lines;
-use crate::flexes::frames_in_lines;
-use block_sizes::{ColumnParts, Lines, RowParts, block_at, column_at, row_at};
-use lunit::{Area, Lu, NoMemory, Sequence, Span, Steps};
+use crate::flexes::{LinedChildren, frames_in_lines};
+use crate::sizes::height_in;
+use block_sizes::{ColumnParts, Lines, RowParts, column_in, row_in};
+use lunit::{Area, Lu, NoMemory, Sequence, Span};
 use node_arena::{Arena, NodeId};
-use outside::{Ruler, Tally};
-use placing::{Above, Frame, Node, count, root};
+use outside::Ruler;
+use placing::{Frame, Node, count, root};
 use std::alloc::Global;
 use std::sync::ledger::Ledger;
+use walker::Walker;
 
 /// No area.
 const NO_AREA: Area = Area {
@@ -51,9 +53,14 @@ fn frames_in_row(
     let mains = row.lines.mains.as_slice();
     let blocks = row.blocks.as_slice();
     let ranges = row.lines.ranges.as_slice();
-    frames_in_lines(
-        alloc, tree, id, false, width, height, members, mains, blocks, ranges, mains,
-    )
+    let lined = LinedChildren {
+        members,
+        boxes: mains,
+        blocks,
+        ranges,
+        mains,
+    };
+    frames_in_lines(alloc, tree, id, false, width, height, &lined)
 }
 
 /// The frames of the children of a column whose content box has these sizes, once its lines are known.
@@ -82,90 +89,72 @@ fn frames_in_column(
     let blocks = column.blocks.as_slice();
     let ranges = lines.ranges.as_slice();
     let mains = lines.mains.as_slice();
-    frames_in_lines(
-        alloc, tree, id, true, height, width, members, boxes, blocks, ranges, mains,
-    )
+    let lined = LinedChildren {
+        members,
+        boxes,
+        blocks,
+        ranges,
+        mains,
+    };
+    frames_in_lines(alloc, tree, id, true, height, width, &lined)
 }
 
 /// The frames of the children of a row of this inline size that is given this block size. Nothing is kept for the row itself. It
 /// makes one step. `NoMemory` where memory is wanting.
 pub fn row_frames<R: Ruler, L: Ledger>(
-    alloc: Global,
-    tree: &mut Arena<Node>,
+    walk: &mut Walker<R, L>,
     id: NodeId,
     width: Lu,
     height: Lu,
-    ruler: &mut R,
-    tally: &mut Tally,
-    passes: &mut Steps<L>,
 ) -> Result<Sequence<Frame>, NoMemory>
-    requires live { IsLive (bare tree.old.tree) id }
-    requires right { IsRight tree.old.tree }
-    requires readable { AreReadable (bare tree.old.tree) }
-    requires flex { (sight_at (bare tree.old.tree) id).label.kind ≡ kind.Flex }
-    requires direction { (sight_at (bare tree.old.tree) id).label.content.column ≡ false }
+    requires stands { Stands walk.old }
+    requires live { IsLive (nodes walk.old) id }
+    requires flex { (sight_at (nodes walk.old) id).label.kind ≡ kind.Flex }
+    requires direction { (sight_at (nodes walk.old) id).label.content.column ≡ false }
     ensures value { IfOk result
-        (AreFrames (bare tree.old.tree) id (row_seen (bare tree.old.tree) id width height)) }
-    ensures right { IsRight tree.new.tree }
+        (AreFrames (nodes walk.old) id (row_seen (nodes walk.old) id width height)) }
+    ensures stands { Stands walk.new }
+    ensures parts { SameParts walk.old walk.new }
     ensures below { OnOk result
         ((q : Query) → given_size q.inline ≡ width → needs_inline q.ask ≡ true →
-        WalkedBelow id q 1 (state tree.old tally.old passes.old (R.log ruler.old))
-        (state tree.new tally.new passes.new (R.log ruler.new))) }
+        WalkedBelow id q 1 (seen R.log walk.old) (seen R.log walk.new)) }
     ensures stopped { OnErr result
         ((q : Query) → given_size q.inline ≡ width → needs_inline q.ask ≡ true →
-        Stopped id q (state tree.old tally.old passes.old (R.log ruler.old))
-        (state tree.new tally.new passes.new (R.log ruler.new))) }
+        Stopped id q (seen R.log walk.old) (seen R.log walk.new)) }
 {
-    let row = row_at(alloc, tree, id, width, ruler, tally, passes)?;
-    let frames = frames_in_row(alloc, tree, id, width, height, &row)?;
+    let row = row_in(walk, id, width)?;
+    let frames = frames_in_row(walk.alloc, walk.tree, id, width, height, &row)?;
     Ok(frames)
 }
 
 /// The block sizes of the children of a column at the widths of their frames, which are kept.
 fn ask_widths<R: Ruler, L: Ledger>(
-    alloc: Global,
-    tree: &mut Arena<Node>,
+    walk: &mut Walker<R, L>,
     id: NodeId,
     width: Lu,
     height: Lu,
     frames: &[Frame],
-    ruler: &mut R,
-    tally: &mut Tally,
-    passes: &mut Steps<L>,
 ) -> Result<(), NoMemory>
-    requires live { IsLive (bare tree.old.tree) id }
-    requires right { IsRight tree.old.tree }
-    requires readable { AreReadable (bare tree.old.tree) }
-    requires flex { (sight_at (bare tree.old.tree) id).label.kind ≡ kind.Flex }
-    requires direction { (sight_at (bare tree.old.tree) id).label.content.column ≡ true }
-    requires grids { AreStyled (flex_seen (bare tree.old.tree) id).members }
-    requires frames { AreFrames (bare tree.old.tree) id
-        (column_seen (bare tree.old.tree) id width height) frames.now }
-    ensures right { IsRight tree.new.tree }
+    requires stands { Stands walk.old }
+    requires live { IsLive (nodes walk.old) id }
+    requires flex { (sight_at (nodes walk.old) id).label.kind ≡ kind.Flex }
+    requires direction { (sight_at (nodes walk.old) id).label.content.column ≡ true }
+    requires grids { AreStyled (flex_seen (nodes walk.old) id).members }
+    requires frames { AreFrames (nodes walk.old) id
+        (column_seen (nodes walk.old) id width height) frames.now }
+    ensures stands { Stands walk.new }
+    ensures parts { SameParts walk.old walk.new }
     ensures below { OnOk result
         ((q : Query) → AsksWidths width height q →
-        WalkedBelow id q 0 (state tree.old tally.old passes.old (R.log ruler.old))
-        (state tree.new tally.new passes.new (R.log ruler.new))) }
+        WalkedBelow id q 0 (seen R.log walk.old) (seen R.log walk.new)) }
     ensures stopped { OnErr result
         ((q : Query) → AsksWidths width height q →
-        Stopped id q (state tree.old tally.old passes.old (R.log ruler.old))
-        (state tree.new tally.new passes.new (R.log ruler.new))) }
+        Stopped id q (seen R.log walk.old) (seen R.log walk.new)) }
 {
-    root(tree);
+    root(walk.tree);
     for index in 0..frames.len() {
         let frame = &frames[index];
-        block_at(
-            alloc,
-            tree,
-            frame.child,
-            &[],
-            &Above::Nothing,
-            NO_AREA,
-            &frame.inline,
-            ruler,
-            tally,
-            passes,
-        )?;
+        height_in(walk, frame.child, NO_AREA, &frame.inline)?;
     }
     Ok(())
 }
@@ -173,38 +162,40 @@ fn ask_widths<R: Ruler, L: Ledger>(
 /// The frames of the children of a column of this inline size that is given this block size; the block size of each child at the
 /// width of its frame is kept. Nothing is kept for the column itself. It makes one step. `NoMemory` where memory is wanting.
 pub fn column_frames<R: Ruler, L: Ledger>(
-    alloc: Global,
-    tree: &mut Arena<Node>,
+    walk: &mut Walker<R, L>,
     id: NodeId,
     width: Lu,
     height: Lu,
-    ruler: &mut R,
-    tally: &mut Tally,
-    passes: &mut Steps<L>,
 ) -> Result<Sequence<Frame>, NoMemory>
-    requires live { IsLive (bare tree.old.tree) id }
-    requires right { IsRight tree.old.tree }
-    requires readable { AreReadable (bare tree.old.tree) }
-    requires flex { (sight_at (bare tree.old.tree) id).label.kind ≡ kind.Flex }
-    requires direction { (sight_at (bare tree.old.tree) id).label.content.column ≡ true }
+    requires stands { Stands walk.old }
+    requires live { IsLive (nodes walk.old) id }
+    requires flex { (sight_at (nodes walk.old) id).label.kind ≡ kind.Flex }
+    requires direction { (sight_at (nodes walk.old) id).label.content.column ≡ true }
     ensures value { IfOk result
-        (AreFrames (bare tree.old.tree) id (column_seen (bare tree.old.tree) id width height)) }
-    ensures right { IsRight tree.new.tree }
+        (AreFrames (nodes walk.old) id (column_seen (nodes walk.old) id width height)) }
+    ensures stands { Stands walk.new }
+    ensures parts { SameParts walk.old walk.new }
     ensures below { OnOk result
         ((q : Query) → AsksWidths width height q →
-        WalkedBelow id q 1 (state tree.old tally.old passes.old (R.log ruler.old))
-        (state tree.new tally.new passes.new (R.log ruler.new))) }
+        WalkedBelow id q 1 (seen R.log walk.old) (seen R.log walk.new)) }
     ensures stopped { OnErr result
         ((q : Query) → AsksWidths width height q →
-        Stopped id q (state tree.old tally.old passes.old (R.log ruler.old))
-        (state tree.new tally.new passes.new (R.log ruler.new))) }
+        Stopped id q (seen R.log walk.old) (seen R.log walk.new)) }
 {
-    let column = column_at(alloc, tree, id, width, ruler, tally, passes)?;
+    let column = column_in(walk, id, width)?;
     let members = column.members.as_slice();
     let blocks = column.blocks.as_slice();
-    let lines = column_lines(alloc, tree, id, height, members, blocks, passes)?;
-    let frames = frames_in_column(alloc, tree, id, width, height, &column, &lines)?;
+    let lines = column_lines(
+        walk.alloc,
+        walk.tree,
+        id,
+        height,
+        members,
+        blocks,
+        walk.passes,
+    )?;
+    let frames = frames_in_column(walk.alloc, walk.tree, id, width, height, &column, &lines)?;
     let told = frames.as_slice();
-    ask_widths(alloc, tree, id, width, height, told, ruler, tally, passes)?;
+    ask_widths(walk, id, width, height, told)?;
     Ok(frames)
 }

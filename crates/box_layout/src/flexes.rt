@@ -198,10 +198,23 @@ fn line_sizes(
     crosses_of(alloc, column, container, outers, ranges, Some(cross))
 }
 
+/// The children of a flex container in order-modified document order, once their sizes and their lines are known.
+#[derive(Clone, Copy)]
+pub struct LinedChildren<'a> {
+    /// The children.
+    pub members: &'a [Member],
+    /// Their inline sizes as border-box sizes, in units of 1/64 px: in a row the main sizes.
+    pub boxes: &'a [Lu],
+    /// The block sizes of their contents at these.
+    pub blocks: &'a [Lu],
+    /// The children of each line: the index of its first child, and the one after its last.
+    pub ranges: &'a [(usize, usize)],
+    /// The main size of each child.
+    pub mains: &'a [Lu],
+}
+
 /// The frames of the children of a flex container of a tree, in document order (CSS Flexbox 1, 9.4 to 9.6). Its content box has
-/// these sizes along the main axis, which in a `column` is the block axis, and across it. `members` are the children in
-/// order-modified document order, `boxes` their inline sizes as border-box sizes (in a row the main sizes), `blocks` the block sizes
-/// of their contents at these; `ranges` and `mains` are the lines, and the main size of each child.
+/// these sizes along the main axis, which in a `column` is the block axis, and across it.
 ///
 /// `NoMemory` where memory is wanting.
 pub fn frames_in_lines(
@@ -211,32 +224,32 @@ pub fn frames_in_lines(
     column: bool,
     main: Lu,
     cross: Lu,
-    members: &[Member],
-    boxes: &[Lu],
-    blocks: &[Lu],
-    ranges: &[(usize, usize)],
-    mains: &[Lu],
+    lined: &LinedChildren<'_>,
 ) -> Result<Sequence<Frame>, NoMemory>
     requires live { IsLive (bare tree.now.tree) id }
     requires readable { AreReadable (bare tree.now.tree) }
-    requires members { AreMembers (bare tree.now.tree) id members.now }
-    requires boxes { length boxes.now ≡ length members.now }
-    requires blocks { blocks.now ≡
-        map block_of (settled_by (bare tree.now.tree) members.now boxes.now) }
-    requires mains { length mains.now ≡ length members.now }
-    requires row { column ≡ false → boxes.now ≡ mains.now }
-    requires ranges { AreRanges (length members.now) ranges.now }
-    requires lines { length ranges.now ≤ 65536 }
+    requires members { AreMembers (bare tree.now.tree) id lined.now.members.now }
+    requires boxes { length lined.now.boxes.now ≡ length lined.now.members.now }
+    requires blocks { lined.now.blocks.now ≡
+        map block_of (settled_by (bare tree.now.tree) lined.now.members.now lined.now.boxes.now) }
+    requires mains { length lined.now.mains.now ≡ length lined.now.members.now }
+    requires row { column ≡ false → lined.now.boxes.now ≡ lined.now.mains.now }
+    requires ranges { AreRanges (length lined.now.members.now) lined.now.ranges.now }
+    requires lines { length lined.now.ranges.now ≤ 65536 }
     ensures { IfOk result
         (λ frames. frames ≡
         flex_told (numbered (bare tree.now.tree) id) column (flex_seen (bare tree.now.tree) id)
-        main cross (record { ranges = ranges.now; mains = mains.now })
-        (settled_by (bare tree.now.tree) members.now boxes.now)) }
+        main cross (record { ranges = lined.now.ranges.now; mains = lined.now.mains.now })
+        (settled_by (bare tree.now.tree) lined.now.members.now lined.now.boxes.now)) }
 {
+    let members = lined.members;
+    let boxes = lined.boxes;
+    let blocks = lined.blocks;
+    let ranges = lined.ranges;
     let own = own_crosses(alloc, tree, id, column, cross, members, boxes, blocks)?;
     let outers = own_outers(alloc, tree, id, column, members, &own)?;
     let sizes = line_sizes(alloc, tree, id, column, cross, &outers, ranges)?;
     let flex = flex_of(tree, id, column, main, cross);
-    let children = sittings(alloc, tree, id, &flex, members, mains, &own)?;
+    let children = sittings(alloc, tree, id, &flex, members, lined.mains, &own)?;
     flex_frames(alloc, &flex, sizes.as_slice(), ranges, &children)
 }

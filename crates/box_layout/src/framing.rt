@@ -1,23 +1,24 @@
 //! The frames of the children of a container, as its list of answers keeps them.
 
-ghost use Rattle.std.specs.Prelude.{◌≡◌, ◌∷◌, [], map, IfOk, OnErr, OnOk};
-ghost use Rattle.placing.specs.Kept.{frame_of, kept_at, IsRight};
+ghost use Rattle.std.specs.Prelude.{◌≡◌, ◌∷◌, [], ℕ, IfOk, OnErr, OnOk};
+ghost use Rattle.node_arena.specs.declared.number.NodeId.{NodeId};
 ghost use Rattle.placing.specs.Bases.{HoldsPlaces};
-ghost use Rattle.placing.specs.Nodes.{bare, children_at, kid_at, level_at, sight_at, IsLive};
-ghost use Rattle.placing.specs.Ranges.{AreReadable};
+ghost use Rattle.placing.specs.Nodes.{children_at, kid_at, level_at, sight_at, IsLive};
 ghost use Rattle.placing.specs.Seats.{IsSeat};
+ghost use Rattle.placing.specs.Spread.{IsSpread};
 ghost use Rattle.placing.specs.Told.{AreFrames, Each};
-ghost use Rattle.placing.specs.Walks.{kept_with, state, IsAlike, Stopped, Walked};
+ghost use Rattle.placing.specs.Walks.{kept_with, State, Stopped, Walked, WalkedBelow};
 ghost use Rattle.placing.specs.declared.node.Answer.TheVariants as answer;
-ghost use Rattle.placing.specs.declared.node.Frame.{Frame as NodeFrame};
 ghost use Rattle.tree_rules.specs.Chains.{is_grid_kind};
 ghost use Rattle.tree_rules.specs.KeptAnswers.{IsAbsent};
-ghost use Rattle.tree_rules.specs.Queries.{answer_of, child_frames, Fits};
+ghost use Rattle.tree_rules.specs.Queries.{Fits};
 ghost use Rattle.tree_rules.specs.declared.kind.NodeKind.TheVariants as kind;
+ghost use Rattle.tree_rules.specs.declared.query.Query.{Query};
 ghost use Rattle.inline_sizes.specs.Calls.{Found, Keeps};
-ghost use Rattle.placing.specs.Spread.{IsSpread};
 ghost use Rattle.block_sizes.specs.Wides.{farthest};
+ghost use Rattle.walker.specs.Walkers.{kept, nodes, seen, HasSeat, SameParts, Stands};
 ghost use Rattle.box_layout.specs.Asking.{frames_asked};
+ghost use Rattle.box_layout.specs.Boxed.{AnswerFrames, AreOfChildren};
 ghost use Rattle.box_layout.specs.LeafHeights.{AreLeavesKept, MeasuresLeaves};
 
 use crate::flex_anew::flex_frames_anew;
@@ -27,16 +28,14 @@ use crate::queries::{frames_query, kept_frames};
 use crate::row_views::rows_of;
 use block_sizes::wide_for;
 use layout_cache::{Given, Query};
-use lunit::{Area, NoMemory, Sequence, Steps};
-use node_arena::{Arena, NodeId};
-use outside::{Ruler, Tally};
+use lunit::{Area, NoMemory, Sequence};
+use node_arena::NodeId;
+use outside::Ruler;
 use part_rules::View;
-use placing::{
-    Above, Answer, GridWide, MANY, Node, NodeKind, SharedFrames, keep_frames, node_at, put, root,
-    seat, take_frames,
-};
+use placing::{Above, Answer, GridWide, MANY, NodeKind, SharedFrames, node_at, root, seat};
 use std::alloc::Global;
 use std::sync::ledger::Ledger;
+use walker::{Seat, Walker};
 
 /// Whether a node is a grid.
 pub(crate) fn is_grid(kind: &NodeKind) -> bool
@@ -60,242 +59,248 @@ fn copied_view(alloc: Global, view: &View<0>) -> Result<View<0>, NoMemory>
 
 /// Keeps the frames that a grid gives its children, where they are many. A walk goes on after it as before it. `NoMemory` where memory is
 /// wanting; nothing has changed then.
-fn keep_last(
-    alloc: Global,
-    tree: &mut Arena<Node>,
+fn keep_last<R: Ruler, L: Ledger>(
+    walk: &mut Walker<R, L>,
     id: NodeId,
     wide: &GridWide,
     rows: View<1>,
     frames: &SharedFrames,
 ) -> Result<(), NoMemory>
-    requires live { IsLive (bare tree.old.tree) id }
-    requires right { IsRight tree.old.tree }
-    requires places { HoldsPlaces (sight_at (bare tree.old.tree) id)
-        (children_at (bare tree.old.tree) id) wide.now.parts.base }
-    requires frames { AreFrames (sight_at (bare tree.old.tree) id) (kid_at (bare tree.old.tree))
+    requires stands { Stands walk.old }
+    requires live { IsLive (nodes walk.old) id }
+    requires places { HoldsPlaces (sight_at (nodes walk.old) id) (children_at (nodes walk.old) id)
+        wide.now.parts.base }
+    requires frames { AreFrames (sight_at (nodes walk.old) id) (kid_at (nodes walk.old))
         wide.now.parts.base wide.now.columns rows Each frames.now }
-    ensures right { IsRight tree.new.tree }
-    ensures alike { IsAlike tree.old tree.new }
+    ensures stands { Stands walk.new }
+    ensures parts { SameParts walk.old walk.new }
+    ensures bare { nodes walk.new ≡ nodes walk.old }
+    ensures kept { (n : NodeId) → kept walk.new n ≡ kept walk.old n }
+    ensures below { (q : Query) (more : ℕ) (old : State) →
+        WalkedBelow id q more old (seen R.log walk.old) →
+        WalkedBelow id q more old (seen R.log walk.new) }
 {
     if frames.as_slice().len() < MANY {
         return Ok(());
     }
     let base = wide.parts.base.again()?;
-    let columns = copied_view(alloc, &wide.columns)?;
+    let columns = copied_view(walk.alloc, &wide.columns)?;
     let shared = frames.again()?;
-    keep_frames(alloc, tree, id, base, columns, rows, shared)
+    walk.keep_frames(id, base, columns, rows, shared)
 }
 
 /// The frames of a grid in its seat that keeps none for this question: it makes two steps at most. They are kept last.
 fn grid_frames_anew<R: Ruler, L: Ledger>(
-    alloc: Global,
-    tree: &mut Arena<Node>,
+    walk: &mut Walker<R, L>,
     id: NodeId,
     query: Query,
-    above: &Above,
-    area: Area,
-    ruler: &mut R,
-    tally: &mut Tally,
-    passes: &mut Steps<L>,
+    seat: &Seat,
 ) -> Result<SharedFrames, NoMemory>
-    requires live { IsLive (bare tree.old.tree) id }
-    requires right { IsRight tree.old.tree }
-    requires readable { AreReadable (bare tree.old.tree) }
-    requires grid { (sight_at (bare tree.old.tree) id).label.kind ≡ kind.Grid }
-    requires query { query ≡ frames_asked query.reps query.inline query.block }
-    requires fits { Fits (sight_at (bare tree.old.tree) id) query }
-    requires absent { IsAbsent query (kept_at tree.old.tree id) }
-    requires seat { IsSeat (sight_at (bare tree.old.tree) id) query.reps above.now area }
-    requires columns { IsSpread (farthest (level_at (bare tree.old.tree) id)) query.inline }
-    requires rows { IsSpread (farthest (level_at (bare tree.old.tree) id)) query.block }
-    ensures value { IfOk result
-        (λ frames. child_frames (map frame_of frames) ≡
-        answer_of (sight_at (bare tree.old.tree) id) query) }
-    ensures children { IfOk result
-        (λ frames. map (λ (f : NodeFrame). f.child) frames ≡ children_at (bare tree.old.tree) id) }
-    ensures right { IsRight tree.new.tree }
+    requires stands { Stands walk.old }
+    requires live { IsLive (nodes walk.old) id }
+    requires grid { (sight_at (nodes walk.old) id).label.kind ≡ kind.Grid }
+    requires query { query ≡ frames_asked seat.now.reps.now query.inline query.block }
+    requires fits { Fits (sight_at (nodes walk.old) id) query }
+    requires absent { IsAbsent query (kept walk.old id) }
+    requires seat { HasSeat (sight_at (nodes walk.old) id) seat.now }
+    requires columns { IsSpread (farthest (level_at (nodes walk.old) id)) query.inline }
+    requires rows { IsSpread (farthest (level_at (nodes walk.old) id)) query.block }
+    ensures value { IfOk result (λ frames. AnswerFrames (nodes walk.old) id query frames) }
+    ensures children { IfOk result (λ frames. AreOfChildren (nodes walk.old) id frames) }
+    ensures stands { Stands walk.new }
+    ensures parts { SameParts walk.old walk.new }
     ensures walked { OnOk result
-        (Walked id query (state tree.old tally.old passes.old (R.log ruler.old))
-        (state tree.new tally.new passes.new (R.log ruler.new))) }
+        (Walked id query (seen R.log walk.old) (seen R.log walk.new)) }
     ensures stopped { OnErr result
-        (Stopped id query (state tree.old tally.old passes.old (R.log ruler.old))
-        (state tree.new tally.new passes.new (R.log ruler.new))) }
+        (Stopped id query (seen R.log walk.old) (seen R.log walk.new)) }
     ensures own { IfOk result
-        (λ frames. kept_at tree.new.tree id ≡
-        kept_with (kept_at tree.old.tree id) ((query, answer.Frames frames) ∷ [])) }
+        (λ frames. kept walk.new id ≡
+        kept_with (kept walk.old id) ((query, answer.Frames frames) ∷ [])) }
 {
-    root(tree);
-    let reps = query.reps.as_slice();
+    root(walk.tree);
     let width = &query.inline;
     let height = &query.block;
-    let wide = wide_for(
-        alloc, tree, id, reps, above, area, width, ruler, tally, passes,
-    )?;
+    let wide = wide_for(walk, id, seat, width)?;
     let held = wide.grid();
-    let rows = rows_of(alloc, tree, id, reps, width, held, height, passes)?;
-    let past = take_frames(alloc, tree, id)?;
-    let frames = grid_frames(alloc, tree, id, reps, width, held, &rows, past)?;
-    let shared = SharedFrames::new(alloc, frames)?;
+    let rows = rows_of(
+        walk.alloc,
+        walk.tree,
+        id,
+        seat.reps,
+        width,
+        held,
+        height,
+        walk.passes,
+    )?;
+    let past = walk.take_frames(id)?;
+    let frames = grid_frames(
+        walk.alloc, walk.tree, id, seat.reps, width, held, &rows, past,
+    )?;
+    let shared = SharedFrames::new(walk.alloc, frames)?;
     let told = shared.again()?;
-    keep_last(alloc, tree, id, held, rows, &shared)?;
-    put(tree, id, query, Answer::Frames(shared), tally)?;
+    keep_last(walk, id, held, rows, &shared)?;
+    walk.put(id, query, Answer::Frames(shared))?;
     Ok(told)
 }
 
 /// The frames of a grid in its seat that keeps none for this question: they are found, and kept last. Then each leaf among its children
 /// keeps its block size at the content width of its rectangle.
 fn grid_frames_kept<R: Ruler, L: Ledger>(
-    alloc: Global,
-    tree: &mut Arena<Node>,
+    walk: &mut Walker<R, L>,
     id: NodeId,
     query: Query,
-    above: &Above,
-    area: Area,
-    ruler: &mut R,
-    tally: &mut Tally,
-    passes: &mut Steps<L>,
+    seat: &Seat,
 ) -> Result<SharedFrames, NoMemory>
-    requires live { IsLive (bare tree.old.tree) id }
-    requires right { IsRight tree.old.tree }
-    requires readable { AreReadable (bare tree.old.tree) }
-    requires grid { (sight_at (bare tree.old.tree) id).label.kind ≡ kind.Grid }
-    requires query { query ≡ frames_asked query.reps query.inline query.block }
-    requires fits { Fits (sight_at (bare tree.old.tree) id) query }
-    requires absent { IsAbsent query (kept_at tree.old.tree id) }
-    requires seat { IsSeat (sight_at (bare tree.old.tree) id) query.reps above.now area }
-    requires columns { IsSpread (farthest (level_at (bare tree.old.tree) id)) query.inline }
-    requires rows { IsSpread (farthest (level_at (bare tree.old.tree) id)) query.block }
-    ensures value { IfOk result
-        (λ frames. child_frames (map frame_of frames) ≡
-        answer_of (sight_at (bare tree.old.tree) id) query) }
-    ensures children { IfOk result
-        (λ frames. map (λ (f : NodeFrame). f.child) frames ≡ children_at (bare tree.old.tree) id) }
-    ensures right { IsRight tree.new.tree }
+    requires stands { Stands walk.old }
+    requires live { IsLive (nodes walk.old) id }
+    requires grid { (sight_at (nodes walk.old) id).label.kind ≡ kind.Grid }
+    requires query { query ≡ frames_asked seat.now.reps.now query.inline query.block }
+    requires fits { Fits (sight_at (nodes walk.old) id) query }
+    requires absent { IsAbsent query (kept walk.old id) }
+    requires seat { HasSeat (sight_at (nodes walk.old) id) seat.now }
+    requires columns { IsSpread (farthest (level_at (nodes walk.old) id)) query.inline }
+    requires rows { IsSpread (farthest (level_at (nodes walk.old) id)) query.block }
+    ensures value { IfOk result (λ frames. AnswerFrames (nodes walk.old) id query frames) }
+    ensures children { IfOk result (λ frames. AreOfChildren (nodes walk.old) id frames) }
+    ensures stands { Stands walk.new }
+    ensures parts { SameParts walk.old walk.new }
     ensures walked { OnOk result
-        (Walked id query (state tree.old tally.old passes.old (R.log ruler.old))
-        (state tree.new tally.new passes.new (R.log ruler.new))) }
+        (Walked id query (seen R.log walk.old) (seen R.log walk.new)) }
     ensures stopped { OnErr result
-        (Stopped id query (state tree.old tally.old passes.old (R.log ruler.old))
-        (state tree.new tally.new passes.new (R.log ruler.new))) }
+        (Stopped id query (seen R.log walk.old) (seen R.log walk.new)) }
     ensures own { IfOk result
-        (λ frames. kept_at tree.new.tree id ≡
-        kept_with (kept_at tree.old.tree id) ((query, answer.Frames frames) ∷ [])) }
+        (λ frames. kept walk.new id ≡
+        kept_with (kept walk.old id) ((query, answer.Frames frames) ∷ [])) }
     ensures leaves { OnOk result
-        ((sight_at (bare tree.old.tree) id).label.kind ≡ kind.Grid →
-        AreLeavesKept (bare tree.old.tree) id query
-        (state tree.new tally.new passes.new (R.log ruler.new))) }
+        ((sight_at (nodes walk.old) id).label.kind ≡ kind.Grid →
+        AreLeavesKept (nodes walk.old) id query
+        (seen R.log walk.new)) }
 {
-    root(tree);
-    stands(tree);
-    let frames = grid_frames_anew(alloc, tree, id, query, above, area, ruler, tally, passes)?;
+    root(walk.tree);
+    stands(walk.tree);
+    let frames = grid_frames_anew(walk, id, query, seat)?;
     let listed = frames.as_slice();
-    ask_leaves(alloc, tree, id, listed, ruler, tally, passes)?;
+    ask_leaves(walk, id, listed)?;
     Ok(frames)
 }
 
 /// The frames of a container in its seat that keeps none for this question: they are found, and kept last.
 fn frames_anew<R: Ruler, L: Ledger>(
-    alloc: Global,
-    tree: &mut Arena<Node>,
+    walk: &mut Walker<R, L>,
     id: NodeId,
     query: Query,
-    above: &Above,
-    area: Area,
-    ruler: &mut R,
-    tally: &mut Tally,
-    passes: &mut Steps<L>,
+    seat: &Seat,
 ) -> Result<SharedFrames, NoMemory>
-    requires live { IsLive (bare tree.old.tree) id }
-    requires right { IsRight tree.old.tree }
-    requires readable { AreReadable (bare tree.old.tree) }
-    requires query { query ≡ frames_asked query.reps query.inline query.block }
-    requires fits { Fits (sight_at (bare tree.old.tree) id) query }
-    requires absent { IsAbsent query (kept_at tree.old.tree id) }
-    requires seat { IsSeat (sight_at (bare tree.old.tree) id) query.reps above.now area }
-    requires columns { IsSpread (farthest (level_at (bare tree.old.tree) id)) query.inline }
-    requires rows { IsSpread (farthest (level_at (bare tree.old.tree) id)) query.block }
-    ensures value { IfOk result
-        (λ frames. child_frames (map frame_of frames) ≡
-        answer_of (sight_at (bare tree.old.tree) id) query) }
-    ensures children { IfOk result
-        (λ frames. map (λ (f : NodeFrame). f.child) frames ≡ children_at (bare tree.old.tree) id) }
-    ensures right { IsRight tree.new.tree }
+    requires stands { Stands walk.old }
+    requires live { IsLive (nodes walk.old) id }
+    requires query { query ≡ frames_asked seat.now.reps.now query.inline query.block }
+    requires fits { Fits (sight_at (nodes walk.old) id) query }
+    requires absent { IsAbsent query (kept walk.old id) }
+    requires seat { HasSeat (sight_at (nodes walk.old) id) seat.now }
+    requires columns { IsSpread (farthest (level_at (nodes walk.old) id)) query.inline }
+    requires rows { IsSpread (farthest (level_at (nodes walk.old) id)) query.block }
+    ensures value { IfOk result (λ frames. AnswerFrames (nodes walk.old) id query frames) }
+    ensures children { IfOk result (λ frames. AreOfChildren (nodes walk.old) id frames) }
+    ensures stands { Stands walk.new }
+    ensures parts { SameParts walk.old walk.new }
     ensures walked { OnOk result
-        (Walked id query (state tree.old tally.old passes.old (R.log ruler.old))
-        (state tree.new tally.new passes.new (R.log ruler.new))) }
+        (Walked id query (seen R.log walk.old) (seen R.log walk.new)) }
     ensures stopped { OnErr result
-        (Stopped id query (state tree.old tally.old passes.old (R.log ruler.old))
-        (state tree.new tally.new passes.new (R.log ruler.new))) }
+        (Stopped id query (seen R.log walk.old) (seen R.log walk.new)) }
     ensures own { IfOk result
-        (λ frames. kept_at tree.new.tree id ≡
-        kept_with (kept_at tree.old.tree id) ((query, answer.Frames frames) ∷ [])) }
+        (λ frames. kept walk.new id ≡
+        kept_with (kept walk.old id) ((query, answer.Frames frames) ∷ [])) }
     ensures leaves { OnOk result
-        ((sight_at (bare tree.old.tree) id).label.kind ≡ kind.Grid →
-        AreLeavesKept (bare tree.old.tree) id query
-        (state tree.new tally.new passes.new (R.log ruler.new))) }
+        ((sight_at (nodes walk.old) id).label.kind ≡ kind.Grid →
+        AreLeavesKept (nodes walk.old) id query
+        (seen R.log walk.new)) }
 {
-    if is_grid(&node_at(tree, id).kind) {
-        return grid_frames_kept(alloc, tree, id, query, above, area, ruler, tally, passes);
+    if is_grid(&node_at(walk.tree, id).kind) {
+        return grid_frames_kept(walk, id, query, seat);
     }
-    flex_frames_anew(alloc, tree, id, query, ruler, tally, passes)
+    flex_frames_anew(walk, id, query)
 }
 
 #[inline(always)]
 /// The frames of the children of a container in its seat, by the counts of the repetitions above it and what it is given along each
 /// axis, in document order: `frames_of` says more.
 pub fn frames_at<R: Ruler, L: Ledger>(
-    alloc: Global,
-    tree: &mut Arena<Node>,
+    walk: &mut Walker<R, L>,
     id: NodeId,
+    seat: &Seat,
+    inline: &Given,
+    block: &Given,
+) -> Result<SharedFrames, NoMemory>
+    requires stands { Stands walk.old }
+    requires live { IsLive (nodes walk.old) id }
+    requires fits { Fits (sight_at (nodes walk.old) id)
+        (frames_asked seat.now.reps.now inline.now block.now) }
+    requires seat { HasSeat (sight_at (nodes walk.old) id) seat.now }
+    requires columns { IsSpread (farthest (level_at (nodes walk.old) id)) inline.now }
+    requires rows { IsSpread (farthest (level_at (nodes walk.old) id)) block.now }
+    ensures value { IfOk result
+        (λ frames. AnswerFrames (nodes walk.old) id
+        (frames_asked seat.now.reps.now inline.now block.now) frames) }
+    ensures children { IfOk result (λ frames. AreOfChildren (nodes walk.old) id frames) }
+    ensures stands { Stands walk.new }
+    ensures parts { SameParts walk.old walk.new }
+    ensures walked { OnOk result
+        (Walked id (frames_asked seat.now.reps.now inline.now block.now)
+        (seen R.log walk.old) (seen R.log walk.new)) }
+    ensures stopped { OnErr result
+        (Stopped id (frames_asked seat.now.reps.now inline.now block.now)
+        (seen R.log walk.old) (seen R.log walk.new)) }
+    ensures found { Found id (frames_asked seat.now.reps.now inline.now block.now)
+        (seen R.log walk.old) (seen R.log walk.new) }
+    ensures own { IfOk result
+        (λ frames. Keeps id (frames_asked seat.now.reps.now inline.now block.now)
+        (seen R.log walk.old) (seen R.log walk.new) (answer.Frames frames)) }
+    ensures leaves { OnOk result
+        (MeasuresLeaves (nodes walk.old) id (frames_asked seat.now.reps.now inline.now block.now)
+        (seen R.log walk.old) (seen R.log walk.new)) }
+{
+    if let Some(frames) = kept_frames(walk.tree, id, seat.reps, inline, block) {
+        return frames.again();
+    }
+    let query = frames_query(walk.alloc, seat.reps, inline, block)?;
+    frames_anew(walk, id, query, seat)
+}
+
+/// The frames of a container under this context, of which it keeps none for this question.
+fn frames_under<R: Ruler, L: Ledger>(
+    walk: &mut Walker<R, L>,
+    id: NodeId,
+    query: Query,
     reps: &[(u32, u32)],
     above: &Above,
     area: Area,
-    inline: &Given,
-    block: &Given,
-    ruler: &mut R,
-    tally: &mut Tally,
-    passes: &mut Steps<L>,
 ) -> Result<SharedFrames, NoMemory>
-    requires live { IsLive (bare tree.old.tree) id }
-    requires right { IsRight tree.old.tree }
-    requires readable { AreReadable (bare tree.old.tree) }
-    requires fits { Fits (sight_at (bare tree.old.tree) id)
-        (frames_asked reps.now inline.now block.now) }
-    requires seat { IsSeat (sight_at (bare tree.old.tree) id) reps.now above.now area }
-    requires columns { IsSpread (farthest (level_at (bare tree.old.tree) id)) inline.now }
-    requires rows { IsSpread (farthest (level_at (bare tree.old.tree) id)) block.now }
-    ensures value { IfOk result
-        (λ frames. child_frames (map frame_of frames) ≡
-        answer_of (sight_at (bare tree.old.tree) id)
-        (frames_asked reps.now inline.now block.now)) }
-    ensures children { IfOk result
-        (λ frames. map (λ (f : NodeFrame). f.child) frames ≡ children_at (bare tree.old.tree) id) }
-    ensures right { IsRight tree.new.tree }
+    requires stands { Stands walk.old }
+    requires live { IsLive (nodes walk.old) id }
+    requires query { query ≡ frames_asked reps.now query.inline query.block }
+    requires fits { Fits (sight_at (nodes walk.old) id) query }
+    requires absent { IsAbsent query (kept walk.old id) }
+    requires seat { IsSeat (sight_at (nodes walk.old) id) reps.now above.now area }
+    requires columns { IsSpread (farthest (level_at (nodes walk.old) id)) query.inline }
+    requires rows { IsSpread (farthest (level_at (nodes walk.old) id)) query.block }
+    ensures value { IfOk result (λ frames. AnswerFrames (nodes walk.old) id query frames) }
+    ensures children { IfOk result (λ frames. AreOfChildren (nodes walk.old) id frames) }
+    ensures stands { Stands walk.new }
+    ensures parts { SameParts walk.old walk.new }
     ensures walked { OnOk result
-        (Walked id (frames_asked reps.now inline.now block.now)
-        (state tree.old tally.old passes.old (R.log ruler.old))
-        (state tree.new tally.new passes.new (R.log ruler.new))) }
+        (Walked id query (seen R.log walk.old) (seen R.log walk.new)) }
     ensures stopped { OnErr result
-        (Stopped id (frames_asked reps.now inline.now block.now)
-        (state tree.old tally.old passes.old (R.log ruler.old))
-        (state tree.new tally.new passes.new (R.log ruler.new))) }
-    ensures found { Found id (frames_asked reps.now inline.now block.now)
-        (state tree.old tally.old passes.old (R.log ruler.old))
-        (state tree.new tally.new passes.new (R.log ruler.new)) }
+        (Stopped id query (seen R.log walk.old) (seen R.log walk.new)) }
     ensures own { IfOk result
-        (λ frames. Keeps id (frames_asked reps.now inline.now block.now)
-        (state tree.old tally.old passes.old (R.log ruler.old))
-        (state tree.new tally.new passes.new (R.log ruler.new)) (answer.Frames frames)) }
+        (λ frames. kept walk.new id ≡
+        kept_with (kept walk.old id) ((query, answer.Frames frames) ∷ [])) }
     ensures leaves { OnOk result
-        (MeasuresLeaves (bare tree.old.tree) id (frames_asked reps.now inline.now block.now)
-        (state tree.old tally.old passes.old (R.log ruler.old))
-        (state tree.new tally.new passes.new (R.log ruler.new))) }
+        ((sight_at (nodes walk.old) id).label.kind ≡ kind.Grid →
+        AreLeavesKept (nodes walk.old) id query
+        (seen R.log walk.new)) }
 {
-    if let Some(frames) = kept_frames(tree, id, reps, inline, block) {
-        return frames.again();
-    }
-    let query = frames_query(alloc, reps, inline, block)?;
-    frames_anew(alloc, tree, id, query, above, area, ruler, tally, passes)
+    let seat = Seat { reps, above, area };
+    frames_anew(walk, id, query, &seat)
 }
 
 /// The frames of the children of a container, in document order, once it is given this along each axis (CSS Grid 2, sections 6 and
@@ -307,54 +312,43 @@ pub fn frames_at<R: Ruler, L: Ledger>(
 /// a grid then keeps its block size at the content width of its rectangle. `NoMemory` where memory is wanting; what was kept by then is
 /// right.
 pub fn frames_of<R: Ruler, L: Ledger>(
-    alloc: Global,
-    tree: &mut Arena<Node>,
+    walk: &mut Walker<R, L>,
     id: NodeId,
     reps: &[(u32, u32)],
     inline: &Given,
     block: &Given,
-    ruler: &mut R,
-    tally: &mut Tally,
-    passes: &mut Steps<L>,
 ) -> Result<SharedFrames, NoMemory>
-    requires live { IsLive (bare tree.old.tree) id }
-    requires right { IsRight tree.old.tree }
-    requires readable { AreReadable (bare tree.old.tree) }
-    requires fits { Fits (sight_at (bare tree.old.tree) id)
+    requires stands { Stands walk.old }
+    requires live { IsLive (nodes walk.old) id }
+    requires fits { Fits (sight_at (nodes walk.old) id)
         (frames_asked reps.now inline.now block.now) }
-    requires columns { IsSpread (farthest (level_at (bare tree.old.tree) id)) inline.now }
-    requires rows { IsSpread (farthest (level_at (bare tree.old.tree) id)) block.now }
+    requires columns { IsSpread (farthest (level_at (nodes walk.old) id)) inline.now }
+    requires rows { IsSpread (farthest (level_at (nodes walk.old) id)) block.now }
     ensures value { IfOk result
-        (λ frames. child_frames (map frame_of frames) ≡
-        answer_of (sight_at (bare tree.old.tree) id)
-        (frames_asked reps.now inline.now block.now)) }
-    ensures children { IfOk result
-        (λ frames. map (λ (f : NodeFrame). f.child) frames ≡ children_at (bare tree.old.tree) id) }
-    ensures right { IsRight tree.new.tree }
+        (λ frames. AnswerFrames (nodes walk.old) id
+        (frames_asked reps.now inline.now block.now) frames) }
+    ensures children { IfOk result (λ frames. AreOfChildren (nodes walk.old) id frames) }
+    ensures stands { Stands walk.new }
+    ensures parts { SameParts walk.old walk.new }
     ensures walked { OnOk result
         (Walked id (frames_asked reps.now inline.now block.now)
-        (state tree.old tally.old passes.old (R.log ruler.old))
-        (state tree.new tally.new passes.new (R.log ruler.new))) }
+        (seen R.log walk.old) (seen R.log walk.new)) }
     ensures stopped { OnErr result
         (Stopped id (frames_asked reps.now inline.now block.now)
-        (state tree.old tally.old passes.old (R.log ruler.old))
-        (state tree.new tally.new passes.new (R.log ruler.new))) }
+        (seen R.log walk.old) (seen R.log walk.new)) }
     ensures found { Found id (frames_asked reps.now inline.now block.now)
-        (state tree.old tally.old passes.old (R.log ruler.old))
-        (state tree.new tally.new passes.new (R.log ruler.new)) }
+        (seen R.log walk.old) (seen R.log walk.new) }
     ensures own { IfOk result
         (λ frames. Keeps id (frames_asked reps.now inline.now block.now)
-        (state tree.old tally.old passes.old (R.log ruler.old))
-        (state tree.new tally.new passes.new (R.log ruler.new)) (answer.Frames frames)) }
+        (seen R.log walk.old) (seen R.log walk.new) (answer.Frames frames)) }
     ensures leaves { OnOk result
-        (MeasuresLeaves (bare tree.old.tree) id (frames_asked reps.now inline.now block.now)
-        (state tree.old tally.old passes.old (R.log ruler.old))
-        (state tree.new tally.new passes.new (R.log ruler.new))) }
+        (MeasuresLeaves (nodes walk.old) id (frames_asked reps.now inline.now block.now)
+        (seen R.log walk.old) (seen R.log walk.new)) }
 {
-    if let Some(frames) = kept_frames(tree, id, reps, inline, block) {
+    if let Some(frames) = kept_frames(walk.tree, id, reps, inline, block) {
         return frames.again();
     }
-    let query = frames_query(alloc, reps, inline, block)?;
-    let (above, area) = seat(alloc, tree, id, reps)?;
-    frames_anew(alloc, tree, id, query, &above, area, ruler, tally, passes)
+    let query = frames_query(walk.alloc, reps, inline, block)?;
+    let (above, area) = seat(walk.alloc, walk.tree, id, reps)?;
+    frames_under(walk, id, query, reps, &above, area)
 }

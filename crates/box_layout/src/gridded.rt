@@ -20,6 +20,7 @@ ghost use Rattle.block_sizes.specs.Sharing.{IsLastIn};
 ghost use Rattle.block_sizes.specs.Spans.{LiesIn};
 ghost use Rattle.block_sizes.specs.Wides.{IsWide, columns_seen, wides_seen};
 ghost use Rattle.box_layout.specs.GridFrames.{AreAgain, AreFramesAt, AreIndices, AreTracks, IsFrameOf, IsLastOf, no_frame};
+ghost use Rattle.box_layout.specs.Tracked.{IsTracked, frames_by, nodes_in};
 
 use crate::frames::origin_of;
 use crate::framing::is_grid;
@@ -36,6 +37,23 @@ use placing::{
     ChildArea, Frame, GridWide, Node, PastFrames, WideChild, count, entry, node_at, root,
 };
 use std::alloc::Global;
+
+/// A grid whose tracks lie where they lie, with what is known of its children.
+#[derive(Clone, Copy)]
+pub(crate) struct TrackedGrid<'a> {
+    /// The tree in which it stands.
+    pub(crate) tree: &'a Arena<Node>,
+    /// Its number.
+    pub(crate) id: NodeId,
+    /// The counts of the automatic repeats of the grids above it that it sees, columns first, the topmost grid first.
+    pub(crate) reps: &'a [(u32, u32)],
+    /// What it is given in the inline axis.
+    pub(crate) width: &'a Given,
+    /// It in its columns, with its children.
+    pub(crate) wide: &'a GridWide,
+    /// Its rows.
+    pub(crate) rows: &'a View<1>,
+}
 
 /// Whether a child of a grid is a subgrid in the columns, and in the rows.
 fn shares(tree: &Arena<Node>, id: NodeId) -> (bool, bool)
@@ -95,40 +113,28 @@ fn wide_child_at(wide: &GridWide, index: usize) -> &WideChild
 /// its border box. `NoMemory` where memory is wanting.
 fn framed_child(
     alloc: Global,
-    tree: &Arena<Node>,
-    id: NodeId,
-    reps: &[(u32, u32)],
-    width: &Given,
-    wide: &GridWide,
-    rows: &View<1>,
+    grid: &TrackedGrid<'_>,
     origin: (Lu, Lu),
     index: usize,
     last: &mut Option<LastTracks>,
 ) -> Result<Frame, NoMemory>
-    requires live { IsLive (bare tree.now.tree) id }
-    requires readable { AreReadable (bare tree.now.tree) }
-    requires kind { (sight_at (bare tree.now.tree) id).label.kind ≡ kind.Grid }
-    requires wide { IsWide (bare tree.now.tree) id reps.now width.now wide.now }
-    requires columns { AreTracks wide.now.parts.base.placed.columns wide.now.columns.edges }
-    requires rows { AreTracks wide.now.parts.base.placed.rows rows.now.edges }
-    requires gap { pos 0 ≤ℤ rows.now.gap }
-    requires x { origin.0 ≡ inner_start (sight_at (bare tree.now.tree) id).label.grid.columns }
-    requires y { origin.1 ≡ inner_start (sight_at (bare tree.now.tree) id).label.grid.rows }
-    requires index { index < length wide.now.parts.base.placed.areas }
-    requires last { IsLastIn rows.now last.old }
+    requires grid { IsTracked grid.now }
+    requires x { origin.0 ≡
+        inner_start (sight_at (nodes_in grid.now) grid.now.id).label.grid.columns }
+    requires y { origin.1 ≡ inner_start (sight_at (nodes_in grid.now) grid.now.id).label.grid.rows }
+    requires index { index < length grid.now.wide.now.parts.base.placed.areas }
+    requires last { IsLastIn grid.now.rows.now last.old }
     ensures frame { IfOk result
-        (IsFrameOf (bare tree.now.tree) id
-        (get_or
-        (map
-        (grid_child (grid_seen (bare tree.now.tree) id reps.now width.now)
-        (columns_seen (bare tree.now.tree) id reps.now width.now) rows.now)
-        (wides_seen (bare tree.now.tree) id reps.now width.now)) index no_frame)) }
-    ensures last { OnOk result (IsLastIn rows.now last.new) }
+        (IsFrameOf (nodes_in grid.now) grid.now.id (get_or (frames_by grid.now) index no_frame)) }
+    ensures last { OnOk result (IsLastIn grid.now.rows.now last.new) }
 {
-    let entry = child_over(tree, id, reps, width, wide, index);
+    let tree = grid.tree;
+    let wide = grid.wide;
+    let rows = grid.rows;
+    let entry = child_over(tree, grid.id, grid.reps, grid.width, wide, index);
     let base = wide.parts.base.grid();
     let child = wide_child_at(wide, index);
-    let container = node_at(tree, id);
+    let container = node_at(tree, grid.id);
     let node = node_at(tree, entry.child);
     let shared = shares(tree, entry.child);
     let columns = from_first(base.placed.columns, entry.area.columns);
@@ -157,36 +163,19 @@ fn framed_child(
 /// The frames of the children of a grid, in these rows, at these places among the areas.
 fn framed_children(
     alloc: Global,
-    tree: &Arena<Node>,
-    id: NodeId,
-    reps: &[(u32, u32)],
-    width: &Given,
-    wide: &GridWide,
-    rows: &View<1>,
+    grid: &TrackedGrid<'_>,
     places: &[(usize, i64)],
 ) -> Result<Sequence<Frame>, NoMemory>
-    requires live { IsLive (bare tree.now.tree) id }
-    requires readable { AreReadable (bare tree.now.tree) }
-    requires kind { (sight_at (bare tree.now.tree) id).label.kind ≡ kind.Grid }
-    requires wide { IsWide (bare tree.now.tree) id reps.now width.now wide.now }
-    requires columns { AreTracks wide.now.parts.base.placed.columns wide.now.columns.edges }
-    requires rows { AreTracks wide.now.parts.base.placed.rows rows.now.edges }
-    requires gap { pos 0 ≤ℤ rows.now.gap }
-    requires places { AreIndices (length wide.now.parts.base.placed.areas) places.now }
+    requires grid { IsTracked grid.now }
+    requires places { AreIndices (length grid.now.wide.now.parts.base.placed.areas) places.now }
     ensures { IfOk result
-        (AreFramesAt (bare tree.now.tree) id
-        (map
-        (grid_child (grid_seen (bare tree.now.tree) id reps.now width.now)
-        (columns_seen (bare tree.now.tree) id reps.now width.now) rows.now)
-        (wides_seen (bare tree.now.tree) id reps.now width.now)) places.now) }
+        (AreFramesAt (nodes_in grid.now) grid.now.id (frames_by grid.now) places.now) }
 {
-    let origin = origin_of(&node_at(tree, id).style);
+    let origin = origin_of(&node_at(grid.tree, grid.id).style);
     let mut frames = Sequence::from_vec(Vec::with_capacity(alloc, places.len())?);
     let mut last = None;
     for place in places {
-        let frame = framed_child(
-            alloc, tree, id, reps, width, wide, rows, origin, place.0, &mut last,
-        )?;
+        let frame = framed_child(alloc, grid, origin, place.0, &mut last)?;
         frames.push(frame)?;
     }
     Ok(frames)
@@ -220,52 +209,31 @@ fn is_marked(fresh: &[bool], index: usize) -> bool
 /// Makes the frame of the child at one of these places among the areas again, where the child is not marked.
 fn frame_again(
     alloc: Global,
-    tree: &Arena<Node>,
-    id: NodeId,
-    reps: &[(u32, u32)],
-    width: &Given,
-    wide: &GridWide,
-    rows: &View<1>,
+    grid: &TrackedGrid<'_>,
     places: &[(usize, i64)],
     fresh: &[bool],
     at: usize,
     frames: &mut Sequence<Frame>,
     last: &mut Option<LastTracks>,
 ) -> Result<(), NoMemory>
-    requires live { IsLive (bare tree.now.tree) id }
-    requires readable { AreReadable (bare tree.now.tree) }
-    requires kind { (sight_at (bare tree.now.tree) id).label.kind ≡ kind.Grid }
-    requires wide { IsWide (bare tree.now.tree) id reps.now width.now wide.now }
-    requires columns { AreTracks wide.now.parts.base.placed.columns wide.now.columns.edges }
-    requires rows { AreTracks wide.now.parts.base.placed.rows rows.now.edges }
-    requires gap { pos 0 ≤ℤ rows.now.gap }
-    requires places { AreIndices (length wide.now.parts.base.placed.areas) places.now }
-    requires fresh { length fresh.now ≡ length wide.now.parts.base.placed.areas }
+    requires grid { IsTracked grid.now }
+    requires places { AreIndices (length grid.now.wide.now.parts.base.placed.areas) places.now }
+    requires fresh { length fresh.now ≡ length grid.now.wide.now.parts.base.placed.areas }
     requires at { at < length places.now }
-    requires frames { AreAgain (bare tree.now.tree) id
-        (map
-        (grid_child (grid_seen (bare tree.now.tree) id reps.now width.now)
-        (columns_seen (bare tree.now.tree) id reps.now width.now) rows.now)
-        (wides_seen (bare tree.now.tree) id reps.now width.now)) places.now fresh.now at
-        frames.old }
-    requires last { IsLastIn rows.now last.old }
+    requires frames { AreAgain (nodes_in grid.now) grid.now.id (frames_by grid.now) places.now
+        fresh.now at frames.old }
+    requires last { IsLastIn grid.now.rows.now last.old }
     ensures frames { OnOk result
-        (AreAgain (bare tree.now.tree) id
-        (map
-        (grid_child (grid_seen (bare tree.now.tree) id reps.now width.now)
-        (columns_seen (bare tree.now.tree) id reps.now width.now) rows.now)
-        (wides_seen (bare tree.now.tree) id reps.now width.now)) places.now fresh.now
-        (at + 1) frames.new) }
-    ensures last { OnOk result (IsLastIn rows.now last.new) }
+        (AreAgain (nodes_in grid.now) grid.now.id (frames_by grid.now) places.now fresh.now (at + 1)
+        frames.new) }
+    ensures last { OnOk result (IsLastIn grid.now.rows.now last.new) }
 {
     let index = places[at].0;
     if is_marked(fresh, index) {
         return Ok(());
     }
-    let origin = origin_of(&node_at(tree, id).style);
-    let frame = framed_child(
-        alloc, tree, id, reps, width, wide, rows, origin, index, last,
-    )?;
+    let origin = origin_of(&node_at(grid.tree, grid.id).style);
+    let frame = framed_child(alloc, grid, origin, index, last)?;
     frames.set(at, frame);
     Ok(())
 }
@@ -274,52 +242,25 @@ fn frame_again(
 /// made again, at these places among the areas.
 fn framed_again(
     alloc: Global,
-    tree: &Arena<Node>,
-    id: NodeId,
-    reps: &[(u32, u32)],
-    width: &Given,
-    wide: &GridWide,
-    rows: &View<1>,
+    grid: &TrackedGrid<'_>,
     places: &[(usize, i64)],
     fresh: &[bool],
     frames: Sequence<Frame>,
 ) -> Result<Sequence<Frame>, NoMemory>
-    requires live { IsLive (bare tree.now.tree) id }
-    requires readable { AreReadable (bare tree.now.tree) }
-    requires kind { (sight_at (bare tree.now.tree) id).label.kind ≡ kind.Grid }
-    requires wide { IsWide (bare tree.now.tree) id reps.now width.now wide.now }
-    requires columns { AreTracks wide.now.parts.base.placed.columns wide.now.columns.edges }
-    requires rows { AreTracks wide.now.parts.base.placed.rows rows.now.edges }
-    requires gap { pos 0 ≤ℤ rows.now.gap }
-    requires places { places.now ≡ turns wide.now.parts.base.placed.numbers }
-    requires fresh { length fresh.now ≡ length wide.now.parts.base.placed.areas }
-    requires frames { AreFrames (sight_at (bare tree.now.tree) id) (kid_at (bare tree.now.tree))
-        wide.now.parts.base wide.now.columns rows.now (Marked fresh.now) frames }
+    requires grid { IsTracked grid.now }
+    requires places { places.now ≡ turns grid.now.wide.now.parts.base.placed.numbers }
+    requires fresh { length fresh.now ≡ length grid.now.wide.now.parts.base.placed.areas }
+    requires frames { AreFrames (sight_at (nodes_in grid.now) grid.now.id)
+        (kid_at (nodes_in grid.now)) grid.now.wide.now.parts.base grid.now.wide.now.columns
+        grid.now.rows.now (Marked fresh.now) frames }
     ensures { IfOk result
-        (AreFramesAt (bare tree.now.tree) id
-        (map
-        (grid_child (grid_seen (bare tree.now.tree) id reps.now width.now)
-        (columns_seen (bare tree.now.tree) id reps.now width.now) rows.now)
-        (wides_seen (bare tree.now.tree) id reps.now width.now)) places.now) }
+        (AreFramesAt (nodes_in grid.now) grid.now.id (frames_by grid.now) places.now) }
 {
-    root(tree);
+    root(grid.tree);
     let mut frames = frames;
     let mut last = None;
     for at in 0..places.len() {
-        frame_again(
-            alloc,
-            tree,
-            id,
-            reps,
-            width,
-            wide,
-            rows,
-            places,
-            fresh,
-            at,
-            &mut frames,
-            &mut last,
-        )?;
+        frame_again(alloc, grid, places, fresh, at, &mut frames, &mut last)?;
     }
     Ok(frames)
 }
@@ -386,12 +327,18 @@ pub(crate) fn grid_frames(
     count(tree, id);
     let base = wide.parts.base.grid();
     let places = turns(alloc, base.placed.numbers.as_slice())?;
+    let grid = TrackedGrid {
+        tree,
+        id,
+        reps,
+        width,
+        wide,
+        rows,
+    };
     if let Some(past) = last_for(tree, id, reps, width, wide, rows, past) {
         let PastFrames { frames, fresh, .. } = past;
         let marks = fresh.as_slice();
-        return framed_again(
-            alloc, tree, id, reps, width, wide, rows, &places, marks, frames,
-        );
+        return framed_again(alloc, &grid, &places, marks, frames);
     }
-    framed_children(alloc, tree, id, reps, width, wide, rows, &places)
+    framed_children(alloc, &grid, &places)
 }

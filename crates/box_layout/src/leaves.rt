@@ -4,22 +4,21 @@ ghost use Rattle.std.specs.Prelude.{◌≡◌, [], false, length, true, IsSome, 
 ghost use Rattle.layout_cache.specs.Kept.{answer_to};
 ghost use Rattle.node_arena.specs.Plain.{IsSound};
 ghost use Rattle.placing.specs.Keeping.{is_leaf};
-ghost use Rattle.placing.specs.Kept.{kept_at, IsRight};
-ghost use Rattle.placing.specs.Nodes.{bare, sight_at, IsLive};
-ghost use Rattle.placing.specs.Ranges.{AreReadable};
-ghost use Rattle.placing.specs.Walks.{bare_in, state, State, Stopped, Walked};
+ghost use Rattle.placing.specs.Nodes.{sight_at, IsLive};
+ghost use Rattle.placing.specs.Walks.{bare_in, State, Stopped, Walked};
 ghost use Rattle.tree_rules.specs.AskedQueries.{block_query};
 ghost use Rattle.tree_rules.specs.Queries.{IsGivenFor};
 ghost use Rattle.tree_rules.specs.declared.query.Query.{Query};
+ghost use Rattle.walker.specs.Walkers.{kept, nodes, seen, SameParts, Stands};
 ghost use Rattle.box_layout.specs.LeafHeights.{AreLeafFrames, HoldLeaves, IsLeafAsked, IsLeafStopped, UsesLeaves};
 
-use block_sizes::block_of;
-use lunit::{NoMemory, Steps};
+use crate::sizes::height_alone;
+use lunit::NoMemory;
 use node_arena::{Arena, NodeId};
-use outside::{Ruler, Tally};
+use outside::Ruler;
 use placing::{Frame, Node, NodeKind, node_at, root};
-use std::alloc::Global;
 use std::sync::ledger::Ledger;
+use walker::Walker;
 
 /// What holds of every arena.
 pub(crate) fn stands(tree: &Arena<Node>) -> NodeId
@@ -40,86 +39,64 @@ fn is_leaf(kind: &NodeKind) -> bool
 }
 
 /// A child that is a leaf is asked for its block size at the width that its frame gives it, and keeps it; nothing is asked of another.
-fn ask_leaf<R: Ruler, L: Ledger>(
-    alloc: Global,
-    tree: &mut Arena<Node>,
-    frame: &Frame,
-    ruler: &mut R,
-    tally: &mut Tally,
-    passes: &mut Steps<L>,
-) -> Result<(), NoMemory>
-    requires live { IsLive (bare tree.old.tree) frame.now.child }
-    requires right { IsRight tree.old.tree }
-    requires readable { AreReadable (bare tree.old.tree) }
-    requires alone { is_leaf (sight_at (bare tree.old.tree) frame.now.child).label.kind ≡ true →
-        (sight_at (bare tree.old.tree) frame.now.child).chain ≡ [] }
-    requires given { is_leaf (sight_at (bare tree.old.tree) frame.now.child).label.kind ≡ true →
+fn ask_leaf<R: Ruler, L: Ledger>(walk: &mut Walker<R, L>, frame: &Frame) -> Result<(), NoMemory>
+    requires stands { Stands walk.old }
+    requires live { IsLive (nodes walk.old) frame.now.child }
+    requires alone { is_leaf (sight_at (nodes walk.old) frame.now.child).label.kind ≡ true →
+        (sight_at (nodes walk.old) frame.now.child).chain ≡ [] }
+    requires given { is_leaf (sight_at (nodes walk.old) frame.now.child).label.kind ≡ true →
         IsGivenFor true false 0 frame.now.inline }
-    ensures right { IsRight tree.new.tree }
+    ensures stands { Stands walk.new }
+    ensures parts { SameParts walk.old walk.new }
     ensures asked { OnOk result
-        (IsLeafAsked (bare tree.old.tree) frame.now
-        (state tree.old tally.old passes.old (R.log ruler.old))
-        (state tree.new tally.new passes.new (R.log ruler.new))) }
+        (IsLeafAsked (nodes walk.old) frame.now
+        (seen R.log walk.old) (seen R.log walk.new)) }
     ensures stopped { OnErr result
-        (IsLeafStopped (bare tree.old.tree) frame.now
-        (state tree.old tally.old passes.old (R.log ruler.old))
-        (state tree.new tally.new passes.new (R.log ruler.new))) }
+        (IsLeafStopped (nodes walk.old) frame.now
+        (seen R.log walk.old) (seen R.log walk.new)) }
     ensures held { OnOk result
-        (is_leaf (sight_at (bare tree.old.tree) frame.now.child).label.kind ≡ true →
+        (is_leaf (sight_at (nodes walk.old) frame.now.child).label.kind ≡ true →
         IsSome
         (answer_to (block_query false [] frame.now.inline)
-        (kept_at tree.new.tree frame.now.child))) }
+        (kept walk.new frame.now.child))) }
 {
-    if !is_leaf(&node_at(tree, frame.child).kind) {
+    if !is_leaf(&node_at(walk.tree, frame.child).kind) {
         return Ok(());
     }
-    block_of(
-        alloc,
-        tree,
-        frame.child,
-        &[],
-        &frame.inline,
-        ruler,
-        tally,
-        passes,
-    )?;
+    height_alone(walk, frame.child, &frame.inline)?;
     Ok(())
 }
 
 /// Each leaf among the children of a grid with these frames keeps its block size at the width that its frame gives it: where the
 /// grid has just answered, it is found there.
 pub(crate) fn ask_leaves<R: Ruler, L: Ledger>(
-    alloc: Global,
-    tree: &mut Arena<Node>,
+    walk: &mut Walker<R, L>,
     id: NodeId,
     frames: &[Frame],
-    ruler: &mut R,
-    tally: &mut Tally,
-    passes: &mut Steps<L>,
 ) -> Result<(), NoMemory>
-    requires right { IsRight tree.old.tree }
-    requires readable { AreReadable (bare tree.old.tree) }
-    requires frames { AreLeafFrames (bare tree.old.tree) id frames.now }
-    ensures right { IsRight tree.new.tree }
+    requires stands { Stands walk.old }
+    requires frames { AreLeafFrames (nodes walk.old) id frames.now }
+    ensures stands { Stands walk.new }
+    ensures parts { SameParts walk.old walk.new }
     ensures walked { OnOk result
-        ((q : Query) (s : State) → UsesLeaves (bare tree.old.tree) id q frames.now →
-        bare_in s ≡ bare tree.old.tree →
-        Walked id q s (state tree.old tally.old passes.old (R.log ruler.old)) →
-        Walked id q s (state tree.new tally.new passes.new (R.log ruler.new))) }
+        ((q : Query) (s : State) → UsesLeaves (nodes walk.old) id q frames.now →
+        bare_in s ≡ nodes walk.old →
+        Walked id q s (seen R.log walk.old) →
+        Walked id q s (seen R.log walk.new)) }
     ensures stopped { OnErr result
-        ((q : Query) (s : State) → UsesLeaves (bare tree.old.tree) id q frames.now →
-        bare_in s ≡ bare tree.old.tree →
-        Walked id q s (state tree.old tally.old passes.old (R.log ruler.old)) →
-        Stopped id q s (state tree.new tally.new passes.new (R.log ruler.new))) }
-    ensures own { OnOk result (kept_at tree.new.tree id ≡ kept_at tree.old.tree id) }
+        ((q : Query) (s : State) → UsesLeaves (nodes walk.old) id q frames.now →
+        bare_in s ≡ nodes walk.old →
+        Walked id q s (seen R.log walk.old) →
+        Stopped id q s (seen R.log walk.new)) }
+    ensures own { OnOk result (kept walk.new id ≡ kept walk.old id) }
     ensures held { OnOk result
-        (HoldLeaves (bare tree.old.tree) (length frames.now) frames.now
-        (state tree.new tally.new passes.new (R.log ruler.new))) }
+        (HoldLeaves (nodes walk.old) (length frames.now) frames.now
+        (seen R.log walk.new)) }
 {
-    root(tree);
-    stands(tree);
+    root(walk.tree);
+    stands(walk.tree);
     for index in 0..frames.len() {
-        ask_leaf(alloc, tree, &frames[index], ruler, tally, passes)?;
+        ask_leaf(walk, &frames[index])?;
     }
     Ok(())
 }

@@ -4,33 +4,32 @@ ghost use Rattle.std.specs.Prelude.{◌≡◌, ◌∷◌, ◌^◌, ◌≤◌, �
 ghost use Rattle.layout_cache.specs.Kept.{answer_to};
 ghost use Rattle.node_arena.specs.Numbers.{top_numbers};
 ghost use Rattle.node_arena.specs.declared.number.NodeId.{NodeId};
-ghost use Rattle.placing.specs.Kept.{frame_of, kept_at, IsRight};
+ghost use Rattle.placing.specs.Kept.{frame_of};
 ghost use Rattle.placing.specs.Nodes.{bare, sight_at, IsLive};
 ghost use Rattle.placing.specs.Ranges.{AreReadable};
-ghost use Rattle.placing.specs.Walks.{state, Walk};
-ghost use Rattle.tree_rules.specs.AskedQueries.{block_query, inline_query};
-ghost use Rattle.tree_rules.specs.Boxes.{root_framed, root_inline, root_of, root_width};
+ghost use Rattle.placing.specs.Walks.{Walk};
+ghost use Rattle.tree_rules.specs.AskedQueries.{inline_query};
 ghost use Rattle.tree_rules.specs.Frames.{given_box};
 ghost use Rattle.tree_rules.specs.NodeSizes.{inner};
 ghost use Rattle.tree_rules.specs.Queries.{is_container, Fits, IsGivenFor};
 ghost use Rattle.tree_rules.specs.declared.query.Ask.TheVariants as ask;
 ghost use Rattle.tree_rules.specs.declared.query.Query.{Query};
+ghost use Rattle.walker.specs.Walkers.{kept, nodes, seen, SameParts, Stands};
 ghost use Rattle.box_layout.specs.Asking.{frames_asked};
 ghost use Rattle.box_layout.specs.BoxesSeen.{IsNearAt};
 ghost use Rattle.box_layout.specs.Paths.{IsAsked, IsCutShort};
 ghost use Rattle.box_layout.specs.Ranges.{IsWithin};
-ghost use Rattle.box_layout.specs.RootFrames.{root_frame_by, width_by};
+ghost use Rattle.box_layout.specs.RootFrames.{root_block_in, root_frame_by, root_frame_in, width_by};
 
 use crate::root::{given_box, root_height, root_rect, root_width};
-use block_sizes::block_of;
-use inline_sizes::inline_of;
+use crate::sizes::{height_alone, widths_alone};
 use layout_cache::Given;
-use lunit::{Lu, NoMemory, Steps};
+use lunit::{Lu, NoMemory};
 use node_arena::{Arena, NodeId};
-use outside::{Ruler, Tally};
+use outside::Ruler;
 use placing::{Frame, Node, node_at};
-use std::alloc::Global;
 use std::sync::ledger::Ledger;
+use walker::Walker;
 
 /// The inline size of the border box of the root in a viewport of this width, by the two inline sizes of its content.
 fn root_box(tree: &Arena<Node>, id: NodeId, width: Lu, sizes: (Lu, Lu)) -> Lu
@@ -82,60 +81,43 @@ fn root_placed(
 /// The frame of the root in a viewport of this width and height. It is asked for its inline sizes, and for its block size at its
 /// width. `NoMemory` where memory is wanting; what was kept by then is right.
 pub(crate) fn root_frame<R: Ruler, L: Ledger>(
-    alloc: Global,
-    tree: &mut Arena<Node>,
+    walk: &mut Walker<R, L>,
     id: NodeId,
     width: Lu,
     height: Lu,
-    ruler: &mut R,
-    tally: &mut Tally,
-    passes: &mut Steps<L>,
 ) -> Result<Frame, NoMemory>
-    requires top { top_numbers (bare tree.old.tree) ≡ id ∷ [] }
-    requires live { IsLive (bare tree.old.tree) id }
-    requires alone { (sight_at (bare tree.old.tree) id).chain ≡ [] }
-    requires right { IsRight tree.old.tree }
-    requires readable { AreReadable (bare tree.old.tree) }
+    requires stands { Stands walk.old }
+    requires top { top_numbers (nodes walk.old) ≡ id ∷ [] }
+    requires live { IsLive (nodes walk.old) id }
+    requires alone { (sight_at (nodes walk.old) id).chain ≡ [] }
     ensures child { IfOk result (λ frame. frame.child ≡ id) }
     ensures value { IfOk result
-        (λ frame. frame_of frame ≡
-        (root_framed width height (root_of (sight_at (bare tree.old.tree) id).label (sight_at (bare tree.old.tree) id).below)).frame) }
-    ensures fits { is_container (sight_at (bare tree.old.tree) id).label.kind ≡ true →
+        (λ frame. frame_of frame ≡ root_frame_in (nodes walk.old) id width height) }
+    ensures fits { is_container (sight_at (nodes walk.old) id).label.kind ≡ true →
         IfOk result
-        (λ frame. Fits (sight_at (bare tree.old.tree) id)
+        (λ frame. Fits (sight_at (nodes walk.old) id)
         (frames_asked [] frame.inline frame.block)) }
     ensures near { (level : ℕ) → 1 ≤ level →
         IfOk result (λ frame. IsNearAt level (pos 0) (pos 0) (frame_of frame)) }
-    ensures right { IsRight tree.new.tree }
-    ensures bare { bare tree.new.tree ≡ bare tree.old.tree }
+    ensures stands { Stands walk.new }
+    ensures parts { SameParts walk.old walk.new }
+    ensures bare { nodes walk.new ≡ nodes walk.old }
     ensures laid { OnOk result
-        (Walk (IsAsked (bare tree.old.tree) width height) 0 []
-        (state tree.old tally.old passes.old (R.log ruler.old))
-        (state tree.new tally.new passes.new (R.log ruler.new))) }
+        (Walk (IsAsked (nodes walk.old) width height) 0 [] (seen R.log walk.old)
+        (seen R.log walk.new)) }
     ensures cut { OnErr result
-        (IsCutShort (bare tree.old.tree) width height
-        (state tree.old tally.old passes.old (R.log ruler.old))
-        (state tree.new tally.new passes.new (R.log ruler.new))) }
+        (IsCutShort (nodes walk.old) width height (seen R.log walk.old) (seen R.log walk.new)) }
     ensures frames { OnOk result
         ((m : NodeId) (p : Query) → p.ask ≡ ask.Frames →
-        answer_to p (kept_at tree.old.tree m) ≡ None →
-        answer_to p (kept_at tree.new.tree m) ≡ None) }
-    ensures quiet { IsSome (answer_to (inline_query false []) (kept_at tree.old.tree id)) →
-        IsSome
-        (answer_to
-        (block_query false []
-        (root_inline
-        (root_of (sight_at (bare tree.old.tree) id).label
-        (sight_at (bare tree.old.tree) id).below)
-        (root_width width
-        (root_of (sight_at (bare tree.old.tree) id).label
-        (sight_at (bare tree.old.tree) id).below)))) (kept_at tree.old.tree id)) →
-        state tree.new tally.new passes.new (R.log ruler.new) ≡
-        state tree.old tally.old passes.old (R.log ruler.old) }
+        answer_to p (kept walk.old m) ≡ None → answer_to p (kept walk.new m) ≡ None) }
+    ensures quiet { IsSome (answer_to (inline_query false []) (kept walk.old id)) →
+        IsSome (answer_to (root_block_in (nodes walk.old) id width) (kept walk.old id)) →
+        seen R.log walk.new ≡ seen R.log walk.old }
 {
-    let sizes = inline_of(alloc, tree, id, &[], ruler, tally, passes)?;
-    let across = root_box(tree, id, width, sizes);
-    let inline = root_given(tree, id, across);
-    let content = block_of(alloc, tree, id, &[], &inline, ruler, tally, passes)?;
-    Ok(root_placed(tree, id, (width, height), across, inline, content))
+    let sizes = widths_alone(walk, id)?;
+    let across = root_box(walk.tree, id, width, sizes);
+    let inline = root_given(walk.tree, id, across);
+    let content = height_alone(walk, id, &inline)?;
+    let viewport = (width, height);
+    Ok(root_placed(walk.tree, id, viewport, across, inline, content))
 }

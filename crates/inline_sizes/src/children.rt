@@ -1,15 +1,16 @@
 //! The children of a grid along its columns: whether a child is a subgrid in them, which item another child is, and what the children
 //! told, kept.
 
-ghost use Rattle.std.specs.Prelude.{◌≡◌, ◌&&◌};
+ghost use Rattle.std.specs.Prelude.{◌≡◌, ◌&&◌, ℕ};
 ghost use Rattle.placing.specs.Bases.{HoldsPlaces};
-ghost use Rattle.placing.specs.Kept.{IsRight};
 ghost use Rattle.placing.specs.Nodes.{bare, children_at, kid_at, sight_at, IsLive};
 ghost use Rattle.placing.specs.Ranges.{AreReadable};
 ghost use Rattle.placing.specs.Told.{AreColumns, Each};
-ghost use Rattle.placing.specs.Walks.{IsAlike};
+ghost use Rattle.placing.specs.Walks.{State, WalkedBelow};
 ghost use Rattle.tree_rules.specs.Chains.{is_grid_kind, is_subgrid};
 ghost use Rattle.tree_rules.specs.LentItems.{child_item};
+ghost use Rattle.tree_rules.specs.declared.query.Query.{Query};
+ghost use Rattle.walker.specs.Walkers.{nodes, seen, SameParts, Stands};
 ghost use Rattle.inline_sizes.specs.Grids.{column_levels, has_subgrid_kind};
 ghost use Rattle.inline_sizes.specs.Lifted.{IsLifted};
 
@@ -17,9 +18,11 @@ use crate::grid::column_levels;
 use crate::sized::child_item;
 use lunit::{Item, Lu, NoMemory};
 use node_arena::{Arena, NodeId};
+use outside::Ruler;
 use placing::style::is_subgrid;
-use placing::{ChildArea, GridBase, MANY, Node, NodeKind, ToldColumns, keep_columns, node_at};
-use std::alloc::Global;
+use placing::{ChildArea, GridBase, MANY, Node, NodeKind, ToldColumns, node_at};
+use std::sync::ledger::Ledger;
+use walker::Walker;
 
 /// Whether a node is a grid.
 pub(crate) fn is_grid(kind: &NodeKind) -> bool
@@ -72,23 +75,24 @@ pub(crate) fn own_item(
 
 /// Keeps what the children of a grid told for its inline sizes, where they are many. A walk goes on after it as before it. `NoMemory`
 /// where memory is wanting; nothing has changed then.
-pub(crate) fn keep_told(
-    alloc: Global,
-    tree: &mut Arena<Node>,
+pub(crate) fn keep_told<R: Ruler, L: Ledger>(
+    walk: &mut Walker<R, L>,
     id: NodeId,
     told: ToldColumns,
 ) -> Result<(), NoMemory>
-    requires live { IsLive (bare tree.old.tree) id }
-    requires right { IsRight tree.old.tree }
-    requires places { HoldsPlaces (sight_at (bare tree.old.tree) id)
-        (children_at (bare tree.old.tree) id) told.parts.base }
-    requires told { AreColumns (sight_at (bare tree.old.tree) id) (kid_at (bare tree.old.tree)) Each
-        told }
-    ensures right { IsRight tree.new.tree }
-    ensures alike { IsAlike tree.old tree.new }
+    requires stands { Stands walk.old }
+    requires live { IsLive (nodes walk.old) id }
+    requires places { HoldsPlaces (sight_at (nodes walk.old) id) (children_at (nodes walk.old) id)
+        told.parts.base }
+    requires told { AreColumns (sight_at (nodes walk.old) id) (kid_at (nodes walk.old)) Each told }
+    ensures stands { Stands walk.new }
+    ensures parts { SameParts walk.old walk.new }
+    ensures below { (q : Query) (more : ℕ) (old : State) →
+        WalkedBelow id q more old (seen R.log walk.old) →
+        WalkedBelow id q more old (seen R.log walk.new) }
 {
     if told.ends.len() < MANY {
         return Ok(());
     }
-    keep_columns(alloc, tree, id, told)
+    walk.keep_columns(id, told)
 }

@@ -1,32 +1,31 @@
 //! A grid once the counts of its repetitions are known: its context, the areas of its children, and, once these are asked, their
 //! inline sizes and their items along the columns (CSS Grid 2, sections 7 to 9 and 12.5).
 
-ghost use Rattle.std.specs.Prelude.{◌≡◌, ◌++◌, ◌∷◌, [], ℕ, length, map, IfOk, List, Option};
+ghost use Rattle.std.specs.Prelude.{◌≡◌, ◌++◌, ◌∷◌, [], ℕ, length, map, IfOk, List};
 ghost use Rattle.lunit.specs.declared.geometry.Area.{Area};
 ghost use Rattle.node_arena.specs.declared.number.NodeId.{NodeId};
-ghost use Rattle.outside.specs.declared.event.Event.{Event};
-ghost use Rattle.outside.specs.declared.tally.Tally.{Tally as Told};
 ghost use Rattle.placing.specs.Bases.{HoldsPlaces};
 ghost use Rattle.placing.specs.Counted.{IsGivenSize};
-ghost use Rattle.placing.specs.Kept.{IsRight};
 ghost use Rattle.placing.specs.Nodes.{bare, children_at, sight_at, IsLive};
 ghost use Rattle.placing.specs.Ranges.{AreReadable};
 ghost use Rattle.placing.specs.Seats.{IsInsideOf, IsSeat};
-ghost use Rattle.placing.specs.Walks.{state, State, Stopped, WalkedBelow};
+ghost use Rattle.placing.specs.Walks.{State, Stopped, WalkedBelow};
 ghost use Rattle.tree_rules.specs.Answers.{Pair};
 ghost use Rattle.tree_rules.specs.declared.query.Given.{Given};
 ghost use Rattle.tree_rules.specs.declared.query.Query.{Query};
+ghost use Rattle.walker.specs.Walkers.{nodes, seen, HasSeat, SameParts, Stands};
 ghost use Rattle.inline_sizes.specs.Grids.{IsBase, IsCounted, column_levels};
 
 use layout_cache::Given;
 use lunit::{Area, NoMemory, Sequence, Span};
 use node_arena::{Arena, NodeId};
+use outside::Ruler;
 use part_rules::Level;
 use placing::counts::own_pair;
-use placing::{
-    Above, GridBase, Node, SharedBase, areas_in, context_in, find_base, keep_base, node_at,
-};
+use placing::{Above, GridBase, Node, SharedBase, areas_in, context_in, find_base, node_at};
 use std::alloc::Global;
+use std::sync::ledger::Ledger;
+use walker::{Seat, Walker};
 
 /// Counts, and then others.
 fn with_pair(
@@ -137,63 +136,58 @@ pub fn base_at(
 }
 
 /// A base that a node keeps from now on, and once more for the one who made it; `NoMemory` where memory is wanting.
-fn kept_base(
-    alloc: Global,
-    tree: &mut Arena<Node>,
+fn kept_base<R: Ruler, L: Ledger>(
+    walk: &mut Walker<R, L>,
     id: NodeId,
     base: GridBase,
 ) -> Result<SharedBase, NoMemory>
-    requires live { IsLive (bare tree.old.tree) id }
-    requires right { IsRight tree.old.tree }
-    requires holds { HoldsPlaces (sight_at (bare tree.old.tree) id)
-        (children_at (bare tree.old.tree) id) base }
+    requires stands { Stands walk.old }
+    requires live { IsLive (nodes walk.old) id }
+    requires holds { HoldsPlaces (sight_at (nodes walk.old) id) (children_at (nodes walk.old) id)
+        base }
     ensures value { IfOk result (λ kept. kept ≡ base) }
-    ensures right { IsRight tree.new.tree }
-    ensures same { bare tree.new.tree ≡ bare tree.old.tree }
-    ensures below { (q : Query) (more passes : ℕ) (tally : Told) (log : Option (List Event))
-        (new : State) → WalkedBelow id q more (state tree.new tally passes log) new →
-        WalkedBelow id q more (state tree.old tally passes log) new }
-    ensures stopped { (q : Query) (passes : ℕ) (tally : Told) (log : Option (List Event))
-        (new : State) → Stopped id q (state tree.new tally passes log) new →
-        Stopped id q (state tree.old tally passes log) new }
+    ensures stands { Stands walk.new }
+    ensures parts { SameParts walk.old walk.new }
+    ensures same { nodes walk.new ≡ nodes walk.old }
+    ensures below { (q : Query) (more : ℕ) (new : State) →
+        WalkedBelow id q more (seen R.log walk.new) new →
+        WalkedBelow id q more (seen R.log walk.old) new }
+    ensures stopped { (q : Query) (new : State) → Stopped id q (seen R.log walk.new) new →
+        Stopped id q (seen R.log walk.old) new }
 {
-    let base = SharedBase::new(alloc, base)?;
+    let base = SharedBase::new(walk.alloc, base)?;
     let other = base.again()?;
-    keep_base(tree, id, other);
+    walk.keep_base(id, other);
     Ok(base)
 }
 
 /// The context of a grid in its seat and the areas of its children, as `base_at` makes them: those that the grid keeps by these
 /// counts, or made anew and kept from now on, so that a walk begins after it as before it. `NoMemory` where memory is wanting.
-pub(crate) fn shared_base(
-    alloc: Global,
-    tree: &mut Arena<Node>,
+pub(crate) fn shared_base<R: Ruler, L: Ledger>(
+    walk: &mut Walker<R, L>,
     id: NodeId,
-    reps: &[(u32, u32)],
-    above: &Above,
-    area: Area,
+    seat: &Seat,
     width: &Given,
 ) -> Result<SharedBase, NoMemory>
-    requires live { IsLive (bare tree.old.tree) id }
-    requires right { IsRight tree.old.tree }
-    requires readable { AreReadable (bare tree.old.tree) }
-    requires reps { length reps.now ≡ length (sight_at (bare tree.old.tree) id).chain }
-    requires seat { IsSeat (sight_at (bare tree.old.tree) id) reps.now above.now area }
+    requires stands { Stands walk.old }
+    requires live { IsLive (nodes walk.old) id }
+    requires reps { length seat.now.reps.now ≡ length (sight_at (nodes walk.old) id).chain }
+    requires seat { HasSeat (sight_at (nodes walk.old) id) seat.now }
     requires width { IsGivenSize width.now }
-    ensures value { IfOk result (IsBase (bare tree.old.tree) id reps.now width.now) }
-    ensures right { IsRight tree.new.tree }
-    ensures same { bare tree.new.tree ≡ bare tree.old.tree }
-    ensures below { (q : Query) (more passes : ℕ) (tally : Told) (log : Option (List Event))
-        (new : State) → WalkedBelow id q more (state tree.new tally passes log) new →
-        WalkedBelow id q more (state tree.old tally passes log) new }
-    ensures stopped { (q : Query) (passes : ℕ) (tally : Told) (log : Option (List Event))
-        (new : State) → Stopped id q (state tree.new tally passes log) new →
-        Stopped id q (state tree.old tally passes log) new }
+    ensures value { IfOk result (IsBase (nodes walk.old) id seat.now.reps.now width.now) }
+    ensures stands { Stands walk.new }
+    ensures parts { SameParts walk.old walk.new }
+    ensures same { nodes walk.new ≡ nodes walk.old }
+    ensures below { (q : Query) (more : ℕ) (new : State) →
+        WalkedBelow id q more (seen R.log walk.new) new →
+        WalkedBelow id q more (seen R.log walk.old) new }
+    ensures stopped { (q : Query) (new : State) → Stopped id q (seen R.log walk.new) new →
+        Stopped id q (seen R.log walk.old) new }
 {
-    let counts = counts_in(alloc, tree, id, reps, width)?;
-    if let Some(base) = find_base(tree, id, counts.1.as_slice()) {
+    let counts = counts_in(walk.alloc, walk.tree, id, seat.reps, width)?;
+    if let Some(base) = find_base(walk.tree, id, counts.1.as_slice()) {
         return base.again();
     }
-    let base = base_by(alloc, tree, id, counts, above, area)?;
-    kept_base(alloc, tree, id, base)
+    let base = base_by(walk.alloc, walk.tree, id, counts, seat.above, seat.area)?;
+    kept_base(walk, id, base)
 }

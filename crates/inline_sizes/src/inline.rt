@@ -4,20 +4,87 @@ ghost use Rattle.std.specs.Prelude.{◌≡◌, ◌∷◌, [], true, false, IfOk,
 ghost use Rattle.placing.specs.Kept.{IsRight};
 ghost use Rattle.placing.specs.Nodes.{bare, sight_at, IsLive};
 ghost use Rattle.placing.specs.Ranges.{AreReadable};
-ghost use Rattle.placing.specs.Walks.{state, Stopped, Walked};
+ghost use Rattle.placing.specs.Seats.{IsSeat};
+ghost use Rattle.placing.specs.Walks.{kept_with, state, Stopped, Walked};
 ghost use Rattle.placing.specs.declared.node.Answer.TheVariants as answer;
 ghost use Rattle.tree_rules.specs.AskedQueries.{inline_query};
+ghost use Rattle.tree_rules.specs.KeptAnswers.{IsAbsent};
 ghost use Rattle.tree_rules.specs.Queries.{answer_of, inline_sizes, lent_items, Fits};
+ghost use Rattle.walker.specs.Walkers.{kept, nodes, seen, SameParts, Stands};
 ghost use Rattle.inline_sizes.specs.Calls.{Found, Keeps};
 
 use crate::queries::{inline_query, kept_items, kept_sizes};
 use crate::walk::{columns_anew, sizes_anew};
-use lunit::{Item, Lu, NoMemory, Sequence, Steps};
+use layout_cache::Query;
+use lunit::{Area, Item, Lu, NoMemory, Sequence, Steps};
 use node_arena::{Arena, NodeId};
 use outside::{Ruler, Tally};
-use placing::{Node, seat};
+use placing::{Above, Node, seat};
 use std::alloc::Global;
 use std::sync::ledger::Ledger;
+use walker::{Seat, Walker};
+
+/// The two inline sizes of a node under this context, of which it keeps none for this question.
+fn sizes_under<R: Ruler, L: Ledger>(
+    walk: &mut Walker<R, L>,
+    id: NodeId,
+    query: Query,
+    reps: &[(u32, u32)],
+    above: &Above,
+    area: Area,
+) -> Result<(Lu, Lu), NoMemory>
+    requires stands { Stands walk.old }
+    requires live { IsLive (nodes walk.old) id }
+    requires query { query ≡ inline_query false reps.now }
+    requires fits { Fits (sight_at (nodes walk.old) id) query }
+    requires absent { IsAbsent query (kept walk.old id) }
+    requires seat { IsSeat (sight_at (nodes walk.old) id) reps.now above.now area }
+    ensures value { IfOk result
+        (λ sizes. inline_sizes sizes ≡ answer_of (sight_at (nodes walk.old) id) query) }
+    ensures stands { Stands walk.new }
+    ensures parts { SameParts walk.old walk.new }
+    ensures walked { OnOk result
+        (Walked id query (seen R.log walk.old) (seen R.log walk.new)) }
+    ensures stopped { OnErr result
+        (Stopped id query (seen R.log walk.old) (seen R.log walk.new)) }
+    ensures own { IfOk result
+        (λ sizes. kept walk.new id ≡
+        kept_with (kept walk.old id) ((query, answer.Sizes sizes.0 sizes.1) ∷ [])) }
+{
+    let seat = Seat { reps, above, area };
+    sizes_anew(walk, id, query, &seat)
+}
+
+/// The items that a subgrid in the columns lends under this context, of which it keeps none for this question.
+fn columns_under<R: Ruler, L: Ledger>(
+    walk: &mut Walker<R, L>,
+    id: NodeId,
+    query: Query,
+    reps: &[(u32, u32)],
+    above: &Above,
+    area: Area,
+) -> Result<Sequence<Item>, NoMemory>
+    requires stands { Stands walk.old }
+    requires live { IsLive (nodes walk.old) id }
+    requires query { query ≡ inline_query true reps.now }
+    requires fits { Fits (sight_at (nodes walk.old) id) query }
+    requires absent { IsAbsent query (kept walk.old id) }
+    requires seat { IsSeat (sight_at (nodes walk.old) id) reps.now above.now area }
+    ensures value { IfOk result
+        (λ items. lent_items items ≡ answer_of (sight_at (nodes walk.old) id) query) }
+    ensures stands { Stands walk.new }
+    ensures parts { SameParts walk.old walk.new }
+    ensures walked { OnOk result
+        (Walked id query (seen R.log walk.old) (seen R.log walk.new)) }
+    ensures stopped { OnErr result
+        (Stopped id query (seen R.log walk.old) (seen R.log walk.new)) }
+    ensures own { IfOk result
+        (λ items. kept walk.new id ≡
+        kept_with (kept walk.old id) ((query, answer.Lent items) ∷ [])) }
+{
+    let seat = Seat { reps, above, area };
+    columns_anew(walk, id, query, &seat)
+}
 
 /// The two intrinsic inline sizes of the content of a node that is no subgrid in the columns, min-content first, in units of
 /// 1/64 px (CSS Sizing 3, section 5; CSS Grid 2, 5.2; for flex containers and leaves own rules). `reps` holds the counts of the
@@ -63,7 +130,14 @@ pub fn inline_of<R: Ruler, L: Ledger>(
     }
     let (above, area) = seat(alloc, tree, id, reps)?;
     let query = inline_query(alloc, false, reps)?;
-    sizes_anew(alloc, tree, id, query, &above, area, ruler, tally, passes)
+    let mut walk = Walker {
+        alloc,
+        tree,
+        ruler,
+        tally,
+        passes,
+    };
+    sizes_under(&mut walk, id, query, reps, &above, area)
 }
 
 /// The items that a subgrid in the columns lends to the grid that sizes them, spans in that grid's lines and lengths in units of
@@ -110,5 +184,12 @@ pub fn lend_columns<R: Ruler, L: Ledger>(
     }
     let (above, area) = seat(alloc, tree, id, reps)?;
     let query = inline_query(alloc, true, reps)?;
-    columns_anew(alloc, tree, id, query, &above, area, ruler, tally, passes)
+    let mut walk = Walker {
+        alloc,
+        tree,
+        ruler,
+        tally,
+        passes,
+    };
+    columns_under(&mut walk, id, query, reps, &above, area)
 }

@@ -4,6 +4,7 @@
 //! block axis, along which the rows lie.
 #![tactic(auto)]
 
+mod asking;
 mod bounds;
 mod children;
 mod columns;
@@ -26,6 +27,7 @@ mod used;
 mod views;
 mod walk;
 
+pub use asking::grid_in;
 pub use bounds::{Bounds, border_size, resolved};
 pub use contributions::{contribution, floor_of};
 pub use distribution::{
@@ -49,4 +51,4 @@ pub use sized::{bounds_of, child_item, is_stretched, subgrid_box};
 pub use tracks::{SizedTracks, TrackInput, intrinsic_totals, sized_for, total_for};
 pub use used::{block_used, content_of_box, inline_used, self_align, stretches};
 pub use views::view_in;
-pub use walk::{flex_at, grid_at, inline_at, lend_columns_at};
+pub use walk::{flex_in, inline_at, lend_columns_at};

@@ -296,16 +296,9 @@ impl Page {
     {
         let _ = self.stands();
         valid_documents_are_readable(self);
-        self.nodes.lay_out(
-            self.alloc,
-            self.width,
-            self.height,
-            told,
-            last,
-            ruler,
-            tally,
-            passes,
-        )
+        let size = (self.width, self.height);
+        self.nodes
+            .lay_out(self.alloc, size, told, last, ruler, tally, passes)
     }
 
     /// Hands over the boxes as [`Page::lay_out`] does, by the frame that it found for the root and

@@ -175,8 +175,7 @@ impl Register {
     pub(crate) fn lay_out<T: BoxSink, R: Ruler, L: Ledger>(
         &mut self,
         alloc: Global,
-        width: Lu,
-        height: Lu,
+        size: (Lu, Lu),
         told: &mut T,
         last: &mut LastBoxes,
         ruler: &mut R,
@@ -186,28 +185,28 @@ impl Register {
         requires right { IsRight self.old.tree }
         requires readable { AreReadable (bare self.old.tree) }
         requires last { AreFound (bare self.old.tree) (kept_at self.old.tree) last.old }
-        ensures root { IfOk result (λ root. IsRootFrame (bare self.old.tree) width height root) }
+        ensures root { IfOk result (λ root. IsRootFrame (bare self.old.tree) size.0 size.1 root) }
         ensures value { OnOk result
-            (T.adds told.old told.new (bare_boxes width height (bare self.old.tree))) }
-        ensures near { OnOk result (AreNear (bare_boxes width height (bare self.old.tree))) }
+            (T.adds told.old told.new (bare_boxes size.0 size.1 (bare self.old.tree))) }
+        ensures near { OnOk result (AreNear (bare_boxes size.0 size.1 (bare self.old.tree))) }
         ensures bare { bare self.new.tree ≡ bare self.old.tree }
         ensures right { IsRight self.new.tree }
         ensures laid { OnOk result
-            (Walk (IsAsked (bare self.old.tree) width height) 0 []
+            (Walk (IsAsked (bare self.old.tree) size.0 size.1) 0 []
             (state self.old tally.old passes.old (R.log ruler.old))
             (state self.new tally.new passes.new (R.log ruler.new))) }
         ensures cut { OnErr result
-            (IsCutShort (bare self.old.tree) width height
+            (IsCutShort (bare self.old.tree) size.0 size.1
             (state self.old tally.old passes.old (R.log ruler.old))
             (state self.new tally.new passes.new (R.log ruler.new))) }
         ensures paths { OnOk result
-            (IsPathKept (bare self.old.tree) width height
+            (IsPathKept (bare self.old.tree) size.0 size.1
             (state self.new tally.new passes.new (R.log ruler.new))) }
         ensures leaves { OnOk result
-            (AreMeasured (bare self.old.tree) width height
+            (AreMeasured (bare self.old.tree) size.0 size.1
             (state self.old tally.old passes.old (R.log ruler.old))
             (state self.new tally.new passes.new (R.log ruler.new))) }
-        ensures quiet { IsAllKept (bare self.old.tree) width height
+        ensures quiet { IsAllKept (bare self.old.tree) size.0 size.1
             (state self.old tally.old passes.old (R.log ruler.old)) →
             state self.new tally.new passes.new (R.log ruler.new) ≡
             state self.old tally.old passes.old (R.log ruler.old) }
@@ -216,8 +215,7 @@ impl Register {
         walk_boxes(
             alloc,
             &mut self.tree,
-            width,
-            height,
+            size,
             told,
             last,
             ruler,

@@ -1,7 +1,7 @@
 use Rattle.std.proofs.Common.{rules, arith, drop, refl, sym, ap, subst, ◌≡◌, ◌∙◌, ◌+◌, ◌*◌, ◌<◌, ◌∷◌, ◌++◌, [], List, ℕ, ℤ, true, false, length, map, pos, ◌≤◌, ◌&&◌, Bool}
 use Rattle.lunit.specs.declared.item.Item.{Item}
 use Rattle.placing.specs.Counted.{IsGivenSize}
-use Rattle.placing.specs.Nodes.{BareTrees, IsLive, bare, kid_at, level_at, sight_at, size_at}
+use Rattle.placing.specs.Nodes.{BareTrees, IsLive, kid_at, level_at, sight_at, size_at}
 use Rattle.placing.specs.Ranges.{AreReadable}
 use Rattle.placing.specs.Seats.{IsSeat}
 use Rattle.placing.specs.Walks.{Stopped, Walked, kept_with, state}
@@ -25,7 +25,6 @@ use Rattle.inline_sizes.specs.Grids.{IsGrid, pairs_seen}
 use Rattle.block_sizes.proofs.Answered.{column_answer, flex_quiet, grid_quiet, items_are, lent_answer, row_answer, size_is}
 use Rattle.block_sizes.proofs.Fitting.{given_some, asked_as, block_fit, block_own, lent_fit, pairs_all, rows_told, shared_chain}
 use Rattle.block_sizes.proofs.HeldWide.{grows_by_block, on_ok_by, some_or_none, wide_held}
-use Rattle.placing.specs.Kept.{kept_at}
 use Rattle.placing.specs.Nodes.{children_at}
 use Rattle.placing.specs.Wides.{HoldsWide}
 use Rattle.block_sizes.proofs.KnownRows.{rows_last, rows_lost}
@@ -40,7 +39,6 @@ use Rattle.placing.specs.declared.wide.GridBase.{GridBase}
 use Rattle.placing.specs.declared.wide.WideChild.{WideChild}
 use Rattle.std.specs.Prelude.{IfSome, Some, get_or, ◌-ℤ◌, ◌≤ℤ◌}
 use Rattle.lunit.specs.Units.{IsUnits}
-use Rattle.placing.proofs.Alike.{from_alike, from_stopped_alike, then_alike, then_stopped_alike}
 use Rattle.placing.proofs.Tellings.{ends_length, has_parts}
 use Rattle.placing.specs.Told.{AllBut, AreRowsFor, AreTold, Each, HasParts, IsPastColumns, IsPastRows, TellsRows}
 use Rattle.tree_rules.specs.Labels.{ContentStyle}
@@ -67,6 +65,8 @@ use Rattle.block_sizes.proofs.Settled.{covering_roomy, map_length, seen_length, 
 use Rattle.block_sizes.specs.Flexes.{AreCovering, HaveInner}
 use Rattle.block_sizes.specs.Settling.{AreRoomy, IsColumn, IsRow, block_of, column_boxes_seen, settled_seen}
 use Rattle.block_sizes.specs.Wides.{rows_seen}
+use Rattle.walker.proofs.Parts.{parts_then, same_parts}
+use Rattle.walker.specs.Walkers.{kept, nodes, seen}
 use Rattle.block_sizes.proofs.+walk.Goals as goal
 use Rattle.block_sizes.proofs.+walk.Goals.{asking::ask_stale-then-branch, asking::ask_stale-else-branch}
 
@@ -75,243 +75,242 @@ has_kind k s = is_grid_kind k && has_subgrid s
 
 pub asking::ask_lent-lend_rows_at-requires : goal.asking::ask_lent-lend_rows_at-requires
 asking::ask_lent-lend_rows_at-requires g t c =
-    let live : IsLive (bare c.args.tree.now.tree) c.args.entry.child = c.requires.entry.entry.live in
-    let fits : Fits (sight_at (bare c.args.tree.now.tree) c.args.entry.child) (block_query true c.as_slice-reps.result.now c.args.width.now) = subst (λ (r : List Pair). Fits (sight_at (bare c.args.tree.now.tree) c.args.entry.child) (block_query true r c.args.width.now))
-    ((pairs_all (bare c.args.tree.now.tree) c.args.id c.args.base.now c.args.entry c.requires.entry (shared_chain (bare c.args.tree.now.tree) c.args.id c.args.base.now c.args.entry c.requires.entry c.requires.shared)) ∙ sym c.as_slice-reps.ensures) c.requires.fits in
-    let seat : IsSeat (sight_at (bare c.args.tree.now.tree) c.args.entry.child) c.as_slice-reps.result.now c.args.base.now.above c.args.entry.area = subst (λ (r : List Pair). IsSeat (sight_at (bare c.args.tree.now.tree) c.args.entry.child) r c.args.base.now.above c.args.entry.area)
-    (sym c.as_slice-reps.ensures) (c.requires.entry.entry.seat (shared_chain (bare c.args.tree.now.tree) c.args.id c.args.base.now c.args.entry c.requires.entry c.requires.shared)) in
-    let small : 16 * size_at (bare c.args.tree.now.tree) c.args.entry.child + 6 < 16 * size_at (bare c.args.tree.now.tree) c.args.entry.child + 7 = omega arith in
+    let live : IsLive (nodes c.args.walk.now) c.args.entry.child = c.requires.entry.entry.live in
+    let fits : Fits (sight_at (nodes c.args.walk.now) c.args.entry.child) (block_query true c.as_slice-reps.result.now c.args.width.now) = subst (λ (r : List Pair). Fits (sight_at (nodes c.args.walk.now) c.args.entry.child) (block_query true r c.args.width.now))
+    ((pairs_all (nodes c.args.walk.now) c.args.id c.args.base.now c.args.entry c.requires.entry (shared_chain (nodes c.args.walk.now) c.args.id c.args.base.now c.args.entry c.requires.entry c.requires.shared)) ∙ sym c.as_slice-reps.ensures) c.requires.fits in
+    let seat : IsSeat (sight_at (nodes c.args.walk.now) c.args.entry.child) c.as_slice-reps.result.now c.args.base.now.above c.args.entry.area = subst (λ (r : List Pair). IsSeat (sight_at (nodes c.args.walk.now) c.args.entry.child) r c.args.base.now.above c.args.entry.area)
+    (sym c.as_slice-reps.ensures) (c.requires.entry.entry.seat (shared_chain (nodes c.args.walk.now) c.args.id c.args.base.now c.args.entry c.requires.entry c.requires.shared)) in
+    let small : 16 * size_at (nodes c.args.walk.now) c.args.entry.child + 6 < 16 * size_at (nodes c.args.walk.now) c.args.entry.child + 7 = omega arith in
     search rules
 
 pub asking::ask_lent-returns-in-Some-clause-walked : goal.asking::ask_lent-returns-in-Some-clause-walked
-asking::ask_lent-returns-in-Some-clause-walked g t c = on_ok _ _ (found_walked c.args.entry.child _ (state c.args.tree.now c.args.tally.now c.args.passes.now (g.R.Ruler.log c.args.ruler.now)) c.requires.right)
+asking::ask_lent-returns-in-Some-clause-walked g t c = on_ok _ _ (found_walked c.args.entry.child _ (seen g.R.Ruler.log c.args.walk.now) c.requires.stands.right)
 
 pub asking::ask_lent-returns-in-Some-clause-stopped : goal.asking::ask_lent-returns-in-Some-clause-stopped
-asking::ask_lent-returns-in-Some-clause-stopped g t c = on_err _ _ (walked_stopped _ _ _ _ (found_walked c.args.entry.child _ (state c.args.tree.now c.args.tally.now c.args.passes.now (g.R.Ruler.log c.args.ruler.now)) c.requires.right))
+asking::ask_lent-returns-in-Some-clause-stopped g t c = on_err _ _ (walked_stopped _ _ _ _ (found_walked c.args.entry.child _ (seen g.R.Ruler.log c.args.walk.now) c.requires.stands.right))
 
 pub asking::ask_lent-returns-in-Some-clause-items : goal.asking::ask_lent-returns-in-Some-clause-items
 asking::ask_lent-returns-in-Some-clause-items g t c =
-    let kept : c.as_slice.result.now ≡ ((kid_at (bare c.args.tree.now.tree) c.args.entry.child).answers.down (pairs_seen (bare c.args.tree.now.tree) c.args.base.now c.args.entry) c.args.width.now).lend_rows =
+    let kept : c.as_slice.result.now ≡ ((kid_at (nodes c.args.walk.now) c.args.entry.child).answers.down (pairs_seen (nodes c.args.walk.now) c.args.base.now c.args.entry) c.args.width.now).lend_rows =
     c.as_slice.ensures ∙ items_are _ _ c.in-Some.ensures.value ∙
-    ap (λ (r : List Pair). ((kid_at (bare c.args.tree.now.tree) c.args.entry.child).answers.down r c.args.width.now).lend_rows)
-    (c.as_slice-reps.ensures ∙ sym (pairs_all (bare c.args.tree.now.tree) c.args.id c.args.base.now c.args.entry c.requires.entry (shared_chain (bare c.args.tree.now.tree) c.args.id c.args.base.now c.args.entry c.requires.entry c.requires.shared))) in
+    ap (λ (r : List Pair). ((kid_at (nodes c.args.walk.now) c.args.entry.child).answers.down r c.args.width.now).lend_rows)
+    (c.as_slice-reps.ensures ∙ sym (pairs_all (nodes c.args.walk.now) c.args.id c.args.base.now c.args.entry c.requires.entry (shared_chain (nodes c.args.walk.now) c.args.id c.args.base.now c.args.entry c.requires.entry c.requires.shared))) in
     on_ok_by c.append.result (c.append.new.items ≡ c.args.items.now ++ c.as_slice.result.now)
-    (c.append.new.items ≡ c.args.items.now ++ ((kid_at (bare c.args.tree.now.tree) c.args.entry.child).answers.down (pairs_seen (bare c.args.tree.now.tree) c.args.base.now c.args.entry) c.args.width.now).lend_rows)
+    (c.append.new.items ≡ c.args.items.now ++ ((kid_at (nodes c.args.walk.now) c.args.entry.child).answers.down (pairs_seen (nodes c.args.walk.now) c.args.base.now c.args.entry) c.args.width.now).lend_rows)
     (λ e. e ∙ ap (λ (l : List Item). c.args.items.now ++ l) kept) c.append.ensures
 
 pub asking::ask_lent-returns-in_err-lent-clause-stopped : goal.asking::ask_lent-returns-in_err-lent-clause-stopped
 asking::ask_lent-returns-in_err-lent-clause-stopped g t c =
     on_err _ _
-    (subst (λ (q : Query). Stopped c.args.entry.child q (state c.args.tree.now c.args.tally.now c.args.passes.now (g.R.Ruler.log c.args.ruler.now)) (state c.lend_rows_at.new.tree c.lend_rows_at.new.tally c.lend_rows_at.new.passes (g.R.Ruler.log c.lend_rows_at.new.ruler)))
+    (subst (λ (q : Query). Stopped c.args.entry.child q (seen g.R.Ruler.log c.args.walk.now) (seen g.R.Ruler.log c.lend_rows_at.new.walk))
     (ap (λ (r : List Pair). block_query true r c.args.width.now)
-    (c.as_slice-reps.ensures ∙ sym (pairs_all (bare c.args.tree.now.tree) c.args.id c.args.base.now c.args.entry c.requires.entry (shared_chain (bare c.args.tree.now.tree) c.args.id c.args.base.now c.args.entry c.requires.entry c.requires.shared))))
+    (c.as_slice-reps.ensures ∙ sym (pairs_all (nodes c.args.walk.now) c.args.id c.args.base.now c.args.entry c.requires.entry (shared_chain (nodes c.args.walk.now) c.args.id c.args.base.now c.args.entry c.requires.entry c.requires.shared))))
     c.in_err-lent.ensures.stopped)
 
 pub asking::ask_lent-returns-in_err-append-clause-stopped : goal.asking::ask_lent-returns-in_err-append-clause-stopped
 asking::ask_lent-returns-in_err-append-clause-stopped g t c =
     on_err _ _
     (walked_stopped _ _ _ _
-    (subst (λ (q : Query). Walked c.args.entry.child q (state c.args.tree.now c.args.tally.now c.args.passes.now (g.R.Ruler.log c.args.ruler.now)) (state c.lend_rows_at.new.tree c.lend_rows_at.new.tally c.lend_rows_at.new.passes (g.R.Ruler.log c.lend_rows_at.new.ruler)))
+    (subst (λ (q : Query). Walked c.args.entry.child q (seen g.R.Ruler.log c.args.walk.now) (seen g.R.Ruler.log c.lend_rows_at.new.walk))
     (ap (λ (r : List Pair). block_query true r c.args.width.now)
-    (c.as_slice-reps.ensures ∙ sym (pairs_all (bare c.args.tree.now.tree) c.args.id c.args.base.now c.args.entry c.requires.entry (shared_chain (bare c.args.tree.now.tree) c.args.id c.args.base.now c.args.entry c.requires.entry c.requires.shared))))
+    (c.as_slice-reps.ensures ∙ sym (pairs_all (nodes c.args.walk.now) c.args.id c.args.base.now c.args.entry c.requires.entry (shared_chain (nodes c.args.walk.now) c.args.id c.args.base.now c.args.entry c.requires.entry c.requires.shared))))
     c.in_ok-lent.ensures.walked))
 
 pub asking::ask_lent-returns-clause-walked : goal.asking::ask_lent-returns-clause-walked
 asking::ask_lent-returns-clause-walked g t c =
-    (subst (λ (q : Query). Walked c.args.entry.child q (state c.args.tree.now c.args.tally.now c.args.passes.now (g.R.Ruler.log c.args.ruler.now)) (state c.lend_rows_at.new.tree c.lend_rows_at.new.tally c.lend_rows_at.new.passes (g.R.Ruler.log c.lend_rows_at.new.ruler)))
+    (subst (λ (q : Query). Walked c.args.entry.child q (seen g.R.Ruler.log c.args.walk.now) (seen g.R.Ruler.log c.lend_rows_at.new.walk))
     (ap (λ (r : List Pair). block_query true r c.args.width.now)
-    (c.as_slice-reps.ensures ∙ sym (pairs_all (bare c.args.tree.now.tree) c.args.id c.args.base.now c.args.entry c.requires.entry (shared_chain (bare c.args.tree.now.tree) c.args.id c.args.base.now c.args.entry c.requires.entry c.requires.shared)))) c.in_ok-lent.ensures.walked)
+    (c.as_slice-reps.ensures ∙ sym (pairs_all (nodes c.args.walk.now) c.args.id c.args.base.now c.args.entry c.requires.entry (shared_chain (nodes c.args.walk.now) c.args.id c.args.base.now c.args.entry c.requires.entry c.requires.shared)))) c.in_ok-lent.ensures.walked)
 
 pub asking::ask_lent-returns-clause-items : goal.asking::ask_lent-returns-clause-items
 asking::ask_lent-returns-clause-items g t c =
     c.in_ok-append.ensures ∙
     ap (λ (l : List Item). c.args.items.now ++ l)
     (c.as_slice-2.ensures ∙ items_are _ _ c.in_ok-lent.ensures.value ∙
-    ap (λ (r : List Pair). ((kid_at (bare c.args.tree.now.tree) c.args.entry.child).answers.down r c.args.width.now).lend_rows)
-    (c.as_slice-reps.ensures ∙ sym (pairs_all (bare c.args.tree.now.tree) c.args.id c.args.base.now c.args.entry c.requires.entry (shared_chain (bare c.args.tree.now.tree) c.args.id c.args.base.now c.args.entry c.requires.entry c.requires.shared))))
+    ap (λ (r : List Pair). ((kid_at (nodes c.args.walk.now) c.args.entry.child).answers.down r c.args.width.now).lend_rows)
+    (c.as_slice-reps.ensures ∙ sym (pairs_all (nodes c.args.walk.now) c.args.id c.args.base.now c.args.entry c.requires.entry (shared_chain (nodes c.args.walk.now) c.args.id c.args.base.now c.args.entry c.requires.entry c.requires.shared))))
 
-pub asking::ask_block-block_at-requires : goal.asking::ask_block-block_at-requires
-asking::ask_block-block_at-requires g t c =
-    let live : IsLive (bare c.args.tree.now.tree) c.args.entry.child = c.requires.entry.entry.live in
-    let fits : Fits (sight_at (bare c.args.tree.now.tree) c.args.entry.child) (block_query false c.as_slice-reps.result.now c.args.width.now) = subst (λ (r : List Pair). Fits (sight_at (bare c.args.tree.now.tree) c.args.entry.child) (block_query false r c.args.width.now))
-    ((pairs_all (bare c.args.tree.now.tree) c.args.id c.args.base.now c.args.entry c.requires.entry (c.requires.entry.entry.chain ∙ (λ i. has_kind (sym c.node_at.ensures.kind i) (sym c.node_at.ensures.grid i)) ∙ sym c.has_subgrid.ensures ∙ c.if-has_subgrid.true)) ∙
+pub asking::ask_block-block_in-requires : goal.asking::ask_block-block_in-requires
+asking::ask_block-block_in-requires g t c =
+    let live : IsLive (nodes c.args.walk.now) c.args.entry.child = c.requires.entry.entry.live in
+    let fits : Fits (sight_at (nodes c.args.walk.now) c.args.entry.child) (block_query false c.as_slice-reps.result.now c.args.width.now) = subst (λ (r : List Pair). Fits (sight_at (nodes c.args.walk.now) c.args.entry.child) (block_query false r c.args.width.now))
+    ((pairs_all (nodes c.args.walk.now) c.args.id c.args.base.now c.args.entry c.requires.entry (c.requires.entry.entry.chain ∙ (λ i. has_kind (sym c.node_at.ensures.kind i) (sym c.node_at.ensures.grid i)) ∙ sym c.has_subgrid.ensures ∙ c.if-has_subgrid.true)) ∙
     sym c.as_slice-reps.ensures) c.requires.fits in
-    let seat : IsSeat (sight_at (bare c.args.tree.now.tree) c.args.entry.child) c.as_slice-reps.result.now c.args.base.now.above c.args.entry.area = subst (λ (r : List Pair). IsSeat (sight_at (bare c.args.tree.now.tree) c.args.entry.child) r c.args.base.now.above c.args.entry.area)
+    let seat : IsSeat (sight_at (nodes c.args.walk.now) c.args.entry.child) c.as_slice-reps.result.now c.args.base.now.above c.args.entry.area = subst (λ (r : List Pair). IsSeat (sight_at (nodes c.args.walk.now) c.args.entry.child) r c.args.base.now.above c.args.entry.area)
     (sym c.as_slice-reps.ensures) (c.requires.entry.entry.seat (c.requires.entry.entry.chain ∙ (λ i. has_kind (sym c.node_at.ensures.kind i) (sym c.node_at.ensures.grid i)) ∙ sym c.has_subgrid.ensures ∙ c.if-has_subgrid.true)) in
-    let small : 16 * size_at (bare c.args.tree.now.tree) c.args.entry.child + 6 < 16 * size_at (bare c.args.tree.now.tree) c.args.entry.child + 7 = omega arith in
+    let small : 16 * size_at (nodes c.args.walk.now) c.args.entry.child + 6 < 16 * size_at (nodes c.args.walk.now) c.args.entry.child + 7 = omega arith in
     search rules
 
 pub asking::ask_rows-ask_lent-requires : goal.asking::ask_rows-ask_lent-requires
 asking::ask_rows-ask_lent-requires g t c =
-    let shared : shares_rows (kid_at (bare c.args.tree.now.tree) c.args.entry.child) ≡ true = (rows_told (bare c.args.tree.now.tree) c.args.id c.args.base.now c.args.entry c.requires.entry ∙ sym c.shares.ensures ∙ c.if-shares.true) in
-    let fits : Fits (sight_at (bare c.args.tree.now.tree) c.args.entry.child) (block_query true (pairs_seen (bare c.args.tree.now.tree) c.args.base.now c.args.entry) c.args.width.now) = subst (Fits (sight_at (bare c.args.tree.now.tree) c.args.entry.child))
-    (sym (asked_as (bare c.args.tree.now.tree) c.args.id c.args.base.now c.args.entry c.requires.entry true c.args.width.now (rows_told (bare c.args.tree.now.tree) c.args.id c.args.base.now c.args.entry c.requires.entry ∙ sym c.shares.ensures ∙ c.if-shares.true))) c.requires.fits
+    let shared : shares_rows (kid_at (nodes c.args.walk.now) c.args.entry.child) ≡ true = (rows_told (nodes c.args.walk.now) c.args.id c.args.base.now c.args.entry c.requires.entry ∙ sym c.shares.ensures ∙ c.if-shares.true) in
+    let fits : Fits (sight_at (nodes c.args.walk.now) c.args.entry.child) (block_query true (pairs_seen (nodes c.args.walk.now) c.args.base.now c.args.entry) c.args.width.now) = subst (Fits (sight_at (nodes c.args.walk.now) c.args.entry.child))
+    (sym (asked_as (nodes c.args.walk.now) c.args.id c.args.base.now c.args.entry c.requires.entry true c.args.width.now (rows_told (nodes c.args.walk.now) c.args.id c.args.base.now c.args.entry c.requires.entry ∙ sym c.shares.ensures ∙ c.if-shares.true))) c.requires.fits
     in
-    let small : 16 * size_at (bare c.args.tree.now.tree) c.args.entry.child + 7 < 16 * size_at (bare c.args.tree.now.tree) c.args.entry.child + 8 = omega arith in
+    let small : 16 * size_at (nodes c.args.walk.now) c.args.entry.child + 7 < 16 * size_at (nodes c.args.walk.now) c.args.entry.child + 8 = omega arith in
     search rules
 
 pub asking::ask_rows-ask_block-requires : goal.asking::ask_rows-ask_block-requires
 asking::ask_rows-ask_block-requires g t c =
-    let own : shares_rows (kid_at (bare c.args.tree.now.tree) c.args.entry.child) ≡ false = (rows_told (bare c.args.tree.now.tree) c.args.id c.args.base.now c.args.entry c.requires.entry ∙ sym c.shares.ensures ∙ c.if-shares.false) in
-    let fits : Fits (sight_at (bare c.args.tree.now.tree) c.args.entry.child) (block_query false (pairs_seen (bare c.args.tree.now.tree) c.args.base.now c.args.entry) c.args.width.now) = subst (Fits (sight_at (bare c.args.tree.now.tree) c.args.entry.child))
-    (sym (asked_as (bare c.args.tree.now.tree) c.args.id c.args.base.now c.args.entry c.requires.entry false c.args.width.now (rows_told (bare c.args.tree.now.tree) c.args.id c.args.base.now c.args.entry c.requires.entry ∙ sym c.shares.ensures ∙ c.if-shares.false))) c.requires.fits
+    let own : shares_rows (kid_at (nodes c.args.walk.now) c.args.entry.child) ≡ false = (rows_told (nodes c.args.walk.now) c.args.id c.args.base.now c.args.entry c.requires.entry ∙ sym c.shares.ensures ∙ c.if-shares.false) in
+    let fits : Fits (sight_at (nodes c.args.walk.now) c.args.entry.child) (block_query false (pairs_seen (nodes c.args.walk.now) c.args.base.now c.args.entry) c.args.width.now) = subst (Fits (sight_at (nodes c.args.walk.now) c.args.entry.child))
+    (sym (asked_as (nodes c.args.walk.now) c.args.id c.args.base.now c.args.entry c.requires.entry false c.args.width.now (rows_told (nodes c.args.walk.now) c.args.id c.args.base.now c.args.entry c.requires.entry ∙ sym c.shares.ensures ∙ c.if-shares.false))) c.requires.fits
     in
-    let small : 16 * size_at (bare c.args.tree.now.tree) c.args.entry.child + 7 < 16 * size_at (bare c.args.tree.now.tree) c.args.entry.child + 8 = omega arith in
+    let small : 16 * size_at (nodes c.args.walk.now) c.args.entry.child + 7 < 16 * size_at (nodes c.args.walk.now) c.args.entry.child + 8 = omega arith in
     search rules
 
 pub asking::ask_rows-returns-in_err-ask_lent-clause-stopped : goal.asking::ask_rows-returns-in_err-ask_lent-clause-stopped
 asking::ask_rows-returns-in_err-ask_lent-clause-stopped g t c =
     on_err _ _
-    (subst (λ (q : Query). Stopped c.args.entry.child q (state c.args.tree.now c.args.tally.now c.args.passes.now (g.R.Ruler.log c.args.ruler.now)) (state c.ask_lent.new.tree c.ask_lent.new.tally c.ask_lent.new.passes (g.R.Ruler.log c.ask_lent.new.ruler)))
-    (asked_as (bare c.args.tree.now.tree) c.args.id c.args.base.now c.args.entry c.requires.entry true c.args.width.now (rows_told (bare c.args.tree.now.tree) c.args.id c.args.base.now c.args.entry c.requires.entry ∙ sym c.shares.ensures ∙ c.if-shares.true))
+    (subst (λ (q : Query). Stopped c.args.entry.child q (seen g.R.Ruler.log c.args.walk.now) (seen g.R.Ruler.log c.ask_lent.new.walk))
+    (asked_as (nodes c.args.walk.now) c.args.id c.args.base.now c.args.entry c.requires.entry true c.args.width.now (rows_told (nodes c.args.walk.now) c.args.id c.args.base.now c.args.entry c.requires.entry ∙ sym c.shares.ensures ∙ c.if-shares.true))
     c.in_err-ask_lent.ensures.stopped)
 
 pub asking::ask_rows-returns-in_err-block-clause-stopped : goal.asking::ask_rows-returns-in_err-block-clause-stopped
 asking::ask_rows-returns-in_err-block-clause-stopped g t c =
     on_err _ _
-    (subst (λ (q : Query). Stopped c.args.entry.child q (state c.args.tree.now c.args.tally.now c.args.passes.now (g.R.Ruler.log c.args.ruler.now)) (state c.ask_block.new.tree c.ask_block.new.tally c.ask_block.new.passes (g.R.Ruler.log c.ask_block.new.ruler)))
-    (asked_as (bare c.args.tree.now.tree) c.args.id c.args.base.now c.args.entry c.requires.entry false c.args.width.now (rows_told (bare c.args.tree.now.tree) c.args.id c.args.base.now c.args.entry c.requires.entry ∙ sym c.shares.ensures ∙ c.if-shares.false))
+    (subst (λ (q : Query). Stopped c.args.entry.child q (seen g.R.Ruler.log c.args.walk.now) (seen g.R.Ruler.log c.ask_block.new.walk))
+    (asked_as (nodes c.args.walk.now) c.args.id c.args.base.now c.args.entry c.requires.entry false c.args.width.now (rows_told (nodes c.args.walk.now) c.args.id c.args.base.now c.args.entry c.requires.entry ∙ sym c.shares.ensures ∙ c.if-shares.false))
     c.in_err-block.ensures.stopped)
 
 pub asking::ask_rows-returns-in_err-push-clause-stopped : goal.asking::ask_rows-returns-in_err-push-clause-stopped
 asking::ask_rows-returns-in_err-push-clause-stopped g t c =
     on_err _ _
     (walked_stopped _ _ _ _
-    (subst (λ (q : Query). Walked c.args.entry.child q (state c.args.tree.now c.args.tally.now c.args.passes.now (g.R.Ruler.log c.args.ruler.now)) (state c.ask_block.new.tree c.ask_block.new.tally c.ask_block.new.passes (g.R.Ruler.log c.ask_block.new.ruler)))
-    (asked_as (bare c.args.tree.now.tree) c.args.id c.args.base.now c.args.entry c.requires.entry false c.args.width.now (rows_told (bare c.args.tree.now.tree) c.args.id c.args.base.now c.args.entry c.requires.entry ∙ sym c.shares.ensures ∙ c.if-shares.false))
+    (subst (λ (q : Query). Walked c.args.entry.child q (seen g.R.Ruler.log c.args.walk.now) (seen g.R.Ruler.log c.ask_block.new.walk))
+    (asked_as (nodes c.args.walk.now) c.args.id c.args.base.now c.args.entry c.requires.entry false c.args.width.now (rows_told (nodes c.args.walk.now) c.args.id c.args.base.now c.args.entry c.requires.entry ∙ sym c.shares.ensures ∙ c.if-shares.false))
     c.in_ok-block.ensures.walked))
 
 pub asking::ask_rows-returns-clause-walked : goal.asking::ask_rows-returns-clause-walked
 asking::ask_rows-returns-clause-walked g t c =
-    (subst (λ (q : Query). Walked c.args.entry.child q (state c.args.tree.now c.args.tally.now c.args.passes.now (g.R.Ruler.log c.args.ruler.now)) (state c.ask_block.new.tree c.ask_block.new.tally c.ask_block.new.passes (g.R.Ruler.log c.ask_block.new.ruler)))
-    (asked_as (bare c.args.tree.now.tree) c.args.id c.args.base.now c.args.entry c.requires.entry false c.args.width.now (rows_told (bare c.args.tree.now.tree) c.args.id c.args.base.now c.args.entry c.requires.entry ∙ sym c.shares.ensures ∙ c.if-shares.false))
+    (subst (λ (q : Query). Walked c.args.entry.child q (seen g.R.Ruler.log c.args.walk.now) (seen g.R.Ruler.log c.ask_block.new.walk))
+    (asked_as (nodes c.args.walk.now) c.args.id c.args.base.now c.args.entry c.requires.entry false c.args.width.now (rows_told (nodes c.args.walk.now) c.args.id c.args.base.now c.args.entry c.requires.entry ∙ sym c.shares.ensures ∙ c.if-shares.false))
     c.in_ok-block.ensures.walked)
 
 pub asking::ask_rows-returns-clause-value : goal.asking::ask_rows-returns-clause-value
 asking::ask_rows-returns-clause-value g t c =
-    block_own (bare c.args.tree.now.tree) c.args.id c.args.base.now c.args.entry c.requires.entry c.args.width.now c.in_ok-block.block (rows_told (bare c.args.tree.now.tree) c.args.id c.args.base.now c.args.entry c.requires.entry ∙ sym c.shares.ensures ∙ c.if-shares.false)
+    block_own (nodes c.args.walk.now) c.args.id c.args.base.now c.args.entry c.requires.entry c.args.width.now c.in_ok-block.block (rows_told (nodes c.args.walk.now) c.args.id c.args.base.now c.args.entry c.requires.entry ∙ sym c.shares.ensures ∙ c.if-shares.false)
     c.in_ok-block.ensures.value
 
 pub asking::ask_child-returns-in_err-size-clause-stopped : goal.asking::ask_child-returns-in_err-size-clause-stopped
 asking::ask_child-returns-in_err-size-clause-stopped g t c =
-    on_err _ _ (stopped c.args.entry.child _ 0 _ _ (walked_none c.args.entry.child _ (state c.args.tree.now c.args.tally.now c.args.passes.now (g.R.Ruler.log c.args.ruler.now)) c.requires.right))
+    on_err _ _ (stopped c.args.entry.child _ 0 _ _ (walked_none c.args.entry.child _ (seen g.R.Ruler.log c.args.walk.now) c.requires.stands.right))
 
 pub asking::ask_child-returns-in_err-block-clause-stopped : goal.asking::ask_child-returns-in_err-block-clause-stopped
 asking::ask_child-returns-in_err-block-clause-stopped g t c =
     on_err _ _
-    (subst (λ (q : Query). Stopped c.args.entry.child q (state c.args.tree.now c.args.tally.now c.args.passes.now (g.R.Ruler.log c.args.ruler.now)) (state c.ask_rows.new.tree c.ask_rows.new.tally c.ask_rows.new.passes (g.R.Ruler.log c.ask_rows.new.ruler)))
-    (ap (λ (p : ℤ × Given). asked_of (bare c.args.tree.now.tree) c.args.base.now c.args.entry p.1) c.in_ok-size.ensures.value) c.in_err-block.ensures.stopped)
+    (subst (λ (q : Query). Stopped c.args.entry.child q (seen g.R.Ruler.log c.args.walk.now) (seen g.R.Ruler.log c.ask_rows.new.walk))
+    (ap (λ (p : ℤ × Given). asked_of (nodes c.args.walk.now) c.args.base.now c.args.entry p.1) c.in_ok-size.ensures.value) c.in_err-block.ensures.stopped)
 
 pub asking::ask_child-returns-clause-walked : goal.asking::ask_child-returns-clause-walked
 asking::ask_child-returns-clause-walked g t c =
-    subst (λ (q : Query). Walked c.args.entry.child q (state c.args.tree.now c.args.tally.now c.args.passes.now (g.R.Ruler.log c.args.ruler.now)) (state c.ask_rows.new.tree c.ask_rows.new.tally c.ask_rows.new.passes (g.R.Ruler.log c.ask_rows.new.ruler)))
-    (ap (λ (p : ℤ × Given). asked_of (bare c.args.tree.now.tree) c.args.base.now c.args.entry p.1) c.in_ok-size.ensures.value) c.in_ok-block.ensures.walked
+    subst (λ (q : Query). Walked c.args.entry.child q (seen g.R.Ruler.log c.args.walk.now) (seen g.R.Ruler.log c.ask_rows.new.walk))
+    (ap (λ (p : ℤ × Given). asked_of (nodes c.args.walk.now) c.args.base.now c.args.entry p.1) c.in_ok-size.ensures.value) c.in_ok-block.ensures.walked
 
 pub asking::ask_child-returns-clause-items : goal.asking::ask_child-returns-clause-items
 asking::ask_child-returns-clause-items g t c =
-    c.in_ok-block.ensures.items ∙ ap (λ (p : ℤ × Given). c.args.items.now ++ items_seen (bare c.args.tree.now.tree) c.args.id c.args.base.now c.args.entry p.1) c.in_ok-size.ensures.value
+    c.in_ok-block.ensures.items ∙ ap (λ (p : ℤ × Given). c.args.items.now ++ items_seen (nodes c.args.walk.now) c.args.id c.args.base.now c.args.entry p.1) c.in_ok-size.ensures.value
 
 pub asking::ask_child-returns-clause-value : goal.asking::ask_child-returns-clause-value
 asking::ask_child-returns-clause-value g t c =
     let child : WideChild = record { box_ = c.in_ok-size.size; inline = c.in_ok-size.inline; block = c.in_ok-block.block } in
-    ap (λ (k : ℤ). record child { block = k }) c.in_ok-block.ensures.value ∙ ap (λ (p : ℤ × Given). record child { box_ = p.0; inline = p.1; block = block_seen (bare c.args.tree.now.tree) c.args.base.now c.args.entry p.1 }) c.in_ok-size.ensures.value
+    ap (λ (k : ℤ). record child { block = k }) c.in_ok-block.ensures.value ∙ ap (λ (p : ℤ × Given). record child { box_ = p.0; inline = p.1; block = block_seen (nodes c.args.walk.now) c.args.base.now c.args.entry p.1 }) c.in_ok-size.ensures.value
 
 pub asking::ask_children-loop-index-init : goal.asking::ask_children-loop-index-init
 asking::ask_children-loop-index-init g t c =
     record {
-      right = c.requires.right;
+      stands = c.requires.stands;
+      parts = same_parts c.args.walk.now;
       same = refl;
-      walked = λ q leads. walked_none c.args.id q (state c.args.tree.now c.args.tally.now c.args.passes.now (g.R.Ruler.log c.args.ruler.now)) c.requires.right;
+      walked = λ q leads. walked_none c.args.id q (seen g.R.Ruler.log c.args.walk.now) c.requires.stands.right;
       counted = ap length c.in_ok-children.ensures;
       told =
-          told_start (TellsRows (sight_at (bare c.args.tree.now.tree) c.args.id) (kid_at (bare c.args.tree.now.tree)) c.args.parts.now.base c.args.columns (sight_at (bare c.args.tree.now.tree) c.args.id).label.content.inline.items) _ _ _ c.in_ok-children.ensures c.in_ok-items.ensures
+          told_start (TellsRows (sight_at (nodes c.args.walk.now) c.args.id) (kid_at (nodes c.args.walk.now)) c.args.parts.now.base c.args.columns (sight_at (nodes c.args.walk.now) c.args.id).label.content.inline.items) _ _ _ c.in_ok-children.ensures c.in_ok-items.ensures
           c.in_ok-ends.ensures;
     }
 
 pub asking::ask_children-returns-in_err-children-clause-stopped : goal.asking::ask_children-returns-in_err-children-clause-stopped
-asking::ask_children-returns-in_err-children-clause-stopped g t c = on_err _ _ (stops_at_once c.args.id (state c.args.tree.now c.args.tally.now c.args.passes.now (g.R.Ruler.log c.args.ruler.now)) (LeadsDown (bare c.args.tree.now.tree) c.args.id c.args.reps.now c.args.width.now) c.requires.right)
+asking::ask_children-returns-in_err-children-clause-stopped g t c = on_err _ _ (stops_at_once c.args.id (seen g.R.Ruler.log c.args.walk.now) (LeadsDown (nodes c.args.walk.now) c.args.id c.args.reps.now c.args.width.now) c.requires.stands.right)
 
 pub asking::ask_children-returns-in_err-items-clause-stopped : goal.asking::ask_children-returns-in_err-items-clause-stopped
-asking::ask_children-returns-in_err-items-clause-stopped g t c = on_err _ _ (stops_at_once c.args.id (state c.args.tree.now c.args.tally.now c.args.passes.now (g.R.Ruler.log c.args.ruler.now)) (LeadsDown (bare c.args.tree.now.tree) c.args.id c.args.reps.now c.args.width.now) c.requires.right)
+asking::ask_children-returns-in_err-items-clause-stopped g t c = on_err _ _ (stops_at_once c.args.id (seen g.R.Ruler.log c.args.walk.now) (LeadsDown (nodes c.args.walk.now) c.args.id c.args.reps.now c.args.width.now) c.requires.stands.right)
 
 pub asking::ask_children-returns-in_err-ends-clause-stopped : goal.asking::ask_children-returns-in_err-ends-clause-stopped
-asking::ask_children-returns-in_err-ends-clause-stopped g t c = on_err _ _ (stops_at_once c.args.id (state c.args.tree.now c.args.tally.now c.args.passes.now (g.R.Ruler.log c.args.ruler.now)) (LeadsDown (bare c.args.tree.now.tree) c.args.id c.args.reps.now c.args.width.now) c.requires.right)
+asking::ask_children-returns-in_err-ends-clause-stopped g t c = on_err _ _ (stops_at_once c.args.id (seen g.R.Ruler.log c.args.walk.now) (LeadsDown (nodes c.args.walk.now) c.args.id c.args.reps.now c.args.width.now) c.requires.stands.right)
 
 pub asking::ask_children-child_in-entry-requires : goal.asking::ask_children-child_in-entry-requires
 asking::ask_children-child_in-entry-requires g t c =
     let back = sym c.loop-index.invariant.same in
-    let live : IsLive (bare c.loop-index.tree.tree) c.args.id = subst (λ (z : BareTrees). IsLive z c.args.id) back c.requires.live in
-    let readable : AreReadable (bare c.loop-index.tree.tree) = subst AreReadable back c.requires.readable in
-    let grid : (sight_at (bare c.loop-index.tree.tree) c.args.id).label.kind ≡ kind.Grid = subst (λ (z : BareTrees). (sight_at z c.args.id).label.kind ≡ kind.Grid) back c.requires.kind in
-    let made : IsGrid (bare c.loop-index.tree.tree) c.args.id c.args.reps.now c.args.width.now c.args.parts.now = (subst (λ (z : BareTrees). IsGrid z c.args.id c.args.reps.now c.args.width.now c.args.parts.now) (sym c.loop-index.invariant.same) c.requires.grid) in
+    let live : IsLive (nodes c.loop-index.walk) c.args.id = subst (λ (z : BareTrees). IsLive z c.args.id) back c.requires.live in
+    let readable : AreReadable (nodes c.loop-index.walk) = c.loop-index.invariant.stands.readable in
+    let grid : (sight_at (nodes c.loop-index.walk) c.args.id).label.kind ≡ kind.Grid = subst (λ (z : BareTrees). (sight_at z c.args.id).label.kind ≡ kind.Grid) back c.requires.kind in
+    let made : IsGrid (nodes c.loop-index.walk) c.args.id c.args.reps.now c.args.width.now c.args.parts.now = (subst (λ (z : BareTrees). IsGrid z c.args.id c.args.reps.now c.args.width.now c.args.parts.now) (sym c.loop-index.invariant.same) c.requires.grid) in
     let index : c.loop-index.index < length c.args.parts.now.base.placed.areas = omega (arith, ap (λ (base : GridBase). length base.placed.areas) c.grid-base.ensures) in
     search rules
 
 pub asking::ask_children-ask_child-requires : goal.asking::ask_children-ask_child-requires
 asking::ask_children-ask_child-requires g t c =
     let back = sym c.loop-index.invariant.same in
-    let live : IsLive (bare c.loop-index.tree.tree) c.args.id = subst (λ (z : BareTrees). IsLive z c.args.id) back c.requires.live in
-    let readable : AreReadable (bare c.loop-index.tree.tree) = subst AreReadable back c.requires.readable in
-    let made : IsGrid (bare c.loop-index.tree.tree) c.args.id c.args.reps.now c.args.width.now c.args.parts.now = (subst (λ (z : BareTrees). IsGrid z c.args.id c.args.reps.now c.args.width.now c.args.parts.now) (sym c.loop-index.invariant.same) c.requires.grid) in
+    let live : IsLive (nodes c.loop-index.walk) c.args.id = subst (λ (z : BareTrees). IsLive z c.args.id) back c.requires.live in
+    let readable : AreReadable (nodes c.loop-index.walk) = c.loop-index.invariant.stands.readable in
+    let made : IsGrid (nodes c.loop-index.walk) c.args.id c.args.reps.now c.args.width.now c.args.parts.now = (subst (λ (z : BareTrees). IsGrid z c.args.id c.args.reps.now c.args.width.now c.args.parts.now) (sym c.loop-index.invariant.same) c.requires.grid) in
     let counted : pos (length c.args.columns.edges) ≡ (c.args.parts.now.base.placed.columns.end -ℤ c.args.parts.now.base.placed.columns.start) = c.requires.columns.counted in
     let gap : pos 0 ≤ℤ c.args.columns.gap = c.requires.columns.gap in
     let range : IsUnits c.args.columns.gap = c.requires.columns.range in
-    let apart : AreSpread (farthest (level_at (bare c.loop-index.tree.tree) c.args.id)) c.args.columns.edges = subst (λ (z : BareTrees). AreSpread (farthest (level_at z c.args.id)) c.args.columns.edges) back c.requires.columns.spread in
-    let small : 16 * size_at (bare c.loop-index.tree.tree) c.child_in-entry.result.child + 9 < 16 * size_at (bare c.args.tree.now.tree) c.args.id = omega (arith, c.child_in-entry.ensures.child.entry.smaller, ap (λ (z : BareTrees). size_at z c.args.id) c.loop-index.invariant.same) in
+    let apart : AreSpread (farthest (level_at (nodes c.loop-index.walk) c.args.id)) c.args.columns.edges = subst (λ (z : BareTrees). AreSpread (farthest (level_at z c.args.id)) c.args.columns.edges) back c.requires.columns.spread in
+    let small : 16 * size_at (nodes c.loop-index.walk) c.child_in-entry.result.child + 9 < 16 * size_at (nodes c.args.walk.now) c.args.id = omega (arith, c.child_in-entry.ensures.child.entry.smaller, ap (λ (z : BareTrees). size_at z c.args.id) c.loop-index.invariant.same) in
     search rules
 
 pub asking::ask_children-sizes_at-sizes-requires : goal.asking::ask_children-sizes_at-sizes-requires
 asking::ask_children-sizes_at-sizes-requires g t c =
-    sizes_there (bare c.loop-index.tree.tree) c.args.id c.args.reps.now c.args.width.now c.args.parts.now (c.loop-index.index) _ _ (subst (λ (z : BareTrees). IsGrid z c.args.id c.args.reps.now c.args.width.now c.args.parts.now) (sym c.loop-index.invariant.same) c.requires.grid)
+    sizes_there (nodes c.loop-index.walk) c.args.id c.args.reps.now c.args.width.now c.args.parts.now (c.loop-index.index) _ _ (subst (λ (z : BareTrees). IsGrid z c.args.id c.args.reps.now c.args.width.now c.args.parts.now) (sym c.loop-index.invariant.same) c.requires.grid)
     c.child_in-entry.ensures.next
 
 pub asking::ask_children-returns-in_err-child-clause-stopped : goal.asking::ask_children-returns-in_err-child-clause-stopped
 asking::ask_children-returns-in_err-child-clause-stopped g t c =
     on_err _ _
-    (turn_stops (bare c.args.tree.now.tree) (bare c.loop-index.tree.tree) c.loop-index.invariant.same c.args.id c.args.reps.now c.args.width.now c.args.parts.now c.requires.grid c.root.ensures.steps c.grid-base.result.now c.grid-base.ensures c.args.columns c.requires.columns.seen
+    (turn_stops (nodes c.args.walk.now) (nodes c.loop-index.walk) c.loop-index.invariant.same c.args.id c.args.reps.now c.args.width.now c.args.parts.now c.requires.grid c.root.ensures.steps c.grid-base.result.now c.grid-base.ensures c.args.columns c.requires.columns.seen
     c.child_in-entry.result c.sizes_at-sizes.result c.loop-index.index c.child_in-entry.ensures.next c.sizes_at-sizes.ensures c.child_in-entry.ensures.child.entry.number _ _ _ refl c.loop-index.invariant.walked c.in_err-child.ensures.stopped)
 
 pub asking::ask_children-returns-in_err-push-clause-stopped : goal.asking::ask_children-returns-in_err-push-clause-stopped
 asking::ask_children-returns-in_err-push-clause-stopped g t c =
     on_err _ _
-    (turn_ends (bare c.args.tree.now.tree) (bare c.loop-index.tree.tree) c.loop-index.invariant.same c.args.id c.args.reps.now c.args.width.now c.args.parts.now c.requires.grid c.root.ensures.steps c.grid-base.result.now c.grid-base.ensures c.args.columns c.requires.columns.seen
+    (turn_ends (nodes c.args.walk.now) (nodes c.loop-index.walk) c.loop-index.invariant.same c.args.id c.args.reps.now c.args.width.now c.args.parts.now c.requires.grid c.root.ensures.steps c.grid-base.result.now c.grid-base.ensures c.args.columns c.requires.columns.seen
     c.child_in-entry.result c.sizes_at-sizes.result c.loop-index.index c.child_in-entry.ensures.next c.sizes_at-sizes.ensures c.child_in-entry.ensures.child.entry.number _ _ _ refl c.loop-index.invariant.walked c.in_ok-child.ensures.walked)
 
 pub asking::ask_children-returns-in_err-push-2-clause-stopped : goal.asking::ask_children-returns-in_err-push-2-clause-stopped
 asking::ask_children-returns-in_err-push-2-clause-stopped g t c =
     on_err _ _
-    (turn_ends (bare c.args.tree.now.tree) (bare c.loop-index.tree.tree) c.loop-index.invariant.same c.args.id c.args.reps.now c.args.width.now c.args.parts.now c.requires.grid c.root.ensures.steps c.grid-base.result.now c.grid-base.ensures c.args.columns c.requires.columns.seen
+    (turn_ends (nodes c.args.walk.now) (nodes c.loop-index.walk) c.loop-index.invariant.same c.args.id c.args.reps.now c.args.width.now c.args.parts.now c.requires.grid c.root.ensures.steps c.grid-base.result.now c.grid-base.ensures c.args.columns c.requires.columns.seen
     c.child_in-entry.result c.sizes_at-sizes.result c.loop-index.index c.child_in-entry.ensures.next c.sizes_at-sizes.ensures c.child_in-entry.ensures.child.entry.number _ _ _ refl c.loop-index.invariant.walked c.in_ok-child.ensures.walked)
 
 pub asking::ask_children-loop-index-preserved : goal.asking::ask_children-loop-index-preserved
 asking::ask_children-loop-index-preserved g t c =
-    let own : TellsRows (sight_at (bare c.args.tree.now.tree) c.args.id) (kid_at (bare c.args.tree.now.tree)) c.args.parts.now.base c.args.columns (sight_at (bare c.args.tree.now.tree) c.args.id).label.content.inline.items c.loop-index.index c.in_ok-child.child
-    (items_seen (bare c.loop-index.tree.tree) c.args.id c.grid-base.result.now c.child_in-entry.result (wide_in (bare c.loop-index.tree.tree) c.args.id c.grid-base.result.now c.args.columns c.child_in-entry.result c.sizes_at-sizes.result).inline) =
-    tells_now (bare c.args.tree.now.tree) (bare c.loop-index.tree.tree) c.loop-index.invariant.same c.args.id c.args.reps.now c.args.width.now c.args.parts.now c.grid-base.result.now c.grid-base.ensures c.args.columns c.child_in-entry.result c.sizes_at-sizes.result c.loop-index.index
-    c.in_ok-child.child (items_seen (bare c.loop-index.tree.tree) c.args.id c.grid-base.result.now c.child_in-entry.result (wide_in (bare c.loop-index.tree.tree) c.args.id c.grid-base.result.now c.args.columns c.child_in-entry.result c.sizes_at-sizes.result).inline) c.requires.grid
+    let own : TellsRows (sight_at (nodes c.args.walk.now) c.args.id) (kid_at (nodes c.args.walk.now)) c.args.parts.now.base c.args.columns (sight_at (nodes c.args.walk.now) c.args.id).label.content.inline.items c.loop-index.index c.in_ok-child.child
+    (items_seen (nodes c.loop-index.walk) c.args.id c.grid-base.result.now c.child_in-entry.result (wide_in (nodes c.loop-index.walk) c.args.id c.grid-base.result.now c.args.columns c.child_in-entry.result c.sizes_at-sizes.result).inline) =
+    tells_now (nodes c.args.walk.now) (nodes c.loop-index.walk) c.loop-index.invariant.same c.args.id c.args.reps.now c.args.width.now c.args.parts.now c.grid-base.result.now c.grid-base.ensures c.args.columns c.child_in-entry.result c.sizes_at-sizes.result c.loop-index.index
+    c.in_ok-child.child (items_seen (nodes c.loop-index.walk) c.args.id c.grid-base.result.now c.child_in-entry.result (wide_in (nodes c.loop-index.walk) c.args.id c.grid-base.result.now c.args.columns c.child_in-entry.result c.sizes_at-sizes.result).inline) c.requires.grid
     c.child_in-entry.ensures.told c.child_in-entry.ensures.next c.sizes_at-sizes.ensures c.in_ok-child.ensures.value refl in
     record {
-      right = c.ask_child.ensures.right;
+      stands = c.ask_child.ensures.stands;
+      parts = parts_then _ _ _ c.loop-index.invariant.parts c.ask_child.ensures.parts;
       same = c.in_ok-child.ensures.walked.walk.bare_same ∙ c.loop-index.invariant.same;
       walked =
-          turn_below (bare c.args.tree.now.tree) (bare c.loop-index.tree.tree) c.loop-index.invariant.same c.args.id c.args.reps.now c.args.width.now c.args.parts.now c.requires.grid c.root.ensures.steps c.grid-base.result.now c.grid-base.ensures c.args.columns c.requires.columns.seen
+          turn_below (nodes c.args.walk.now) (nodes c.loop-index.walk) c.loop-index.invariant.same c.args.id c.args.reps.now c.args.width.now c.args.parts.now c.requires.grid c.root.ensures.steps c.grid-base.result.now c.grid-base.ensures c.args.columns c.requires.columns.seen
           c.child_in-entry.result c.sizes_at-sizes.result c.loop-index.index c.child_in-entry.ensures.next c.sizes_at-sizes.ensures c.child_in-entry.ensures.child.entry.number _ _ _ refl c.loop-index.invariant.walked c.in_ok-child.ensures.walked;
       counted = ap length c.in_ok-push.ensures.ok ∙ length_more c.loop-index.children c.in_ok-child.child c.loop-index.index c.loop-index.invariant.counted;
       told =
-          told_more (TellsRows (sight_at (bare c.args.tree.now.tree) c.args.id) (kid_at (bare c.args.tree.now.tree)) c.args.parts.now.base c.args.columns (sight_at (bare c.args.tree.now.tree) c.args.id).label.content.inline.items) c.loop-index.children c.loop-index.items
+          told_more (TellsRows (sight_at (nodes c.args.walk.now) c.args.id) (kid_at (nodes c.args.walk.now)) c.args.parts.now.base c.args.columns (sight_at (nodes c.args.walk.now) c.args.id).label.content.inline.items) c.loop-index.children c.loop-index.items
           c.loop-index.ends c.loop-index.index c.in_ok-child.child
-          (items_seen (bare c.loop-index.tree.tree) c.args.id c.grid-base.result.now c.child_in-entry.result (wide_in (bare c.loop-index.tree.tree) c.args.id c.grid-base.result.now c.args.columns c.child_in-entry.result c.sizes_at-sizes.result).inline) _ _ _ c.len.result
+          (items_seen (nodes c.loop-index.walk) c.args.id c.grid-base.result.now c.child_in-entry.result (wide_in (nodes c.loop-index.walk) c.args.id c.grid-base.result.now c.args.columns c.child_in-entry.result c.sizes_at-sizes.result).inline) _ _ _ c.len.result
           c.loop-index.invariant.counted c.in_ok-push.ensures.ok c.in_ok-child.ensures.items c.len.ensures c.in_ok-push-2.ensures.ok c.loop-index.invariant.told own;
     }
 
 pub asking::ask_children-returns-clause-told : goal.asking::ask_children-returns-clause-told
 asking::ask_children-returns-clause-told g t c =
     let counted : length c.loop-index.children ≡ length c.args.parts.now.base.placed.areas = omega (arith, c.loop-index.invariant.counted, c.len-count.ensures, ap (λ (base : GridBase). length base.placed.areas) c.grid-base.ensures) in
-    rows_in (bare c.args.tree.now.tree) c.args.id c.args.parts.now.base c.args.columns Each (record { columns = c.args.columns; align = c.items-align.result; children = c.loop-index.children; items = c.loop-index.items; ends = c.loop-index.ends }) refl
+    rows_in (nodes c.args.walk.now) c.args.id c.args.parts.now.base c.args.columns Each (record { columns = c.args.columns; align = c.items-align.result; children = c.loop-index.children; items = c.loop-index.items; ends = c.loop-index.ends }) refl
     (c.items-align.ensures ∙ ap (λ (x : ContentStyle). x.inline.items) c.node_at.ensures.content) counted c.loop-index.invariant.told
-
-pub asking::ask_children-returns-clause-right : goal.asking::ask_children-returns-clause-right
-asking::ask_children-returns-clause-right g t c = c.loop-index.invariant.right
 
 pub asking::ask_children-returns-clause-below : goal.asking::ask_children-returns-clause-below
 asking::ask_children-returns-clause-below g t c = c.loop-index.invariant.walked
@@ -319,24 +318,25 @@ asking::ask_children-returns-clause-below g t c = c.loop-index.invariant.walked
 pub asking::ask_stale-loop-index-init : goal.asking::ask_stale-loop-index-init
 asking::ask_stale-loop-index-init g t c =
     record {
-      right = c.requires.right;
+      stands = c.requires.stands;
+      parts = same_parts c.args.walk.now;
       same = refl;
-      walked = λ q leads. walked_none c.args.id q (state c.args.tree.now c.args.tally.now c.args.passes.now (g.R.Ruler.log c.args.ruler.now)) c.requires.right;
+      walked = λ q leads. walked_none c.args.id q (seen g.R.Ruler.log c.args.walk.now) c.requires.stands.right;
       counted = c.requires.past.told.told.counted;
       told =
           subst
-          (λ (l : List ℕ). AreTold (AllBut l) (TellsRows (sight_at (bare c.args.tree.now.tree) c.args.id) (kid_at (bare c.args.tree.now.tree)) c.args.parts.now.base c.args.columns.now (sight_at (bare c.args.tree.now.tree) c.args.id).label.content.inline.items) c.args.past.told.children
-          c.args.past.told.items c.args.past.told.ends) (sym c.as_slice-index-items.ensures) (rows_from (bare c.args.tree.now.tree) c.args.id c.args.parts.now.base c.args.columns.now (AllBut c.args.past.stale) c.args.past.told c.requires.past.told);
+          (λ (l : List ℕ). AreTold (AllBut l) (TellsRows (sight_at (nodes c.args.walk.now) c.args.id) (kid_at (nodes c.args.walk.now)) c.args.parts.now.base c.args.columns.now (sight_at (nodes c.args.walk.now) c.args.id).label.content.inline.items) c.args.past.told.children
+          c.args.past.told.items c.args.past.told.ends) (sym c.as_slice-index-items.ensures) (rows_from (nodes c.args.walk.now) c.args.id c.args.parts.now.base c.args.columns.now (AllBut c.args.past.stale) c.args.past.told c.requires.past.told);
       rows = c.requires.past.laid;
     }
 
 pub asking::ask_stale-child_in-entry-requires : goal.asking::ask_stale-child_in-entry-requires
 asking::ask_stale-child_in-entry-requires g t c =
     let back = sym c.loop-index.invariant.same in
-    let live : IsLive (bare c.loop-index.tree.tree) c.args.id = subst (λ (z : BareTrees). IsLive z c.args.id) back c.requires.live in
-    let readable : AreReadable (bare c.loop-index.tree.tree) = subst AreReadable back c.requires.readable in
-    let grid : (sight_at (bare c.loop-index.tree.tree) c.args.id).label.kind ≡ kind.Grid = subst (λ (z : BareTrees). (sight_at z c.args.id).label.kind ≡ kind.Grid) back c.requires.kind in
-    let made : IsGrid (bare c.loop-index.tree.tree) c.args.id c.args.reps.now c.args.width.now c.args.parts.now = (subst (λ (z : BareTrees). IsGrid z c.args.id c.args.reps.now c.args.width.now c.args.parts.now) (sym c.loop-index.invariant.same) c.requires.grid) in
+    let live : IsLive (nodes c.loop-index.walk) c.args.id = subst (λ (z : BareTrees). IsLive z c.args.id) back c.requires.live in
+    let readable : AreReadable (nodes c.loop-index.walk) = c.loop-index.invariant.stands.readable in
+    let grid : (sight_at (nodes c.loop-index.walk) c.args.id).label.kind ≡ kind.Grid = subst (λ (z : BareTrees). (sight_at z c.args.id).label.kind ≡ kind.Grid) back c.requires.kind in
+    let made : IsGrid (nodes c.loop-index.walk) c.args.id c.args.reps.now c.args.width.now c.args.parts.now = (subst (λ (z : BareTrees). IsGrid z c.args.id c.args.reps.now c.args.width.now c.args.parts.now) (sym c.loop-index.invariant.same) c.requires.grid) in
     let index : (get_or c.as_slice-index-items.result.now c.loop-index.index-index 0) < length c.args.parts.now.base.placed.areas = stale_within (length c.args.parts.now.base.placed.areas) c.args.past.stale c.as_slice-index-items.result.now c.loop-index.index-index
     c.as_slice-index-items.ensures c.requires.past.stale (omega arith) in
     search rules
@@ -344,39 +344,39 @@ asking::ask_stale-child_in-entry-requires g t c =
 pub asking::ask_stale-ask_child-requires : goal.asking::ask_stale-ask_child-requires
 asking::ask_stale-ask_child-requires g t c =
     let back = sym c.loop-index.invariant.same in
-    let live : IsLive (bare c.loop-index.tree.tree) c.args.id = subst (λ (z : BareTrees). IsLive z c.args.id) back c.requires.live in
-    let readable : AreReadable (bare c.loop-index.tree.tree) = subst AreReadable back c.requires.readable in
-    let made : IsGrid (bare c.loop-index.tree.tree) c.args.id c.args.reps.now c.args.width.now c.args.parts.now = (subst (λ (z : BareTrees). IsGrid z c.args.id c.args.reps.now c.args.width.now c.args.parts.now) (sym c.loop-index.invariant.same) c.requires.grid) in
+    let live : IsLive (nodes c.loop-index.walk) c.args.id = subst (λ (z : BareTrees). IsLive z c.args.id) back c.requires.live in
+    let readable : AreReadable (nodes c.loop-index.walk) = c.loop-index.invariant.stands.readable in
+    let made : IsGrid (nodes c.loop-index.walk) c.args.id c.args.reps.now c.args.width.now c.args.parts.now = (subst (λ (z : BareTrees). IsGrid z c.args.id c.args.reps.now c.args.width.now c.args.parts.now) (sym c.loop-index.invariant.same) c.requires.grid) in
     let counted : pos (length c.args.columns.now.edges) ≡ (c.args.parts.now.base.placed.columns.end -ℤ c.args.parts.now.base.placed.columns.start) = c.requires.columns.counted in
     let gap : pos 0 ≤ℤ c.args.columns.now.gap = c.requires.columns.gap in
     let range : IsUnits c.args.columns.now.gap = c.requires.columns.range in
-    let apart : AreSpread (farthest (level_at (bare c.loop-index.tree.tree) c.args.id)) c.args.columns.now.edges = subst (λ (z : BareTrees). AreSpread (farthest (level_at z c.args.id)) c.args.columns.now.edges) back c.requires.columns.spread in
-    let small : 16 * size_at (bare c.loop-index.tree.tree) c.child_in-entry.result.child + 9 < 16 * size_at (bare c.args.tree.now.tree) c.args.id = omega (arith, c.child_in-entry.ensures.child.entry.smaller, ap (λ (z : BareTrees). size_at z c.args.id) c.loop-index.invariant.same) in
+    let apart : AreSpread (farthest (level_at (nodes c.loop-index.walk) c.args.id)) c.args.columns.now.edges = subst (λ (z : BareTrees). AreSpread (farthest (level_at z c.args.id)) c.args.columns.now.edges) back c.requires.columns.spread in
+    let small : 16 * size_at (nodes c.loop-index.walk) c.child_in-entry.result.child + 9 < 16 * size_at (nodes c.args.walk.now) c.args.id = omega (arith, c.child_in-entry.ensures.child.entry.smaller, ap (λ (z : BareTrees). size_at z c.args.id) c.loop-index.invariant.same) in
     search rules
 
 pub asking::ask_stale-sizes_at-sizes-requires : goal.asking::ask_stale-sizes_at-sizes-requires
 asking::ask_stale-sizes_at-sizes-requires g t c =
-    sizes_there (bare c.loop-index.tree.tree) c.args.id c.args.reps.now c.args.width.now c.args.parts.now ((get_or c.as_slice-index-items.result.now c.loop-index.index-index 0)) _ _
+    sizes_there (nodes c.loop-index.walk) c.args.id c.args.reps.now c.args.width.now c.args.parts.now ((get_or c.as_slice-index-items.result.now c.loop-index.index-index 0)) _ _
     (subst (λ (z : BareTrees). IsGrid z c.args.id c.args.reps.now c.args.width.now c.args.parts.now) (sym c.loop-index.invariant.same) c.requires.grid) c.child_in-entry.ensures.next
 
 pub asking::ask_stale-returns-in_err-child-clause-stopped : goal.asking::ask_stale-returns-in_err-child-clause-stopped
 asking::ask_stale-returns-in_err-child-clause-stopped g t c =
     on_err _ _
-    (turn_stops (bare c.args.tree.now.tree) (bare c.loop-index.tree.tree) c.loop-index.invariant.same c.args.id c.args.reps.now c.args.width.now c.args.parts.now c.requires.grid c.root.ensures.steps c.grid-base.result.now c.grid-base.ensures c.args.columns.now
+    (turn_stops (nodes c.args.walk.now) (nodes c.loop-index.walk) c.loop-index.invariant.same c.args.id c.args.reps.now c.args.width.now c.args.parts.now c.requires.grid c.root.ensures.steps c.grid-base.result.now c.grid-base.ensures c.args.columns.now
     c.requires.columns.seen c.child_in-entry.result c.sizes_at-sizes.result (get_or c.as_slice-index-items.result.now c.loop-index.index-index 0) c.child_in-entry.ensures.next c.sizes_at-sizes.ensures c.child_in-entry.ensures.child.entry.number _ _ _ refl
     c.loop-index.invariant.walked c.in_err-child.ensures.stopped)
 
 pub asking::ask_stale-returns-in_err-put_items-clause-stopped : goal.asking::ask_stale-returns-in_err-put_items-clause-stopped
 asking::ask_stale-returns-in_err-put_items-clause-stopped g t c =
     on_err _ _
-    (turn_ends (bare c.args.tree.now.tree) (bare c.loop-index.tree.tree) c.loop-index.invariant.same c.args.id c.args.reps.now c.args.width.now c.args.parts.now c.requires.grid c.root.ensures.steps c.grid-base.result.now c.grid-base.ensures c.args.columns.now
+    (turn_ends (nodes c.args.walk.now) (nodes c.loop-index.walk) c.loop-index.invariant.same c.args.id c.args.reps.now c.args.width.now c.args.parts.now c.requires.grid c.root.ensures.steps c.grid-base.result.now c.grid-base.ensures c.args.columns.now
     c.requires.columns.seen c.child_in-entry.result c.sizes_at-sizes.result (get_or c.as_slice-index-items.result.now c.loop-index.index-index 0) c.child_in-entry.ensures.next c.sizes_at-sizes.ensures c.child_in-entry.ensures.child.entry.number _ _ _ refl
     c.loop-index.invariant.walked c.in_ok-child.ensures.walked)
 
 pub asking::ask_stale-put_items-requires : goal.asking::ask_stale-put_items-requires
 asking::ask_stale-put_items-requires g t c =
     let parts : HasParts c.loop-index.items c.loop-index.ends = has_parts (AllBut (drop c.loop-index.index-index c.as_slice-index-items.result.now))
-    (TellsRows (sight_at (bare c.args.tree.now.tree) c.args.id) (kid_at (bare c.args.tree.now.tree)) c.args.parts.now.base c.args.columns.now (sight_at (bare c.args.tree.now.tree) c.args.id).label.content.inline.items) c.loop-index.children c.loop-index.items c.loop-index.ends
+    (TellsRows (sight_at (nodes c.args.walk.now) c.args.id) (kid_at (nodes c.args.walk.now)) c.args.parts.now.base c.args.columns.now (sight_at (nodes c.args.walk.now) c.args.id).label.content.inline.items) c.loop-index.children c.loop-index.items c.loop-index.ends
     c.loop-index.invariant.told in
     let index : (get_or c.as_slice-index-items.result.now c.loop-index.index-index 0) < length c.loop-index.ends = omega (
       arith,
@@ -384,7 +384,7 @@ asking::ask_stale-put_items-requires g t c =
       c.loop-index.invariant.counted,
       ends_length
           (AllBut (drop c.loop-index.index-index c.as_slice-index-items.result.now))
-          (TellsRows (sight_at (bare c.args.tree.now.tree) c.args.id) (kid_at (bare c.args.tree.now.tree)) c.args.parts.now.base c.args.columns.now (sight_at (bare c.args.tree.now.tree) c.args.id).label.content.inline.items) c.loop-index.children c.loop-index.items c.loop-index.ends
+          (TellsRows (sight_at (nodes c.args.walk.now) c.args.id) (kid_at (nodes c.args.walk.now)) c.args.parts.now.base c.args.columns.now (sight_at (nodes c.args.walk.now) c.args.id).label.content.inline.items) c.loop-index.children c.loop-index.items c.loop-index.ends
           c.loop-index.invariant.told,
     ) in
     record { parts = parts; index = index }
@@ -394,248 +394,247 @@ asking::ask_stale-set-requires g t c = omega (arith, stale_within (length c.args
 
 pub asking::ask_stale-loop-index-preserved : goal.asking::ask_stale-loop-index-preserved
 asking::ask_stale-loop-index-preserved g t c =
-    let own : TellsRows (sight_at (bare c.args.tree.now.tree) c.args.id) (kid_at (bare c.args.tree.now.tree)) c.args.parts.now.base c.args.columns.now (sight_at (bare c.args.tree.now.tree) c.args.id).label.content.inline.items
+    let own : TellsRows (sight_at (nodes c.args.walk.now) c.args.id) (kid_at (nodes c.args.walk.now)) c.args.parts.now.base c.args.columns.now (sight_at (nodes c.args.walk.now) c.args.id).label.content.inline.items
     (get_or c.as_slice-index-items.result.now c.loop-index.index-index 0) c.in_ok-child.child (c.as_slice.result.now) =
-    tells_now (bare c.args.tree.now.tree) (bare c.loop-index.tree.tree) c.loop-index.invariant.same c.args.id c.args.reps.now c.args.width.now c.args.parts.now c.grid-base.result.now c.grid-base.ensures c.args.columns.now c.child_in-entry.result c.sizes_at-sizes.result
+    tells_now (nodes c.args.walk.now) (nodes c.loop-index.walk) c.loop-index.invariant.same c.args.id c.args.reps.now c.args.width.now c.args.parts.now c.grid-base.result.now c.grid-base.ensures c.args.columns.now c.child_in-entry.result c.sizes_at-sizes.result
     (get_or c.as_slice-index-items.result.now c.loop-index.index-index 0) c.in_ok-child.child (c.as_slice.result.now) c.requires.grid c.child_in-entry.ensures.told c.child_in-entry.ensures.next c.sizes_at-sizes.ensures c.in_ok-child.ensures.value
     (c.as_slice.ensures ∙ c.in_ok-child.ensures.items ∙
-    ap (λ (l : List Item). l ++ items_seen (bare c.loop-index.tree.tree) c.args.id c.grid-base.result.now c.child_in-entry.result (wide_in (bare c.loop-index.tree.tree) c.args.id c.grid-base.result.now c.args.columns.now c.child_in-entry.result c.sizes_at-sizes.result).inline)
+    ap (λ (l : List Item). l ++ items_seen (nodes c.loop-index.walk) c.args.id c.grid-base.result.now c.child_in-entry.result (wide_in (nodes c.loop-index.walk) c.args.id c.grid-base.result.now c.args.columns.now c.child_in-entry.result c.sizes_at-sizes.result).inline)
     c.new-own.ensures) in
     let within : (get_or c.as_slice-index-items.result.now c.loop-index.index-index 0) < length c.loop-index.children = omega
     (arith, stale_within (length c.args.parts.now.base.placed.areas) c.args.past.stale c.as_slice-index-items.result.now c.loop-index.index-index c.as_slice-index-items.ensures c.requires.past.stale (omega arith), c.loop-index.invariant.counted) in
     record {
-      right = c.ask_child.ensures.right;
+      stands = c.ask_child.ensures.stands;
+      parts = parts_then _ _ _ c.loop-index.invariant.parts c.ask_child.ensures.parts;
       same = c.in_ok-child.ensures.walked.walk.bare_same ∙ c.loop-index.invariant.same;
       walked =
-          turn_below (bare c.args.tree.now.tree) (bare c.loop-index.tree.tree) c.loop-index.invariant.same c.args.id c.args.reps.now c.args.width.now c.args.parts.now c.requires.grid c.root.ensures.steps c.grid-base.result.now c.grid-base.ensures c.args.columns.now
+          turn_below (nodes c.args.walk.now) (nodes c.loop-index.walk) c.loop-index.invariant.same c.args.id c.args.reps.now c.args.width.now c.args.parts.now c.requires.grid c.root.ensures.steps c.grid-base.result.now c.grid-base.ensures c.args.columns.now
           c.requires.columns.seen c.child_in-entry.result c.sizes_at-sizes.result (get_or c.as_slice-index-items.result.now c.loop-index.index-index 0) c.child_in-entry.ensures.next c.sizes_at-sizes.ensures c.child_in-entry.ensures.child.entry.number _ _ _ refl
           c.loop-index.invariant.walked c.in_ok-child.ensures.walked;
       counted = ap length c.set.ensures ∙ length_set c.loop-index.children (get_or c.as_slice-index-items.result.now c.loop-index.index-index 0) c.in_ok-child.child ∙ c.loop-index.invariant.counted;
       told =
-          told_again (TellsRows (sight_at (bare c.args.tree.now.tree) c.args.id) (kid_at (bare c.args.tree.now.tree)) c.args.parts.now.base c.args.columns.now (sight_at (bare c.args.tree.now.tree) c.args.id).label.content.inline.items) c.loop-index.children c.loop-index.items
+          told_again (TellsRows (sight_at (nodes c.args.walk.now) c.args.id) (kid_at (nodes c.args.walk.now)) c.args.parts.now.base c.args.columns.now (sight_at (nodes c.args.walk.now) c.args.id).label.content.inline.items) c.loop-index.children c.loop-index.items
           c.loop-index.ends c.as_slice-index-items.result.now c.loop-index.index-index c.in_ok-child.child c.as_slice.result.now _ _ _ (omega arith) within c.set.ensures c.in_ok-put_items.ensures.items c.in_ok-put_items.ensures.ends c.loop-index.invariant.told own;
       rows = elim c.if-branch.branch [
-        | asking::ask_stale-then-branch w ↦ rows_lost (sight_at (bare c.args.tree.now.tree) c.args.id) c.args.parts.now.base c.loop-index.items c.put_items.new.items c.loop-index.rows c.if-branch.rows w.rows-is
-        | asking::ask_stale-else-branch w ↦ rows_last (sight_at (bare c.args.tree.now.tree) c.args.id) c.args.parts.now.base c.loop-index.items c.put_items.new.items c.loop-index.rows c.if-branch.rows w.rows-is (c.in_ok-put_items.ensures.same w.if-branch.false) c.loop-index.invariant.rows
+        | asking::ask_stale-then-branch w ↦ rows_lost (sight_at (nodes c.args.walk.now) c.args.id) c.args.parts.now.base c.loop-index.items c.put_items.new.items c.loop-index.rows c.if-branch.rows w.rows-is
+        | asking::ask_stale-else-branch w ↦ rows_last (sight_at (nodes c.args.walk.now) c.args.id) c.args.parts.now.base c.loop-index.items c.put_items.new.items c.loop-index.rows c.if-branch.rows w.rows-is (c.in_ok-put_items.ensures.same w.if-branch.false) c.loop-index.invariant.rows
       ];
     }
 
 pub asking::ask_stale-returns-clause-told : goal.asking::ask_stale-returns-clause-told
 asking::ask_stale-returns-clause-told g t c =
-    rows_in (bare c.args.tree.now.tree) c.args.id c.args.parts.now.base c.args.columns.now Each (record { columns = c.args.past.told.columns; align = c.args.past.told.align; children = c.loop-index.children; items = c.loop-index.items; ends = c.loop-index.ends })
+    rows_in (nodes c.args.walk.now) c.args.id c.args.parts.now.base c.args.columns.now Each (record { columns = c.args.past.told.columns; align = c.args.past.told.align; children = c.loop-index.children; items = c.loop-index.items; ends = c.loop-index.ends })
     c.requires.past.told.over c.requires.past.told.aligned c.loop-index.invariant.counted
-    (told_end (TellsRows (sight_at (bare c.args.tree.now.tree) c.args.id) (kid_at (bare c.args.tree.now.tree)) c.args.parts.now.base c.args.columns.now (sight_at (bare c.args.tree.now.tree) c.args.id).label.content.inline.items) c.loop-index.children c.loop-index.items
+    (told_end (TellsRows (sight_at (nodes c.args.walk.now) c.args.id) (kid_at (nodes c.args.walk.now)) c.args.parts.now.base c.args.columns.now (sight_at (nodes c.args.walk.now) c.args.id).label.content.inline.items) c.loop-index.children c.loop-index.items
     c.loop-index.ends c.as_slice-index-items.result.now c.loop-index.index-index (omega arith) c.loop-index.invariant.told)
-
-pub asking::ask_stale-returns-clause-right : goal.asking::ask_stale-returns-clause-right
-asking::ask_stale-returns-clause-right g t c = c.loop-index.invariant.right
 
 pub asking::ask_stale-returns-clause-below : goal.asking::ask_stale-returns-clause-below
 asking::ask_stale-returns-clause-below g t c = c.loop-index.invariant.walked
 
-pub asking::told_wide_by-grid_at-requires : goal.asking::told_wide_by-grid_at-requires
-asking::told_wide_by-grid_at-requires g t c =
-    let width : IsGivenSize c.args.width.now = given_some (sees_columns (sight_at (bare c.args.tree.now.tree) c.args.id)) _ c.args.width.now c.requires.inline in
-    let past : IfSome c.args.past.0 (IsPastColumns (bare c.args.tree.now.tree) c.args.id) = c.requires.past_columns in
+pub asking::told_wide_by-grid_in-requires : goal.asking::told_wide_by-grid_in-requires
+asking::told_wide_by-grid_in-requires g t c =
+    let width : IsGivenSize c.args.width.now = given_some (sees_columns (sight_at (nodes c.args.walk.now) c.args.id)) _ c.args.width.now c.requires.inline in
+    let past : IfSome c.args.past.0 (IsPastColumns (nodes c.args.walk.now) c.args.id) = c.requires.past_columns in
     search rules
 
 pub asking::told_wide_by-columns_of-requires : goal.asking::told_wide_by-columns_of-requires
 asking::told_wide_by-columns_of-requires g t c =
-    let back = sym (c.in_ok-told.ensures.below (block_query false c.args.reps.now c.args.width.now) refl refl).walk.bare_same in
-    let live : IsLive (bare c.grid_at.new.tree.tree) c.args.id = subst (λ (z : BareTrees). IsLive z c.args.id) back c.requires.live in
-    let readable : AreReadable (bare c.grid_at.new.tree.tree) = subst AreReadable back c.requires.readable in
-    let grid : (sight_at (bare c.grid_at.new.tree.tree) c.args.id).label.kind ≡ kind.Grid = subst (λ (z : BareTrees). (sight_at z c.args.id).label.kind ≡ kind.Grid) back c.requires.grid in
-    let made : IsGrid (bare c.grid_at.new.tree.tree) c.args.id c.args.reps.now c.args.width.now c.in_ok-told.told.parts = subst (λ (z : BareTrees). IsGrid z c.args.id c.args.reps.now c.args.width.now c.in_ok-told.told.parts) back c.in_ok-told.ensures.value in
-    let inline : IsGivenFor true (sees_columns (sight_at (bare c.grid_at.new.tree.tree) c.args.id)) (outer_context (sight_at (bare c.grid_at.new.tree.tree) c.args.id) c.args.reps.now).columns.table.tracks c.args.width.now = subst
-    (λ (z : BareTrees). IsGivenFor true (sees_columns (sight_at z c.args.id)) (outer_context (sight_at z c.args.id) c.args.reps.now).columns.table.tracks c.args.width.now) back c.requires.inline in
-    let apart : IsSpread (farthest (level_at (bare c.grid_at.new.tree.tree) c.args.id)) c.args.width.now = subst (λ (z : BareTrees). IsSpread (farthest (level_at z c.args.id)) c.args.width.now) back c.requires.spread in
+    let back = sym (c.in_ok-told.ensures.below (block_query false c.args.seat.now.reps.now c.args.width.now) refl refl).walk.bare_same in
+    let live : IsLive (nodes c.grid_in.new.walk) c.args.id = subst (λ (z : BareTrees). IsLive z c.args.id) back c.requires.live in
+    let readable : AreReadable (nodes c.grid_in.new.walk) = c.grid_in.ensures.stands.readable in
+    let grid : (sight_at (nodes c.grid_in.new.walk) c.args.id).label.kind ≡ kind.Grid = subst (λ (z : BareTrees). (sight_at z c.args.id).label.kind ≡ kind.Grid) back c.requires.grid in
+    let made : IsGrid (nodes c.grid_in.new.walk) c.args.id c.args.seat.now.reps.now c.args.width.now c.in_ok-told.told.parts = subst (λ (z : BareTrees). IsGrid z c.args.id c.args.seat.now.reps.now c.args.width.now c.in_ok-told.told.parts) back c.in_ok-told.ensures.value in
+    let inline : IsGivenFor true (sees_columns (sight_at (nodes c.grid_in.new.walk) c.args.id)) (outer_context (sight_at (nodes c.grid_in.new.walk) c.args.id) c.args.seat.now.reps.now).columns.table.tracks c.args.width.now = subst
+    (λ (z : BareTrees). IsGivenFor true (sees_columns (sight_at z c.args.id)) (outer_context (sight_at z c.args.id) c.args.seat.now.reps.now).columns.table.tracks c.args.width.now) back c.requires.inline in
+    let apart : IsSpread (farthest (level_at (nodes c.grid_in.new.walk) c.args.id)) c.args.width.now = subst (λ (z : BareTrees). IsSpread (farthest (level_at z c.args.id)) c.args.width.now) back c.requires.spread in
     search rules
 
 pub asking::told_wide_by-told_rows-requires : goal.asking::told_wide_by-told_rows-requires
 asking::told_wide_by-told_rows-requires g t c =
-    let back = sym (c.in_ok-told.ensures.below (block_query false c.args.reps.now c.args.width.now) refl refl).walk.bare_same in
-    let live : IsLive (bare c.grid_at.new.tree.tree) c.args.id = subst (λ (z : BareTrees). IsLive z c.args.id) back c.requires.live in
-    let readable : AreReadable (bare c.grid_at.new.tree.tree) = subst AreReadable back c.requires.readable in
-    let grid : (sight_at (bare c.grid_at.new.tree.tree) c.args.id).label.kind ≡ kind.Grid = subst (λ (z : BareTrees). (sight_at z c.args.id).label.kind ≡ kind.Grid) back c.requires.grid in
-    let made : IsGrid (bare c.grid_at.new.tree.tree) c.args.id c.args.reps.now c.args.width.now c.in_ok-told.told.parts = subst (λ (z : BareTrees). IsGrid z c.args.id c.args.reps.now c.args.width.now c.in_ok-told.told.parts) back c.in_ok-told.ensures.value in
-    let laid : AreLaid (bare c.grid_at.new.tree.tree) c.args.id c.args.reps.now c.args.width.now c.in_ok-told.told.parts.base c.in_ok-columns.columns = record
+    let back = sym (c.in_ok-told.ensures.below (block_query false c.args.seat.now.reps.now c.args.width.now) refl refl).walk.bare_same in
+    let live : IsLive (nodes c.grid_in.new.walk) c.args.id = subst (λ (z : BareTrees). IsLive z c.args.id) back c.requires.live in
+    let readable : AreReadable (nodes c.grid_in.new.walk) = c.grid_in.ensures.stands.readable in
+    let grid : (sight_at (nodes c.grid_in.new.walk) c.args.id).label.kind ≡ kind.Grid = subst (λ (z : BareTrees). (sight_at z c.args.id).label.kind ≡ kind.Grid) back c.requires.grid in
+    let made : IsGrid (nodes c.grid_in.new.walk) c.args.id c.args.seat.now.reps.now c.args.width.now c.in_ok-told.told.parts = subst (λ (z : BareTrees). IsGrid z c.args.id c.args.seat.now.reps.now c.args.width.now c.in_ok-told.told.parts) back c.in_ok-told.ensures.value in
+    let laid : AreLaid (nodes c.grid_in.new.walk) c.args.id c.args.seat.now.reps.now c.args.width.now c.in_ok-told.told.parts.base c.in_ok-columns.columns = record
     { seen = c.in_ok-columns.ensures.value; counted = c.in_ok-columns.ensures.counted; gap = c.in_ok-columns.ensures.gap; range = c.in_ok-columns.ensures.range; spread = c.in_ok-columns.ensures.spread } in
-    let past : IfSome c.args.past.1 (IsPastRows (bare c.grid_at.new.tree.tree) c.args.id) = subst (λ (z : BareTrees). IfSome c.args.past.1 (IsPastRows z c.args.id)) back c.requires.past_rows in
-    let small : 16 * size_at (bare c.grid_at.new.tree.tree) c.args.id + 1 < 16 * size_at (bare c.args.tree.now.tree) c.args.id +
-    2 = omega (arith, ap (λ (z : BareTrees). size_at z c.args.id) (c.in_ok-told.ensures.below (block_query false c.args.reps.now c.args.width.now) refl refl).walk.bare_same) in
+    let past : IfSome c.args.past.1 (IsPastRows (nodes c.grid_in.new.walk) c.args.id) = subst (λ (z : BareTrees). IfSome c.args.past.1 (IsPastRows z c.args.id)) back c.requires.past_rows in
+    let small : 16 * size_at (nodes c.grid_in.new.walk) c.args.id + 1 < 16 * size_at (nodes c.args.walk.now) c.args.id +
+    2 = omega (arith, ap (λ (z : BareTrees). size_at z c.args.id) (c.in_ok-told.ensures.below (block_query false c.args.seat.now.reps.now c.args.width.now) refl refl).walk.bare_same) in
     search rules
 
 pub asking::told_wide_by-returns-in_err-told-clause-stopped : goal.asking::told_wide_by-returns-in_err-told-clause-stopped
 asking::told_wide_by-returns-in_err-told-clause-stopped g t c =
-    let all : (q : Query) → q.reps ≡ c.args.reps.now → q.inline ≡ c.args.width.now → needs_inline q.ask ≡ true →
-    Stopped c.args.id q (state c.args.tree.now c.args.tally.now c.args.passes.now (g.R.Ruler.log c.args.ruler.now)) (state c.grid_at.new.tree c.grid_at.new.tally c.grid_at.new.passes (g.R.Ruler.log c.grid_at.new.ruler)) = λ q r w needs. c.in_err-told.ensures.stopped q r w in
+    let all : (q : Query) → q.reps ≡ c.args.seat.now.reps.now → q.inline ≡ c.args.width.now → needs_inline q.ask ≡ true →
+    Stopped c.args.id q (seen g.R.Ruler.log c.args.walk.now) (seen g.R.Ruler.log c.grid_in.new.walk) = λ q r w needs. c.in_err-told.ensures.stopped q r w in
     on_err _ _ all
 
 pub asking::told_wide_by-returns-in_err-columns-clause-stopped : goal.asking::told_wide_by-returns-in_err-columns-clause-stopped
 asking::told_wide_by-returns-in_err-columns-clause-stopped g t c =
-    let all : (q : Query) → q.reps ≡ c.args.reps.now → q.inline ≡ c.args.width.now → needs_inline q.ask ≡ true →
-    Stopped c.args.id q (state c.args.tree.now c.args.tally.now c.args.passes.now (g.R.Ruler.log c.args.ruler.now)) (state c.grid_at.new.tree c.grid_at.new.tally c.columns_of.new.passes (g.R.Ruler.log c.grid_at.new.ruler)) = λ q r w needs. stopped c.args.id q 1 _ _
+    let all : (q : Query) → q.reps ≡ c.args.seat.now.reps.now → q.inline ≡ c.args.width.now → needs_inline q.ask ≡ true →
+    Stopped c.args.id q (seen g.R.Ruler.log c.args.walk.now) (state c.grid_in.new.walk.tree.now c.grid_in.new.walk.tally.now c.columns_of.new.passes (g.R.Ruler.log c.grid_in.new.walk.ruler.now)) = λ q r w needs. stopped c.args.id q 1 _ _
     (ticked c.args.id q 0 1 _ _ c.columns_of.new.passes c.columns_of.ensures.ticks (c.in_ok-told.ensures.below q r w)) in
     on_err _ _ all
 
 pub asking::told_wide_by-returns-in_err-asked-clause-stopped : goal.asking::told_wide_by-returns-in_err-asked-clause-stopped
 asking::told_wide_by-returns-in_err-asked-clause-stopped g t c =
-    let all : (q : Query) → q.reps ≡ c.args.reps.now → q.inline ≡ c.args.width.now → needs_inline q.ask ≡ true →
-    Stopped c.args.id q (state c.args.tree.now c.args.tally.now c.args.passes.now (g.R.Ruler.log c.args.ruler.now)) (state c.told_rows.new.tree c.told_rows.new.tally c.told_rows.new.passes (g.R.Ruler.log c.told_rows.new.ruler)) =
-    λ q r w needs. joined_stopped c.args.id q 1 (state c.args.tree.now c.args.tally.now c.args.passes.now (g.R.Ruler.log c.args.ruler.now)) (state c.grid_at.new.tree c.grid_at.new.tally c.columns_of.new.passes (g.R.Ruler.log c.grid_at.new.ruler)) _
+    let all : (q : Query) → q.reps ≡ c.args.seat.now.reps.now → q.inline ≡ c.args.width.now → needs_inline q.ask ≡ true →
+    Stopped c.args.id q (seen g.R.Ruler.log c.args.walk.now) (seen g.R.Ruler.log c.told_rows.new.walk) =
+    λ q r w needs. joined_stopped c.args.id q 1 (seen g.R.Ruler.log c.args.walk.now) (state c.grid_in.new.walk.tree.now c.grid_in.new.walk.tally.now c.columns_of.new.passes (g.R.Ruler.log c.grid_in.new.walk.ruler.now)) _
     (ticked c.args.id q 0 1 _ _ c.columns_of.new.passes c.columns_of.ensures.ticks (c.in_ok-told.ensures.below q r w))
     (c.in_err-asked.ensures.stopped q
-    (leads_down (bare c.grid_at.new.tree.tree) c.args.id c.args.reps.now c.args.width.now q
-    (subst (λ (z : BareTrees). (sight_at z c.args.id).label.kind ≡ kind.Grid) (sym (c.in_ok-told.ensures.below (block_query false c.args.reps.now c.args.width.now) refl refl).walk.bare_same) c.requires.grid) r w needs)) in
+    (leads_down (nodes c.grid_in.new.walk) c.args.id c.args.seat.now.reps.now c.args.width.now q
+    (subst (λ (z : BareTrees). (sight_at z c.args.id).label.kind ≡ kind.Grid) (sym (c.in_ok-told.ensures.below (block_query false c.args.seat.now.reps.now c.args.width.now) refl refl).walk.bare_same) c.requires.grid) r w needs)) in
     on_err _ _ all
 
 pub asking::told_wide_by-returns-clause-below : goal.asking::told_wide_by-returns-clause-below
 asking::told_wide_by-returns-clause-below g t c =
-    λ q r w needs. joined_below c.args.id q 1 (state c.args.tree.now c.args.tally.now c.args.passes.now (g.R.Ruler.log c.args.ruler.now)) (state c.grid_at.new.tree c.grid_at.new.tally c.columns_of.new.passes (g.R.Ruler.log c.grid_at.new.ruler)) _
+    λ q r w needs. joined_below c.args.id q 1 (seen g.R.Ruler.log c.args.walk.now) (state c.grid_in.new.walk.tree.now c.grid_in.new.walk.tally.now c.columns_of.new.passes (g.R.Ruler.log c.grid_in.new.walk.ruler.now)) _
     (ticked c.args.id q 0 1 _ _ c.columns_of.new.passes c.columns_of.ensures.ticks (c.in_ok-told.ensures.below q r w))
     (c.in_ok-asked.ensures.below q
-    (leads_down (bare c.grid_at.new.tree.tree) c.args.id c.args.reps.now c.args.width.now q
-    (subst (λ (z : BareTrees). (sight_at z c.args.id).label.kind ≡ kind.Grid) (sym (c.in_ok-told.ensures.below (block_query false c.args.reps.now c.args.width.now) refl refl).walk.bare_same) c.requires.grid) r w needs))
+    (leads_down (nodes c.grid_in.new.walk) c.args.id c.args.seat.now.reps.now c.args.width.now q
+    (subst (λ (z : BareTrees). (sight_at z c.args.id).label.kind ≡ kind.Grid) (sym (c.in_ok-told.ensures.below (block_query false c.args.seat.now.reps.now c.args.width.now) refl refl).walk.bare_same) c.requires.grid) r w needs))
 
 pub asking::told_wide_by-returns-clause-value : goal.asking::told_wide_by-returns-clause-value
 asking::told_wide_by-returns-clause-value g t c =
-    let same = (c.in_ok-told.ensures.below (block_query false c.args.reps.now c.args.width.now) refl refl).walk.bare_same in
-    let laid : AreLaid (bare c.args.tree.now.tree) c.args.id c.args.reps.now c.args.width.now c.in_ok-told.told.parts.base c.in_ok-columns.columns = subst (λ (z : BareTrees). AreLaid z c.args.id c.args.reps.now c.args.width.now c.in_ok-told.told.parts.base c.in_ok-columns.columns) same
+    let same = (c.in_ok-told.ensures.below (block_query false c.args.seat.now.reps.now c.args.width.now) refl refl).walk.bare_same in
+    let laid : AreLaid (nodes c.args.walk.now) c.args.id c.args.seat.now.reps.now c.args.width.now c.in_ok-told.told.parts.base c.in_ok-columns.columns = subst (λ (z : BareTrees). AreLaid z c.args.id c.args.seat.now.reps.now c.args.width.now c.in_ok-told.told.parts.base c.in_ok-columns.columns) same
     (record { seen = c.in_ok-columns.ensures.value; counted = c.in_ok-columns.ensures.counted; gap = c.in_ok-columns.ensures.gap; range = c.in_ok-columns.ensures.range; spread = c.in_ok-columns.ensures.spread }) in
-    told_made (bare c.args.tree.now.tree) c.args.id c.args.reps.now c.args.width.now c.in_ok-told.told.parts c.in_ok-told.ensures.value c.root.ensures.tree c.in_ok-columns.columns c.in_ok-asked.asked c.in_ok-asked.rows c.in_ok-told.told.ends c.in_ok-told.ensures.told laid c.in_ok-columns.ensures.far
+    told_made (nodes c.args.walk.now) c.args.id c.args.seat.now.reps.now c.args.width.now c.in_ok-told.told.parts c.in_ok-told.ensures.value c.root.ensures.tree c.in_ok-columns.columns c.in_ok-asked.asked c.in_ok-asked.rows c.in_ok-told.told.ends c.in_ok-told.ensures.told laid
+    c.in_ok-columns.ensures.far
     (subst (λ (z : BareTrees). AreIn z c.args.id c.in_ok-told.told.parts.base c.in_ok-columns.columns Each c.in_ok-asked.asked) same c.in_ok-asked.ensures.told)
     (subst (λ (z : BareTrees). IfSome c.in_ok-asked.rows (AreRowsFor (sight_at z c.args.id) c.in_ok-told.told.parts.base c.in_ok-asked.asked.items)) same c.in_ok-asked.ensures.rows)
 
 pub asking::told_wide_at-told_wide_by-requires : goal.asking::told_wide_at-told_wide_by-requires
 asking::told_wide_at-told_wide_by-requires g t c =
-    let back = sym c.take_past.ensures.alike.bare in
-    let live : IsLive (bare c.take_past.new.tree.tree) c.args.id = subst (λ (z : BareTrees). IsLive z c.args.id) back c.requires.live in
-    let readable : AreReadable (bare c.take_past.new.tree.tree) = subst AreReadable back c.requires.readable in
-    let grid : (sight_at (bare c.take_past.new.tree.tree) c.args.id).label.kind ≡ kind.Grid = subst (λ (z : BareTrees). (sight_at z c.args.id).label.kind ≡ kind.Grid) back c.requires.grid in
-    let counts : length c.args.reps.now ≡ length (sight_at (bare c.take_past.new.tree.tree) c.args.id).chain = subst (λ (z : BareTrees). length c.args.reps.now ≡ length (sight_at z c.args.id).chain) back c.requires.reps in
-    let seat : IsSeat (sight_at (bare c.take_past.new.tree.tree) c.args.id) c.args.reps.now c.args.above.now c.args.area = subst (λ (z : BareTrees). IsSeat (sight_at z c.args.id) c.args.reps.now c.args.above.now c.args.area) back c.requires.seat in
-    let inline : IsGivenFor true (sees_columns (sight_at (bare c.take_past.new.tree.tree) c.args.id)) (outer_context (sight_at (bare c.take_past.new.tree.tree) c.args.id) c.args.reps.now).columns.table.tracks c.args.width.now = subst
-    (λ (z : BareTrees). IsGivenFor true (sees_columns (sight_at z c.args.id)) (outer_context (sight_at z c.args.id) c.args.reps.now).columns.table.tracks c.args.width.now) back c.requires.inline in
-    let apart : IsSpread (farthest (level_at (bare c.take_past.new.tree.tree) c.args.id)) c.args.width.now = subst (λ (z : BareTrees). IsSpread (farthest (level_at z c.args.id)) c.args.width.now) back c.requires.spread in
-    let columns : IfSome c.in_ok-past.past.0 (IsPastColumns (bare c.take_past.new.tree.tree) c.args.id) = subst (λ (z : BareTrees). IfSome c.in_ok-past.past.0 (IsPastColumns z c.args.id)) back c.in_ok-past.ensures.columns in
-    let rows : IfSome c.in_ok-past.past.1 (IsPastRows (bare c.take_past.new.tree.tree) c.args.id) = subst (λ (z : BareTrees). IfSome c.in_ok-past.past.1 (IsPastRows z c.args.id)) back c.in_ok-past.ensures.rows in
-    let small : 16 * size_at (bare c.take_past.new.tree.tree) c.args.id + 2 < 16 * size_at (bare c.args.tree.now.tree) c.args.id + 3 = omega (arith, ap (λ (z : BareTrees). size_at z c.args.id) c.take_past.ensures.alike.bare) in
+    let back = sym c.take_past.ensures.bare in
+    let live : IsLive (nodes c.take_past.new.walk) c.args.id = subst (λ (z : BareTrees). IsLive z c.args.id) back c.requires.live in
+    let readable : AreReadable (nodes c.take_past.new.walk) = c.take_past.ensures.stands.readable in
+    let grid : (sight_at (nodes c.take_past.new.walk) c.args.id).label.kind ≡ kind.Grid = subst (λ (z : BareTrees). (sight_at z c.args.id).label.kind ≡ kind.Grid) back c.requires.grid in
+    let counts : length c.args.seat.now.reps.now ≡ length (sight_at (nodes c.take_past.new.walk) c.args.id).chain = subst (λ (z : BareTrees). length c.args.seat.now.reps.now ≡ length (sight_at z c.args.id).chain) back c.requires.reps in
+    let seat : IsSeat (sight_at (nodes c.take_past.new.walk) c.args.id) c.args.seat.now.reps.now c.args.seat.now.above.now c.args.seat.now.area = subst (λ (z : BareTrees). IsSeat (sight_at z c.args.id) c.args.seat.now.reps.now c.args.seat.now.above.now c.args.seat.now.area) back c.requires.seat in
+    let inline : IsGivenFor true (sees_columns (sight_at (nodes c.take_past.new.walk) c.args.id)) (outer_context (sight_at (nodes c.take_past.new.walk) c.args.id) c.args.seat.now.reps.now).columns.table.tracks c.args.width.now = subst
+    (λ (z : BareTrees). IsGivenFor true (sees_columns (sight_at z c.args.id)) (outer_context (sight_at z c.args.id) c.args.seat.now.reps.now).columns.table.tracks c.args.width.now) back c.requires.inline in
+    let apart : IsSpread (farthest (level_at (nodes c.take_past.new.walk) c.args.id)) c.args.width.now = subst (λ (z : BareTrees). IsSpread (farthest (level_at z c.args.id)) c.args.width.now) back c.requires.spread in
+    let columns : IfSome c.in_ok-past.past.0 (IsPastColumns (nodes c.take_past.new.walk) c.args.id) = subst (λ (z : BareTrees). IfSome c.in_ok-past.past.0 (IsPastColumns z c.args.id)) back c.in_ok-past.ensures.columns in
+    let rows : IfSome c.in_ok-past.past.1 (IsPastRows (nodes c.take_past.new.walk) c.args.id) = subst (λ (z : BareTrees). IfSome c.in_ok-past.past.1 (IsPastRows z c.args.id)) back c.in_ok-past.ensures.rows in
+    let small : 16 * size_at (nodes c.take_past.new.walk) c.args.id + 2 < 16 * size_at (nodes c.args.walk.now) c.args.id + 3 = omega (arith, ap (λ (z : BareTrees). size_at z c.args.id) c.take_past.ensures.bare) in
     search rules
 
 pub asking::told_wide_at-returns-in_err-past-clause-stopped : goal.asking::told_wide_at-returns-in_err-past-clause-stopped
 asking::told_wide_at-returns-in_err-past-clause-stopped g t c =
-    let all : (q : Query) → q.reps ≡ c.args.reps.now → q.inline ≡ c.args.width.now → needs_inline q.ask ≡ true →
-    Stopped c.args.id q (state c.args.tree.now c.args.tally.now c.args.passes.now (g.R.Ruler.log c.args.ruler.now)) (state c.take_past.new.tree c.args.tally.now c.args.passes.now (g.R.Ruler.log c.args.ruler.now)) = λ q r w needs. then_stopped_alike c.args.tree.now
-    c.take_past.new.tree c.take_past.ensures.alike c.args.tally.now c.args.passes.now (g.R.Ruler.log c.args.ruler.now) (state c.args.tree.now c.args.tally.now c.args.passes.now (g.R.Ruler.log c.args.ruler.now)) c.args.id q
-    (stopped c.args.id q 0 _ _ (walked_none c.args.id q (state c.args.tree.now c.args.tally.now c.args.passes.now (g.R.Ruler.log c.args.ruler.now)) c.requires.right)) in
+    let all : (q : Query) → q.reps ≡ c.args.seat.now.reps.now → q.inline ≡ c.args.width.now → needs_inline q.ask ≡ true →
+    Stopped c.args.id q (seen g.R.Ruler.log c.args.walk.now) (seen g.R.Ruler.log c.take_past.new.walk) =
+    λ q r w needs. c.take_past.ensures.stopped q (seen g.R.Ruler.log c.take_past.new.walk) (stopped c.args.id q 0 _ _ (walked_none c.args.id q (seen g.R.Ruler.log c.take_past.new.walk) c.take_past.ensures.stands.right)) in
     on_err _ _ all
 
 pub asking::told_wide_at-returns-in_err-told-clause-stopped : goal.asking::told_wide_at-returns-in_err-told-clause-stopped
 asking::told_wide_at-returns-in_err-told-clause-stopped g t c =
-    let all : (q : Query) → q.reps ≡ c.args.reps.now → q.inline ≡ c.args.width.now → needs_inline q.ask ≡ true →
-    Stopped c.args.id q (state c.args.tree.now c.args.tally.now c.args.passes.now (g.R.Ruler.log c.args.ruler.now)) (state c.told_wide_by.new.tree c.told_wide_by.new.tally c.told_wide_by.new.passes (g.R.Ruler.log c.told_wide_by.new.ruler)) = λ q r w needs. from_stopped_alike
-    c.args.tree.now c.take_past.new.tree c.take_past.ensures.alike c.args.tally.now c.args.passes.now (g.R.Ruler.log c.args.ruler.now) (state c.told_wide_by.new.tree c.told_wide_by.new.tally c.told_wide_by.new.passes (g.R.Ruler.log c.told_wide_by.new.ruler)) c.args.id q
+    let all : (q : Query) → q.reps ≡ c.args.seat.now.reps.now → q.inline ≡ c.args.width.now → needs_inline q.ask ≡ true →
+    Stopped c.args.id q (seen g.R.Ruler.log c.args.walk.now) (seen g.R.Ruler.log c.told_wide_by.new.walk) = λ q r w needs. c.take_past.ensures.stopped q (seen g.R.Ruler.log c.told_wide_by.new.walk)
     (c.in_err-told.ensures.stopped q r w needs) in
     on_err _ _ all
 
 pub asking::told_wide_at-returns-clause-below : goal.asking::told_wide_at-returns-clause-below
 asking::told_wide_at-returns-clause-below g t c =
-    λ q r w needs. from_alike c.args.tree.now c.take_past.new.tree c.take_past.ensures.alike c.args.tally.now c.args.passes.now (g.R.Ruler.log c.args.ruler.now) (state c.told_wide_by.new.tree c.told_wide_by.new.tally c.told_wide_by.new.passes (g.R.Ruler.log c.told_wide_by.new.ruler))
-    c.args.id q 1 (c.in_ok-told.ensures.below q r w needs)
+    λ q r w needs. c.take_past.ensures.below q 1 (seen g.R.Ruler.log c.told_wide_by.new.walk) (c.in_ok-told.ensures.below q r w needs)
 
 pub asking::told_wide_at-returns-clause-value : goal.asking::told_wide_at-returns-clause-value
-asking::told_wide_at-returns-clause-value g t c = subst (λ (z : BareTrees). IsToldWide z c.args.id c.args.reps.now c.args.width.now c.in_ok-told.told) c.take_past.ensures.alike.bare c.in_ok-told.ensures.value
+asking::told_wide_at-returns-clause-value g t c = subst (λ (z : BareTrees). IsToldWide z c.args.id c.args.seat.now.reps.now c.args.width.now c.in_ok-told.told) c.take_past.ensures.bare c.in_ok-told.ensures.value
 
 pub asking::wide_at-returns-clause-value : goal.asking::wide_at-returns-clause-value
 asking::wide_at-returns-clause-value g t c = c.in_ok-told.ensures.value.wide
 
 pub walk::grid_anew-told_wide_at-requires : goal.walk::grid_anew-told_wide_at-requires
 walk::grid_anew-told_wide_at-requires g t c =
-    let grid : (sight_at (bare c.args.tree.now.tree) c.args.id).label.kind ≡ kind.Grid = c.requires.grid in
-    let counts : length c.as_slice-reps.result.now ≡ length (sight_at (bare c.args.tree.now.tree) c.args.id).chain = ap length c.as_slice-reps.ensures ∙ c.requires.fits.reps in
-    let seat : IsSeat (sight_at (bare c.args.tree.now.tree) c.args.id) c.as_slice-reps.result.now c.args.above.now c.args.area = subst (λ (r : List Pair). IsSeat (sight_at (bare c.args.tree.now.tree) c.args.id) r c.args.above.now c.args.area) (sym c.as_slice-reps.ensures) c.requires.seat in
-    let inline : IsGivenFor true (sees_columns (sight_at (bare c.args.tree.now.tree) c.args.id)) (outer_context (sight_at (bare c.args.tree.now.tree) c.args.id) c.as_slice-reps.result.now).columns.table.tracks c.args.query.inline =
-    subst (λ (r : List Pair). IsGivenFor true (sees_columns (sight_at (bare c.args.tree.now.tree) c.args.id)) (outer_context (sight_at (bare c.args.tree.now.tree) c.args.id) r).columns.table.tracks c.args.query.inline) (sym c.as_slice-reps.ensures)
-    (subst (λ (t : Bool). IsGivenFor t (sees_columns (sight_at (bare c.args.tree.now.tree) c.args.id)) (outer_context (sight_at (bare c.args.tree.now.tree) c.args.id) c.args.query.reps).columns.table.tracks c.args.query.inline) (ap (λ (q : Query). needs_inline q.ask) c.requires.query)
+    let grid : (sight_at (nodes c.args.walk.now) c.args.id).label.kind ≡ kind.Grid = c.requires.grid in
+    let counts : length c.args.seat.now.reps.now ≡ length (sight_at (nodes c.args.walk.now) c.args.id).chain = ap length (sym (ap (λ (q : Query). q.reps) c.requires.query)) ∙ c.requires.fits.reps in
+    let seat : IsSeat (sight_at (nodes c.args.walk.now) c.args.id) c.args.seat.now.reps.now c.args.seat.now.above.now c.args.seat.now.area = c.requires.seat in
+    let inline : IsGivenFor true (sees_columns (sight_at (nodes c.args.walk.now) c.args.id)) (outer_context (sight_at (nodes c.args.walk.now) c.args.id) c.args.seat.now.reps.now).columns.table.tracks c.args.query.inline =
+    subst (λ (r : List Pair). IsGivenFor true (sees_columns (sight_at (nodes c.args.walk.now) c.args.id)) (outer_context (sight_at (nodes c.args.walk.now) c.args.id) r).columns.table.tracks c.args.query.inline) (ap (λ (q : Query). q.reps) c.requires.query)
+    (subst (λ (t : Bool). IsGivenFor t (sees_columns (sight_at (nodes c.args.walk.now) c.args.id)) (outer_context (sight_at (nodes c.args.walk.now) c.args.id) c.args.query.reps).columns.table.tracks c.args.query.inline) (ap (λ (q : Query). needs_inline q.ask) c.requires.query)
     c.requires.fits.inline) in
-    let spread : IsSpread (farthest (level_at (bare c.args.tree.now.tree) c.args.id)) c.args.query.inline = c.requires.spread in
-    let small : 16 * size_at (bare c.args.tree.now.tree) c.args.id + 3 < 16 * size_at (bare c.args.tree.now.tree) c.args.id + 4 = omega arith in
+    let spread : IsSpread (farthest (level_at (nodes c.args.walk.now) c.args.id)) c.args.query.inline = c.requires.spread in
+    let small : 16 * size_at (nodes c.args.walk.now) c.args.id + 3 < 16 * size_at (nodes c.args.walk.now) c.args.id + 4 = omega arith in
     search rules
 
 pub walk::grid_anew-laid_rows-requires : goal.walk::grid_anew-laid_rows-requires
 walk::grid_anew-laid_rows-requires g t c =
-    let back = sym (c.in_ok-told.ensures.below c.args.query (sym c.as_slice-reps.ensures) refl (ap (λ (q : Query). needs_inline q.ask) c.requires.query)).walk.bare_same in
-    let told : IsToldWide (bare c.told_wide_at.new.tree.tree) c.args.id c.as_slice-reps.result.now c.args.query.inline c.in_ok-told.told = subst (λ (z : BareTrees). IsToldWide z c.args.id c.as_slice-reps.result.now c.args.query.inline c.in_ok-told.told) back c.in_ok-told.ensures.value in
+    let back = sym (c.in_ok-told.ensures.below c.args.query (ap (λ (q : Query). q.reps) c.requires.query) refl (ap (λ (q : Query). needs_inline q.ask) c.requires.query)).walk.bare_same in
+    let told : IsToldWide (nodes c.told_wide_at.new.walk) c.args.id c.args.seat.now.reps.now c.args.query.inline c.in_ok-told.told = subst (λ (z : BareTrees). IsToldWide z c.args.id c.args.seat.now.reps.now c.args.query.inline c.in_ok-told.told) back c.in_ok-told.ensures.value in
     record {
       live = subst (λ (z : BareTrees). IsLive z c.args.id) back c.requires.live;
-      readable = subst AreReadable back c.requires.readable;
+      readable = c.told_wide_at.ensures.stands.readable;
       kind = subst (λ (z : BareTrees). (sight_at z c.args.id).label.kind ≡ kind.Grid) back c.requires.grid;
-      own = subst (λ (z : BareTrees). sees_rows (sight_at z c.args.id) ≡ false) back (block_fit (sight_at (bare c.args.tree.now.tree) c.args.id) c.args.query (ap (λ (q : Query). q.ask) c.requires.query) c.requires.fits);
+      own = subst (λ (z : BareTrees). sees_rows (sight_at z c.args.id) ≡ false) back (block_fit (sight_at (nodes c.args.walk.now) c.args.id) c.args.query (ap (λ (q : Query). q.ask) c.requires.query) c.requires.fits);
       wide = told.wide;
       laid = told.laid;
     }
 
 pub walk::grid_anew-keep_told-requires : goal.walk::grid_anew-keep_told-requires
 walk::grid_anew-keep_told-requires g t c =
-    let back = sym (c.in_ok-told.ensures.below c.args.query (sym c.as_slice-reps.ensures) refl (ap (λ (q : Query). needs_inline q.ask) c.requires.query)).walk.bare_same in
-    let told : IsToldWide (bare c.told_wide_at.new.tree.tree) c.args.id c.as_slice-reps.result.now c.args.query.inline c.in_ok-told.told = subst (λ (z : BareTrees). IsToldWide z c.args.id c.as_slice-reps.result.now c.args.query.inline c.in_ok-told.told) back c.in_ok-told.ensures.value in
-    let kept : IsKeepable (bare c.told_wide_at.new.tree.tree) c.args.id c.in_ok-held.held c.in_ok-told.told.column_ends c.in_ok-told.told.row_ends =
-    keepable (bare c.told_wide_at.new.tree.tree) c.args.id c.as_slice-reps.result.now c.args.query.inline c.in_ok-told.told c.in_ok-size.laid c.in_ok-held.held told c.in_ok-held.ensures c.in_ok-size.ensures.same c.in_ok-size.ensures.laid in
-    record { live = subst (λ (z : BareTrees). IsLive z c.args.id) back c.requires.live; right = c.told_wide_at.ensures.right; places = kept.places; columns = kept.columns; rows = kept.rows; laid = kept.laid }
+    let back = sym (c.in_ok-told.ensures.below c.args.query (ap (λ (q : Query). q.reps) c.requires.query) refl (ap (λ (q : Query). needs_inline q.ask) c.requires.query)).walk.bare_same in
+    let told : IsToldWide (nodes c.told_wide_at.new.walk) c.args.id c.args.seat.now.reps.now c.args.query.inline c.in_ok-told.told = subst (λ (z : BareTrees). IsToldWide z c.args.id c.args.seat.now.reps.now c.args.query.inline c.in_ok-told.told) back c.in_ok-told.ensures.value in
+    let kept : IsKeepable (nodes c.told_wide_at.new.walk) c.args.id c.in_ok-held.held c.in_ok-told.told.column_ends c.in_ok-told.told.row_ends =
+    keepable (nodes c.told_wide_at.new.walk) c.args.id c.args.seat.now.reps.now c.args.query.inline c.in_ok-told.told c.in_ok-size.laid c.in_ok-held.held told c.in_ok-held.ensures c.in_ok-size.ensures.same c.in_ok-size.ensures.laid in
+    record { live = subst (λ (z : BareTrees). IsLive z c.args.id) back c.requires.live; stands = c.told_wide_at.ensures.stands; places = kept.places; columns = kept.columns; rows = kept.rows; laid = kept.laid }
 
 pub walk::grid_anew-put-requires : goal.walk::grid_anew-put-requires
 walk::grid_anew-put-requires g t c =
-    let walked = c.in_ok-told.ensures.below c.args.query (sym c.as_slice-reps.ensures) refl (ap (λ (q : Query). needs_inline q.ask) c.requires.query) in
-    let back = sym (c.keep_told.ensures.alike.bare ∙ walked.walk.bare_same) in
-    let laid : IsWide (bare c.args.tree.now.tree) c.args.id c.as_slice-reps.result.now c.args.query.inline c.in_ok-size.laid = subst (λ (z : BareTrees). IsWide z c.args.id c.as_slice-reps.result.now c.args.query.inline c.in_ok-size.laid) walked.walk.bare_same c.in_ok-size.ensures.wide in
-    let held : IsWide (bare c.args.tree.now.tree) c.args.id c.args.query.reps c.args.query.inline c.in_ok-held.held = subst (IsWide (bare c.args.tree.now.tree) c.args.id c.args.query.reps c.args.query.inline) (sym c.in_ok-held.ensures)
-    (subst (λ (r : List Pair). IsWide (bare c.args.tree.now.tree) c.args.id r c.args.query.inline c.in_ok-size.laid) c.as_slice-reps.ensures laid) in
+    let walked = c.in_ok-told.ensures.below c.args.query (ap (λ (q : Query). q.reps) c.requires.query) refl (ap (λ (q : Query). needs_inline q.ask) c.requires.query) in
+    let kept = c.keep_told.ensures.below c.args.query 2 (seen g.R.Ruler.log c.args.walk.now)
+    (ticked c.args.id c.args.query 1 1 _ _ c.laid_rows.new.passes c.laid_rows.ensures.ticks walked) in
+    let back = sym kept.walk.bare_same in
+    let laid : IsWide (nodes c.args.walk.now) c.args.id c.args.seat.now.reps.now c.args.query.inline c.in_ok-size.laid = subst (λ (z : BareTrees). IsWide z c.args.id c.args.seat.now.reps.now c.args.query.inline c.in_ok-size.laid) walked.walk.bare_same c.in_ok-size.ensures.wide in
+    let held : IsWide (nodes c.args.walk.now) c.args.id c.args.query.reps c.args.query.inline c.in_ok-held.held = subst (IsWide (nodes c.args.walk.now) c.args.id c.args.query.reps c.args.query.inline) (sym c.in_ok-held.ensures)
+    (subst (λ (r : List Pair). IsWide (nodes c.args.walk.now) c.args.id r c.args.query.inline c.in_ok-size.laid) (sym (ap (λ (q : Query). q.reps) c.requires.query)) laid) in
     record {
       live = subst (λ (z : BareTrees). IsLive z c.args.id) back c.requires.live;
-      right = c.keep_told.ensures.right;
-      absent = subst (IsAbsent c.args.query) (sym (c.keep_told.ensures.alike.kept c.args.id ∙ walked.own)) c.requires.absent;
+      stands = c.keep_told.ensures.stands;
+      absent = subst (IsAbsent c.args.query) (sym kept.own) c.requires.absent;
       fits = subst (λ (z : BareTrees). Fits (sight_at z c.args.id) c.args.query) back c.requires.fits;
       value = subst (λ (z : BareTrees). block_size c.in_ok-size.size ≡ answer_of (sight_at z c.args.id) c.args.query) back
-          (laid_answer (bare c.args.tree.now.tree) (bare c.told_wide_at.new.tree.tree) walked.walk.bare_same c.args.id c.args.query c.as_slice-reps.result.now c.in_ok-size.size c.as_slice-reps.ensures c.requires.grid (ap (λ (q : Query). q.ask) c.requires.query) c.in_ok-size.ensures.value);
-      children = subst (λ (z : BareTrees). HoldsWide (sight_at z c.args.id) (children_at z c.args.id) c.args.query.reps c.args.query.inline c.in_ok-held.held) back (wide_held (bare c.args.tree.now.tree) c.args.id c.args.query.reps c.args.query.inline c.in_ok-held.held held);
-      quiet = grid_quiet (bare c.keep_told.new.tree.tree) c.args.id c.args.query (subst (λ (z : BareTrees). (sight_at z c.args.id).label.kind ≡ kind.Grid) back c.requires.grid);
+          (laid_answer (nodes c.args.walk.now) (nodes c.told_wide_at.new.walk) walked.walk.bare_same c.args.id c.args.query c.args.seat.now.reps.now c.in_ok-size.size
+          (sym (ap (λ (q : Query). q.reps) c.requires.query)) c.requires.grid (ap (λ (q : Query). q.ask) c.requires.query) c.in_ok-size.ensures.value);
+      children = subst (λ (z : BareTrees). HoldsWide (sight_at z c.args.id) (children_at z c.args.id) c.args.query.reps c.args.query.inline c.in_ok-held.held) back (wide_held (nodes c.args.walk.now) c.args.id c.args.query.reps c.args.query.inline c.in_ok-held.held held);
+      quiet = grid_quiet (nodes c.keep_told.new.walk) c.args.id c.args.query (subst (λ (z : BareTrees). (sight_at z c.args.id).label.kind ≡ kind.Grid) back c.requires.grid);
     }
 
 pub walk::grid_anew-returns-clause-value : goal.walk::grid_anew-returns-clause-value
 walk::grid_anew-returns-clause-value g t c =
-    laid_answer (bare c.args.tree.now.tree) (bare c.told_wide_at.new.tree.tree) (c.in_ok-told.ensures.below c.args.query (sym c.as_slice-reps.ensures) refl (ap (λ (q : Query). needs_inline q.ask) c.requires.query)).walk.bare_same c.args.id c.args.query c.as_slice-reps.result.now
-    c.in_ok-size.size c.as_slice-reps.ensures c.requires.grid (ap (λ (q : Query). q.ask) c.requires.query) c.in_ok-size.ensures.value
+    laid_answer (nodes c.args.walk.now) (nodes c.told_wide_at.new.walk) (c.in_ok-told.ensures.below c.args.query (ap (λ (q : Query). q.reps) c.requires.query) refl (ap (λ (q : Query). needs_inline q.ask) c.requires.query)).walk.bare_same c.args.id c.args.query c.args.seat.now.reps.now
+    c.in_ok-size.size (sym (ap (λ (q : Query). q.reps) c.requires.query)) c.requires.grid (ap (λ (q : Query). q.ask) c.requires.query) c.in_ok-size.ensures.value
 
 pub walk::grid_anew-returns-in_err-told-clause-stopped : goal.walk::grid_anew-returns-in_err-told-clause-stopped
-walk::grid_anew-returns-in_err-told-clause-stopped g t c = on_err _ _ (c.in_err-told.ensures.stopped c.args.query (sym c.as_slice-reps.ensures) refl (ap (λ (q : Query). needs_inline q.ask) c.requires.query))
+walk::grid_anew-returns-in_err-told-clause-stopped g t c = on_err _ _ (c.in_err-told.ensures.stopped c.args.query (ap (λ (q : Query). q.reps) c.requires.query) refl (ap (λ (q : Query). needs_inline q.ask) c.requires.query))
 
 pub walk::grid_anew-returns-in_err-size-clause-stopped : goal.walk::grid_anew-returns-in_err-size-clause-stopped
 walk::grid_anew-returns-in_err-size-clause-stopped g t c =
-    on_err _ _ (stopped c.args.id c.args.query 2 _ _ (ticked c.args.id c.args.query 1 1 _ _ c.laid_rows.new.passes c.laid_rows.ensures.ticks (c.in_ok-told.ensures.below c.args.query (sym c.as_slice-reps.ensures) refl (ap (λ (q : Query). needs_inline q.ask) c.requires.query))))
+    on_err _ _ (stopped c.args.id c.args.query 2 _ _ (ticked c.args.id c.args.query 1 1 _ _ c.laid_rows.new.passes c.laid_rows.ensures.ticks (c.in_ok-told.ensures.below c.args.query (ap (λ (q : Query). q.reps) c.requires.query) refl (ap (λ (q : Query). needs_inline q.ask) c.requires.query))))
 
 pub walk::grid_anew-returns-in_err-held-clause-stopped : goal.walk::grid_anew-returns-in_err-held-clause-stopped
 walk::grid_anew-returns-in_err-held-clause-stopped g t c =
-    on_err _ _ (stopped c.args.id c.args.query 2 _ _ (ticked c.args.id c.args.query 1 1 _ _ c.laid_rows.new.passes c.laid_rows.ensures.ticks (c.in_ok-told.ensures.below c.args.query (sym c.as_slice-reps.ensures) refl (ap (λ (q : Query). needs_inline q.ask) c.requires.query))))
+    on_err _ _ (stopped c.args.id c.args.query 2 _ _ (ticked c.args.id c.args.query 1 1 _ _ c.laid_rows.new.passes c.laid_rows.ensures.ticks (c.in_ok-told.ensures.below c.args.query (ap (λ (q : Query). q.reps) c.requires.query) refl (ap (λ (q : Query). needs_inline q.ask) c.requires.query))))
 
 pub walk::grid_anew-returns-in_err-keep_told-clause-stopped : goal.walk::grid_anew-returns-in_err-keep_told-clause-stopped
 walk::grid_anew-returns-in_err-keep_told-clause-stopped g t c =
     on_err _ _
     (stopped c.args.id c.args.query 2 _ _
-    (then_alike c.told_wide_at.new.tree c.keep_told.new.tree c.keep_told.ensures.alike c.told_wide_at.new.tally c.laid_rows.new.passes (g.R.Ruler.log c.told_wide_at.new.ruler) (state c.args.tree.now c.args.tally.now c.args.passes.now (g.R.Ruler.log c.args.ruler.now)) c.args.id
-    c.args.query 2 (ticked c.args.id c.args.query 1 1 _ _ c.laid_rows.new.passes c.laid_rows.ensures.ticks (c.in_ok-told.ensures.below c.args.query (sym c.as_slice-reps.ensures) refl (ap (λ (q : Query). needs_inline q.ask) c.requires.query)))))
+    (c.keep_told.ensures.below c.args.query 2 (seen g.R.Ruler.log c.args.walk.now)
+    (ticked c.args.id c.args.query 1 1 _ _ c.laid_rows.new.passes c.laid_rows.ensures.ticks (c.in_ok-told.ensures.below c.args.query (ap (λ (q : Query). q.reps) c.requires.query) refl (ap (λ (q : Query). needs_inline q.ask) c.requires.query)))))
 
 pub walk::grid_anew-returns-in_err-put-clause-stopped : goal.walk::grid_anew-returns-in_err-put-clause-stopped
 walk::grid_anew-returns-in_err-put-clause-stopped g t c =
     on_err _ _
-    (c.in_err-put.ensures.stopped _ 2 _ _
-    (then_alike c.told_wide_at.new.tree c.keep_told.new.tree c.keep_told.ensures.alike c.told_wide_at.new.tally c.laid_rows.new.passes (g.R.Ruler.log c.told_wide_at.new.ruler) (state c.args.tree.now c.args.tally.now c.args.passes.now (g.R.Ruler.log c.args.ruler.now)) c.args.id
-    c.args.query 2 (ticked c.args.id c.args.query 1 1 _ _ c.laid_rows.new.passes c.laid_rows.ensures.ticks (c.in_ok-told.ensures.below c.args.query (sym c.as_slice-reps.ensures) refl (ap (λ (q : Query). needs_inline q.ask) c.requires.query)))))
+    (c.in_err-put.ensures.stopped _ 2
+    (c.keep_told.ensures.below c.args.query 2 (seen g.R.Ruler.log c.args.walk.now)
+    (ticked c.args.id c.args.query 1 1 _ _ c.laid_rows.new.passes c.laid_rows.ensures.ticks (c.in_ok-told.ensures.below c.args.query (ap (λ (q : Query). q.reps) c.requires.query) refl (ap (λ (q : Query). needs_inline q.ask) c.requires.query)))))
 
 pub walk::grid_anew-returns-clause-walked : goal.walk::grid_anew-returns-clause-walked
 walk::grid_anew-returns-clause-walked g t c =
-    c.in_ok-put.ensures.joins _ 2 _ _ (omega arith)
-    (then_alike c.told_wide_at.new.tree c.keep_told.new.tree c.keep_told.ensures.alike c.told_wide_at.new.tally c.laid_rows.new.passes (g.R.Ruler.log c.told_wide_at.new.ruler) (state c.args.tree.now c.args.tally.now c.args.passes.now (g.R.Ruler.log c.args.ruler.now)) c.args.id
-    c.args.query 2 (ticked c.args.id c.args.query 1 1 _ _ c.laid_rows.new.passes c.laid_rows.ensures.ticks (c.in_ok-told.ensures.below c.args.query (sym c.as_slice-reps.ensures) refl (ap (λ (q : Query). needs_inline q.ask) c.requires.query))))
+    c.in_ok-put.ensures.joins _ 2 (omega arith)
+    (c.keep_told.ensures.below c.args.query 2 (seen g.R.Ruler.log c.args.walk.now)
+    (ticked c.args.id c.args.query 1 1 _ _ c.laid_rows.new.passes c.laid_rows.ensures.ticks (c.in_ok-told.ensures.below c.args.query (ap (λ (q : Query). q.reps) c.requires.query) refl (ap (λ (q : Query). needs_inline q.ask) c.requires.query))))
 
 pub walk::grid_anew-returns-clause-own : goal.walk::grid_anew-returns-clause-own
 walk::grid_anew-returns-clause-own g t c = (
@@ -643,479 +642,466 @@ walk::grid_anew-returns-clause-own g t c = (
   (
     refl,
     c.in_ok-put.ensures.own ∙
-        ap (λ l. kept_with l ((c.args.query, answer.Laid c.in_ok-size.size c.in_ok-held.held) ∷ [])) (c.keep_told.ensures.alike.kept c.args.id ∙ (c.in_ok-told.ensures.below c.args.query (sym c.as_slice-reps.ensures) refl (ap (λ (q : Query). needs_inline q.ask) c.requires.query)).own),
+        ap (λ l. kept_with l ((c.args.query, answer.Laid c.in_ok-size.size c.in_ok-held.held) ∷ []))
+        (c.keep_told.ensures.below c.args.query 2 (seen g.R.Ruler.log c.args.walk.now)
+        (ticked c.args.id c.args.query 1 1 _ _ c.laid_rows.new.passes c.laid_rows.ensures.ticks (c.in_ok-told.ensures.below c.args.query (ap (λ (q : Query). q.reps) c.requires.query) refl (ap (λ (q : Query). needs_inline q.ask) c.requires.query)))).own,
   ),
 )
 
 pub walk::block_anew-returns-then-is_leaf-clause-own : goal.walk::block_anew-returns-then-is_leaf-clause-own
-walk::block_anew-returns-then-is_leaf-clause-own g t c = grows_by_block c.leaf_height.result (kept_at c.args.tree.now.tree c.args.id) (kept_at c.leaf_height.new.tree.tree c.args.id) c.args.query c.leaf_height.ensures.own
+walk::block_anew-returns-then-is_leaf-clause-own g t c = grows_by_block c.leaf_height.result (kept c.args.walk.now c.args.id) (kept c.leaf_height.new.self c.args.id) c.args.query c.leaf_height.ensures.own
 
 pub walk::block_anew-returns-then-is_column-clause-own : goal.walk::block_anew-returns-then-is_column-clause-own
-walk::block_anew-returns-then-is_column-clause-own g t c = grows_by_block c.column_anew.result (kept_at c.args.tree.now.tree c.args.id) (kept_at c.column_anew.new.tree.tree c.args.id) c.args.query c.column_anew.ensures.own
+walk::block_anew-returns-then-is_column-clause-own g t c = grows_by_block c.column_anew.result (kept c.args.walk.now c.args.id) (kept c.column_anew.new.walk c.args.id) c.args.query c.column_anew.ensures.own
 
 pub walk::block_anew-returns-clause-own : goal.walk::block_anew-returns-clause-own
-walk::block_anew-returns-clause-own g t c = grows_by_block c.row_anew.result (kept_at c.args.tree.now.tree c.args.id) (kept_at c.row_anew.new.tree.tree c.args.id) c.args.query c.row_anew.ensures.own
+walk::block_anew-returns-clause-own g t c = grows_by_block c.row_anew.result (kept c.args.walk.now c.args.id) (kept c.row_anew.new.walk c.args.id) c.args.query c.row_anew.ensures.own
 
 pub walk::rows_anew-wide_at-requires : goal.walk::rows_anew-wide_at-requires
 walk::rows_anew-wide_at-requires g t c =
-    let grid : (sight_at (bare c.args.tree.now.tree) c.args.id).label.kind ≡ kind.Grid = c.subgrids_are_grids.ensures (lent_fit (sight_at (bare c.args.tree.now.tree) c.args.id) c.args.query (ap (λ (q : Query). q.ask) c.requires.query) c.requires.fits) in
-    let counts : length c.as_slice-reps.result.now ≡ length (sight_at (bare c.args.tree.now.tree) c.args.id).chain = ap length c.as_slice-reps.ensures ∙ c.requires.fits.reps in
-    let seat : IsSeat (sight_at (bare c.args.tree.now.tree) c.args.id) c.as_slice-reps.result.now c.args.above.now c.args.area = subst (λ (r : List Pair). IsSeat (sight_at (bare c.args.tree.now.tree) c.args.id) r c.args.above.now c.args.area) (sym c.as_slice-reps.ensures) c.requires.seat in
-    let inline : IsGivenFor true (sees_columns (sight_at (bare c.args.tree.now.tree) c.args.id)) (outer_context (sight_at (bare c.args.tree.now.tree) c.args.id) c.as_slice-reps.result.now).columns.table.tracks c.args.query.inline =
-    subst (λ (r : List Pair). IsGivenFor true (sees_columns (sight_at (bare c.args.tree.now.tree) c.args.id)) (outer_context (sight_at (bare c.args.tree.now.tree) c.args.id) r).columns.table.tracks c.args.query.inline) (sym c.as_slice-reps.ensures)
-    (subst (λ (t : Bool). IsGivenFor t (sees_columns (sight_at (bare c.args.tree.now.tree) c.args.id)) (outer_context (sight_at (bare c.args.tree.now.tree) c.args.id) c.args.query.reps).columns.table.tracks c.args.query.inline) (ap (λ (q : Query). needs_inline q.ask) c.requires.query)
+    let grid : (sight_at (nodes c.args.walk.now) c.args.id).label.kind ≡ kind.Grid = c.subgrids_are_grids.ensures (lent_fit (sight_at (nodes c.args.walk.now) c.args.id) c.args.query (ap (λ (q : Query). q.ask) c.requires.query) c.requires.fits) in
+    let counts : length c.args.seat.now.reps.now ≡ length (sight_at (nodes c.args.walk.now) c.args.id).chain = ap length (sym (ap (λ (q : Query). q.reps) c.requires.query)) ∙ c.requires.fits.reps in
+    let seat : IsSeat (sight_at (nodes c.args.walk.now) c.args.id) c.args.seat.now.reps.now c.args.seat.now.above.now c.args.seat.now.area = c.requires.seat in
+    let inline : IsGivenFor true (sees_columns (sight_at (nodes c.args.walk.now) c.args.id)) (outer_context (sight_at (nodes c.args.walk.now) c.args.id) c.args.seat.now.reps.now).columns.table.tracks c.args.query.inline =
+    subst (λ (r : List Pair). IsGivenFor true (sees_columns (sight_at (nodes c.args.walk.now) c.args.id)) (outer_context (sight_at (nodes c.args.walk.now) c.args.id) r).columns.table.tracks c.args.query.inline) (ap (λ (q : Query). q.reps) c.requires.query)
+    (subst (λ (t : Bool). IsGivenFor t (sees_columns (sight_at (nodes c.args.walk.now) c.args.id)) (outer_context (sight_at (nodes c.args.walk.now) c.args.id) c.args.query.reps).columns.table.tracks c.args.query.inline) (ap (λ (q : Query). needs_inline q.ask) c.requires.query)
     c.requires.fits.inline) in
-    let spread : IsSpread (farthest (level_at (bare c.args.tree.now.tree) c.args.id)) c.args.query.inline = c.requires.spread in
-    let small : 16 * size_at (bare c.args.tree.now.tree) c.args.id + 4 < 16 * size_at (bare c.args.tree.now.tree) c.args.id + 5 = omega arith in
+    let spread : IsSpread (farthest (level_at (nodes c.args.walk.now) c.args.id)) c.args.query.inline = c.requires.spread in
+    let small : 16 * size_at (nodes c.args.walk.now) c.args.id + 4 < 16 * size_at (nodes c.args.walk.now) c.args.id + 5 = omega arith in
     search rules
 
 pub walk::rows_anew-lent_rows-requires-clause-live : goal.walk::rows_anew-lent_rows-requires-clause-live
-walk::rows_anew-lent_rows-requires-clause-live g t c = subst (λ (z : BareTrees). IsLive z c.args.id) (sym (c.in_ok-wide.ensures.below c.args.query (sym c.as_slice-reps.ensures) refl (ap (λ (q : Query). needs_inline q.ask) c.requires.query)).walk.bare_same) c.requires.live
-
-pub walk::rows_anew-lent_rows-requires-clause-readable : goal.walk::rows_anew-lent_rows-requires-clause-readable
-walk::rows_anew-lent_rows-requires-clause-readable g t c = subst AreReadable (sym (c.in_ok-wide.ensures.below c.args.query (sym c.as_slice-reps.ensures) refl (ap (λ (q : Query). needs_inline q.ask) c.requires.query)).walk.bare_same) c.requires.readable
+walk::rows_anew-lent_rows-requires-clause-live g t c = subst (λ (z : BareTrees). IsLive z c.args.id) (sym (c.in_ok-wide.ensures.below c.args.query (ap (λ (q : Query). q.reps) c.requires.query) refl (ap (λ (q : Query). needs_inline q.ask) c.requires.query)).walk.bare_same) c.requires.live
 
 pub walk::rows_anew-lent_rows-requires-clause-kind : goal.walk::rows_anew-lent_rows-requires-clause-kind
 walk::rows_anew-lent_rows-requires-clause-kind g t c =
-    subst (λ (z : BareTrees). (sight_at z c.args.id).label.kind ≡ kind.Grid) (sym (c.in_ok-wide.ensures.below c.args.query (sym c.as_slice-reps.ensures) refl (ap (λ (q : Query). needs_inline q.ask) c.requires.query)).walk.bare_same)
-    (c.subgrids_are_grids.ensures (lent_fit (sight_at (bare c.args.tree.now.tree) c.args.id) c.args.query (ap (λ (q : Query). q.ask) c.requires.query) c.requires.fits))
+    subst (λ (z : BareTrees). (sight_at z c.args.id).label.kind ≡ kind.Grid) (sym (c.in_ok-wide.ensures.below c.args.query (ap (λ (q : Query). q.reps) c.requires.query) refl (ap (λ (q : Query). needs_inline q.ask) c.requires.query)).walk.bare_same)
+    (c.subgrids_are_grids.ensures (lent_fit (sight_at (nodes c.args.walk.now) c.args.id) c.args.query (ap (λ (q : Query). q.ask) c.requires.query) c.requires.fits))
 
 pub walk::rows_anew-lent_rows-requires-clause-wide : goal.walk::rows_anew-lent_rows-requires-clause-wide
 walk::rows_anew-lent_rows-requires-clause-wide g t c =
-    subst (λ (z : BareTrees). IsWide z c.args.id c.as_slice-reps.result.now c.args.query.inline c.in_ok-wide.wide) (sym (c.in_ok-wide.ensures.below c.args.query (sym c.as_slice-reps.ensures) refl (ap (λ (q : Query). needs_inline q.ask) c.requires.query)).walk.bare_same)
+    subst (λ (z : BareTrees). IsWide z c.args.id c.args.seat.now.reps.now c.args.query.inline c.in_ok-wide.wide) (sym (c.in_ok-wide.ensures.below c.args.query (ap (λ (q : Query). q.reps) c.requires.query) refl (ap (λ (q : Query). needs_inline q.ask) c.requires.query)).walk.bare_same)
     c.in_ok-wide.ensures.value
 
 pub walk::rows_anew-put-requires-clause-quiet : goal.walk::rows_anew-put-requires-clause-quiet
 walk::rows_anew-put-requires-clause-quiet g t c =
-    grid_quiet (bare c.wide_at.new.tree.tree) c.args.id c.args.query
-    (subst (λ (z : BareTrees). (sight_at z c.args.id).label.kind ≡ kind.Grid) (sym (c.in_ok-wide.ensures.below c.args.query (sym c.as_slice-reps.ensures) refl (ap (λ (q : Query). needs_inline q.ask) c.requires.query)).walk.bare_same)
-    (c.subgrids_are_grids.ensures (lent_fit (sight_at (bare c.args.tree.now.tree) c.args.id) c.args.query (ap (λ (q : Query). q.ask) c.requires.query) c.requires.fits)))
+    grid_quiet (nodes c.wide_at.new.walk) c.args.id c.args.query
+    (subst (λ (z : BareTrees). (sight_at z c.args.id).label.kind ≡ kind.Grid) (sym (c.in_ok-wide.ensures.below c.args.query (ap (λ (q : Query). q.reps) c.requires.query) refl (ap (λ (q : Query). needs_inline q.ask) c.requires.query)).walk.bare_same)
+    (c.subgrids_are_grids.ensures (lent_fit (sight_at (nodes c.args.walk.now) c.args.id) c.args.query (ap (λ (q : Query). q.ask) c.requires.query) c.requires.fits)))
 
 pub walk::rows_anew-put-requires-clause-live : goal.walk::rows_anew-put-requires-clause-live
-walk::rows_anew-put-requires-clause-live g t c = subst (λ (z : BareTrees). IsLive z c.args.id) (sym (c.in_ok-wide.ensures.below c.args.query (sym c.as_slice-reps.ensures) refl (ap (λ (q : Query). needs_inline q.ask) c.requires.query)).walk.bare_same) c.requires.live
+walk::rows_anew-put-requires-clause-live g t c = subst (λ (z : BareTrees). IsLive z c.args.id) (sym (c.in_ok-wide.ensures.below c.args.query (ap (λ (q : Query). q.reps) c.requires.query) refl (ap (λ (q : Query). needs_inline q.ask) c.requires.query)).walk.bare_same) c.requires.live
 
 pub walk::rows_anew-put-requires-clause-absent : goal.walk::rows_anew-put-requires-clause-absent
-walk::rows_anew-put-requires-clause-absent g t c = subst (IsAbsent c.args.query) (sym (c.in_ok-wide.ensures.below c.args.query (sym c.as_slice-reps.ensures) refl (ap (λ (q : Query). needs_inline q.ask) c.requires.query)).own) c.requires.absent
+walk::rows_anew-put-requires-clause-absent g t c = subst (IsAbsent c.args.query) (sym (c.in_ok-wide.ensures.below c.args.query (ap (λ (q : Query). q.reps) c.requires.query) refl (ap (λ (q : Query). needs_inline q.ask) c.requires.query)).own) c.requires.absent
 
 pub walk::rows_anew-put-requires-clause-fits : goal.walk::rows_anew-put-requires-clause-fits
-walk::rows_anew-put-requires-clause-fits g t c = subst (λ (z : BareTrees). Fits (sight_at z c.args.id) c.args.query) (sym (c.in_ok-wide.ensures.below c.args.query (sym c.as_slice-reps.ensures) refl (ap (λ (q : Query). needs_inline q.ask) c.requires.query)).walk.bare_same) c.requires.fits
+walk::rows_anew-put-requires-clause-fits g t c =
+    subst (λ (z : BareTrees). Fits (sight_at z c.args.id) c.args.query) (sym (c.in_ok-wide.ensures.below c.args.query (ap (λ (q : Query). q.reps) c.requires.query) refl (ap (λ (q : Query). needs_inline q.ask) c.requires.query)).walk.bare_same) c.requires.fits
 
 pub walk::rows_anew-put-requires-clause-value : goal.walk::rows_anew-put-requires-clause-value
 walk::rows_anew-put-requires-clause-value g t c =
-    ap lent_items (c.in_ok-items.ensures ∙ ap (λ (r : List Pair). grid_lends_rows (grid_seen (bare c.wide_at.new.tree.tree) c.args.id r c.args.query.inline) (rows_seen (bare c.wide_at.new.tree.tree) c.args.id r c.args.query.inline)) c.as_slice-reps.ensures)
-    ∙ lent_answer (bare c.wide_at.new.tree.tree) c.args.id c.args.query
-    (subst (λ (z : BareTrees). (sight_at z c.args.id).label.kind ≡ kind.Grid) (sym (c.in_ok-wide.ensures.below c.args.query (sym c.as_slice-reps.ensures) refl (ap (λ (q : Query). needs_inline q.ask) c.requires.query)).walk.bare_same)
-    (c.subgrids_are_grids.ensures (lent_fit (sight_at (bare c.args.tree.now.tree) c.args.id) c.args.query (ap (λ (q : Query). q.ask) c.requires.query) c.requires.fits))) (ap (λ (q : Query). q.ask) c.requires.query)
+    ap lent_items (c.in_ok-items.ensures ∙ ap (λ (r : List Pair). grid_lends_rows (grid_seen (nodes c.wide_at.new.walk) c.args.id r c.args.query.inline) (rows_seen (nodes c.wide_at.new.walk) c.args.id r c.args.query.inline)) (sym (ap (λ (q : Query). q.reps) c.requires.query)))
+    ∙ lent_answer (nodes c.wide_at.new.walk) c.args.id c.args.query
+    (subst (λ (z : BareTrees). (sight_at z c.args.id).label.kind ≡ kind.Grid) (sym (c.in_ok-wide.ensures.below c.args.query (ap (λ (q : Query). q.reps) c.requires.query) refl (ap (λ (q : Query). needs_inline q.ask) c.requires.query)).walk.bare_same)
+    (c.subgrids_are_grids.ensures (lent_fit (sight_at (nodes c.args.walk.now) c.args.id) c.args.query (ap (λ (q : Query). q.ask) c.requires.query) c.requires.fits))) (ap (λ (q : Query). q.ask) c.requires.query)
 
 pub walk::rows_anew-returns-clause-value : goal.walk::rows_anew-returns-clause-value
 walk::rows_anew-returns-clause-value g t c =
     ap lent_items (c.in_ok-lent.ensures ∙ c.as_slice.ensures) ∙
-    ap lent_items (c.in_ok-items.ensures ∙ ap (λ (r : List Pair). grid_lends_rows (grid_seen (bare c.wide_at.new.tree.tree) c.args.id r c.args.query.inline) (rows_seen (bare c.wide_at.new.tree.tree) c.args.id r c.args.query.inline)) c.as_slice-reps.ensures)
-    ∙ lent_answer (bare c.wide_at.new.tree.tree) c.args.id c.args.query
-    (subst (λ (z : BareTrees). (sight_at z c.args.id).label.kind ≡ kind.Grid) (sym (c.in_ok-wide.ensures.below c.args.query (sym c.as_slice-reps.ensures) refl (ap (λ (q : Query). needs_inline q.ask) c.requires.query)).walk.bare_same)
-    (c.subgrids_are_grids.ensures (lent_fit (sight_at (bare c.args.tree.now.tree) c.args.id) c.args.query (ap (λ (q : Query). q.ask) c.requires.query) c.requires.fits))) (ap (λ (q : Query). q.ask) c.requires.query)
-    ∙ ap (λ (z : BareTrees). answer_of (sight_at z c.args.id) c.args.query) (c.in_ok-wide.ensures.below c.args.query (sym c.as_slice-reps.ensures) refl (ap (λ (q : Query). needs_inline q.ask) c.requires.query)).walk.bare_same
+    ap lent_items (c.in_ok-items.ensures ∙ ap (λ (r : List Pair). grid_lends_rows (grid_seen (nodes c.wide_at.new.walk) c.args.id r c.args.query.inline) (rows_seen (nodes c.wide_at.new.walk) c.args.id r c.args.query.inline)) (sym (ap (λ (q : Query). q.reps) c.requires.query)))
+    ∙ lent_answer (nodes c.wide_at.new.walk) c.args.id c.args.query
+    (subst (λ (z : BareTrees). (sight_at z c.args.id).label.kind ≡ kind.Grid) (sym (c.in_ok-wide.ensures.below c.args.query (ap (λ (q : Query). q.reps) c.requires.query) refl (ap (λ (q : Query). needs_inline q.ask) c.requires.query)).walk.bare_same)
+    (c.subgrids_are_grids.ensures (lent_fit (sight_at (nodes c.args.walk.now) c.args.id) c.args.query (ap (λ (q : Query). q.ask) c.requires.query) c.requires.fits))) (ap (λ (q : Query). q.ask) c.requires.query)
+    ∙ ap (λ (z : BareTrees). answer_of (sight_at z c.args.id) c.args.query) (c.in_ok-wide.ensures.below c.args.query (ap (λ (q : Query). q.reps) c.requires.query) refl (ap (λ (q : Query). needs_inline q.ask) c.requires.query)).walk.bare_same
 
 pub walk::rows_anew-returns-in_err-wide-clause-stopped : goal.walk::rows_anew-returns-in_err-wide-clause-stopped
-walk::rows_anew-returns-in_err-wide-clause-stopped g t c = on_err _ _ (c.in_err-wide.ensures.stopped c.args.query (sym c.as_slice-reps.ensures) refl (ap (λ (q : Query). needs_inline q.ask) c.requires.query))
+walk::rows_anew-returns-in_err-wide-clause-stopped g t c = on_err _ _ (c.in_err-wide.ensures.stopped c.args.query (ap (λ (q : Query). q.reps) c.requires.query) refl (ap (λ (q : Query). needs_inline q.ask) c.requires.query))
 
 pub walk::rows_anew-returns-in_err-items-clause-stopped : goal.walk::rows_anew-returns-in_err-items-clause-stopped
-walk::rows_anew-returns-in_err-items-clause-stopped g t c = on_err _ _ (stopped c.args.id c.args.query 1 _ _ (c.in_ok-wide.ensures.below c.args.query (sym c.as_slice-reps.ensures) refl (ap (λ (q : Query). needs_inline q.ask) c.requires.query)))
+walk::rows_anew-returns-in_err-items-clause-stopped g t c = on_err _ _ (stopped c.args.id c.args.query 1 _ _ (c.in_ok-wide.ensures.below c.args.query (ap (λ (q : Query). q.reps) c.requires.query) refl (ap (λ (q : Query). needs_inline q.ask) c.requires.query)))
 
 pub walk::rows_anew-returns-in_err-lent-clause-stopped : goal.walk::rows_anew-returns-in_err-lent-clause-stopped
-walk::rows_anew-returns-in_err-lent-clause-stopped g t c = on_err _ _ (stopped c.args.id c.args.query 1 _ _ (c.in_ok-wide.ensures.below c.args.query (sym c.as_slice-reps.ensures) refl (ap (λ (q : Query). needs_inline q.ask) c.requires.query)))
+walk::rows_anew-returns-in_err-lent-clause-stopped g t c = on_err _ _ (stopped c.args.id c.args.query 1 _ _ (c.in_ok-wide.ensures.below c.args.query (ap (λ (q : Query). q.reps) c.requires.query) refl (ap (λ (q : Query). needs_inline q.ask) c.requires.query)))
 
 pub walk::rows_anew-returns-clause-walked : goal.walk::rows_anew-returns-clause-walked
-walk::rows_anew-returns-clause-walked g t c = c.in_ok-put.ensures.joins _ 1 _ _ (omega arith) (c.in_ok-wide.ensures.below c.args.query (sym c.as_slice-reps.ensures) refl (ap (λ (q : Query). needs_inline q.ask) c.requires.query))
+walk::rows_anew-returns-clause-walked g t c = c.in_ok-put.ensures.joins _ 1 (omega arith) (c.in_ok-wide.ensures.below c.args.query (ap (λ (q : Query). q.reps) c.requires.query) refl (ap (λ (q : Query). needs_inline q.ask) c.requires.query))
 
 pub walk::rows_anew-returns-in_err-put-clause-stopped : goal.walk::rows_anew-returns-in_err-put-clause-stopped
-walk::rows_anew-returns-in_err-put-clause-stopped g t c = on_err _ _ (c.in_err-put.ensures.stopped _ 1 _ _ (c.in_ok-wide.ensures.below c.args.query (sym c.as_slice-reps.ensures) refl (ap (λ (q : Query). needs_inline q.ask) c.requires.query)))
+walk::rows_anew-returns-in_err-put-clause-stopped g t c = on_err _ _ (c.in_err-put.ensures.stopped _ 1 (c.in_ok-wide.ensures.below c.args.query (ap (λ (q : Query). q.reps) c.requires.query) refl (ap (λ (q : Query). needs_inline q.ask) c.requires.query)))
 
 pub walk::rows_anew-returns-clause-own : goal.walk::rows_anew-returns-clause-own
 walk::rows_anew-returns-clause-own g t c =
-    c.in_ok-put.ensures.own ∙ (λ i. kept_with ((c.in_ok-wide.ensures.below c.args.query (sym c.as_slice-reps.ensures) refl (ap (λ (q : Query). needs_inline q.ask) c.requires.query)).own i) ((c.args.query, answer.Lent (sym (c.in_ok-lent.ensures ∙ c.as_slice.ensures) i)) ∷ []))
+    c.in_ok-put.ensures.own ∙ (λ i. kept_with ((c.in_ok-wide.ensures.below c.args.query (ap (λ (q : Query). q.reps) c.requires.query) refl (ap (λ (q : Query). needs_inline q.ask) c.requires.query)).own i) ((c.args.query, answer.Lent (sym (c.in_ok-lent.ensures ∙ c.as_slice.ensures) i)) ∷ []))
 
 pub walk::row_anew-row_size-requires-clause-live : goal.walk::row_anew-row_size-requires-clause-live
-walk::row_anew-row_size-requires-clause-live g t c = subst (λ (z : BareTrees). IsLive z c.args.id) (sym (c.in_ok-parts.ensures.below c.args.query (sym c.size_of-width.ensures) (ap (λ (q : Query). needs_inline q.ask) c.requires.query)).walk.bare_same) c.requires.live
-
-pub walk::row_anew-row_size-requires-clause-readable : goal.walk::row_anew-row_size-requires-clause-readable
-walk::row_anew-row_size-requires-clause-readable g t c = subst AreReadable (sym (c.in_ok-parts.ensures.below c.args.query (sym c.size_of-width.ensures) (ap (λ (q : Query). needs_inline q.ask) c.requires.query)).walk.bare_same) c.requires.readable
+walk::row_anew-row_size-requires-clause-live g t c = subst (λ (z : BareTrees). IsLive z c.args.id) (sym (c.in_ok-parts.ensures.below c.args.query (sym c.size_of-width.ensures) (ap needs_inline c.requires.ask)).walk.bare_same) c.requires.live
 
 pub walk::row_anew-row_size-requires-clause-row : goal.walk::row_anew-row_size-requires-clause-row
 walk::row_anew-row_size-requires-clause-row g t c =
-    subst (λ (z : BareTrees). IsRow z c.args.id c.size_of-width.result c.in_ok-parts.parts) (sym (c.in_ok-parts.ensures.below c.args.query (sym c.size_of-width.ensures) (ap (λ (q : Query). needs_inline q.ask) c.requires.query)).walk.bare_same) c.in_ok-parts.ensures.value
+    subst (λ (z : BareTrees). IsRow z c.args.id c.size_of-width.result c.in_ok-parts.parts) (sym (c.in_ok-parts.ensures.below c.args.query (sym c.size_of-width.ensures) (ap needs_inline c.requires.ask)).walk.bare_same) c.in_ok-parts.ensures.value
 
 pub walk::row_anew-put-requires-clause-value : goal.walk::row_anew-put-requires-clause-value
 walk::row_anew-put-requires-clause-value g t c =
     ap block_size
     (c.in_ok-size.ensures ∙
     ap
-    (λ (w : ℤ). rules.row_block (flex_seen (bare c.row_at.new.tree.tree) c.args.id) (rules.row_lines (flex_seen (bare c.row_at.new.tree.tree) c.args.id) w)
-    (rules.row_settled (flex_seen (bare c.row_at.new.tree.tree) c.args.id) (rules.row_lines (flex_seen (bare c.row_at.new.tree.tree) c.args.id) w))) c.size_of-width.ensures)
-    ∙ row_answer (bare c.row_at.new.tree.tree) c.args.id c.args.query
-    (subst (λ (z : BareTrees). (sight_at z c.args.id).label.kind ≡ kind.Flex) (sym (c.in_ok-parts.ensures.below c.args.query (sym c.size_of-width.ensures) (ap (λ (q : Query). needs_inline q.ask) c.requires.query)).walk.bare_same) c.requires.flex)
-    (subst (λ (z : BareTrees). (sight_at z c.args.id).label.content.column ≡ false) (sym (c.in_ok-parts.ensures.below c.args.query (sym c.size_of-width.ensures) (ap (λ (q : Query). needs_inline q.ask) c.requires.query)).walk.bare_same) c.requires.direction)
-    (ap (λ (q : Query). q.ask) c.requires.query)
+    (λ (w : ℤ). rules.row_block (flex_seen (nodes c.row_in.new.walk) c.args.id) (rules.row_lines (flex_seen (nodes c.row_in.new.walk) c.args.id) w)
+    (rules.row_settled (flex_seen (nodes c.row_in.new.walk) c.args.id) (rules.row_lines (flex_seen (nodes c.row_in.new.walk) c.args.id) w))) c.size_of-width.ensures)
+    ∙ row_answer (nodes c.row_in.new.walk) c.args.id c.args.query
+    (subst (λ (z : BareTrees). (sight_at z c.args.id).label.kind ≡ kind.Flex) (sym (c.in_ok-parts.ensures.below c.args.query (sym c.size_of-width.ensures) (ap needs_inline c.requires.ask)).walk.bare_same) c.requires.flex)
+    (subst (λ (z : BareTrees). (sight_at z c.args.id).label.content.column ≡ false) (sym (c.in_ok-parts.ensures.below c.args.query (sym c.size_of-width.ensures) (ap needs_inline c.requires.ask)).walk.bare_same) c.requires.direction)
+    c.requires.ask
 
 pub walk::row_anew-put-requires-clause-quiet : goal.walk::row_anew-put-requires-clause-quiet
 walk::row_anew-put-requires-clause-quiet g t c =
-    flex_quiet (bare c.row_at.new.tree.tree) c.args.id c.args.query
-    (subst (λ (z : BareTrees). (sight_at z c.args.id).label.kind ≡ kind.Flex) (sym (c.in_ok-parts.ensures.below c.args.query (sym c.size_of-width.ensures) (ap (λ (q : Query). needs_inline q.ask) c.requires.query)).walk.bare_same) c.requires.flex)
+    flex_quiet (nodes c.row_in.new.walk) c.args.id c.args.query
+    (subst (λ (z : BareTrees). (sight_at z c.args.id).label.kind ≡ kind.Flex) (sym (c.in_ok-parts.ensures.below c.args.query (sym c.size_of-width.ensures) (ap needs_inline c.requires.ask)).walk.bare_same) c.requires.flex)
 
 pub walk::row_anew-put-requires-clause-live : goal.walk::row_anew-put-requires-clause-live
-walk::row_anew-put-requires-clause-live g t c = subst (λ (z : BareTrees). IsLive z c.args.id) (sym (c.in_ok-parts.ensures.below c.args.query (sym c.size_of-width.ensures) (ap (λ (q : Query). needs_inline q.ask) c.requires.query)).walk.bare_same) c.requires.live
+walk::row_anew-put-requires-clause-live g t c = subst (λ (z : BareTrees). IsLive z c.args.id) (sym (c.in_ok-parts.ensures.below c.args.query (sym c.size_of-width.ensures) (ap needs_inline c.requires.ask)).walk.bare_same) c.requires.live
 
 pub walk::row_anew-put-requires-clause-absent : goal.walk::row_anew-put-requires-clause-absent
-walk::row_anew-put-requires-clause-absent g t c = subst (IsAbsent c.args.query) (sym (c.in_ok-parts.ensures.below c.args.query (sym c.size_of-width.ensures) (ap (λ (q : Query). needs_inline q.ask) c.requires.query)).own) c.requires.absent
+walk::row_anew-put-requires-clause-absent g t c = subst (IsAbsent c.args.query) (sym (c.in_ok-parts.ensures.below c.args.query (sym c.size_of-width.ensures) (ap needs_inline c.requires.ask)).own) c.requires.absent
 
 pub walk::row_anew-put-requires-clause-fits : goal.walk::row_anew-put-requires-clause-fits
-walk::row_anew-put-requires-clause-fits g t c = subst (λ (z : BareTrees). Fits (sight_at z c.args.id) c.args.query) (sym (c.in_ok-parts.ensures.below c.args.query (sym c.size_of-width.ensures) (ap (λ (q : Query). needs_inline q.ask) c.requires.query)).walk.bare_same) c.requires.fits
+walk::row_anew-put-requires-clause-fits g t c = subst (λ (z : BareTrees). Fits (sight_at z c.args.id) c.args.query) (sym (c.in_ok-parts.ensures.below c.args.query (sym c.size_of-width.ensures) (ap needs_inline c.requires.ask)).walk.bare_same) c.requires.fits
 
 pub walk::row_anew-returns-clause-value : goal.walk::row_anew-returns-clause-value
 walk::row_anew-returns-clause-value g t c =
     ap block_size
     (c.in_ok-size.ensures ∙
     ap
-    (λ (w : ℤ). rules.row_block (flex_seen (bare c.row_at.new.tree.tree) c.args.id) (rules.row_lines (flex_seen (bare c.row_at.new.tree.tree) c.args.id) w)
-    (rules.row_settled (flex_seen (bare c.row_at.new.tree.tree) c.args.id) (rules.row_lines (flex_seen (bare c.row_at.new.tree.tree) c.args.id) w))) c.size_of-width.ensures)
-    ∙ row_answer (bare c.row_at.new.tree.tree) c.args.id c.args.query
-    (subst (λ (z : BareTrees). (sight_at z c.args.id).label.kind ≡ kind.Flex) (sym (c.in_ok-parts.ensures.below c.args.query (sym c.size_of-width.ensures) (ap (λ (q : Query). needs_inline q.ask) c.requires.query)).walk.bare_same) c.requires.flex)
-    (subst (λ (z : BareTrees). (sight_at z c.args.id).label.content.column ≡ false) (sym (c.in_ok-parts.ensures.below c.args.query (sym c.size_of-width.ensures) (ap (λ (q : Query). needs_inline q.ask) c.requires.query)).walk.bare_same) c.requires.direction)
-    (ap (λ (q : Query). q.ask) c.requires.query)
-    ∙ ap (λ (z : BareTrees). answer_of (sight_at z c.args.id) c.args.query) (c.in_ok-parts.ensures.below c.args.query (sym c.size_of-width.ensures) (ap (λ (q : Query). needs_inline q.ask) c.requires.query)).walk.bare_same
+    (λ (w : ℤ). rules.row_block (flex_seen (nodes c.row_in.new.walk) c.args.id) (rules.row_lines (flex_seen (nodes c.row_in.new.walk) c.args.id) w)
+    (rules.row_settled (flex_seen (nodes c.row_in.new.walk) c.args.id) (rules.row_lines (flex_seen (nodes c.row_in.new.walk) c.args.id) w))) c.size_of-width.ensures)
+    ∙ row_answer (nodes c.row_in.new.walk) c.args.id c.args.query
+    (subst (λ (z : BareTrees). (sight_at z c.args.id).label.kind ≡ kind.Flex) (sym (c.in_ok-parts.ensures.below c.args.query (sym c.size_of-width.ensures) (ap needs_inline c.requires.ask)).walk.bare_same) c.requires.flex)
+    (subst (λ (z : BareTrees). (sight_at z c.args.id).label.content.column ≡ false) (sym (c.in_ok-parts.ensures.below c.args.query (sym c.size_of-width.ensures) (ap needs_inline c.requires.ask)).walk.bare_same) c.requires.direction)
+    c.requires.ask
+    ∙ ap (λ (z : BareTrees). answer_of (sight_at z c.args.id) c.args.query) (c.in_ok-parts.ensures.below c.args.query (sym c.size_of-width.ensures) (ap needs_inline c.requires.ask)).walk.bare_same
 
 pub walk::row_anew-returns-in_err-parts-clause-stopped : goal.walk::row_anew-returns-in_err-parts-clause-stopped
-walk::row_anew-returns-in_err-parts-clause-stopped g t c = on_err _ _ (c.in_err-parts.ensures.stopped c.args.query (sym c.size_of-width.ensures) (ap (λ (q : Query). needs_inline q.ask) c.requires.query))
+walk::row_anew-returns-in_err-parts-clause-stopped g t c = on_err _ _ (c.in_err-parts.ensures.stopped c.args.query (sym c.size_of-width.ensures) (ap needs_inline c.requires.ask))
 
 pub walk::row_anew-returns-in_err-size-clause-stopped : goal.walk::row_anew-returns-in_err-size-clause-stopped
-walk::row_anew-returns-in_err-size-clause-stopped g t c = on_err _ _ (stopped c.args.id c.args.query 1 _ _ (c.in_ok-parts.ensures.below c.args.query (sym c.size_of-width.ensures) (ap (λ (q : Query). needs_inline q.ask) c.requires.query)))
+walk::row_anew-returns-in_err-size-clause-stopped g t c = on_err _ _ (stopped c.args.id c.args.query 1 _ _ (c.in_ok-parts.ensures.below c.args.query (sym c.size_of-width.ensures) (ap needs_inline c.requires.ask)))
 
 pub walk::row_anew-returns-clause-walked : goal.walk::row_anew-returns-clause-walked
-walk::row_anew-returns-clause-walked g t c = c.in_ok-put.ensures.joins _ 1 _ _ (omega arith) (c.in_ok-parts.ensures.below c.args.query (sym c.size_of-width.ensures) (ap (λ (q : Query). needs_inline q.ask) c.requires.query))
+walk::row_anew-returns-clause-walked g t c = c.in_ok-put.ensures.joins _ 1 (omega arith) (c.in_ok-parts.ensures.below c.args.query (sym c.size_of-width.ensures) (ap needs_inline c.requires.ask))
 
 pub walk::row_anew-returns-in_err-put-clause-stopped : goal.walk::row_anew-returns-in_err-put-clause-stopped
-walk::row_anew-returns-in_err-put-clause-stopped g t c = on_err _ _ (c.in_err-put.ensures.stopped _ 1 _ _ (c.in_ok-parts.ensures.below c.args.query (sym c.size_of-width.ensures) (ap (λ (q : Query). needs_inline q.ask) c.requires.query)))
+walk::row_anew-returns-in_err-put-clause-stopped g t c = on_err _ _ (c.in_err-put.ensures.stopped _ 1 (c.in_ok-parts.ensures.below c.args.query (sym c.size_of-width.ensures) (ap needs_inline c.requires.ask)))
 
 pub walk::row_anew-returns-clause-own : goal.walk::row_anew-returns-clause-own
-walk::row_anew-returns-clause-own g t c = c.in_ok-put.ensures.own ∙ ap (λ l. kept_with l ((c.args.query, answer.Block c.in_ok-size.size) ∷ [])) (c.in_ok-parts.ensures.below c.args.query (sym c.size_of-width.ensures) (ap (λ (q : Query). needs_inline q.ask) c.requires.query)).own
+walk::row_anew-returns-clause-own g t c = c.in_ok-put.ensures.own ∙ ap (λ l. kept_with l ((c.args.query, answer.Block c.in_ok-size.size) ∷ [])) (c.in_ok-parts.ensures.below c.args.query (sym c.size_of-width.ensures) (ap needs_inline c.requires.ask)).own
 
 pub walk::column_anew-column_size-requires-clause-live : goal.walk::column_anew-column_size-requires-clause-live
-walk::column_anew-column_size-requires-clause-live g t c = subst (λ (z : BareTrees). IsLive z c.args.id) (sym (c.in_ok-parts.ensures.below c.args.query (sym c.size_of-width.ensures) (ap (λ (q : Query). needs_inline q.ask) c.requires.query)).walk.bare_same) c.requires.live
-
-pub walk::column_anew-column_size-requires-clause-readable : goal.walk::column_anew-column_size-requires-clause-readable
-walk::column_anew-column_size-requires-clause-readable g t c = subst AreReadable (sym (c.in_ok-parts.ensures.below c.args.query (sym c.size_of-width.ensures) (ap (λ (q : Query). needs_inline q.ask) c.requires.query)).walk.bare_same) c.requires.readable
+walk::column_anew-column_size-requires-clause-live g t c = subst (λ (z : BareTrees). IsLive z c.args.id) (sym (c.in_ok-parts.ensures.below c.args.query (sym c.size_of-width.ensures) (ap needs_inline c.requires.ask)).walk.bare_same) c.requires.live
 
 pub walk::column_anew-column_size-requires-clause-column : goal.walk::column_anew-column_size-requires-clause-column
 walk::column_anew-column_size-requires-clause-column g t c =
-    subst (λ (z : BareTrees). IsColumn z c.args.id c.size_of-width.result c.in_ok-parts.parts) (sym (c.in_ok-parts.ensures.below c.args.query (sym c.size_of-width.ensures) (ap (λ (q : Query). needs_inline q.ask) c.requires.query)).walk.bare_same) c.in_ok-parts.ensures.value
+    subst (λ (z : BareTrees). IsColumn z c.args.id c.size_of-width.result c.in_ok-parts.parts) (sym (c.in_ok-parts.ensures.below c.args.query (sym c.size_of-width.ensures) (ap needs_inline c.requires.ask)).walk.bare_same) c.in_ok-parts.ensures.value
 
 pub walk::column_anew-put-requires-clause-value : goal.walk::column_anew-put-requires-clause-value
 walk::column_anew-put-requires-clause-value g t c =
-    ap block_size (c.in_ok-size.ensures ∙ ap (λ (w : ℤ). rules.column_block (flex_seen (bare c.column_at.new.tree.tree) c.args.id) (rules.column_settled (flex_seen (bare c.column_at.new.tree.tree) c.args.id) w)) c.size_of-width.ensures)
-    ∙ column_answer (bare c.column_at.new.tree.tree) c.args.id c.args.query
-    (subst (λ (z : BareTrees). (sight_at z c.args.id).label.kind ≡ kind.Flex) (sym (c.in_ok-parts.ensures.below c.args.query (sym c.size_of-width.ensures) (ap (λ (q : Query). needs_inline q.ask) c.requires.query)).walk.bare_same) c.requires.flex)
-    (subst (λ (z : BareTrees). (sight_at z c.args.id).label.content.column ≡ true) (sym (c.in_ok-parts.ensures.below c.args.query (sym c.size_of-width.ensures) (ap (λ (q : Query). needs_inline q.ask) c.requires.query)).walk.bare_same) c.requires.direction)
-    (ap (λ (q : Query). q.ask) c.requires.query)
+    ap block_size (c.in_ok-size.ensures ∙ ap (λ (w : ℤ). rules.column_block (flex_seen (nodes c.column_in.new.walk) c.args.id) (rules.column_settled (flex_seen (nodes c.column_in.new.walk) c.args.id) w)) c.size_of-width.ensures)
+    ∙ column_answer (nodes c.column_in.new.walk) c.args.id c.args.query
+    (subst (λ (z : BareTrees). (sight_at z c.args.id).label.kind ≡ kind.Flex) (sym (c.in_ok-parts.ensures.below c.args.query (sym c.size_of-width.ensures) (ap needs_inline c.requires.ask)).walk.bare_same) c.requires.flex)
+    (subst (λ (z : BareTrees). (sight_at z c.args.id).label.content.column ≡ true) (sym (c.in_ok-parts.ensures.below c.args.query (sym c.size_of-width.ensures) (ap needs_inline c.requires.ask)).walk.bare_same) c.requires.direction)
+    c.requires.ask
 
 pub walk::column_anew-put-requires-clause-quiet : goal.walk::column_anew-put-requires-clause-quiet
 walk::column_anew-put-requires-clause-quiet g t c =
-    flex_quiet (bare c.column_at.new.tree.tree) c.args.id c.args.query
-    (subst (λ (z : BareTrees). (sight_at z c.args.id).label.kind ≡ kind.Flex) (sym (c.in_ok-parts.ensures.below c.args.query (sym c.size_of-width.ensures) (ap (λ (q : Query). needs_inline q.ask) c.requires.query)).walk.bare_same) c.requires.flex)
+    flex_quiet (nodes c.column_in.new.walk) c.args.id c.args.query
+    (subst (λ (z : BareTrees). (sight_at z c.args.id).label.kind ≡ kind.Flex) (sym (c.in_ok-parts.ensures.below c.args.query (sym c.size_of-width.ensures) (ap needs_inline c.requires.ask)).walk.bare_same) c.requires.flex)
 
 pub walk::column_anew-put-requires-clause-live : goal.walk::column_anew-put-requires-clause-live
-walk::column_anew-put-requires-clause-live g t c = subst (λ (z : BareTrees). IsLive z c.args.id) (sym (c.in_ok-parts.ensures.below c.args.query (sym c.size_of-width.ensures) (ap (λ (q : Query). needs_inline q.ask) c.requires.query)).walk.bare_same) c.requires.live
+walk::column_anew-put-requires-clause-live g t c = subst (λ (z : BareTrees). IsLive z c.args.id) (sym (c.in_ok-parts.ensures.below c.args.query (sym c.size_of-width.ensures) (ap needs_inline c.requires.ask)).walk.bare_same) c.requires.live
 
 pub walk::column_anew-put-requires-clause-absent : goal.walk::column_anew-put-requires-clause-absent
-walk::column_anew-put-requires-clause-absent g t c = subst (IsAbsent c.args.query) (sym (c.in_ok-parts.ensures.below c.args.query (sym c.size_of-width.ensures) (ap (λ (q : Query). needs_inline q.ask) c.requires.query)).own) c.requires.absent
+walk::column_anew-put-requires-clause-absent g t c = subst (IsAbsent c.args.query) (sym (c.in_ok-parts.ensures.below c.args.query (sym c.size_of-width.ensures) (ap needs_inline c.requires.ask)).own) c.requires.absent
 
 pub walk::column_anew-put-requires-clause-fits : goal.walk::column_anew-put-requires-clause-fits
-walk::column_anew-put-requires-clause-fits g t c = subst (λ (z : BareTrees). Fits (sight_at z c.args.id) c.args.query) (sym (c.in_ok-parts.ensures.below c.args.query (sym c.size_of-width.ensures) (ap (λ (q : Query). needs_inline q.ask) c.requires.query)).walk.bare_same) c.requires.fits
+walk::column_anew-put-requires-clause-fits g t c = subst (λ (z : BareTrees). Fits (sight_at z c.args.id) c.args.query) (sym (c.in_ok-parts.ensures.below c.args.query (sym c.size_of-width.ensures) (ap needs_inline c.requires.ask)).walk.bare_same) c.requires.fits
 
 pub walk::column_anew-returns-clause-value : goal.walk::column_anew-returns-clause-value
 walk::column_anew-returns-clause-value g t c =
-    ap block_size (c.in_ok-size.ensures ∙ ap (λ (w : ℤ). rules.column_block (flex_seen (bare c.column_at.new.tree.tree) c.args.id) (rules.column_settled (flex_seen (bare c.column_at.new.tree.tree) c.args.id) w)) c.size_of-width.ensures)
-    ∙ column_answer (bare c.column_at.new.tree.tree) c.args.id c.args.query
-    (subst (λ (z : BareTrees). (sight_at z c.args.id).label.kind ≡ kind.Flex) (sym (c.in_ok-parts.ensures.below c.args.query (sym c.size_of-width.ensures) (ap (λ (q : Query). needs_inline q.ask) c.requires.query)).walk.bare_same) c.requires.flex)
-    (subst (λ (z : BareTrees). (sight_at z c.args.id).label.content.column ≡ true) (sym (c.in_ok-parts.ensures.below c.args.query (sym c.size_of-width.ensures) (ap (λ (q : Query). needs_inline q.ask) c.requires.query)).walk.bare_same) c.requires.direction)
-    (ap (λ (q : Query). q.ask) c.requires.query)
-    ∙ ap (λ (z : BareTrees). answer_of (sight_at z c.args.id) c.args.query) (c.in_ok-parts.ensures.below c.args.query (sym c.size_of-width.ensures) (ap (λ (q : Query). needs_inline q.ask) c.requires.query)).walk.bare_same
+    ap block_size (c.in_ok-size.ensures ∙ ap (λ (w : ℤ). rules.column_block (flex_seen (nodes c.column_in.new.walk) c.args.id) (rules.column_settled (flex_seen (nodes c.column_in.new.walk) c.args.id) w)) c.size_of-width.ensures)
+    ∙ column_answer (nodes c.column_in.new.walk) c.args.id c.args.query
+    (subst (λ (z : BareTrees). (sight_at z c.args.id).label.kind ≡ kind.Flex) (sym (c.in_ok-parts.ensures.below c.args.query (sym c.size_of-width.ensures) (ap needs_inline c.requires.ask)).walk.bare_same) c.requires.flex)
+    (subst (λ (z : BareTrees). (sight_at z c.args.id).label.content.column ≡ true) (sym (c.in_ok-parts.ensures.below c.args.query (sym c.size_of-width.ensures) (ap needs_inline c.requires.ask)).walk.bare_same) c.requires.direction)
+    c.requires.ask
+    ∙ ap (λ (z : BareTrees). answer_of (sight_at z c.args.id) c.args.query) (c.in_ok-parts.ensures.below c.args.query (sym c.size_of-width.ensures) (ap needs_inline c.requires.ask)).walk.bare_same
 
 pub walk::column_anew-returns-in_err-parts-clause-stopped : goal.walk::column_anew-returns-in_err-parts-clause-stopped
-walk::column_anew-returns-in_err-parts-clause-stopped g t c = on_err _ _ (c.in_err-parts.ensures.stopped c.args.query (sym c.size_of-width.ensures) (ap (λ (q : Query). needs_inline q.ask) c.requires.query))
+walk::column_anew-returns-in_err-parts-clause-stopped g t c = on_err _ _ (c.in_err-parts.ensures.stopped c.args.query (sym c.size_of-width.ensures) (ap needs_inline c.requires.ask))
 
 pub walk::column_anew-returns-in_err-size-clause-stopped : goal.walk::column_anew-returns-in_err-size-clause-stopped
-walk::column_anew-returns-in_err-size-clause-stopped g t c = on_err _ _ (stopped c.args.id c.args.query 0 _ _ (c.in_ok-parts.ensures.below c.args.query (sym c.size_of-width.ensures) (ap (λ (q : Query). needs_inline q.ask) c.requires.query)))
+walk::column_anew-returns-in_err-size-clause-stopped g t c = on_err _ _ (stopped c.args.id c.args.query 0 _ _ (c.in_ok-parts.ensures.below c.args.query (sym c.size_of-width.ensures) (ap needs_inline c.requires.ask)))
 
 pub walk::column_anew-returns-clause-walked : goal.walk::column_anew-returns-clause-walked
-walk::column_anew-returns-clause-walked g t c = c.in_ok-put.ensures.joins _ 0 _ _ (omega arith) (c.in_ok-parts.ensures.below c.args.query (sym c.size_of-width.ensures) (ap (λ (q : Query). needs_inline q.ask) c.requires.query))
+walk::column_anew-returns-clause-walked g t c = c.in_ok-put.ensures.joins _ 0 (omega arith) (c.in_ok-parts.ensures.below c.args.query (sym c.size_of-width.ensures) (ap needs_inline c.requires.ask))
 
 pub walk::column_anew-returns-in_err-put-clause-stopped : goal.walk::column_anew-returns-in_err-put-clause-stopped
-walk::column_anew-returns-in_err-put-clause-stopped g t c = on_err _ _ (c.in_err-put.ensures.stopped _ 0 _ _ (c.in_ok-parts.ensures.below c.args.query (sym c.size_of-width.ensures) (ap (λ (q : Query). needs_inline q.ask) c.requires.query)))
+walk::column_anew-returns-in_err-put-clause-stopped g t c = on_err _ _ (c.in_err-put.ensures.stopped _ 0 (c.in_ok-parts.ensures.below c.args.query (sym c.size_of-width.ensures) (ap needs_inline c.requires.ask)))
 
 pub walk::column_anew-returns-clause-own : goal.walk::column_anew-returns-clause-own
-walk::column_anew-returns-clause-own g t c = c.in_ok-put.ensures.own ∙ ap (λ l. kept_with l ((c.args.query, answer.Block c.in_ok-size.size) ∷ [])) (c.in_ok-parts.ensures.below c.args.query (sym c.size_of-width.ensures) (ap (λ (q : Query). needs_inline q.ask) c.requires.query)).own
+walk::column_anew-returns-clause-own g t c = c.in_ok-put.ensures.own ∙ ap (λ l. kept_with l ((c.args.query, answer.Block c.in_ok-size.size) ∷ [])) (c.in_ok-parts.ensures.below c.args.query (sym c.size_of-width.ensures) (ap needs_inline c.requires.ask)).own
 
-pub walk::row_at-items_in_row-requires-clause-live : goal.walk::row_at-items_in_row-requires-clause-live
-walk::row_at-items_in_row-requires-clause-live g t c = subst (λ (z : BareTrees). IsLive z c.args.id) (sym (c.in_ok-parts.ensures.below (inline_query false [])).walk.bare_same) c.requires.live
+pub walk::row_in-items_in_row-requires-clause-live : goal.walk::row_in-items_in_row-requires-clause-live
+walk::row_in-items_in_row-requires-clause-live g t c = subst (λ (z : BareTrees). IsLive z c.args.id) (sym (c.in_ok-parts.ensures.below (inline_query false [])).walk.bare_same) c.requires.live
 
-pub walk::row_at-items_in_row-requires-clause-readable : goal.walk::row_at-items_in_row-requires-clause-readable
-walk::row_at-items_in_row-requires-clause-readable g t c = subst AreReadable (sym (c.in_ok-parts.ensures.below (inline_query false [])).walk.bare_same) c.requires.readable
+pub walk::row_in-items_in_row-requires-clause-members : goal.walk::row_in-items_in_row-requires-clause-members
+walk::row_in-items_in_row-requires-clause-members g t c =
+    subst (AreMembers (nodes c.flex_in.new.walk) c.args.id) (sym c.as_slice.ensures) (subst (λ (z : BareTrees). AreMembers z c.args.id c.in_ok-parts.parts.members) (sym (c.in_ok-parts.ensures.below (inline_query false [])).walk.bare_same) c.in_ok-parts.ensures.value)
 
-pub walk::row_at-items_in_row-requires-clause-members : goal.walk::row_at-items_in_row-requires-clause-members
-walk::row_at-items_in_row-requires-clause-members g t c =
-    subst (AreMembers (bare c.flex_at.new.tree.tree) c.args.id) (sym c.as_slice.ensures) (subst (λ (z : BareTrees). AreMembers z c.args.id c.in_ok-parts.parts.members) (sym (c.in_ok-parts.ensures.below (inline_query false [])).walk.bare_same) c.in_ok-parts.ensures.value)
-
-pub walk::row_at-returns-in_err-parts-clause-stopped : goal.walk::row_at-returns-in_err-parts-clause-stopped
-walk::row_at-returns-in_err-parts-clause-stopped g t c =
+pub walk::row_in-returns-in_err-parts-clause-stopped : goal.walk::row_in-returns-in_err-parts-clause-stopped
+walk::row_in-returns-in_err-parts-clause-stopped g t c =
     let all : (q : Query) → given_size q.inline ≡ c.args.width → needs_inline q.ask ≡ true →
-    Stopped c.args.id q (state c.args.tree.now c.args.tally.now c.args.passes.now (g.R.Ruler.log c.args.ruler.now)) (state c.flex_at.new.tree c.flex_at.new.tally c.flex_at.new.passes (g.R.Ruler.log c.flex_at.new.ruler)) = λ q w n. c.in_err-parts.ensures.stopped q in
+    Stopped c.args.id q (seen g.R.Ruler.log c.args.walk.now) (seen g.R.Ruler.log c.flex_in.new.walk) = λ q w n. c.in_err-parts.ensures.stopped q in
     on_err _ _ all
 
-pub walk::column_at-boxes_in_column-requires-clause-live : goal.walk::column_at-boxes_in_column-requires-clause-live
-walk::column_at-boxes_in_column-requires-clause-live g t c = subst (λ (z : BareTrees). IsLive z c.args.id) (sym (c.in_ok-parts.ensures.below (inline_query false [])).walk.bare_same) c.requires.live
+pub walk::column_in-boxes_in_column-requires-clause-live : goal.walk::column_in-boxes_in_column-requires-clause-live
+walk::column_in-boxes_in_column-requires-clause-live g t c = subst (λ (z : BareTrees). IsLive z c.args.id) (sym (c.in_ok-parts.ensures.below (inline_query false [])).walk.bare_same) c.requires.live
 
-pub walk::column_at-boxes_in_column-requires-clause-readable : goal.walk::column_at-boxes_in_column-requires-clause-readable
-walk::column_at-boxes_in_column-requires-clause-readable g t c = subst AreReadable (sym (c.in_ok-parts.ensures.below (inline_query false [])).walk.bare_same) c.requires.readable
+pub walk::column_in-boxes_in_column-requires-clause-members : goal.walk::column_in-boxes_in_column-requires-clause-members
+walk::column_in-boxes_in_column-requires-clause-members g t c =
+    subst (AreMembers (nodes c.flex_in.new.walk) c.args.id) (sym c.as_slice.ensures) (subst (λ (z : BareTrees). AreMembers z c.args.id c.in_ok-parts.parts.members) (sym (c.in_ok-parts.ensures.below (inline_query false [])).walk.bare_same) c.in_ok-parts.ensures.value)
 
-pub walk::column_at-boxes_in_column-requires-clause-members : goal.walk::column_at-boxes_in_column-requires-clause-members
-walk::column_at-boxes_in_column-requires-clause-members g t c =
-    subst (AreMembers (bare c.flex_at.new.tree.tree) c.args.id) (sym c.as_slice.ensures) (subst (λ (z : BareTrees). AreMembers z c.args.id c.in_ok-parts.parts.members) (sym (c.in_ok-parts.ensures.below (inline_query false [])).walk.bare_same) c.in_ok-parts.ensures.value)
-
-pub walk::column_at-returns-in_err-parts-clause-stopped : goal.walk::column_at-returns-in_err-parts-clause-stopped
-walk::column_at-returns-in_err-parts-clause-stopped g t c =
+pub walk::column_in-returns-in_err-parts-clause-stopped : goal.walk::column_in-returns-in_err-parts-clause-stopped
+walk::column_in-returns-in_err-parts-clause-stopped g t c =
     let all : (q : Query) → given_size q.inline ≡ c.args.width → needs_inline q.ask ≡ true →
-    Stopped c.args.id q (state c.args.tree.now c.args.tally.now c.args.passes.now (g.R.Ruler.log c.args.ruler.now)) (state c.flex_at.new.tree c.flex_at.new.tally c.flex_at.new.passes (g.R.Ruler.log c.flex_at.new.ruler)) = λ q w n. c.in_err-parts.ensures.stopped q in
+    Stopped c.args.id q (seen g.R.Ruler.log c.args.walk.now) (seen g.R.Ruler.log c.flex_in.new.walk) = λ q w n. c.in_err-parts.ensures.stopped q in
     on_err _ _ all
 
-pub walk::row_at-row_lines-requires : goal.walk::row_at-row_lines-requires
-walk::row_at-row_lines-requires g t c = record
-    { few = items_few (bare c.flex_at.new.tree.tree) c.args.id c.args.width c.deref.result.now (subst AreReadable (sym (c.in_ok-parts.ensures.below (inline_query false [])).walk.bare_same) c.requires.readable) (c.deref.ensures.value ∙ c.in_ok-items.ensures.value) }
+pub walk::row_in-row_lines-requires : goal.walk::row_in-row_lines-requires
+walk::row_in-row_lines-requires g t c = record
+    { few = items_few (nodes c.flex_in.new.walk) c.args.id c.args.width c.deref.result.now c.flex_in.ensures.stands.readable (c.deref.ensures.value ∙ c.in_ok-items.ensures.value) }
 
-pub walk::row_at-ask_members-requires : goal.walk::row_at-ask_members-requires
-walk::row_at-ask_members-requires g t c =
+pub walk::row_in-ask_members-requires : goal.walk::row_in-ask_members-requires
+walk::row_in-ask_members-requires g t c =
     let back = sym (c.in_ok-parts.ensures.below (inline_query false [])).walk.bare_same in
-    let live : IsLive (bare c.flex_at.new.tree.tree) c.args.id = subst (λ (z : BareTrees). IsLive z c.args.id) back c.requires.live in
-    let readable : AreReadable (bare c.flex_at.new.tree.tree) = subst AreReadable back c.requires.readable in
-    let flex : (sight_at (bare c.flex_at.new.tree.tree) c.args.id).label.kind ≡ kind.Flex = subst (λ (z : BareTrees). (sight_at z c.args.id).label.kind ≡ kind.Flex) back c.requires.flex in
-    let members : AreMembers (bare c.flex_at.new.tree.tree) c.args.id c.as_slice-2.result.now = subst (AreMembers (bare c.flex_at.new.tree.tree) c.args.id) (sym c.as_slice-2.ensures) (subst (λ (z : BareTrees). AreMembers z c.args.id c.in_ok-parts.parts.members) back c.in_ok-parts.ensures.value) in
-    let roomy : AreRoomy (flex_seen (bare c.flex_at.new.tree.tree) c.args.id).members c.as_slice-3.result.now = subst (AreRoomy (flex_seen (bare c.flex_at.new.tree.tree) c.args.id).members) (sym c.as_slice-3.ensures)
-    (covering_roomy c.args.width (flex_seen (bare c.flex_at.new.tree.tree) c.args.id).members c.in_ok-lines.lines.mains
+    let live : IsLive (nodes c.flex_in.new.walk) c.args.id = subst (λ (z : BareTrees). IsLive z c.args.id) back c.requires.live in
+    let readable : AreReadable (nodes c.flex_in.new.walk) = c.flex_in.ensures.stands.readable in
+    let flex : (sight_at (nodes c.flex_in.new.walk) c.args.id).label.kind ≡ kind.Flex = subst (λ (z : BareTrees). (sight_at z c.args.id).label.kind ≡ kind.Flex) back c.requires.flex in
+    let members : AreMembers (nodes c.flex_in.new.walk) c.args.id c.as_slice-2.result.now = subst (AreMembers (nodes c.flex_in.new.walk) c.args.id) (sym c.as_slice-2.ensures) (subst (λ (z : BareTrees). AreMembers z c.args.id c.in_ok-parts.parts.members) back c.in_ok-parts.ensures.value) in
+    let roomy : AreRoomy (flex_seen (nodes c.flex_in.new.walk) c.args.id).members c.as_slice-3.result.now = subst (AreRoomy (flex_seen (nodes c.flex_in.new.walk) c.args.id).members) (sym c.as_slice-3.ensures)
+    (covering_roomy c.args.width (flex_seen (nodes c.flex_in.new.walk) c.args.id).members c.in_ok-lines.lines.mains
     (subst (λ (l : List FlexItem). AreCovering l c.in_ok-lines.lines.mains) (c.deref.ensures.value ∙ c.in_ok-items.ensures.value) (c.in_ok-lines.ensures.cover (subst HaveInner (sym c.deref.ensures.value) c.in_ok-items.ensures.inner)))) in
-    let small : 16 * size_at (bare c.flex_at.new.tree.tree) c.args.id + 0 < 16 * size_at (bare c.args.tree.now.tree) c.args.id + 1 = omega (arith, ap (λ (z : BareTrees). size_at z c.args.id) (c.in_ok-parts.ensures.below (inline_query false [])).walk.bare_same) in
+    let small : 16 * size_at (nodes c.flex_in.new.walk) c.args.id + 0 < 16 * size_at (nodes c.args.walk.now) c.args.id + 1 = omega (arith, ap (λ (z : BareTrees). size_at z c.args.id) (c.in_ok-parts.ensures.below (inline_query false [])).walk.bare_same) in
     search rules
 
-pub walk::row_at-returns-in_err-items-clause-stopped : goal.walk::row_at-returns-in_err-items-clause-stopped
-walk::row_at-returns-in_err-items-clause-stopped g t c =
+pub walk::row_in-returns-in_err-items-clause-stopped : goal.walk::row_in-returns-in_err-items-clause-stopped
+walk::row_in-returns-in_err-items-clause-stopped g t c =
     let all : (q : Query) → given_size q.inline ≡ c.args.width → needs_inline q.ask ≡ true →
-    Stopped c.args.id q (state c.args.tree.now c.args.tally.now c.args.passes.now (g.R.Ruler.log c.args.ruler.now)) (state c.flex_at.new.tree c.flex_at.new.tally c.flex_at.new.passes (g.R.Ruler.log c.flex_at.new.ruler)) = λ q w n. stopped c.args.id q 0
-    (state c.args.tree.now c.args.tally.now c.args.passes.now (g.R.Ruler.log c.args.ruler.now)) (state c.flex_at.new.tree c.flex_at.new.tally c.flex_at.new.passes (g.R.Ruler.log c.flex_at.new.ruler)) (c.in_ok-parts.ensures.below q) in
+    Stopped c.args.id q (seen g.R.Ruler.log c.args.walk.now) (seen g.R.Ruler.log c.flex_in.new.walk) = λ q w n. stopped c.args.id q 0
+    (seen g.R.Ruler.log c.args.walk.now) (seen g.R.Ruler.log c.flex_in.new.walk) (c.in_ok-parts.ensures.below q) in
     on_err _ _ all
 
-pub walk::row_at-returns-in_err-lines-clause-stopped : goal.walk::row_at-returns-in_err-lines-clause-stopped
-walk::row_at-returns-in_err-lines-clause-stopped g t c =
+pub walk::row_in-returns-in_err-lines-clause-stopped : goal.walk::row_in-returns-in_err-lines-clause-stopped
+walk::row_in-returns-in_err-lines-clause-stopped g t c =
     let all : (q : Query) → given_size q.inline ≡ c.args.width → needs_inline q.ask ≡ true →
-    Stopped c.args.id q (state c.args.tree.now c.args.tally.now c.args.passes.now (g.R.Ruler.log c.args.ruler.now)) (state c.flex_at.new.tree c.flex_at.new.tally c.row_lines.new.passes (g.R.Ruler.log c.flex_at.new.ruler)) = λ q w n. stopped c.args.id q 1
-    (state c.args.tree.now c.args.tally.now c.args.passes.now (g.R.Ruler.log c.args.ruler.now)) (state c.flex_at.new.tree c.flex_at.new.tally c.row_lines.new.passes (g.R.Ruler.log c.flex_at.new.ruler))
-    (ticked c.args.id q 0 1 (state c.args.tree.now c.args.tally.now c.args.passes.now (g.R.Ruler.log c.args.ruler.now)) (state c.flex_at.new.tree c.flex_at.new.tally c.flex_at.new.passes (g.R.Ruler.log c.flex_at.new.ruler)) c.row_lines.new.passes c.row_lines.ensures.ticks
+    Stopped c.args.id q (seen g.R.Ruler.log c.args.walk.now) (state c.flex_in.new.walk.tree.now c.flex_in.new.walk.tally.now c.row_lines.new.passes (g.R.Ruler.log c.flex_in.new.walk.ruler.now)) = λ q w n. stopped c.args.id q 1
+    (seen g.R.Ruler.log c.args.walk.now) (state c.flex_in.new.walk.tree.now c.flex_in.new.walk.tally.now c.row_lines.new.passes (g.R.Ruler.log c.flex_in.new.walk.ruler.now))
+    (ticked c.args.id q 0 1 (seen g.R.Ruler.log c.args.walk.now) (seen g.R.Ruler.log c.flex_in.new.walk) c.row_lines.new.passes c.row_lines.ensures.ticks
     (c.in_ok-parts.ensures.below q)) in
     on_err _ _ all
 
-pub walk::row_at-returns-in_err-blocks-clause-stopped : goal.walk::row_at-returns-in_err-blocks-clause-stopped
-walk::row_at-returns-in_err-blocks-clause-stopped g t c =
+pub walk::row_in-returns-in_err-blocks-clause-stopped : goal.walk::row_in-returns-in_err-blocks-clause-stopped
+walk::row_in-returns-in_err-blocks-clause-stopped g t c =
     let all : (q : Query) → given_size q.inline ≡ c.args.width → needs_inline q.ask ≡ true →
-    Stopped c.args.id q (state c.args.tree.now c.args.tally.now c.args.passes.now (g.R.Ruler.log c.args.ruler.now)) (state c.ask_members.new.tree c.ask_members.new.tally c.ask_members.new.passes (g.R.Ruler.log c.ask_members.new.ruler)) = λ q w n. joined_stopped c.args.id q 1
-    (state c.args.tree.now c.args.tally.now c.args.passes.now (g.R.Ruler.log c.args.ruler.now)) (state c.flex_at.new.tree c.flex_at.new.tally c.row_lines.new.passes (g.R.Ruler.log c.flex_at.new.ruler))
-    (state c.ask_members.new.tree c.ask_members.new.tally c.ask_members.new.passes (g.R.Ruler.log c.ask_members.new.ruler))
-    (ticked c.args.id q 0 1 (state c.args.tree.now c.args.tally.now c.args.passes.now (g.R.Ruler.log c.args.ruler.now)) (state c.flex_at.new.tree c.flex_at.new.tally c.flex_at.new.passes (g.R.Ruler.log c.flex_at.new.ruler)) c.row_lines.new.passes c.row_lines.ensures.ticks
+    Stopped c.args.id q (seen g.R.Ruler.log c.args.walk.now) (seen g.R.Ruler.log c.ask_members.new.walk) = λ q w n. joined_stopped c.args.id q 1
+    (seen g.R.Ruler.log c.args.walk.now) (state c.flex_in.new.walk.tree.now c.flex_in.new.walk.tally.now c.row_lines.new.passes (g.R.Ruler.log c.flex_in.new.walk.ruler.now))
+    (seen g.R.Ruler.log c.ask_members.new.walk)
+    (ticked c.args.id q 0 1 (seen g.R.Ruler.log c.args.walk.now) (seen g.R.Ruler.log c.flex_in.new.walk) c.row_lines.new.passes c.row_lines.ensures.ticks
     (c.in_ok-parts.ensures.below q))
     (c.in_err-blocks.ensures.stopped q
-    (row_leads (bare c.flex_at.new.tree.tree) c.args.id c.args.width q c.as_slice-3.result.now (subst (λ (z : BareTrees). (sight_at z c.args.id).label.kind ≡ kind.Flex) (sym (c.in_ok-parts.ensures.below (inline_query false [])).walk.bare_same) c.requires.flex)
+    (row_leads (nodes c.flex_in.new.walk) c.args.id c.args.width q c.as_slice-3.result.now (subst (λ (z : BareTrees). (sight_at z c.args.id).label.kind ≡ kind.Flex) (sym (c.in_ok-parts.ensures.below (inline_query false [])).walk.bare_same) c.requires.flex)
     (subst (λ (z : BareTrees). (sight_at z c.args.id).label.content.column ≡ false) (sym (c.in_ok-parts.ensures.below (inline_query false [])).walk.bare_same) c.requires.direction) w n
     (c.as_slice-3.ensures ∙
     ap (λ (l : rules.Lines). l.mains)
-    (lines_made (bare c.flex_at.new.tree.tree) c.args.id c.args.width c.node_at.result.now.style c.deref.result.now c.in_ok-lines.lines c.node_at.ensures.grid c.node_at.ensures.content (c.deref.ensures.value ∙ c.in_ok-items.ensures.value)
+    (lines_made (nodes c.flex_in.new.walk) c.args.id c.args.width c.node_at.result.now.style c.deref.result.now c.in_ok-lines.lines c.node_at.ensures.grid c.node_at.ensures.content (c.deref.ensures.value ∙ c.in_ok-items.ensures.value)
     c.in_ok-lines.ensures.value)))) in
     on_err _ _ all
 
-pub walk::row_at-returns-clause-below : goal.walk::row_at-returns-clause-below
-walk::row_at-returns-clause-below g t c =
-    λ q w n. joined_below c.args.id q 1 (state c.args.tree.now c.args.tally.now c.args.passes.now (g.R.Ruler.log c.args.ruler.now)) (state c.flex_at.new.tree c.flex_at.new.tally c.row_lines.new.passes (g.R.Ruler.log c.flex_at.new.ruler))
-    (state c.ask_members.new.tree c.ask_members.new.tally c.ask_members.new.passes (g.R.Ruler.log c.ask_members.new.ruler))
-    (ticked c.args.id q 0 1 (state c.args.tree.now c.args.tally.now c.args.passes.now (g.R.Ruler.log c.args.ruler.now)) (state c.flex_at.new.tree c.flex_at.new.tally c.flex_at.new.passes (g.R.Ruler.log c.flex_at.new.ruler)) c.row_lines.new.passes c.row_lines.ensures.ticks
+pub walk::row_in-returns-clause-below : goal.walk::row_in-returns-clause-below
+walk::row_in-returns-clause-below g t c =
+    λ q w n. joined_below c.args.id q 1 (seen g.R.Ruler.log c.args.walk.now) (state c.flex_in.new.walk.tree.now c.flex_in.new.walk.tally.now c.row_lines.new.passes (g.R.Ruler.log c.flex_in.new.walk.ruler.now))
+    (seen g.R.Ruler.log c.ask_members.new.walk)
+    (ticked c.args.id q 0 1 (seen g.R.Ruler.log c.args.walk.now) (seen g.R.Ruler.log c.flex_in.new.walk) c.row_lines.new.passes c.row_lines.ensures.ticks
     (c.in_ok-parts.ensures.below q))
     (c.in_ok-blocks.ensures.below q
-    (row_leads (bare c.flex_at.new.tree.tree) c.args.id c.args.width q c.as_slice-3.result.now (subst (λ (z : BareTrees). (sight_at z c.args.id).label.kind ≡ kind.Flex) (sym (c.in_ok-parts.ensures.below (inline_query false [])).walk.bare_same) c.requires.flex)
+    (row_leads (nodes c.flex_in.new.walk) c.args.id c.args.width q c.as_slice-3.result.now (subst (λ (z : BareTrees). (sight_at z c.args.id).label.kind ≡ kind.Flex) (sym (c.in_ok-parts.ensures.below (inline_query false [])).walk.bare_same) c.requires.flex)
     (subst (λ (z : BareTrees). (sight_at z c.args.id).label.content.column ≡ false) (sym (c.in_ok-parts.ensures.below (inline_query false [])).walk.bare_same) c.requires.direction) w n
     (c.as_slice-3.ensures ∙
     ap (λ (l : rules.Lines). l.mains)
-    (lines_made (bare c.flex_at.new.tree.tree) c.args.id c.args.width c.node_at.result.now.style c.deref.result.now c.in_ok-lines.lines c.node_at.ensures.grid c.node_at.ensures.content (c.deref.ensures.value ∙ c.in_ok-items.ensures.value) c.in_ok-lines.ensures.value))))
+    (lines_made (nodes c.flex_in.new.walk) c.args.id c.args.width c.node_at.result.now.style c.deref.result.now c.in_ok-lines.lines c.node_at.ensures.grid c.node_at.ensures.content (c.deref.ensures.value ∙ c.in_ok-items.ensures.value) c.in_ok-lines.ensures.value))))
 
-pub walk::row_at-returns-clause-value : goal.walk::row_at-returns-clause-value
-walk::row_at-returns-clause-value g t c =
+pub walk::row_in-returns-clause-value : goal.walk::row_in-returns-clause-value
+walk::row_in-returns-clause-value g t c =
     record {
       children = c.in_ok-parts.ensures.value;
       along =
-          (lines_made (bare c.flex_at.new.tree.tree) c.args.id c.args.width c.node_at.result.now.style c.deref.result.now c.in_ok-lines.lines c.node_at.ensures.grid c.node_at.ensures.content (c.deref.ensures.value ∙ c.in_ok-items.ensures.value) c.in_ok-lines.ensures.value) ∙
+          (lines_made (nodes c.flex_in.new.walk) c.args.id c.args.width c.node_at.result.now.style c.deref.result.now c.in_ok-lines.lines c.node_at.ensures.grid c.node_at.ensures.content (c.deref.ensures.value ∙ c.in_ok-items.ensures.value) c.in_ok-lines.ensures.value) ∙
           ap (λ (z : BareTrees). rules.row_lines (flex_seen z c.args.id) c.args.width) (c.in_ok-parts.ensures.below (inline_query false [])).walk.bare_same;
-      ranges = subst (λ (k : ℕ). AreRanges k c.in_ok-lines.lines.ranges) (ap length (c.deref.ensures.value ∙ c.in_ok-items.ensures.value) ∙ map_length (λ (m : rules.Member). rules.flex_item false (Some c.args.width) m.kid.label m.inline) (flex_seen (bare c.flex_at.new.tree.tree) c.args.id).members
-          ∙ ap (λ (z : BareTrees). length (flex_seen z c.args.id).members) (c.in_ok-parts.ensures.below (inline_query false [])).walk.bare_same ∙ seen_length (bare c.args.tree.now.tree) c.args.id c.in_ok-parts.parts.members c.in_ok-parts.ensures.value.same) c.in_ok-lines.ensures.ranges;
+      ranges = subst (λ (k : ℕ). AreRanges k c.in_ok-lines.lines.ranges) (ap length (c.deref.ensures.value ∙ c.in_ok-items.ensures.value) ∙ map_length (λ (m : rules.Member). rules.flex_item false (Some c.args.width) m.kid.label m.inline) (flex_seen (nodes c.flex_in.new.walk) c.args.id).members
+          ∙ ap (λ (z : BareTrees). length (flex_seen z c.args.id).members) (c.in_ok-parts.ensures.below (inline_query false [])).walk.bare_same ∙ seen_length (nodes c.args.walk.now) c.args.id c.in_ok-parts.parts.members c.in_ok-parts.ensures.value.same) c.in_ok-lines.ensures.ranges;
       across = c.in_ok-blocks.ensures.value ∙ (λ i. map block_of (settled_seen ((c.in_ok-parts.ensures.below (inline_query false [])).walk.bare_same i) c.args.id (c.as_slice-3.ensures i)));
     }
 
-pub walk::column_at-ask_members-requires : goal.walk::column_at-ask_members-requires
-walk::column_at-ask_members-requires g t c =
+pub walk::column_in-ask_members-requires : goal.walk::column_in-ask_members-requires
+walk::column_in-ask_members-requires g t c =
     let back = sym (c.in_ok-parts.ensures.below (inline_query false [])).walk.bare_same in
-    let live : IsLive (bare c.flex_at.new.tree.tree) c.args.id = subst (λ (z : BareTrees). IsLive z c.args.id) back c.requires.live in
-    let readable : AreReadable (bare c.flex_at.new.tree.tree) = subst AreReadable back c.requires.readable in
-    let flex : (sight_at (bare c.flex_at.new.tree.tree) c.args.id).label.kind ≡ kind.Flex = subst (λ (z : BareTrees). (sight_at z c.args.id).label.kind ≡ kind.Flex) back c.requires.flex in
-    let members : AreMembers (bare c.flex_at.new.tree.tree) c.args.id c.as_slice-2.result.now = subst (AreMembers (bare c.flex_at.new.tree.tree) c.args.id) (sym c.as_slice-2.ensures) (subst (λ (z : BareTrees). AreMembers z c.args.id c.in_ok-parts.parts.members) back c.in_ok-parts.ensures.value) in
-    let roomy : AreRoomy (flex_seen (bare c.flex_at.new.tree.tree) c.args.id).members c.as_slice-3.result.now = subst (AreRoomy (flex_seen (bare c.flex_at.new.tree.tree) c.args.id).members) (sym c.as_slice-3.ensures) c.in_ok-boxes.ensures.roomy in
-    let small : 16 * size_at (bare c.flex_at.new.tree.tree) c.args.id + 0 < 16 * size_at (bare c.args.tree.now.tree) c.args.id + 1 = omega (arith, ap (λ (z : BareTrees). size_at z c.args.id) (c.in_ok-parts.ensures.below (inline_query false [])).walk.bare_same) in
+    let live : IsLive (nodes c.flex_in.new.walk) c.args.id = subst (λ (z : BareTrees). IsLive z c.args.id) back c.requires.live in
+    let readable : AreReadable (nodes c.flex_in.new.walk) = c.flex_in.ensures.stands.readable in
+    let flex : (sight_at (nodes c.flex_in.new.walk) c.args.id).label.kind ≡ kind.Flex = subst (λ (z : BareTrees). (sight_at z c.args.id).label.kind ≡ kind.Flex) back c.requires.flex in
+    let members : AreMembers (nodes c.flex_in.new.walk) c.args.id c.as_slice-2.result.now = subst (AreMembers (nodes c.flex_in.new.walk) c.args.id) (sym c.as_slice-2.ensures) (subst (λ (z : BareTrees). AreMembers z c.args.id c.in_ok-parts.parts.members) back c.in_ok-parts.ensures.value) in
+    let roomy : AreRoomy (flex_seen (nodes c.flex_in.new.walk) c.args.id).members c.as_slice-3.result.now = subst (AreRoomy (flex_seen (nodes c.flex_in.new.walk) c.args.id).members) (sym c.as_slice-3.ensures) c.in_ok-boxes.ensures.roomy in
+    let small : 16 * size_at (nodes c.flex_in.new.walk) c.args.id + 0 < 16 * size_at (nodes c.args.walk.now) c.args.id + 1 = omega (arith, ap (λ (z : BareTrees). size_at z c.args.id) (c.in_ok-parts.ensures.below (inline_query false [])).walk.bare_same) in
     search rules
 
-pub walk::column_at-returns-in_err-boxes-clause-stopped : goal.walk::column_at-returns-in_err-boxes-clause-stopped
-walk::column_at-returns-in_err-boxes-clause-stopped g t c =
+pub walk::column_in-returns-in_err-boxes-clause-stopped : goal.walk::column_in-returns-in_err-boxes-clause-stopped
+walk::column_in-returns-in_err-boxes-clause-stopped g t c =
     let all : (q : Query) → given_size q.inline ≡ c.args.width → needs_inline q.ask ≡ true →
-    Stopped c.args.id q (state c.args.tree.now c.args.tally.now c.args.passes.now (g.R.Ruler.log c.args.ruler.now)) (state c.flex_at.new.tree c.flex_at.new.tally c.flex_at.new.passes (g.R.Ruler.log c.flex_at.new.ruler)) = λ q w n. stopped c.args.id q 0
-    (state c.args.tree.now c.args.tally.now c.args.passes.now (g.R.Ruler.log c.args.ruler.now)) (state c.flex_at.new.tree c.flex_at.new.tally c.flex_at.new.passes (g.R.Ruler.log c.flex_at.new.ruler)) (c.in_ok-parts.ensures.below q) in
+    Stopped c.args.id q (seen g.R.Ruler.log c.args.walk.now) (seen g.R.Ruler.log c.flex_in.new.walk) = λ q w n. stopped c.args.id q 0
+    (seen g.R.Ruler.log c.args.walk.now) (seen g.R.Ruler.log c.flex_in.new.walk) (c.in_ok-parts.ensures.below q) in
     on_err _ _ all
 
-pub walk::column_at-returns-in_err-blocks-clause-stopped : goal.walk::column_at-returns-in_err-blocks-clause-stopped
-walk::column_at-returns-in_err-blocks-clause-stopped g t c =
+pub walk::column_in-returns-in_err-blocks-clause-stopped : goal.walk::column_in-returns-in_err-blocks-clause-stopped
+walk::column_in-returns-in_err-blocks-clause-stopped g t c =
     let all : (q : Query) → given_size q.inline ≡ c.args.width → needs_inline q.ask ≡ true →
-    Stopped c.args.id q (state c.args.tree.now c.args.tally.now c.args.passes.now (g.R.Ruler.log c.args.ruler.now)) (state c.ask_members.new.tree c.ask_members.new.tally c.ask_members.new.passes (g.R.Ruler.log c.ask_members.new.ruler)) = λ q w n. joined_stopped c.args.id q 0
-    (state c.args.tree.now c.args.tally.now c.args.passes.now (g.R.Ruler.log c.args.ruler.now)) (state c.flex_at.new.tree c.flex_at.new.tally c.flex_at.new.passes (g.R.Ruler.log c.flex_at.new.ruler))
-    (state c.ask_members.new.tree c.ask_members.new.tally c.ask_members.new.passes (g.R.Ruler.log c.ask_members.new.ruler)) (c.in_ok-parts.ensures.below q)
+    Stopped c.args.id q (seen g.R.Ruler.log c.args.walk.now) (seen g.R.Ruler.log c.ask_members.new.walk) = λ q w n. joined_stopped c.args.id q 0
+    (seen g.R.Ruler.log c.args.walk.now) (seen g.R.Ruler.log c.flex_in.new.walk)
+    (seen g.R.Ruler.log c.ask_members.new.walk) (c.in_ok-parts.ensures.below q)
     (c.in_err-blocks.ensures.stopped q
-    (column_leads (bare c.flex_at.new.tree.tree) c.args.id c.args.width q c.as_slice-3.result.now (subst (λ (z : BareTrees). (sight_at z c.args.id).label.kind ≡ kind.Flex) (sym (c.in_ok-parts.ensures.below (inline_query false [])).walk.bare_same) c.requires.flex)
+    (column_leads (nodes c.flex_in.new.walk) c.args.id c.args.width q c.as_slice-3.result.now (subst (λ (z : BareTrees). (sight_at z c.args.id).label.kind ≡ kind.Flex) (sym (c.in_ok-parts.ensures.below (inline_query false [])).walk.bare_same) c.requires.flex)
     (subst (λ (z : BareTrees). (sight_at z c.args.id).label.content.column ≡ true) (sym (c.in_ok-parts.ensures.below (inline_query false [])).walk.bare_same) c.requires.direction) w n (c.as_slice-3.ensures ∙ c.in_ok-boxes.ensures.value))) in
     on_err _ _ all
 
-pub walk::column_at-returns-clause-below : goal.walk::column_at-returns-clause-below
-walk::column_at-returns-clause-below g t c =
-    λ q w n. joined_below c.args.id q 0 (state c.args.tree.now c.args.tally.now c.args.passes.now (g.R.Ruler.log c.args.ruler.now)) (state c.flex_at.new.tree c.flex_at.new.tally c.flex_at.new.passes (g.R.Ruler.log c.flex_at.new.ruler))
-    (state c.ask_members.new.tree c.ask_members.new.tally c.ask_members.new.passes (g.R.Ruler.log c.ask_members.new.ruler)) (c.in_ok-parts.ensures.below q)
+pub walk::column_in-returns-clause-below : goal.walk::column_in-returns-clause-below
+walk::column_in-returns-clause-below g t c =
+    λ q w n. joined_below c.args.id q 0 (seen g.R.Ruler.log c.args.walk.now) (seen g.R.Ruler.log c.flex_in.new.walk)
+    (seen g.R.Ruler.log c.ask_members.new.walk) (c.in_ok-parts.ensures.below q)
     (c.in_ok-blocks.ensures.below q
-    (column_leads (bare c.flex_at.new.tree.tree) c.args.id c.args.width q c.as_slice-3.result.now (subst (λ (z : BareTrees). (sight_at z c.args.id).label.kind ≡ kind.Flex) (sym (c.in_ok-parts.ensures.below (inline_query false [])).walk.bare_same) c.requires.flex)
+    (column_leads (nodes c.flex_in.new.walk) c.args.id c.args.width q c.as_slice-3.result.now (subst (λ (z : BareTrees). (sight_at z c.args.id).label.kind ≡ kind.Flex) (sym (c.in_ok-parts.ensures.below (inline_query false [])).walk.bare_same) c.requires.flex)
     (subst (λ (z : BareTrees). (sight_at z c.args.id).label.content.column ≡ true) (sym (c.in_ok-parts.ensures.below (inline_query false [])).walk.bare_same) c.requires.direction) w n (c.as_slice-3.ensures ∙ c.in_ok-boxes.ensures.value)))
 
-pub walk::column_at-returns-clause-value : goal.walk::column_at-returns-clause-value
-walk::column_at-returns-clause-value g t c =
+pub walk::column_in-returns-clause-value : goal.walk::column_in-returns-clause-value
+walk::column_in-returns-clause-value g t c =
     record {
       children = c.in_ok-parts.ensures.value;
       across = c.in_ok-boxes.ensures.value ∙ ap (λ (z : BareTrees). column_boxes_seen z c.args.id c.args.width) (c.in_ok-parts.ensures.below (inline_query false [])).walk.bare_same;
       along = c.in_ok-blocks.ensures.value ∙ (λ i. map block_of (settled_seen ((c.in_ok-parts.ensures.below (inline_query false [])).walk.bare_same i) c.args.id (c.as_slice-3.ensures i)));
     }
 
-pub walk::block_at-returns-in_err-query-clause-stopped : goal.walk::block_at-returns-in_err-query-clause-stopped
-walk::block_at-returns-in_err-query-clause-stopped g t c = on_err _ _ (stopped c.args.id _ 0 _ _ (walked_none c.args.id (block_query false c.args.reps.now c.args.width.now) (state c.args.tree.now c.args.tally.now c.args.passes.now (g.R.Ruler.log c.args.ruler.now)) c.requires.right))
+pub walk::block_in-returns-in_err-query-clause-stopped : goal.walk::block_in-returns-in_err-query-clause-stopped
+walk::block_in-returns-in_err-query-clause-stopped g t c = on_err _ _ (stopped c.args.id _ 0 _ _ (walked_none c.args.id (block_query false c.args.seat.now.reps.now c.args.width.now) (seen g.R.Ruler.log c.args.walk.now) c.requires.stands.right))
 
-pub walk::block_at-returns-in-Some-clause-own : goal.walk::block_at-returns-in-Some-clause-own
-walk::block_at-returns-in-Some-clause-own g t c = λ none. some_or_none _ c.in-Some.ensures.kept none
+pub walk::block_in-returns-in-Some-clause-own : goal.walk::block_in-returns-in-Some-clause-own
+walk::block_in-returns-in-Some-clause-own g t c = λ none. some_or_none _ c.in-Some.ensures.kept none
 
-pub walk::block_at-returns-in-Some-clause-walked : goal.walk::block_at-returns-in-Some-clause-walked
-walk::block_at-returns-in-Some-clause-walked g t c = found_walked c.args.id (block_query false c.args.reps.now c.args.width.now) (state c.args.tree.now c.args.tally.now c.args.passes.now (g.R.Ruler.log c.args.ruler.now)) c.requires.right
+pub walk::block_in-returns-in-Some-clause-walked : goal.walk::block_in-returns-in-Some-clause-walked
+walk::block_in-returns-in-Some-clause-walked g t c = found_walked c.args.id (block_query false c.args.seat.now.reps.now c.args.width.now) (seen g.R.Ruler.log c.args.walk.now) c.requires.stands.right
 
 pub walk::lend_rows_at-returns-in_err-query-clause-stopped : goal.walk::lend_rows_at-returns-in_err-query-clause-stopped
-walk::lend_rows_at-returns-in_err-query-clause-stopped g t c = on_err _ _ (stopped c.args.id _ 0 _ _ (walked_none c.args.id (block_query true c.args.reps.now c.args.width.now) (state c.args.tree.now c.args.tally.now c.args.passes.now (g.R.Ruler.log c.args.ruler.now)) c.requires.right))
+walk::lend_rows_at-returns-in_err-query-clause-stopped g t c = on_err _ _ (stopped c.args.id _ 0 _ _ (walked_none c.args.id (block_query true c.args.seat.now.reps.now c.args.width.now) (seen g.R.Ruler.log c.args.walk.now) c.requires.stands.right))
 
 pub walk::lend_rows_at-returns-in-Some-clause-walked : goal.walk::lend_rows_at-returns-in-Some-clause-walked
-walk::lend_rows_at-returns-in-Some-clause-walked g t c = on_ok _ _ (found_walked c.args.id (block_query true c.args.reps.now c.args.width.now) (state c.args.tree.now c.args.tally.now c.args.passes.now (g.R.Ruler.log c.args.ruler.now)) c.requires.right)
+walk::lend_rows_at-returns-in-Some-clause-walked g t c = on_ok _ _ (found_walked c.args.id (block_query true c.args.seat.now.reps.now c.args.width.now) (seen g.R.Ruler.log c.args.walk.now) c.requires.stands.right)
 
 pub walk::lend_rows_at-returns-in-Some-clause-stopped : goal.walk::lend_rows_at-returns-in-Some-clause-stopped
-walk::lend_rows_at-returns-in-Some-clause-stopped g t c = on_err _ _ (stopped c.args.id _ 0 _ _ (walked_none c.args.id (block_query true c.args.reps.now c.args.width.now) (state c.args.tree.now c.args.tally.now c.args.passes.now (g.R.Ruler.log c.args.ruler.now)) c.requires.right))
+walk::lend_rows_at-returns-in-Some-clause-stopped g t c = on_err _ _ (stopped c.args.id _ 0 _ _ (walked_none c.args.id (block_query true c.args.seat.now.reps.now c.args.width.now) (seen g.R.Ruler.log c.args.walk.now) c.requires.stands.right))
 
 pub walk::ask_members-loop-index-init : goal.walk::ask_members-loop-index-init
 walk::ask_members-loop-index-init g t c =
     record {
-      right = c.requires.right;
+      stands = c.requires.stands;
+      parts = same_parts c.args.walk.now;
       same = refl;
-      walked = λ q leads. walked_none c.args.id q (state c.args.tree.now c.args.tally.now c.args.passes.now (g.R.Ruler.log c.args.ruler.now)) c.requires.right;
-      blocks = ap (λ (l : List ℤ). l ++ map block_of (settled_seen (bare c.args.tree.now.tree) c.args.id c.args.boxes.now)) c.new-blocks.ensures;
+      walked = λ q leads. walked_none c.args.id q (seen g.R.Ruler.log c.args.walk.now) c.requires.stands.right;
+      blocks = ap (λ (l : List ℤ). l ++ map block_of (settled_seen (nodes c.args.walk.now) c.args.id c.args.boxes.now)) c.new-blocks.ensures;
     }
 
 pub walk::ask_members-member_at-member-requires : goal.walk::ask_members-member_at-member-requires
 walk::ask_members-member_at-member-requires g t c = omega (arith, c.loop-index-test.true)
 
 pub walk::ask_members-box_at-requires : goal.walk::ask_members-box_at-requires
-walk::ask_members-box_at-requires g t c = omega (arith, c.loop-index-test.true, boxes_counted (bare c.args.tree.now.tree) c.args.id c.args.members.now c.args.boxes.now c.requires.members c.requires.roomy)
+walk::ask_members-box_at-requires g t c = omega (arith, c.loop-index-test.true, boxes_counted (nodes c.args.walk.now) c.args.id c.args.members.now c.args.boxes.now c.requires.members c.requires.roomy)
 
 pub walk::ask_members-node_at-requires : goal.walk::ask_members-node_at-requires
 walk::ask_members-node_at-requires g t c =
-    let live_now : IsLive (bare c.loop-index.tree.tree) c.member_at-member.result.child =
-    member_live (bare c.args.tree.now.tree) (bare c.loop-index.tree.tree) c.args.id c.args.members.now c.loop-index.index c.member_at-member.result c.loop-index.invariant.same c.requires.members (omega (arith, c.loop-index-test.true)) c.member_at-member.ensures in
+    let live_now : IsLive (nodes c.loop-index.walk) c.member_at-member.result.child =
+    member_live (nodes c.args.walk.now) (nodes c.loop-index.walk) c.args.id c.args.members.now c.loop-index.index c.member_at-member.result c.loop-index.invariant.same c.requires.members (omega (arith, c.loop-index-test.true)) c.member_at-member.ensures in
     live_now
 
 pub walk::ask_members-given_box-width-requires : goal.walk::ask_members-given_box-width-requires
 walk::ask_members-given_box-width-requires g t c =
-    let live_now : IsLive (bare c.loop-index.tree.tree) c.member_at-member.result.child =
-    member_live (bare c.args.tree.now.tree) (bare c.loop-index.tree.tree) c.args.id c.args.members.now c.loop-index.index c.member_at-member.result c.loop-index.invariant.same c.requires.members (omega (arith, c.loop-index-test.true)) c.member_at-member.ensures in
-    let readable : AreReadable (bare c.loop-index.tree.tree) = subst AreReadable (sym c.loop-index.invariant.same) c.requires.readable in
+    let live_now : IsLive (nodes c.loop-index.walk) c.member_at-member.result.child =
+    member_live (nodes c.args.walk.now) (nodes c.loop-index.walk) c.args.id c.args.members.now c.loop-index.index c.member_at-member.result c.loop-index.invariant.same c.requires.members (omega (arith, c.loop-index-test.true)) c.member_at-member.ensures in
+    let readable : AreReadable (nodes c.loop-index.walk) = c.loop-index.invariant.stands.readable in
     subst (λ (s : GridStyle). IsGridAxis s.columns) (sym c.node_at.ensures.grid) (readable.nodes c.member_at-member.result.child live_now).grid.columns
 
-pub walk::ask_members-block_at-requires : goal.walk::ask_members-block_at-requires
-walk::ask_members-block_at-requires g t c =
-    let turn_now : IsAsked (bare c.args.tree.now.tree) (bare c.loop-index.tree.tree) c.args.id c.args.boxes.now c.loop-index.index c.member_at-member.result c.box_at.result =
-    asked_turn (bare c.args.tree.now.tree) (bare c.loop-index.tree.tree) c.args.id c.args.members.now c.args.boxes.now c.loop-index.index c.member_at-member.result c.box_at.result c.loop-index.invariant.same c.root.ensures.tree c.requires.members c.requires.roomy c.requires.flex
+pub walk::ask_members-block_in-requires : goal.walk::ask_members-block_in-requires
+walk::ask_members-block_in-requires g t c =
+    let turn_now : IsAsked (nodes c.args.walk.now) (nodes c.loop-index.walk) c.args.id c.args.boxes.now c.loop-index.index c.member_at-member.result c.box_at.result =
+    asked_turn (nodes c.args.walk.now) (nodes c.loop-index.walk) c.args.id c.args.members.now c.args.boxes.now c.loop-index.index c.member_at-member.result c.box_at.result c.loop-index.invariant.same c.root.ensures.tree c.requires.members c.requires.roomy c.requires.flex
     (omega (arith, c.loop-index-test.true)) c.member_at-member.ensures c.box_at.ensures in
     let given : IsGivenFor true false 0 c.given_box-width.result =
     c.given_box-width.ensures.fits (subst (λ (s : GridStyle). inner s.columns ≤ℤ c.box_at.result) (sym c.node_at.ensures.grid) turn_now.room) in
-    let live : IsLive (bare c.loop-index.tree.tree) c.member_at-member.result.child = turn_now.live in
-    let readable : AreReadable (bare c.loop-index.tree.tree) = subst AreReadable (sym c.loop-index.invariant.same) c.requires.readable in
-    let fits : Fits (sight_at (bare c.loop-index.tree.tree) c.member_at-member.result.child) (block_query false [] c.given_box-width.result) = fits_block (sight_at (bare c.loop-index.tree.tree) c.member_at-member.result.child) c.given_box-width.result turn_now.none given in
-    let seat : IsSeat (sight_at (bare c.loop-index.tree.tree) c.member_at-member.result.child) [] above.Nothing (record { columns = record { start = pos 0; end = pos 0 }; rows = record { start = pos 0; end = pos 0 } }) = alone_there (bare c.loop-index.tree.tree)
+    let live : IsLive (nodes c.loop-index.walk) c.member_at-member.result.child = turn_now.live in
+    let readable : AreReadable (nodes c.loop-index.walk) = c.loop-index.invariant.stands.readable in
+    let fits : Fits (sight_at (nodes c.loop-index.walk) c.member_at-member.result.child) (block_query false [] c.given_box-width.result) = fits_block (sight_at (nodes c.loop-index.walk) c.member_at-member.result.child) c.given_box-width.result turn_now.none given in
+    let seat : IsSeat (sight_at (nodes c.loop-index.walk) c.member_at-member.result.child) [] above.Nothing (record { columns = record { start = pos 0; end = pos 0 }; rows = record { start = pos 0; end = pos 0 } }) = alone_there (nodes c.loop-index.walk)
     c.member_at-member.result.child _ (ap has_chain turn_now.none) in
-    let apart : IsSpread (farthest (level_at (bare c.loop-index.tree.tree) c.member_at-member.result.child)) c.given_box-width.result = spread_none (farthest (level_at (bare c.loop-index.tree.tree) c.member_at-member.result.child)) c.given_box-width.result given in
-    let small : 16 * size_at (bare c.loop-index.tree.tree) c.member_at-member.result.child + 6 < 16 * size_at (bare c.args.tree.now.tree) c.args.id + 0 = omega (arith, turn_now.small) in
+    let apart : IsSpread (farthest (level_at (nodes c.loop-index.walk) c.member_at-member.result.child)) c.given_box-width.result = spread_none (farthest (level_at (nodes c.loop-index.walk) c.member_at-member.result.child)) c.given_box-width.result given in
+    let small : 16 * size_at (nodes c.loop-index.walk) c.member_at-member.result.child + 6 < 16 * size_at (nodes c.args.walk.now) c.args.id + 0 = omega (arith, turn_now.small) in
     search rules
 
 pub walk::ask_members-returns-in_err-block-clause-stopped : goal.walk::ask_members-returns-in_err-block-clause-stopped
 walk::ask_members-returns-in_err-block-clause-stopped g t c =
-    let turn_now : IsAsked (bare c.args.tree.now.tree) (bare c.loop-index.tree.tree) c.args.id c.args.boxes.now c.loop-index.index c.member_at-member.result c.box_at.result =
-    asked_turn (bare c.args.tree.now.tree) (bare c.loop-index.tree.tree) c.args.id c.args.members.now c.args.boxes.now c.loop-index.index c.member_at-member.result c.box_at.result c.loop-index.invariant.same c.root.ensures.tree c.requires.members c.requires.roomy c.requires.flex
+    let turn_now : IsAsked (nodes c.args.walk.now) (nodes c.loop-index.walk) c.args.id c.args.boxes.now c.loop-index.index c.member_at-member.result c.box_at.result =
+    asked_turn (nodes c.args.walk.now) (nodes c.loop-index.walk) c.args.id c.args.members.now c.args.boxes.now c.loop-index.index c.member_at-member.result c.box_at.result c.loop-index.invariant.same c.root.ensures.tree c.requires.members c.requires.roomy c.requires.flex
     (omega (arith, c.loop-index-test.true)) c.member_at-member.ensures c.box_at.ensures in
     on_err _ _
-    (member_stops (bare c.args.tree.now.tree) (bare c.loop-index.tree.tree) c.loop-index.invariant.same c.args.id c.args.boxes.now c.loop-index.index c.member_at-member.result c.box_at.result turn_now c.root.ensures.steps (grid_of c.node_at.result.now.style)
+    (member_stops (nodes c.args.walk.now) (nodes c.loop-index.walk) c.loop-index.invariant.same c.args.id c.args.boxes.now c.loop-index.index c.member_at-member.result c.box_at.result turn_now c.root.ensures.steps (grid_of c.node_at.result.now.style)
     c.given_box-width.result c.node_at.ensures.grid c.given_box-width.ensures.value _ _ _ refl c.loop-index.invariant.walked c.in_err-block.ensures.stopped)
 
 pub walk::ask_members-returns-in_err-push-clause-stopped : goal.walk::ask_members-returns-in_err-push-clause-stopped
 walk::ask_members-returns-in_err-push-clause-stopped g t c =
-    let turn_now : IsAsked (bare c.args.tree.now.tree) (bare c.loop-index.tree.tree) c.args.id c.args.boxes.now c.loop-index.index c.member_at-member.result c.box_at.result =
-    asked_turn (bare c.args.tree.now.tree) (bare c.loop-index.tree.tree) c.args.id c.args.members.now c.args.boxes.now c.loop-index.index c.member_at-member.result c.box_at.result c.loop-index.invariant.same c.root.ensures.tree c.requires.members c.requires.roomy c.requires.flex
+    let turn_now : IsAsked (nodes c.args.walk.now) (nodes c.loop-index.walk) c.args.id c.args.boxes.now c.loop-index.index c.member_at-member.result c.box_at.result =
+    asked_turn (nodes c.args.walk.now) (nodes c.loop-index.walk) c.args.id c.args.members.now c.args.boxes.now c.loop-index.index c.member_at-member.result c.box_at.result c.loop-index.invariant.same c.root.ensures.tree c.requires.members c.requires.roomy c.requires.flex
     (omega (arith, c.loop-index-test.true)) c.member_at-member.ensures c.box_at.ensures in
     on_err _ _
-    (member_ends (bare c.args.tree.now.tree) (bare c.loop-index.tree.tree) c.loop-index.invariant.same c.args.id c.args.boxes.now c.loop-index.index c.member_at-member.result c.box_at.result turn_now c.root.ensures.steps (grid_of c.node_at.result.now.style) c.given_box-width.result
+    (member_ends (nodes c.args.walk.now) (nodes c.loop-index.walk) c.loop-index.invariant.same c.args.id c.args.boxes.now c.loop-index.index c.member_at-member.result c.box_at.result turn_now c.root.ensures.steps (grid_of c.node_at.result.now.style) c.given_box-width.result
     c.node_at.ensures.grid c.given_box-width.ensures.value _ _ _ refl c.loop-index.invariant.walked c.in_ok-block.ensures.walked)
 
 pub walk::ask_members-loop-index-preserved : goal.walk::ask_members-loop-index-preserved
 walk::ask_members-loop-index-preserved g t c =
-    let turn_now : IsAsked (bare c.args.tree.now.tree) (bare c.loop-index.tree.tree) c.args.id c.args.boxes.now c.loop-index.index c.member_at-member.result c.box_at.result =
-    asked_turn (bare c.args.tree.now.tree) (bare c.loop-index.tree.tree) c.args.id c.args.members.now c.args.boxes.now c.loop-index.index c.member_at-member.result c.box_at.result c.loop-index.invariant.same c.root.ensures.tree c.requires.members c.requires.roomy c.requires.flex
+    let turn_now : IsAsked (nodes c.args.walk.now) (nodes c.loop-index.walk) c.args.id c.args.boxes.now c.loop-index.index c.member_at-member.result c.box_at.result =
+    asked_turn (nodes c.args.walk.now) (nodes c.loop-index.walk) c.args.id c.args.members.now c.args.boxes.now c.loop-index.index c.member_at-member.result c.box_at.result c.loop-index.invariant.same c.root.ensures.tree c.requires.members c.requires.roomy c.requires.flex
     (omega (arith, c.loop-index-test.true)) c.member_at-member.ensures c.box_at.ensures in
-    let width_now : c.given_box-width.result ≡ (settled_at (member_of (bare c.args.tree.now.tree) c.member_at-member.result) c.box_at.result).inline =
-    width_is (bare c.args.tree.now.tree) (bare c.loop-index.tree.tree) c.member_at-member.result c.box_at.result (grid_of c.node_at.result.now.style) c.given_box-width.result c.loop-index.invariant.same c.node_at.ensures.grid c.given_box-width.ensures.value in
+    let width_now : c.given_box-width.result ≡ (settled_at (member_of (nodes c.args.walk.now) c.member_at-member.result) c.box_at.result).inline =
+    width_is (nodes c.args.walk.now) (nodes c.loop-index.walk) c.member_at-member.result c.box_at.result (grid_of c.node_at.result.now.style) c.given_box-width.result c.loop-index.invariant.same c.node_at.ensures.grid c.given_box-width.ensures.value in
     record {
-      right = c.block_at.ensures.right;
+      stands = c.block_in.ensures.stands;
+      parts = parts_then _ _ _ c.loop-index.invariant.parts c.block_in.ensures.parts;
       same = c.in_ok-block.ensures.walked.walk.bare_same ∙ c.loop-index.invariant.same;
       walked =
-          member_below (bare c.args.tree.now.tree) (bare c.loop-index.tree.tree) c.loop-index.invariant.same c.args.id c.args.boxes.now c.loop-index.index c.member_at-member.result c.box_at.result turn_now c.root.ensures.steps (grid_of c.node_at.result.now.style)
+          member_below (nodes c.args.walk.now) (nodes c.loop-index.walk) c.loop-index.invariant.same c.args.id c.args.boxes.now c.loop-index.index c.member_at-member.result c.box_at.result turn_now c.root.ensures.steps (grid_of c.node_at.result.now.style)
           c.given_box-width.result c.node_at.ensures.grid c.given_box-width.ensures.value _ _ _ refl c.loop-index.invariant.walked c.in_ok-block.ensures.walked;
-      blocks = blocks_more (settled_seen (bare c.args.tree.now.tree) c.args.id c.args.boxes.now) c.loop-index.index (settled_at (member_of (bare c.args.tree.now.tree) c.member_at-member.result) c.box_at.result) c.loop-index.blocks _ _ c.in_ok-block.block turn_now.next c.in_ok-push.ensures.ok
-          (block_is (bare c.args.tree.now.tree) (bare c.loop-index.tree.tree) c.member_at-member.result c.box_at.result c.in_ok-block.block c.given_box-width.result c.loop-index.invariant.same width_now (size_is _ _ c.in_ok-block.ensures.value)) c.loop-index.invariant.blocks;
+      blocks = blocks_more (settled_seen (nodes c.args.walk.now) c.args.id c.args.boxes.now) c.loop-index.index (settled_at (member_of (nodes c.args.walk.now) c.member_at-member.result) c.box_at.result) c.loop-index.blocks _ _ c.in_ok-block.block turn_now.next c.in_ok-push.ensures.ok
+          (block_is (nodes c.args.walk.now) (nodes c.loop-index.walk) c.member_at-member.result c.box_at.result c.in_ok-block.block c.given_box-width.result c.loop-index.invariant.same width_now (size_is _ _ c.in_ok-block.ensures.value)) c.loop-index.invariant.blocks;
     }
 
 pub walk::ask_members-returns-clause-value : goal.walk::ask_members-returns-clause-value
 walk::ask_members-returns-clause-value g t c =
-    let settled = settled_seen (bare c.args.tree.now.tree) c.args.id c.args.boxes.now in
+    let settled = settled_seen (nodes c.args.walk.now) c.args.id c.args.boxes.now in
     let few : length settled ≤ c.loop-index.index = omega
-    (arith, c.loop-index-test.false, settled_length (bare c.args.tree.now.tree) c.args.id c.args.members.now c.args.boxes.now c.requires.members.same (boxes_counted (bare c.args.tree.now.tree) c.args.id c.args.members.now c.args.boxes.now c.requires.members c.requires.roomy)) in
+    (arith, c.loop-index-test.false, settled_length (nodes c.args.walk.now) c.args.id c.args.members.now c.args.boxes.now c.requires.members.same (boxes_counted (nodes c.args.walk.now) c.args.id c.args.members.now c.args.boxes.now c.requires.members c.requires.roomy)) in
     all_there (map block_of) settled c.loop-index.index c.loop-index.blocks (map block_of settled) refl few c.loop-index.invariant.blocks
-
-pub walk::ask_members-returns-clause-right : goal.walk::ask_members-returns-clause-right
-walk::ask_members-returns-clause-right g t c = c.loop-index.invariant.right
 
 pub walk::ask_members-returns-clause-below : goal.walk::ask_members-returns-clause-below
 walk::ask_members-returns-clause-below g t c = c.loop-index.invariant.walked
 
-pub walk::row_at-node_at-requires : goal.walk::row_at-node_at-requires
-walk::row_at-node_at-requires g t c = subst (λ (z : BareTrees). IsLive z c.args.id) (sym (c.in_ok-parts.ensures.below (inline_query false [])).walk.bare_same) c.requires.live
+pub walk::row_in-node_at-requires : goal.walk::row_in-node_at-requires
+walk::row_in-node_at-requires g t c = subst (λ (z : BareTrees). IsLive z c.args.id) (sym (c.in_ok-parts.ensures.below (inline_query false [])).walk.bare_same) c.requires.live

@@ -1,6 +1,5 @@
 use Rattle.std.proofs.Common.{arith, ◌≡◌, true}
-use Rattle.placing.specs.Nodes.{bare}
-use Rattle.placing.specs.Walks.{Stopped, WalkedBelow, state}
+use Rattle.placing.specs.Walks.{Stopped, WalkedBelow}
 use Rattle.tree_rules.specs.Queries.{needs_inline}
 use Rattle.tree_rules.specs.declared.query.Query.{Query}
 use Rattle.placing.proofs.Leaves.{on_err}
@@ -8,36 +7,37 @@ use Rattle.placing.proofs.Walks.{stopped, ticked, walked_none}
 use Rattle.inline_sizes.proofs.Asked.{on_ok}
 use Rattle.block_sizes.proofs.HeldWide.{held_wide, if_ok_same}
 use Rattle.block_sizes.specs.Wides.{IsWide}
+use Rattle.walker.specs.Walkers.{nodes, seen}
 use Rattle.block_sizes.proofs.held.wide_for.Goals as goal
 
 pub returns-in-Some-clause-value : goal.returns-in-Some-clause-value
 returns-in-Some-clause-value g c =
-    if_ok_same _ _ (IsWide (bare c.args.tree.now.tree) c.args.id c.args.reps.now c.args.width.now) c.again.ensures (held_wide (bare c.args.tree.now.tree) c.args.id c.args.reps.now c.args.width.now _ c.requires.spread c.in-Some.ensures)
+    if_ok_same _ _ (IsWide (nodes c.args.walk.now) c.args.id c.args.seat.now.reps.now c.args.width.now) c.again.ensures (held_wide (nodes c.args.walk.now) c.args.id c.args.seat.now.reps.now c.args.width.now _ c.requires.spread c.in-Some.ensures)
 
 pub returns-in-Some-clause-below : goal.returns-in-Some-clause-below
 returns-in-Some-clause-below g c =
-    let here = state c.args.tree.now c.args.tally.now c.args.passes.now (g.R.Ruler.log c.args.ruler.now) in
-    let all : (q : Query) → q.reps ≡ c.args.reps.now → q.inline ≡ c.args.width.now → needs_inline q.ask ≡ true → WalkedBelow c.args.id q 1 here here =
-    λ q r w needs. ticked c.args.id q 0 1 here here c.args.passes.now (omega arith) (walked_none c.args.id q here c.requires.right) in
+    let here = seen g.R.Ruler.log c.args.walk.now in
+    let all : (q : Query) → q.reps ≡ c.args.seat.now.reps.now → q.inline ≡ c.args.width.now → needs_inline q.ask ≡ true → WalkedBelow c.args.id q 1 here here =
+    λ q r w needs. ticked c.args.id q 0 1 here here c.args.walk.now.passes.now (omega arith) (walked_none c.args.id q here c.requires.stands.right) in
     on_ok _ _ all
 
 pub returns-in-Some-clause-stopped : goal.returns-in-Some-clause-stopped
 returns-in-Some-clause-stopped g c =
-    let here = state c.args.tree.now c.args.tally.now c.args.passes.now (g.R.Ruler.log c.args.ruler.now) in
-    let all : (q : Query) → q.reps ≡ c.args.reps.now → q.inline ≡ c.args.width.now → needs_inline q.ask ≡ true → Stopped c.args.id q here here =
-    λ q r w needs. stopped c.args.id q 0 here here (walked_none c.args.id q here c.requires.right) in
+    let here = seen g.R.Ruler.log c.args.walk.now in
+    let all : (q : Query) → q.reps ≡ c.args.seat.now.reps.now → q.inline ≡ c.args.width.now → needs_inline q.ask ≡ true → Stopped c.args.id q here here =
+    λ q r w needs. stopped c.args.id q 0 here here (walked_none c.args.id q here c.requires.stands.right) in
     on_err _ _ all
 
 pub returns-clause-value : goal.returns-clause-value
-returns-clause-value g c = if_ok_same _ _ (IsWide (bare c.args.tree.now.tree) c.args.id c.args.reps.now c.args.width.now) c.new.ensures c.in_ok-wide.ensures.value
+returns-clause-value g c = if_ok_same _ _ (IsWide (nodes c.args.walk.now) c.args.id c.args.seat.now.reps.now c.args.width.now) c.new.ensures c.in_ok-wide.ensures.value
 
 pub returns-clause-below : goal.returns-clause-below
 returns-clause-below g c = on_ok _ _ c.in_ok-wide.ensures.below
 
 pub returns-clause-stopped : goal.returns-clause-stopped
 returns-clause-stopped g c =
-    let here = state c.args.tree.now c.args.tally.now c.args.passes.now (g.R.Ruler.log c.args.ruler.now) in
-    let then = state c.wide_at.new.tree c.wide_at.new.tally c.wide_at.new.passes (g.R.Ruler.log c.wide_at.new.ruler) in
-    let all : (q : Query) → q.reps ≡ c.args.reps.now → q.inline ≡ c.args.width.now → needs_inline q.ask ≡ true → Stopped c.args.id q here then =
+    let here = seen g.R.Ruler.log c.args.walk.now in
+    let then = seen g.R.Ruler.log c.wide_at.new.walk in
+    let all : (q : Query) → q.reps ≡ c.args.seat.now.reps.now → q.inline ≡ c.args.width.now → needs_inline q.ask ≡ true → Stopped c.args.id q here then =
     λ q r w needs. stopped c.args.id q 1 here then (c.in_ok-wide.ensures.below q r w needs) in
     on_err _ _ all

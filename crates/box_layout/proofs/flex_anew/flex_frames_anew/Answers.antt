@@ -2,19 +2,19 @@ use Rattle.std.proofs.Common.{arith, ap, subst, sym, ◌≡◌, ◌∙◌, ◌�
 use Rattle.placing.proofs.Leaves.{on_err}
 use Rattle.placing.proofs.Walks.{stopped}
 use Rattle.placing.specs.Kept.{frame_of}
-use Rattle.placing.specs.Nodes.{BareTrees, IsLive, bare, children_at, sight_at}
+use Rattle.placing.specs.Nodes.{BareTrees, IsLive, children_at, sight_at}
 use Rattle.placing.specs.Walks.{kept_with}
 use Rattle.placing.specs.declared.node.Answer.TheVariants as answer
 use Rattle.placing.specs.declared.node.Frame.{Frame as NodeFrame}
 use Rattle.tree_rules.specs.KeptAnswers.{IsAbsent}
 use Rattle.tree_rules.specs.Queries.{Fits, answer_of, child_frames}
 use Rattle.tree_rules.specs.declared.kind.NodeKind.TheVariants as kind
-use Rattle.tree_rules.specs.declared.query.Query.{Query}
 use Rattle.box_layout.proofs.FlexAnswered.{flex_quiet}
+use Rattle.walker.specs.Walkers.{nodes}
 use Rattle.box_layout.proofs.flex_anew.flex_frames_anew.Goals as goal
 
 pub flex_found-requires-clause-ask : goal.flex_found-requires-clause-ask
-flex_found-requires-clause-ask g c = ap (λ (q : Query). q.ask) c.requires.query
+flex_found-requires-clause-ask g c = c.requires.ask
 
 pub put-requires-clause-live : goal.put-requires-clause-live
 put-requires-clause-live g c = subst (λ (z : BareTrees). IsLive z c.args.id) (sym c.in_ok-frames.ensures.below.walk.bare_same) c.requires.live
@@ -27,8 +27,8 @@ put-requires-clause-fits g c = subst (λ (z : BareTrees). Fits (sight_at z c.arg
 
 pub put-requires-clause-quiet : goal.put-requires-clause-quiet
 put-requires-clause-quiet g c =
-    let is : (sight_at (bare c.flex_found.new.tree.tree) c.args.id).label.kind ≡ kind.Flex = subst (λ (z : BareTrees). (sight_at z c.args.id).label.kind ≡ kind.Flex) (sym c.in_ok-frames.ensures.below.walk.bare_same) c.requires.flex in
-    flex_quiet (bare c.flex_found.new.tree.tree) c.args.id c.args.query is (ap (λ (q : Query). q.ask) c.requires.query)
+    let is : (sight_at (nodes c.flex_found.new.walk) c.args.id).label.kind ≡ kind.Flex = subst (λ (z : BareTrees). (sight_at z c.args.id).label.kind ≡ kind.Flex) (sym c.in_ok-frames.ensures.below.walk.bare_same) c.requires.flex in
+    flex_quiet (nodes c.flex_found.new.walk) c.args.id c.args.query is c.requires.ask
 
 pub put-requires-clause-value : goal.put-requires-clause-value
 put-requires-clause-value g c = ap (λ (l : List NodeFrame). child_frames (map frame_of l)) c.in_ok-shared.ensures ∙ c.in_ok-frames.ensures.value ∙ ap (λ (z : BareTrees). answer_of (sight_at z c.args.id) c.args.query) (sym c.in_ok-frames.ensures.below.walk.bare_same)
@@ -43,10 +43,10 @@ pub returns-clause-children : goal.returns-clause-children
 returns-clause-children g c = ap (map (λ (f : NodeFrame). f.child)) (c.in_ok-told.ensures ∙ c.in_ok-shared.ensures) ∙ c.in_ok-frames.ensures.children
 
 pub returns-clause-walked : goal.returns-clause-walked
-returns-clause-walked g c = c.in_ok-put.ensures.joins _ 1 _ _ (omega arith) c.in_ok-frames.ensures.below
+returns-clause-walked g c = c.in_ok-put.ensures.joins _ 1 (omega arith) c.in_ok-frames.ensures.below
 
 pub returns-in_err-put-clause-stopped : goal.returns-in_err-put-clause-stopped
-returns-in_err-put-clause-stopped g c = on_err _ _ (c.in_err-put.ensures.stopped _ 1 _ _ c.in_ok-frames.ensures.below)
+returns-in_err-put-clause-stopped g c = on_err _ _ (c.in_err-put.ensures.stopped _ 1 c.in_ok-frames.ensures.below)
 
 pub returns-clause-own : goal.returns-clause-own
 returns-clause-own g c = c.in_ok-put.ensures.own ∙ (λ i. kept_with (c.in_ok-frames.ensures.below.own i) ((c.args.query, answer.Frames (sym c.in_ok-told.ensures i)) ∷ []))

@@ -1,13 +1,13 @@
 use Rattle.std.proofs.Common.{ap, sym}
 use Rattle.placing.proofs.Leaves.{on_err}
-use Rattle.placing.specs.Nodes.{bare}
 use Rattle.tree_rules.specs.Queries.{needs_inline}
 use Rattle.box_layout.proofs.FlexAnswered.{row_told}
+use Rattle.walker.specs.Walkers.{nodes}
 use Rattle.box_layout.proofs.flex_anew.row_found.Goals as goal
 
 pub returns-clause-value : goal.returns-clause-value
 returns-clause-value g c =
-    row_told (bare c.args.tree.now.tree) c.args.id c.args.query.now c.requires.flex c.requires.ask c.requires.direction c.size_given-width.result c.size_given-height.result c.in_ok-frames.frames c.size_given-width.ensures c.size_given-height.ensures c.in_ok-frames.ensures.value
+    row_told (nodes c.args.walk.now) c.args.id c.args.query.now c.requires.flex c.requires.ask c.requires.direction c.size_given-width.result c.size_given-height.result c.in_ok-frames.frames c.size_given-width.ensures c.size_given-height.ensures c.in_ok-frames.ensures.value
 
 pub returns-clause-children : goal.returns-clause-children
 returns-clause-children g c = c.in_ok-frames.ensures.value.children

@@ -10,20 +10,20 @@ use Rattle.box_layout.proofs.FlexAlike.{members_few, settled_count}
 use Rattle.box_layout.proofs.Framed.{column_boxed, column_made, column_mains, column_ranges, settled_is, told_members}
 use Rattle.box_layout.proofs.flexed.frames_in_column.Goals as goal
 
-boxes_are : (c : goal.After-as_slice-mains) → length c.args.column.now.boxes ≡ length c.args.column.now.members
-boxes_are c = ap length c.requires.column.across ∙ column_boxed (bare c.args.tree.now.tree) c.args.id c.args.width ∙ sym (told_members (bare c.args.tree.now.tree) c.args.id c.args.column.now.members c.requires.column.children.same)
-
 pub frames_in_lines-requires-clause-members : goal.frames_in_lines-requires-clause-members
 frames_in_lines-requires-clause-members c = subst (AreMembers (bare c.args.tree.now.tree) c.args.id) (sym c.as_slice-members.ensures) c.requires.column.children
 
 pub frames_in_lines-requires-clause-boxes : goal.frames_in_lines-requires-clause-boxes
-frames_in_lines-requires-clause-boxes c = ap length c.as_slice-boxes.ensures ∙ boxes_are c ∙ ap length (sym c.as_slice-members.ensures)
+frames_in_lines-requires-clause-boxes c = ap length c.as_slice-boxes.ensures ∙
+    (ap length c.requires.column.across ∙ column_boxed (bare c.args.tree.now.tree) c.args.id c.args.width ∙ sym (told_members (bare c.args.tree.now.tree) c.args.id c.args.column.now.members c.requires.column.children.same)) ∙ ap length (sym c.as_slice-members.ensures)
 
 pub frames_in_lines-requires-clause-mains : goal.frames_in_lines-requires-clause-mains
 frames_in_lines-requires-clause-mains c =
     let b = bare c.args.tree.now.tree in
     let column = c.args.column.now in
-    ap length c.as_slice-mains.ensures ∙ ap (λ (l : rules.Lines). length l.mains) c.requires.lines ∙ column_mains b c.args.id c.args.height (settled_by b column.members column.boxes) ∙ settled_count b column.members column.boxes (boxes_are c) ∙ ap length (sym c.as_slice-members.ensures)
+    ap length c.as_slice-mains.ensures ∙ ap (λ (l : rules.Lines). length l.mains) c.requires.lines ∙ column_mains b c.args.id c.args.height (settled_by b column.members column.boxes) ∙
+    settled_count b column.members column.boxes (ap length c.requires.column.across ∙ column_boxed (bare c.args.tree.now.tree) c.args.id c.args.width ∙ sym (told_members (bare c.args.tree.now.tree) c.args.id c.args.column.now.members c.requires.column.children.same)) ∙
+    ap length (sym c.as_slice-members.ensures)
 
 pub frames_in_lines-requires-clause-blocks : goal.frames_in_lines-requires-clause-blocks
 frames_in_lines-requires-clause-blocks c =
@@ -41,7 +41,8 @@ pub frames_in_lines-requires-clause-lines : goal.frames_in_lines-requires-clause
 frames_in_lines-requires-clause-lines c =
     let b = bare c.args.tree.now.tree in
     let column = c.args.column.now in
-    let few : length (settled_by b column.members column.boxes) ≤ 65536 = omega (arith, settled_count b column.members column.boxes (boxes_are c), members_few b c.args.id column.members c.requires.column.children (c.requires.readable.children c.args.id)) in
+    let few : length (settled_by b column.members column.boxes) ≤ 65536 = omega
+    (arith, settled_count b column.members column.boxes (ap length c.requires.column.across ∙ column_boxed (bare c.args.tree.now.tree) c.args.id c.args.width ∙ sym (told_members (bare c.args.tree.now.tree) c.args.id c.args.column.now.members c.requires.column.children.same)), members_few b c.args.id column.members c.requires.column.children (c.requires.readable.children c.args.id)) in
     omega (arith, ap length c.as_slice-ranges.ensures, ap (λ (l : rules.Lines). length l.ranges) c.requires.lines, column_ranges b c.args.id c.args.height (settled_by b column.members column.boxes) few)
 
 pub returns : goal.returns

@@ -9,20 +9,20 @@ use Rattle.box_layout.specs.FlexFrames.{AreFrames, block_of, flex_told, numbered
 use Rattle.box_layout.proofs.Framed.{row_made, row_mains, row_ranges, settled_is, told_members}
 use Rattle.box_layout.proofs.flexed.frames_in_row.Goals as goal
 
-mains_are : (c : goal.After-as_slice-ranges) → length c.as_slice-mains.result.now ≡ length c.as_slice-members.result.now
-mains_are c =
-    let b = bare c.args.tree.now.tree in
-    let row = c.args.row.now in
-    ap length c.as_slice-mains.ensures ∙ ap (λ (l : rules.Lines). length l.mains) c.requires.row.along ∙ row_mains b c.args.id c.args.width ∙ sym (told_members b c.args.id row.members c.requires.row.children.same) ∙ ap length (sym c.as_slice-members.ensures)
-
 pub frames_in_lines-requires-clause-members : goal.frames_in_lines-requires-clause-members
 frames_in_lines-requires-clause-members c = subst (AreMembers (bare c.args.tree.now.tree) c.args.id) (sym c.as_slice-members.ensures) c.requires.row.children
 
 pub frames_in_lines-requires-clause-boxes : goal.frames_in_lines-requires-clause-boxes
-frames_in_lines-requires-clause-boxes c = mains_are c
+frames_in_lines-requires-clause-boxes c =
+    let b = bare c.args.tree.now.tree in
+    let row = c.args.row.now in
+    ap length c.as_slice-mains.ensures ∙ ap (λ (l : rules.Lines). length l.mains) c.requires.row.along ∙ row_mains b c.args.id c.args.width ∙ sym (told_members b c.args.id row.members c.requires.row.children.same) ∙ ap length (sym c.as_slice-members.ensures)
 
 pub frames_in_lines-requires-clause-mains : goal.frames_in_lines-requires-clause-mains
-frames_in_lines-requires-clause-mains c = mains_are c
+frames_in_lines-requires-clause-mains c =
+    let b = bare c.args.tree.now.tree in
+    let row = c.args.row.now in
+    ap length c.as_slice-mains.ensures ∙ ap (λ (l : rules.Lines). length l.mains) c.requires.row.along ∙ row_mains b c.args.id c.args.width ∙ sym (told_members b c.args.id row.members c.requires.row.children.same) ∙ ap length (sym c.as_slice-members.ensures)
 
 pub frames_in_lines-requires-clause-blocks : goal.frames_in_lines-requires-clause-blocks
 frames_in_lines-requires-clause-blocks c =

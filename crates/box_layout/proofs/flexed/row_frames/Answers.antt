@@ -3,7 +3,7 @@ use Rattle.placing.proofs.Leaves.{on_err}
 use Rattle.placing.proofs.Walks.{stopped}
 use Rattle.placing.specs.Nodes.{BareTrees, IsLive}
 use Rattle.placing.specs.Ranges.{AreReadable}
-use Rattle.placing.specs.Walks.{Stopped, state}
+use Rattle.placing.specs.Walks.{Stopped}
 use Rattle.tree_rules.specs.AskedQueries.{block_query}
 use Rattle.tree_rules.specs.Frames.{given_size}
 use Rattle.tree_rules.specs.Queries.{needs_inline}
@@ -11,13 +11,14 @@ use Rattle.tree_rules.specs.declared.query.Given.TheVariants as given
 use Rattle.tree_rules.specs.declared.query.Query.{Query}
 use Rattle.block_sizes.specs.Settling.{IsRow}
 use Rattle.box_layout.specs.FlexFrames.{AreFrames, row_seen}
+use Rattle.walker.specs.Walkers.{seen}
 use Rattle.box_layout.proofs.flexed.row_frames.Goals as goal
 
 pub frames_in_row-requires-clause-live : goal.frames_in_row-requires-clause-live
 frames_in_row-requires-clause-live g c = subst (λ (z : BareTrees). IsLive z c.args.id) (sym (c.in_ok-row.ensures.below (block_query false [] (given.Size c.args.width)) refl refl).walk.bare_same) c.requires.live
 
 pub frames_in_row-requires-clause-readable : goal.frames_in_row-requires-clause-readable
-frames_in_row-requires-clause-readable g c = subst AreReadable (sym (c.in_ok-row.ensures.below (block_query false [] (given.Size c.args.width)) refl refl).walk.bare_same) c.requires.readable
+frames_in_row-requires-clause-readable g c = subst AreReadable (sym (c.in_ok-row.ensures.below (block_query false [] (given.Size c.args.width)) refl refl).walk.bare_same) c.requires.stands.readable
 
 pub frames_in_row-requires-clause-row : goal.frames_in_row-requires-clause-row
 frames_in_row-requires-clause-row g c = subst (λ (z : BareTrees). IsRow z c.args.id c.args.width c.in_ok-row.row) (sym (c.in_ok-row.ensures.below (block_query false [] (given.Size c.args.width)) refl refl).walk.bare_same) c.in_ok-row.ensures.value
@@ -34,6 +35,6 @@ returns-in_err-row-clause-stopped g c = on_err _ _ c.in_err-row.ensures.stopped
 pub returns-in_err-frames-clause-stopped : goal.returns-in_err-frames-clause-stopped
 returns-in_err-frames-clause-stopped g c =
     let all : (q : Query) → given_size q.inline ≡ c.args.width → needs_inline q.ask ≡ true →
-    Stopped c.args.id q (state c.args.tree.now c.args.tally.now c.args.passes.now (g.R.Ruler.log c.args.ruler.now)) (state c.row_at.new.tree c.row_at.new.tally c.row_at.new.passes (g.R.Ruler.log c.row_at.new.ruler)) = λ q w n. stopped c.args.id q 1 _ _
+    Stopped c.args.id q (seen g.R.Ruler.log c.args.walk.now) (seen g.R.Ruler.log c.row_in.new.walk) = λ q w n. stopped c.args.id q 1 _ _
     (c.in_ok-row.ensures.below q w n) in
     on_err _ _ all

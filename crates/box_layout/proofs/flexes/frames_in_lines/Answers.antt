@@ -17,59 +17,61 @@ use Rattle.box_layout.proofs.FlexAlike.{blocks_count, crosses_alike, crosses_cou
 use Rattle.box_layout.proofs.flexes.frames_in_lines.Goals as goal
 
 pub own_crosses-requires-clause-blocks : goal.own_crosses-requires-clause-blocks
-own_crosses-requires-clause-blocks c = blocks_count (bare c.args.tree.now.tree) c.args.members.now c.args.boxes.now c.args.blocks.now c.requires.boxes c.requires.blocks
+own_crosses-requires-clause-blocks c = blocks_count (bare c.args.tree.now.tree) c.args.lined.now.members.now c.args.lined.now.boxes.now c.args.lined.now.blocks.now c.requires.boxes c.requires.blocks
 
 pub own_outers-requires-clause-counted : goal.own_outers-requires-clause-counted
 own_outers-requires-clause-counted c =
     let b = bare c.args.tree.now.tree in
-    ap length (c.deref.ensures.value ∙ c.in_ok-own.ensures) ∙ triple_count (member_cross b c.args.column c.args.cross) c.args.members.now c.args.boxes.now c.args.blocks.now c.requires.boxes (blocks_count b c.args.members.now c.args.boxes.now c.args.blocks.now c.requires.boxes c.requires.blocks)
+    ap length (c.deref.ensures.value ∙ c.in_ok-own.ensures) ∙
+    triple_count (member_cross b c.args.column c.args.cross) c.args.lined.now.members.now c.args.lined.now.boxes.now c.args.lined.now.blocks.now c.requires.boxes (blocks_count b c.args.lined.now.members.now c.args.lined.now.boxes.now c.args.lined.now.blocks.now c.requires.boxes c.requires.blocks)
 
 pub line_sizes-requires-clause-ranges : goal.line_sizes-requires-clause-ranges
 line_sizes-requires-clause-ranges c =
     let b = bare c.args.tree.now.tree in
     let owns : length c.deref.result.now ≡
-    length c.args.members.now = ap length (c.deref.ensures.value ∙ c.in_ok-own.ensures) ∙
-    triple_count (member_cross b c.args.column c.args.cross) c.args.members.now c.args.boxes.now c.args.blocks.now c.requires.boxes (blocks_count b c.args.members.now c.args.boxes.now c.args.blocks.now c.requires.boxes c.requires.blocks) in
-    let count : length c.deref-2.result.now ≡ length c.args.members.now = ap length (c.deref-2.ensures.value ∙ c.in_ok-outers.ensures) ∙ pair_count (member_outer b c.args.column) c.args.members.now c.deref.result.now owns in
-    subst (λ (k : ℕ). AreRanges k c.args.ranges.now) (sym count) c.requires.ranges
+    length c.args.lined.now.members.now = ap length (c.deref.ensures.value ∙ c.in_ok-own.ensures) ∙
+    triple_count (member_cross b c.args.column c.args.cross) c.args.lined.now.members.now c.args.lined.now.boxes.now c.args.lined.now.blocks.now c.requires.boxes (blocks_count b c.args.lined.now.members.now c.args.lined.now.boxes.now c.args.lined.now.blocks.now c.requires.boxes c.requires.blocks) in
+    let count : length c.deref-2.result.now ≡ length c.args.lined.now.members.now = ap length (c.deref-2.ensures.value ∙ c.in_ok-outers.ensures) ∙ pair_count (member_outer b c.args.column) c.args.lined.now.members.now c.deref.result.now owns in
+    subst (λ (k : ℕ). AreRanges k c.args.lined.now.ranges.now) (sym count) c.requires.ranges
 
 pub sittings-requires-clause-counted : goal.sittings-requires-clause-counted
 sittings-requires-clause-counted c =
     let b = bare c.args.tree.now.tree in
-    ap length (c.deref-3.ensures.value ∙ c.in_ok-own.ensures) ∙ triple_count (member_cross b c.args.column c.args.cross) c.args.members.now c.args.boxes.now c.args.blocks.now c.requires.boxes (blocks_count b c.args.members.now c.args.boxes.now c.args.blocks.now c.requires.boxes c.requires.blocks)
+    ap length (c.deref-3.ensures.value ∙ c.in_ok-own.ensures) ∙
+    triple_count (member_cross b c.args.column c.args.cross) c.args.lined.now.members.now c.args.lined.now.boxes.now c.args.lined.now.blocks.now c.requires.boxes (blocks_count b c.args.lined.now.members.now c.args.lined.now.boxes.now c.args.lined.now.blocks.now c.requires.boxes c.requires.blocks)
 
 pub flex_frames-requires-clause-few : goal.flex_frames-requires-clause-few
 flex_frames-requires-clause-few c =
     let b = bare c.args.tree.now.tree in
     let owns : length c.deref-3.result.now ≡
-    length c.args.members.now = ap length (c.deref-3.ensures.value ∙ c.in_ok-own.ensures) ∙
-    triple_count (member_cross b c.args.column c.args.cross) c.args.members.now c.args.boxes.now c.args.blocks.now c.requires.boxes (blocks_count b c.args.members.now c.args.boxes.now c.args.blocks.now c.requires.boxes c.requires.blocks) in
+    length c.args.lined.now.members.now = ap length (c.deref-3.ensures.value ∙ c.in_ok-own.ensures) ∙
+    triple_count (member_cross b c.args.column c.args.cross) c.args.lined.now.members.now c.args.lined.now.boxes.now c.args.lined.now.blocks.now c.requires.boxes (blocks_count b c.args.lined.now.members.now c.args.lined.now.boxes.now c.args.lined.now.blocks.now c.requires.boxes c.requires.blocks) in
     let count : length c.deref-4.result.now ≡
-    length c.args.members.now = ap length (c.deref-4.ensures.value ∙ c.in_ok-children.ensures.value) ∙
-    triple_count (member_sitting b c.args.id c.flex_of-flex.result.column c.flex_of-flex.result.cross) c.args.members.now c.args.mains.now c.deref-3.result.now c.requires.mains owns in
-    omega (arith, count, members_few b c.args.id c.args.members.now c.requires.members (c.requires.readable.children c.args.id))
+    length c.args.lined.now.members.now = ap length (c.deref-4.ensures.value ∙ c.in_ok-children.ensures.value) ∙
+    triple_count (member_sitting b c.args.id c.flex_of-flex.result.column c.flex_of-flex.result.cross) c.args.lined.now.members.now c.args.lined.now.mains.now c.deref-3.result.now c.requires.mains owns in
+    omega (arith, count, members_few b c.args.id c.args.lined.now.members.now c.requires.members (c.requires.readable.children c.args.id))
 
 pub flex_frames-requires-clause-lines : goal.flex_frames-requires-clause-lines
 flex_frames-requires-clause-lines c =
     let x : Label = (sight_at (bare c.args.tree.now.tree) c.args.id).label in
-    let same : length c.as_slice.result.now ≡ length c.args.ranges.now = ap length (c.as_slice.ensures ∙ c.in_ok-sizes.ensures) ∙ crosses_count c.args.column x c.deref-2.result.now c.args.ranges.now (Some c.args.cross) in
+    let same : length c.as_slice.result.now ≡ length c.args.lined.now.ranges.now = ap length (c.as_slice.ensures ∙ c.in_ok-sizes.ensures) ∙ crosses_count c.args.column x c.deref-2.result.now c.args.lined.now.ranges.now (Some c.args.cross) in
     omega (arith, same, c.requires.lines)
 
 pub flex_frames-requires-clause-same : goal.flex_frames-requires-clause-same
 flex_frames-requires-clause-same c =
     let x : Label = (sight_at (bare c.args.tree.now.tree) c.args.id).label in
-    ap length (c.as_slice.ensures ∙ c.in_ok-sizes.ensures) ∙ crosses_count c.args.column x c.deref-2.result.now c.args.ranges.now (Some c.args.cross)
+    ap length (c.as_slice.ensures ∙ c.in_ok-sizes.ensures) ∙ crosses_count c.args.column x c.deref-2.result.now c.args.lined.now.ranges.now (Some c.args.cross)
 
 pub flex_frames-requires-clause-ranges : goal.flex_frames-requires-clause-ranges
 flex_frames-requires-clause-ranges c =
     let b = bare c.args.tree.now.tree in
     let owns : length c.deref-3.result.now ≡
-    length c.args.members.now = ap length (c.deref-3.ensures.value ∙ c.in_ok-own.ensures) ∙
-    triple_count (member_cross b c.args.column c.args.cross) c.args.members.now c.args.boxes.now c.args.blocks.now c.requires.boxes (blocks_count b c.args.members.now c.args.boxes.now c.args.blocks.now c.requires.boxes c.requires.blocks) in
+    length c.args.lined.now.members.now = ap length (c.deref-3.ensures.value ∙ c.in_ok-own.ensures) ∙
+    triple_count (member_cross b c.args.column c.args.cross) c.args.lined.now.members.now c.args.lined.now.boxes.now c.args.lined.now.blocks.now c.requires.boxes (blocks_count b c.args.lined.now.members.now c.args.lined.now.boxes.now c.args.lined.now.blocks.now c.requires.boxes c.requires.blocks) in
     let count : length c.deref-4.result.now ≡
-    length c.args.members.now = ap length (c.deref-4.ensures.value ∙ c.in_ok-children.ensures.value) ∙
-    triple_count (member_sitting b c.args.id c.flex_of-flex.result.column c.flex_of-flex.result.cross) c.args.members.now c.args.mains.now c.deref-3.result.now c.requires.mains owns in
-    subst (λ (k : ℕ). AreRanges k c.args.ranges.now) (sym count) c.requires.ranges
+    length c.args.lined.now.members.now = ap length (c.deref-4.ensures.value ∙ c.in_ok-children.ensures.value) ∙
+    triple_count (member_sitting b c.args.id c.flex_of-flex.result.column c.flex_of-flex.result.cross) c.args.lined.now.members.now c.args.lined.now.mains.now c.deref-3.result.now c.requires.mains owns in
+    subst (λ (k : ℕ). AreRanges k c.args.lined.now.ranges.now) (sym count) c.requires.ranges
 
 pub returns : goal.returns
 returns c =
@@ -78,10 +80,10 @@ returns c =
     let column = c.args.column in
     let main = c.args.main in
     let cross = c.args.cross in
-    let members = c.args.members.now in
-    let boxes = c.args.boxes.now in
-    let mains = c.args.mains.now in
-    let ranges = c.args.ranges.now in
+    let members = c.args.lined.now.members.now in
+    let boxes = c.args.lined.now.boxes.now in
+    let mains = c.args.lined.now.mains.now in
+    let ranges = c.args.lined.now.ranges.now in
     let settled : List rules.Settled = settled_by b members boxes in
     let x : Label = (sight_at b n).label in
     let all : List frames.Sitting = zipped (frames.sitting_of column (Some cross)) settled mains in

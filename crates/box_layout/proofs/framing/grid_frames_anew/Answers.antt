@@ -1,15 +1,14 @@
 use Rattle.std.proofs.Common.{rules, arith, refl, sym, ap, subst, ◌≡◌, ◌∙◌, ◌∷◌, [], List, Bool, true, length, map}
 use Rattle.std.specs.Prelude.{IfSome}
 use Rattle.placing.specs.Kept.{frame_of}
-use Rattle.placing.specs.Nodes.{BareTrees, IsLive, bare, children_at, kid_at, level_at, sight_at}
+use Rattle.placing.specs.Nodes.{BareTrees, IsLive, children_at, kid_at, level_at, sight_at}
 use Rattle.placing.specs.Ranges.{AreReadable}
 use Rattle.placing.specs.Seats.{IsSeat}
 use Rattle.placing.specs.Told.{AreFrames, ArePastFrames, Each}
-use Rattle.placing.specs.Walks.{kept_with, state}
+use Rattle.placing.specs.Walks.{kept_with}
 use Rattle.placing.specs.declared.wide.GridWide.{GridWide}
 use Rattle.placing.specs.declared.node.Answer.TheVariants as answer
 use Rattle.placing.specs.declared.node.Frame.{Frame as NodeFrame}
-use Rattle.placing.proofs.Alike.{then_alike}
 use Rattle.placing.proofs.Leaves.{on_err}
 use Rattle.placing.proofs.Walks.{stopped, ticked}
 use Rattle.tree_rules.specs.Answers.{Pair}
@@ -23,187 +22,194 @@ use Rattle.block_sizes.specs.Wides.{IsWide, farthest}
 use Rattle.box_layout.specs.GridFrames.{AreTracks}
 use Rattle.box_layout.proofs.FramesAnswered.{frames_told, grid_quiet}
 use Rattle.box_layout.proofs.OwnRows.{are_tracks}
+use Rattle.walker.specs.Walkers.{nodes, seen}
 use Rattle.box_layout.proofs.framing.grid_frames_anew.Goals as goal
 
 pub wide_for-requires : goal.wide_for-requires
 wide_for-requires g c =
-    let grid : (sight_at (bare c.args.tree.now.tree) c.args.id).label.kind ≡ kind.Grid = c.requires.grid in
-    let counts : length c.as_slice-reps.result.now ≡ length (sight_at (bare c.args.tree.now.tree) c.args.id).chain = ap length c.as_slice-reps.ensures ∙ c.requires.fits.reps in
-    let seat : IsSeat (sight_at (bare c.args.tree.now.tree) c.args.id) c.as_slice-reps.result.now c.args.above.now c.args.area = subst (λ (r : List Pair). IsSeat (sight_at (bare c.args.tree.now.tree) c.args.id) r c.args.above.now c.args.area) (sym c.as_slice-reps.ensures) c.requires.seat in
-    let inline : IsGivenFor true (sees_columns (sight_at (bare c.args.tree.now.tree) c.args.id)) (outer_context (sight_at (bare c.args.tree.now.tree) c.args.id) c.as_slice-reps.result.now).columns.table.tracks c.args.query.inline =
-    (subst (λ (r : List Pair). IsGivenFor true (sees_columns (sight_at (bare c.args.tree.now.tree) c.args.id)) (outer_context (sight_at (bare c.args.tree.now.tree) c.args.id) r).columns.table.tracks c.args.query.inline) (sym c.as_slice-reps.ensures)
-    (subst (λ (t : Bool). IsGivenFor t (sees_columns (sight_at (bare c.args.tree.now.tree) c.args.id)) (outer_context (sight_at (bare c.args.tree.now.tree) c.args.id) c.args.query.reps).columns.table.tracks c.args.query.inline)
+    let grid : (sight_at (nodes c.args.walk.now) c.args.id).label.kind ≡ kind.Grid = c.requires.grid in
+    let counts : length c.args.seat.now.reps.now ≡ length (sight_at (nodes c.args.walk.now) c.args.id).chain = ap length (sym (ap (λ (q : Query). q.reps) c.requires.query)) ∙ c.requires.fits.reps in
+    let seat : IsSeat (sight_at (nodes c.args.walk.now) c.args.id) c.args.seat.now.reps.now c.args.seat.now.above.now c.args.seat.now.area = c.requires.seat in
+    let inline : IsGivenFor true (sees_columns (sight_at (nodes c.args.walk.now) c.args.id)) (outer_context (sight_at (nodes c.args.walk.now) c.args.id) c.args.seat.now.reps.now).columns.table.tracks c.args.query.inline =
+    (subst (λ (r : List Pair). IsGivenFor true (sees_columns (sight_at (nodes c.args.walk.now) c.args.id)) (outer_context (sight_at (nodes c.args.walk.now) c.args.id) r).columns.table.tracks c.args.query.inline) (ap (λ (q : Query). q.reps) c.requires.query)
+    (subst (λ (t : Bool). IsGivenFor t (sees_columns (sight_at (nodes c.args.walk.now) c.args.id)) (outer_context (sight_at (nodes c.args.walk.now) c.args.id) c.args.query.reps).columns.table.tracks c.args.query.inline)
     (ap (λ (q : Query). needs_inline q.ask) c.requires.query) c.requires.fits.inline)) in
-    let spread : IsSpread (farthest (level_at (bare c.args.tree.now.tree) c.args.id)) c.args.query.inline = c.requires.columns in
+    let spread : IsSpread (farthest (level_at (nodes c.args.walk.now) c.args.id)) c.args.query.inline = c.requires.columns in
     search rules
 
 pub rows_of-requires-clause-live : goal.rows_of-requires-clause-live
-rows_of-requires-clause-live g c = subst (λ (z : BareTrees). IsLive z c.args.id) (sym (c.in_ok-wide.ensures.below c.args.query (sym c.as_slice-reps.ensures) refl (ap (λ (q : Query). needs_inline q.ask) c.requires.query)).walk.bare_same) c.requires.live
+rows_of-requires-clause-live g c = subst (λ (z : BareTrees). IsLive z c.args.id) (sym (c.in_ok-wide.ensures.below c.args.query (ap (λ (q : Query). q.reps) c.requires.query) refl (ap (λ (q : Query). needs_inline q.ask) c.requires.query)).walk.bare_same) c.requires.live
 
 pub rows_of-requires-clause-readable : goal.rows_of-requires-clause-readable
-rows_of-requires-clause-readable g c = subst (AreReadable) (sym (c.in_ok-wide.ensures.below c.args.query (sym c.as_slice-reps.ensures) refl (ap (λ (q : Query). needs_inline q.ask) c.requires.query)).walk.bare_same) c.requires.readable
+rows_of-requires-clause-readable g c = subst (AreReadable) (sym (c.in_ok-wide.ensures.below c.args.query (ap (λ (q : Query). q.reps) c.requires.query) refl (ap (λ (q : Query). needs_inline q.ask) c.requires.query)).walk.bare_same) c.requires.stands.readable
 
 pub rows_of-requires-clause-kind : goal.rows_of-requires-clause-kind
-rows_of-requires-clause-kind g c = subst (λ (z : BareTrees). (sight_at z c.args.id).label.kind ≡ kind.Grid) (sym (c.in_ok-wide.ensures.below c.args.query (sym c.as_slice-reps.ensures) refl (ap (λ (q : Query). needs_inline q.ask) c.requires.query)).walk.bare_same) c.requires.grid
+rows_of-requires-clause-kind g c = subst (λ (z : BareTrees). (sight_at z c.args.id).label.kind ≡ kind.Grid) (sym (c.in_ok-wide.ensures.below c.args.query (ap (λ (q : Query). q.reps) c.requires.query) refl (ap (λ (q : Query). needs_inline q.ask) c.requires.query)).walk.bare_same) c.requires.grid
 
 pub rows_of-requires-clause-wide : goal.rows_of-requires-clause-wide
 rows_of-requires-clause-wide g c =
-    subst (λ (w : GridWide). IsWide (bare c.wide_for.new.tree.tree) c.args.id c.as_slice-reps.result.now c.args.query.inline w) (sym c.grid-held.ensures)
-    (subst (λ (z : BareTrees). IsWide z c.args.id c.as_slice-reps.result.now c.args.query.inline c.in_ok-wide.wide) (sym (c.in_ok-wide.ensures.below c.args.query (sym c.as_slice-reps.ensures) refl (ap (λ (q : Query). needs_inline q.ask) c.requires.query)).walk.bare_same) c.in_ok-wide.ensures.value)
+    subst (λ (w : GridWide). IsWide (nodes c.wide_for.new.walk) c.args.id c.args.seat.now.reps.now c.args.query.inline w) (sym c.grid-held.ensures)
+    (subst (λ (z : BareTrees). IsWide z c.args.id c.args.seat.now.reps.now c.args.query.inline c.in_ok-wide.wide)
+    (sym (c.in_ok-wide.ensures.below c.args.query (ap (λ (q : Query). q.reps) c.requires.query) refl (ap (λ (q : Query). needs_inline q.ask) c.requires.query)).walk.bare_same) c.in_ok-wide.ensures.value)
 
 pub rows_of-requires-clause-block : goal.rows_of-requires-clause-block
 rows_of-requires-clause-block g c =
-    subst (λ (z : BareTrees). IsGivenFor true (sees_rows (sight_at z c.args.id)) (outer_context (sight_at z c.args.id) c.as_slice-reps.result.now).rows.table.tracks c.args.query.block)
-    (sym (c.in_ok-wide.ensures.below c.args.query (sym c.as_slice-reps.ensures) refl (ap (λ (q : Query). needs_inline q.ask) c.requires.query)).walk.bare_same)
-    (subst (λ (r : List Pair). IsGivenFor true (sees_rows (sight_at (bare c.args.tree.now.tree) c.args.id)) (outer_context (sight_at (bare c.args.tree.now.tree) c.args.id) r).rows.table.tracks c.args.query.block) (sym c.as_slice-reps.ensures)
-    (subst (λ (t : Bool). IsGivenFor t (sees_rows (sight_at (bare c.args.tree.now.tree) c.args.id)) (outer_context (sight_at (bare c.args.tree.now.tree) c.args.id) c.args.query.reps).rows.table.tracks c.args.query.block) (ap (λ (q : Query). needs_block q.ask) c.requires.query)
+    subst (λ (z : BareTrees). IsGivenFor true (sees_rows (sight_at z c.args.id)) (outer_context (sight_at z c.args.id) c.args.seat.now.reps.now).rows.table.tracks c.args.query.block)
+    (sym (c.in_ok-wide.ensures.below c.args.query (ap (λ (q : Query). q.reps) c.requires.query) refl (ap (λ (q : Query). needs_inline q.ask) c.requires.query)).walk.bare_same)
+    (subst (λ (r : List Pair). IsGivenFor true (sees_rows (sight_at (nodes c.args.walk.now) c.args.id)) (outer_context (sight_at (nodes c.args.walk.now) c.args.id) r).rows.table.tracks c.args.query.block) (ap (λ (q : Query). q.reps) c.requires.query)
+    (subst (λ (t : Bool). IsGivenFor t (sees_rows (sight_at (nodes c.args.walk.now) c.args.id)) (outer_context (sight_at (nodes c.args.walk.now) c.args.id) c.args.query.reps).rows.table.tracks c.args.query.block) (ap (λ (q : Query). needs_block q.ask) c.requires.query)
     c.requires.fits.block))
 
 pub rows_of-requires-clause-spread : goal.rows_of-requires-clause-spread
-rows_of-requires-clause-spread g c = subst (λ (z : BareTrees). IsSpread (farthest (level_at z c.args.id)) c.args.query.block) (sym (c.in_ok-wide.ensures.below c.args.query (sym c.as_slice-reps.ensures) refl (ap (λ (q : Query). needs_inline q.ask) c.requires.query)).walk.bare_same) c.requires.rows
+rows_of-requires-clause-spread g c = subst (λ (z : BareTrees). IsSpread (farthest (level_at z c.args.id)) c.args.query.block)
+    (sym (c.in_ok-wide.ensures.below c.args.query (ap (λ (q : Query). q.reps) c.requires.query) refl (ap (λ (q : Query). needs_inline q.ask) c.requires.query)).walk.bare_same) c.requires.rows
 
 pub grid_frames-requires-clause-live : goal.grid_frames-requires-clause-live
-grid_frames-requires-clause-live g c = subst (λ (z : BareTrees). IsLive z c.args.id) (sym (c.take_frames.ensures.alike.bare ∙ (c.in_ok-wide.ensures.below c.args.query (sym c.as_slice-reps.ensures) refl (ap (λ (q : Query). needs_inline q.ask) c.requires.query)).walk.bare_same)) c.requires.live
+grid_frames-requires-clause-live g c = subst (λ (z : BareTrees). IsLive z c.args.id)
+    (sym (c.take_frames.ensures.bare ∙ (c.in_ok-wide.ensures.below c.args.query (ap (λ (q : Query). q.reps) c.requires.query) refl (ap (λ (q : Query). needs_inline q.ask) c.requires.query)).walk.bare_same)) c.requires.live
 
 pub grid_frames-requires-clause-readable : goal.grid_frames-requires-clause-readable
-grid_frames-requires-clause-readable g c = subst AreReadable (sym (c.take_frames.ensures.alike.bare ∙ (c.in_ok-wide.ensures.below c.args.query (sym c.as_slice-reps.ensures) refl (ap (λ (q : Query). needs_inline q.ask) c.requires.query)).walk.bare_same)) c.requires.readable
+grid_frames-requires-clause-readable g c = c.take_frames.ensures.stands.readable
 
 pub grid_frames-requires-clause-kind : goal.grid_frames-requires-clause-kind
 grid_frames-requires-clause-kind g c =
-    subst (λ (z : BareTrees). (sight_at z c.args.id).label.kind ≡ kind.Grid) (sym (c.take_frames.ensures.alike.bare ∙ (c.in_ok-wide.ensures.below c.args.query (sym c.as_slice-reps.ensures) refl (ap (λ (q : Query). needs_inline q.ask) c.requires.query)).walk.bare_same)) c.requires.grid
+    subst (λ (z : BareTrees). (sight_at z c.args.id).label.kind ≡ kind.Grid) (sym (c.take_frames.ensures.bare ∙ (c.in_ok-wide.ensures.below c.args.query (ap (λ (q : Query). q.reps) c.requires.query) refl (ap (λ (q : Query). needs_inline q.ask) c.requires.query)).walk.bare_same)) c.requires.grid
 
 pub grid_frames-requires-clause-wide : goal.grid_frames-requires-clause-wide
 grid_frames-requires-clause-wide g c =
-    subst (λ (w : GridWide). IsWide (bare c.take_frames.new.tree.tree) c.args.id c.as_slice-reps.result.now c.args.query.inline w) (sym c.grid-held.ensures)
-    (subst (λ (z : BareTrees). IsWide z c.args.id c.as_slice-reps.result.now c.args.query.inline c.in_ok-wide.wide)
-    (sym (c.take_frames.ensures.alike.bare ∙ (c.in_ok-wide.ensures.below c.args.query (sym c.as_slice-reps.ensures) refl (ap (λ (q : Query). needs_inline q.ask) c.requires.query)).walk.bare_same)) c.in_ok-wide.ensures.value)
+    subst (λ (w : GridWide). IsWide (nodes c.take_frames.new.self) c.args.id c.args.seat.now.reps.now c.args.query.inline w) (sym c.grid-held.ensures)
+    (subst (λ (z : BareTrees). IsWide z c.args.id c.args.seat.now.reps.now c.args.query.inline c.in_ok-wide.wide)
+    (sym (c.take_frames.ensures.bare ∙ (c.in_ok-wide.ensures.below c.args.query (ap (λ (q : Query). q.reps) c.requires.query) refl (ap (λ (q : Query). needs_inline q.ask) c.requires.query)).walk.bare_same)) c.in_ok-wide.ensures.value)
 
 pub grid_frames-requires-clause-columns : goal.grid_frames-requires-clause-columns
 grid_frames-requires-clause-columns g c =
     subst (λ (w : GridWide). AreTracks w.parts.base.placed.columns w.columns.edges) (sym c.grid-held.ensures)
-    (are_tracks c.in_ok-wide.wide.parts.base.placed.columns c.in_ok-wide.wide.columns.edges (level_at (bare c.args.tree.now.tree) c.args.id) (c.root.ensures.tree.level c.args.id) c.in_ok-wide.ensures.value.counted c.in_ok-wide.ensures.value.spread)
+    (are_tracks c.in_ok-wide.wide.parts.base.placed.columns c.in_ok-wide.wide.columns.edges (level_at (nodes c.args.walk.now) c.args.id) (c.root.ensures.tree.level c.args.id) c.in_ok-wide.ensures.value.counted c.in_ok-wide.ensures.value.spread)
 
 pub grid_frames-requires-clause-past : goal.grid_frames-requires-clause-past
-grid_frames-requires-clause-past g c = subst (λ (z : BareTrees). IfSome c.in_ok-past.past (ArePastFrames z c.args.id)) (sym c.take_frames.ensures.alike.bare) c.in_ok-past.ensures.frames
+grid_frames-requires-clause-past g c = subst (λ (z : BareTrees). IfSome c.in_ok-past.past (ArePastFrames z c.args.id)) (sym c.take_frames.ensures.bare) c.in_ok-past.ensures.frames
 
 pub keep_last-requires-clause-live : goal.keep_last-requires-clause-live
-keep_last-requires-clause-live g c = subst (λ (z : BareTrees). IsLive z c.args.id) (sym (c.take_frames.ensures.alike.bare ∙ (c.in_ok-wide.ensures.below c.args.query (sym c.as_slice-reps.ensures) refl (ap (λ (q : Query). needs_inline q.ask) c.requires.query)).walk.bare_same)) c.requires.live
+keep_last-requires-clause-live g c = subst (λ (z : BareTrees). IsLive z c.args.id)
+    (sym (c.take_frames.ensures.bare ∙ (c.in_ok-wide.ensures.below c.args.query (ap (λ (q : Query). q.reps) c.requires.query) refl (ap (λ (q : Query). needs_inline q.ask) c.requires.query)).walk.bare_same)) c.requires.live
 
 pub keep_last-requires-clause-places : goal.keep_last-requires-clause-places
 keep_last-requires-clause-places g c =
-    places_held (bare c.take_frames.new.tree.tree) c.args.id c.as_slice-reps.result.now c.args.query.inline c.grid-held.result.now.parts.base
-    (subst (λ (w : GridWide). IsWide (bare c.take_frames.new.tree.tree) c.args.id c.as_slice-reps.result.now c.args.query.inline w) (sym c.grid-held.ensures)
-    (subst (λ (z : BareTrees). IsWide z c.args.id c.as_slice-reps.result.now c.args.query.inline c.in_ok-wide.wide)
-    (sym (c.take_frames.ensures.alike.bare ∙ (c.in_ok-wide.ensures.below c.args.query (sym c.as_slice-reps.ensures) refl (ap (λ (q : Query). needs_inline q.ask) c.requires.query)).walk.bare_same)) c.in_ok-wide.ensures.value)).grid.base
+    places_held (nodes c.take_frames.new.self) c.args.id c.args.seat.now.reps.now c.args.query.inline c.grid-held.result.now.parts.base
+    (subst (λ (w : GridWide). IsWide (nodes c.take_frames.new.self) c.args.id c.args.seat.now.reps.now c.args.query.inline w) (sym c.grid-held.ensures)
+    (subst (λ (z : BareTrees). IsWide z c.args.id c.args.seat.now.reps.now c.args.query.inline c.in_ok-wide.wide)
+    (sym (c.take_frames.ensures.bare ∙ (c.in_ok-wide.ensures.below c.args.query (ap (λ (q : Query). q.reps) c.requires.query) refl (ap (λ (q : Query). needs_inline q.ask) c.requires.query)).walk.bare_same)) c.in_ok-wide.ensures.value)).grid.base
 
 pub keep_last-requires-clause-frames : goal.keep_last-requires-clause-frames
 keep_last-requires-clause-frames g c =
-    subst (AreFrames (sight_at (bare c.take_frames.new.tree.tree) c.args.id) (kid_at (bare c.take_frames.new.tree.tree)) c.grid-held.result.now.parts.base c.grid-held.result.now.columns c.in_ok-rows.rows Each) (sym c.in_ok-shared.ensures) c.in_ok-frames.ensures.frames
+    subst (AreFrames (sight_at (nodes c.take_frames.new.self) c.args.id) (kid_at (nodes c.take_frames.new.self)) c.grid-held.result.now.parts.base c.grid-held.result.now.columns c.in_ok-rows.rows Each) (sym c.in_ok-shared.ensures) c.in_ok-frames.ensures.frames
 
 pub put-requires-clause-live : goal.put-requires-clause-live
 put-requires-clause-live g c =
-    subst (λ (z : BareTrees). IsLive z c.args.id) (sym (c.keep_last.ensures.alike.bare ∙ c.take_frames.ensures.alike.bare ∙ (c.in_ok-wide.ensures.below c.args.query (sym c.as_slice-reps.ensures) refl (ap (λ (q : Query). needs_inline q.ask) c.requires.query)).walk.bare_same))
+    subst (λ (z : BareTrees). IsLive z c.args.id) (sym (c.keep_last.ensures.bare ∙ c.take_frames.ensures.bare ∙ (c.in_ok-wide.ensures.below c.args.query (ap (λ (q : Query). q.reps) c.requires.query) refl (ap (λ (q : Query). needs_inline q.ask) c.requires.query)).walk.bare_same))
     c.requires.live
 
 pub put-requires-clause-absent : goal.put-requires-clause-absent
 put-requires-clause-absent g c =
-    subst (IsAbsent c.args.query) (sym (c.keep_last.ensures.alike.kept c.args.id ∙ c.take_frames.ensures.alike.kept c.args.id ∙ (c.in_ok-wide.ensures.below c.args.query (sym c.as_slice-reps.ensures) refl (ap (λ (q : Query). needs_inline q.ask) c.requires.query)).own)) c.requires.absent
+    subst (IsAbsent c.args.query) (sym (c.keep_last.ensures.kept c.args.id ∙ c.take_frames.ensures.kept c.args.id ∙ (c.in_ok-wide.ensures.below c.args.query (ap (λ (q : Query). q.reps) c.requires.query) refl (ap (λ (q : Query). needs_inline q.ask) c.requires.query)).own)) c.requires.absent
 
 pub put-requires-clause-fits : goal.put-requires-clause-fits
 put-requires-clause-fits g c =
     subst (λ (z : BareTrees). Fits (sight_at z c.args.id) c.args.query)
-    (sym (c.keep_last.ensures.alike.bare ∙ c.take_frames.ensures.alike.bare ∙ (c.in_ok-wide.ensures.below c.args.query (sym c.as_slice-reps.ensures) refl (ap (λ (q : Query). needs_inline q.ask) c.requires.query)).walk.bare_same)) c.requires.fits
+    (sym (c.keep_last.ensures.bare ∙ c.take_frames.ensures.bare ∙ (c.in_ok-wide.ensures.below c.args.query (ap (λ (q : Query). q.reps) c.requires.query) refl (ap (λ (q : Query). needs_inline q.ask) c.requires.query)).walk.bare_same)) c.requires.fits
 
 pub put-requires-clause-quiet : goal.put-requires-clause-quiet
 put-requires-clause-quiet g c =
-    grid_quiet (bare c.keep_last.new.tree.tree) c.args.id c.args.query
+    grid_quiet (nodes c.keep_last.new.walk) c.args.id c.args.query
     (subst (λ (z : BareTrees). (sight_at z c.args.id).label.kind ≡ kind.Grid)
-    (sym (c.keep_last.ensures.alike.bare ∙ c.take_frames.ensures.alike.bare ∙ (c.in_ok-wide.ensures.below c.args.query (sym c.as_slice-reps.ensures) refl (ap (λ (q : Query). needs_inline q.ask) c.requires.query)).walk.bare_same)) c.requires.grid)
+    (sym (c.keep_last.ensures.bare ∙ c.take_frames.ensures.bare ∙ (c.in_ok-wide.ensures.below c.args.query (ap (λ (q : Query). q.reps) c.requires.query) refl (ap (λ (q : Query). needs_inline q.ask) c.requires.query)).walk.bare_same)) c.requires.grid)
 
 pub put-requires-clause-value : goal.put-requires-clause-value
 put-requires-clause-value g c =
     ap (λ (l : List NodeFrame). child_frames (map frame_of l)) c.in_ok-shared.ensures ∙
-    frames_told (bare c.args.tree.now.tree) (bare c.take_frames.new.tree.tree) (c.take_frames.ensures.alike.bare ∙ (c.in_ok-wide.ensures.below c.args.query (sym c.as_slice-reps.ensures) refl (ap (λ (q : Query). needs_inline q.ask) c.requires.query)).walk.bare_same)
-    (bare c.wide_for.new.tree.tree) (c.in_ok-wide.ensures.below c.args.query (sym c.as_slice-reps.ensures) refl (ap (λ (q : Query). needs_inline q.ask) c.requires.query)).walk.bare_same c.args.id c.args.query c.as_slice-reps.result.now c.as_slice-reps.ensures c.in_ok-rows.rows
+    frames_told (nodes c.args.walk.now) (nodes c.take_frames.new.self) (c.take_frames.ensures.bare ∙ (c.in_ok-wide.ensures.below c.args.query (ap (λ (q : Query). q.reps) c.requires.query) refl (ap (λ (q : Query). needs_inline q.ask) c.requires.query)).walk.bare_same)
+    (nodes c.wide_for.new.walk) (c.in_ok-wide.ensures.below c.args.query (ap (λ (q : Query). q.reps) c.requires.query) refl (ap (λ (q : Query). needs_inline q.ask) c.requires.query)).walk.bare_same c.args.id c.args.query c.args.seat.now.reps.now
+    (sym (ap (λ (q : Query). q.reps) c.requires.query)) c.in_ok-rows.rows
     (map frame_of c.in_ok-frames.frames) c.requires.grid (ap (λ (q : Query). q.ask) c.requires.query) c.in_ok-rows.ensures.value c.in_ok-frames.ensures.value
     ∙ ap (λ (z : BareTrees). answer_of (sight_at z c.args.id) c.args.query)
-    (sym (c.keep_last.ensures.alike.bare ∙ c.take_frames.ensures.alike.bare ∙ (c.in_ok-wide.ensures.below c.args.query (sym c.as_slice-reps.ensures) refl (ap (λ (q : Query). needs_inline q.ask) c.requires.query)).walk.bare_same))
+    (sym (c.keep_last.ensures.bare ∙ c.take_frames.ensures.bare ∙ (c.in_ok-wide.ensures.below c.args.query (ap (λ (q : Query). q.reps) c.requires.query) refl (ap (λ (q : Query). needs_inline q.ask) c.requires.query)).walk.bare_same))
 
 pub put-requires-clause-children : goal.put-requires-clause-children
-put-requires-clause-children g c = ap (map (λ (f : NodeFrame). f.child)) c.in_ok-shared.ensures ∙ c.in_ok-frames.ensures.children ∙ ap (λ (z : BareTrees). children_at z c.args.id) (sym c.keep_last.ensures.alike.bare)
+put-requires-clause-children g c = ap (map (λ (f : NodeFrame). f.child)) c.in_ok-shared.ensures ∙ c.in_ok-frames.ensures.children ∙ ap (λ (z : BareTrees). children_at z c.args.id) (sym c.keep_last.ensures.bare)
 
 pub returns-clause-value : goal.returns-clause-value
 returns-clause-value g c =
     ap (λ (l : List NodeFrame). child_frames (map frame_of l)) (c.in_ok-told.ensures ∙ c.in_ok-shared.ensures) ∙
-    frames_told (bare c.args.tree.now.tree) (bare c.take_frames.new.tree.tree) (c.take_frames.ensures.alike.bare ∙ (c.in_ok-wide.ensures.below c.args.query (sym c.as_slice-reps.ensures) refl (ap (λ (q : Query). needs_inline q.ask) c.requires.query)).walk.bare_same)
-    (bare c.wide_for.new.tree.tree) (c.in_ok-wide.ensures.below c.args.query (sym c.as_slice-reps.ensures) refl (ap (λ (q : Query). needs_inline q.ask) c.requires.query)).walk.bare_same c.args.id c.args.query c.as_slice-reps.result.now c.as_slice-reps.ensures c.in_ok-rows.rows
+    frames_told (nodes c.args.walk.now) (nodes c.take_frames.new.self) (c.take_frames.ensures.bare ∙ (c.in_ok-wide.ensures.below c.args.query (ap (λ (q : Query). q.reps) c.requires.query) refl (ap (λ (q : Query). needs_inline q.ask) c.requires.query)).walk.bare_same)
+    (nodes c.wide_for.new.walk) (c.in_ok-wide.ensures.below c.args.query (ap (λ (q : Query). q.reps) c.requires.query) refl (ap (λ (q : Query). needs_inline q.ask) c.requires.query)).walk.bare_same c.args.id c.args.query c.args.seat.now.reps.now
+    (sym (ap (λ (q : Query). q.reps) c.requires.query)) c.in_ok-rows.rows
     (map frame_of c.in_ok-frames.frames) c.requires.grid (ap (λ (q : Query). q.ask) c.requires.query) c.in_ok-rows.ensures.value c.in_ok-frames.ensures.value
 
 pub returns-clause-children : goal.returns-clause-children
 returns-clause-children g c =
     ap (map (λ (f : NodeFrame). f.child)) (c.in_ok-told.ensures ∙ c.in_ok-shared.ensures) ∙ c.in_ok-frames.ensures.children ∙
-    ap (λ (z : BareTrees). children_at z c.args.id) (c.take_frames.ensures.alike.bare ∙ (c.in_ok-wide.ensures.below c.args.query (sym c.as_slice-reps.ensures) refl (ap (λ (q : Query). needs_inline q.ask) c.requires.query)).walk.bare_same)
+    ap (λ (z : BareTrees). children_at z c.args.id) (c.take_frames.ensures.bare ∙ (c.in_ok-wide.ensures.below c.args.query (ap (λ (q : Query). q.reps) c.requires.query) refl (ap (λ (q : Query). needs_inline q.ask) c.requires.query)).walk.bare_same)
 
 pub returns-clause-walked : goal.returns-clause-walked
 returns-clause-walked g c =
-    c.in_ok-put.ensures.joins _ 2 _ _ (omega arith)
-    (then_alike c.take_frames.new.tree c.keep_last.new.tree c.keep_last.ensures.alike c.wide_for.new.tally c.rows_of.new.passes (g.R.Ruler.log c.wide_for.new.ruler) (state c.args.tree.now c.args.tally.now c.args.passes.now (g.R.Ruler.log c.args.ruler.now)) c.args.id c.args.query 2
-    (then_alike c.wide_for.new.tree c.take_frames.new.tree c.take_frames.ensures.alike c.wide_for.new.tally c.rows_of.new.passes (g.R.Ruler.log c.wide_for.new.ruler) (state c.args.tree.now c.args.tally.now c.args.passes.now (g.R.Ruler.log c.args.ruler.now)) c.args.id c.args.query 2
-    (ticked c.args.id c.args.query 1 1 _ _ c.rows_of.new.passes c.rows_of.ensures.ticks (c.in_ok-wide.ensures.below c.args.query (sym c.as_slice-reps.ensures) refl (ap (λ (q : Query). needs_inline q.ask) c.requires.query)))))
+    c.in_ok-put.ensures.joins _ 2 (omega arith)
+    (c.keep_last.ensures.below c.args.query 2 (seen g.R.Ruler.log c.args.walk.now)
+    (c.take_frames.ensures.below c.args.query 2 (seen g.R.Ruler.log c.args.walk.now)
+    (ticked c.args.id c.args.query 1 1 _ _ c.rows_of.new.passes c.rows_of.ensures.ticks (c.in_ok-wide.ensures.below c.args.query (ap (λ (q : Query). q.reps) c.requires.query) refl (ap (λ (q : Query). needs_inline q.ask) c.requires.query)))))
 
 pub returns-in_err-put-clause-stopped : goal.returns-in_err-put-clause-stopped
 returns-in_err-put-clause-stopped g c =
     on_err _ _
-    (c.in_err-put.ensures.stopped _ 2 _ _
-    (then_alike c.take_frames.new.tree c.keep_last.new.tree c.keep_last.ensures.alike c.wide_for.new.tally c.rows_of.new.passes (g.R.Ruler.log c.wide_for.new.ruler) (state c.args.tree.now c.args.tally.now c.args.passes.now (g.R.Ruler.log c.args.ruler.now)) c.args.id c.args.query 2
-    (then_alike c.wide_for.new.tree c.take_frames.new.tree c.take_frames.ensures.alike c.wide_for.new.tally c.rows_of.new.passes (g.R.Ruler.log c.wide_for.new.ruler) (state c.args.tree.now c.args.tally.now c.args.passes.now (g.R.Ruler.log c.args.ruler.now)) c.args.id
-    c.args.query 2 (ticked c.args.id c.args.query 1 1 _ _ c.rows_of.new.passes c.rows_of.ensures.ticks (c.in_ok-wide.ensures.below c.args.query (sym c.as_slice-reps.ensures) refl (ap (λ (q : Query). needs_inline q.ask) c.requires.query))))))
+    (c.in_err-put.ensures.stopped _ 2
+    (c.keep_last.ensures.below c.args.query 2 (seen g.R.Ruler.log c.args.walk.now)
+    (c.take_frames.ensures.below c.args.query 2 (seen g.R.Ruler.log c.args.walk.now)
+    (ticked c.args.id c.args.query 1 1 _ _ c.rows_of.new.passes c.rows_of.ensures.ticks (c.in_ok-wide.ensures.below c.args.query (ap (λ (q : Query). q.reps) c.requires.query) refl (ap (λ (q : Query). needs_inline q.ask) c.requires.query))))))
 
 pub returns-clause-own : goal.returns-clause-own
 returns-clause-own g c =
     c.in_ok-put.ensures.own ∙
-    (λ i. kept_with ((c.keep_last.ensures.alike.kept c.args.id ∙ c.take_frames.ensures.alike.kept c.args.id ∙ (c.in_ok-wide.ensures.below c.args.query (sym c.as_slice-reps.ensures) refl (ap (λ (q : Query). needs_inline q.ask) c.requires.query)).own) i)
+    (λ i. kept_with ((c.keep_last.ensures.kept c.args.id ∙ c.take_frames.ensures.kept c.args.id ∙ (c.in_ok-wide.ensures.below c.args.query (ap (λ (q : Query). q.reps) c.requires.query) refl (ap (λ (q : Query). needs_inline q.ask) c.requires.query)).own) i)
     ((c.args.query, answer.Frames (sym c.in_ok-told.ensures i)) ∷ []))
 
 pub returns-in_err-wide-clause-stopped : goal.returns-in_err-wide-clause-stopped
-returns-in_err-wide-clause-stopped g c = on_err _ _ (c.in_err-wide.ensures.stopped c.args.query (sym c.as_slice-reps.ensures) refl (ap (λ (q : Query). needs_inline q.ask) c.requires.query))
+returns-in_err-wide-clause-stopped g c = on_err _ _ (c.in_err-wide.ensures.stopped c.args.query (ap (λ (q : Query). q.reps) c.requires.query) refl (ap (λ (q : Query). needs_inline q.ask) c.requires.query))
 
 pub returns-in_err-rows-clause-stopped : goal.returns-in_err-rows-clause-stopped
 returns-in_err-rows-clause-stopped g c =
-    on_err _ _ (stopped c.args.id c.args.query 2 _ _ (ticked c.args.id c.args.query 1 1 _ _ c.rows_of.new.passes c.rows_of.ensures.ticks (c.in_ok-wide.ensures.below c.args.query (sym c.as_slice-reps.ensures) refl (ap (λ (q : Query). needs_inline q.ask) c.requires.query))))
+    on_err _ _ (stopped c.args.id c.args.query 2 _ _ (ticked c.args.id c.args.query 1 1 _ _ c.rows_of.new.passes c.rows_of.ensures.ticks (c.in_ok-wide.ensures.below c.args.query (ap (λ (q : Query). q.reps) c.requires.query) refl (ap (λ (q : Query). needs_inline q.ask) c.requires.query))))
 
 pub returns-in_err-past-clause-stopped : goal.returns-in_err-past-clause-stopped
 returns-in_err-past-clause-stopped g c =
     on_err _ _
     (stopped c.args.id c.args.query 2 _ _
-    (then_alike c.wide_for.new.tree c.take_frames.new.tree c.take_frames.ensures.alike c.wide_for.new.tally c.rows_of.new.passes (g.R.Ruler.log c.wide_for.new.ruler) (state c.args.tree.now c.args.tally.now c.args.passes.now (g.R.Ruler.log c.args.ruler.now)) c.args.id c.args.query 2
-    (ticked c.args.id c.args.query 1 1 _ _ c.rows_of.new.passes c.rows_of.ensures.ticks (c.in_ok-wide.ensures.below c.args.query (sym c.as_slice-reps.ensures) refl (ap (λ (q : Query). needs_inline q.ask) c.requires.query)))))
+    (c.take_frames.ensures.below c.args.query 2 (seen g.R.Ruler.log c.args.walk.now)
+    (ticked c.args.id c.args.query 1 1 _ _ c.rows_of.new.passes c.rows_of.ensures.ticks (c.in_ok-wide.ensures.below c.args.query (ap (λ (q : Query). q.reps) c.requires.query) refl (ap (λ (q : Query). needs_inline q.ask) c.requires.query)))))
 
 pub returns-in_err-frames-clause-stopped : goal.returns-in_err-frames-clause-stopped
 returns-in_err-frames-clause-stopped g c =
     on_err _ _
     (stopped c.args.id c.args.query 2 _ _
-    (then_alike c.wide_for.new.tree c.take_frames.new.tree c.take_frames.ensures.alike c.wide_for.new.tally c.rows_of.new.passes (g.R.Ruler.log c.wide_for.new.ruler) (state c.args.tree.now c.args.tally.now c.args.passes.now (g.R.Ruler.log c.args.ruler.now)) c.args.id c.args.query 2
-    (ticked c.args.id c.args.query 1 1 _ _ c.rows_of.new.passes c.rows_of.ensures.ticks (c.in_ok-wide.ensures.below c.args.query (sym c.as_slice-reps.ensures) refl (ap (λ (q : Query). needs_inline q.ask) c.requires.query)))))
+    (c.take_frames.ensures.below c.args.query 2 (seen g.R.Ruler.log c.args.walk.now)
+    (ticked c.args.id c.args.query 1 1 _ _ c.rows_of.new.passes c.rows_of.ensures.ticks (c.in_ok-wide.ensures.below c.args.query (ap (λ (q : Query). q.reps) c.requires.query) refl (ap (λ (q : Query). needs_inline q.ask) c.requires.query)))))
 
 pub returns-in_err-shared-clause-stopped : goal.returns-in_err-shared-clause-stopped
 returns-in_err-shared-clause-stopped g c =
     on_err _ _
     (stopped c.args.id c.args.query 2 _ _
-    (then_alike c.wide_for.new.tree c.take_frames.new.tree c.take_frames.ensures.alike c.wide_for.new.tally c.rows_of.new.passes (g.R.Ruler.log c.wide_for.new.ruler) (state c.args.tree.now c.args.tally.now c.args.passes.now (g.R.Ruler.log c.args.ruler.now)) c.args.id c.args.query 2
-    (ticked c.args.id c.args.query 1 1 _ _ c.rows_of.new.passes c.rows_of.ensures.ticks (c.in_ok-wide.ensures.below c.args.query (sym c.as_slice-reps.ensures) refl (ap (λ (q : Query). needs_inline q.ask) c.requires.query)))))
+    (c.take_frames.ensures.below c.args.query 2 (seen g.R.Ruler.log c.args.walk.now)
+    (ticked c.args.id c.args.query 1 1 _ _ c.rows_of.new.passes c.rows_of.ensures.ticks (c.in_ok-wide.ensures.below c.args.query (ap (λ (q : Query). q.reps) c.requires.query) refl (ap (λ (q : Query). needs_inline q.ask) c.requires.query)))))
 
 pub returns-in_err-told-clause-stopped : goal.returns-in_err-told-clause-stopped
 returns-in_err-told-clause-stopped g c =
     on_err _ _
     (stopped c.args.id c.args.query 2 _ _
-    (then_alike c.wide_for.new.tree c.take_frames.new.tree c.take_frames.ensures.alike c.wide_for.new.tally c.rows_of.new.passes (g.R.Ruler.log c.wide_for.new.ruler) (state c.args.tree.now c.args.tally.now c.args.passes.now (g.R.Ruler.log c.args.ruler.now)) c.args.id c.args.query 2
-    (ticked c.args.id c.args.query 1 1 _ _ c.rows_of.new.passes c.rows_of.ensures.ticks (c.in_ok-wide.ensures.below c.args.query (sym c.as_slice-reps.ensures) refl (ap (λ (q : Query). needs_inline q.ask) c.requires.query)))))
+    (c.take_frames.ensures.below c.args.query 2 (seen g.R.Ruler.log c.args.walk.now)
+    (ticked c.args.id c.args.query 1 1 _ _ c.rows_of.new.passes c.rows_of.ensures.ticks (c.in_ok-wide.ensures.below c.args.query (ap (λ (q : Query). q.reps) c.requires.query) refl (ap (λ (q : Query). needs_inline q.ask) c.requires.query)))))
 
 pub returns-in_err-keep_last-clause-stopped : goal.returns-in_err-keep_last-clause-stopped
 returns-in_err-keep_last-clause-stopped g c =
     on_err _ _
     (stopped c.args.id c.args.query 2 _ _
-    (then_alike c.take_frames.new.tree c.keep_last.new.tree c.keep_last.ensures.alike c.wide_for.new.tally c.rows_of.new.passes (g.R.Ruler.log c.wide_for.new.ruler) (state c.args.tree.now c.args.tally.now c.args.passes.now (g.R.Ruler.log c.args.ruler.now)) c.args.id c.args.query 2
-    (then_alike c.wide_for.new.tree c.take_frames.new.tree c.take_frames.ensures.alike c.wide_for.new.tally c.rows_of.new.passes (g.R.Ruler.log c.wide_for.new.ruler) (state c.args.tree.now c.args.tally.now c.args.passes.now (g.R.Ruler.log c.args.ruler.now)) c.args.id
-    c.args.query 2 (ticked c.args.id c.args.query 1 1 _ _ c.rows_of.new.passes c.rows_of.ensures.ticks (c.in_ok-wide.ensures.below c.args.query (sym c.as_slice-reps.ensures) refl (ap (λ (q : Query). needs_inline q.ask) c.requires.query))))))
+    (c.keep_last.ensures.below c.args.query 2 (seen g.R.Ruler.log c.args.walk.now)
+    (c.take_frames.ensures.below c.args.query 2 (seen g.R.Ruler.log c.args.walk.now)
+    (ticked c.args.id c.args.query 1 1 _ _ c.rows_of.new.passes c.rows_of.ensures.ticks (c.in_ok-wide.ensures.below c.args.query (ap (λ (q : Query). q.reps) c.requires.query) refl (ap (λ (q : Query). needs_inline q.ask) c.requires.query))))))

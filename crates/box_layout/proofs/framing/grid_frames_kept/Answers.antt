@@ -1,27 +1,30 @@
-use Rattle.std.proofs.Common.{rules, sym, subst, ◌∙◌, List, length}
-use Rattle.placing.specs.Nodes.{BareTrees, bare}
-use Rattle.placing.specs.Ranges.{AreReadable}
-use Rattle.placing.specs.Walks.{state}
+use Rattle.std.proofs.Common.{rules, ap, sym, subst, ◌∙◌, List, length}
+use Rattle.placing.specs.Nodes.{BareTrees}
 use Rattle.placing.specs.declared.node.Frame.{Frame as NodeFrame}
 use Rattle.placing.proofs.Leaves.{on_err}
 use Rattle.box_layout.specs.LeafHeights.{AreLeafFrames, HoldLeaves, UsesLeaves}
 use Rattle.box_layout.proofs.LeafFrames.{leaf_frames, leaf_uses, leaves_kept}
+use Rattle.walker.specs.Walkers.{nodes, seen}
+use Rattle.tree_rules.specs.Answers.{Pair}
+use Rattle.tree_rules.specs.declared.query.Query.{Query}
+use Rattle.box_layout.specs.Asking.{frames_asked}
 use Rattle.box_layout.proofs.framing.grid_frames_kept.Goals as goal
 
 pub ask_leaves-requires : goal.ask_leaves-requires
 ask_leaves-requires g c =
-    let readable : AreReadable (bare c.grid_frames_anew.new.tree.tree) = subst AreReadable (sym c.in_ok-frames.ensures.walked.walk.bare_same) c.requires.readable in
-    let frames : AreLeafFrames (bare c.grid_frames_anew.new.tree.tree) c.args.id c.as_slice-listed.result.now = subst (λ (z : BareTrees). AreLeafFrames z c.args.id c.as_slice-listed.result.now) (sym c.in_ok-frames.ensures.walked.walk.bare_same)
-    (subst (AreLeafFrames (bare c.args.tree.now.tree) c.args.id) (sym c.as_slice-listed.ensures)
-    (leaf_frames c.args.tree.now.tree c.args.id c.requires.readable c.stands.ensures.numbered c.root.ensures.tree c.args.query c.requires.grid c.requires.query c.requires.fits c.in_ok-frames.frames c.in_ok-frames.ensures.value c.in_ok-frames.ensures.children)) in
+    let frames : AreLeafFrames (nodes c.grid_frames_anew.new.walk) c.args.id c.as_slice-listed.result.now = subst (λ (z : BareTrees). AreLeafFrames z c.args.id c.as_slice-listed.result.now) (sym c.in_ok-frames.ensures.walked.walk.bare_same)
+    (subst (AreLeafFrames (nodes c.args.walk.now) c.args.id) (sym c.as_slice-listed.ensures)
+    (leaf_frames c.args.walk.now.tree.now.tree c.args.id c.requires.stands.readable c.stands.ensures.numbered c.root.ensures.tree c.args.query c.requires.grid (c.requires.query ∙
+    ap (λ (r : List Pair). frames_asked r c.args.query.inline c.args.query.block) (sym (ap (λ (q : Query). q.reps) c.requires.query))) c.requires.fits c.in_ok-frames.frames c.in_ok-frames.ensures.value c.in_ok-frames.ensures.children)) in
     search rules
 
 pub returns-clause-walked : goal.returns-clause-walked
 returns-clause-walked g c =
-    c.in_ok-ask_leaves.ensures.walked c.args.query (state c.args.tree.now c.args.tally.now c.args.passes.now (g.R.Ruler.log c.args.ruler.now))
+    c.in_ok-ask_leaves.ensures.walked c.args.query (seen g.R.Ruler.log c.args.walk.now)
     (subst (λ (z : BareTrees). UsesLeaves z c.args.id c.args.query c.as_slice-listed.result.now) (sym c.in_ok-frames.ensures.walked.walk.bare_same)
-    (subst (UsesLeaves (bare c.args.tree.now.tree) c.args.id c.args.query) (sym c.as_slice-listed.ensures)
-    (leaf_uses c.args.tree.now.tree c.args.id c.requires.readable c.stands.ensures.numbered c.root.ensures.tree c.args.query c.requires.grid c.requires.query c.requires.fits c.in_ok-frames.frames c.in_ok-frames.ensures.value c.in_ok-frames.ensures.children)))
+    (subst (UsesLeaves (nodes c.args.walk.now) c.args.id c.args.query) (sym c.as_slice-listed.ensures)
+    (leaf_uses c.args.walk.now.tree.now.tree c.args.id c.requires.stands.readable c.stands.ensures.numbered c.root.ensures.tree c.args.query c.requires.grid (c.requires.query ∙
+    ap (λ (r : List Pair). frames_asked r c.args.query.inline c.args.query.block) (sym (ap (λ (q : Query). q.reps) c.requires.query))) c.requires.fits c.in_ok-frames.frames c.in_ok-frames.ensures.value c.in_ok-frames.ensures.children)))
     (sym c.in_ok-frames.ensures.walked.walk.bare_same) c.in_ok-frames.ensures.walked
 
 pub returns-clause-own : goal.returns-clause-own
@@ -29,17 +32,19 @@ returns-clause-own g c = c.in_ok-ask_leaves.ensures.own ∙ c.in_ok-frames.ensur
 
 pub returns-clause-leaves : goal.returns-clause-leaves
 returns-clause-leaves g c =
-    λ grid. leaves_kept c.args.tree.now.tree c.args.id c.requires.readable c.stands.ensures.numbered c.root.ensures.tree c.args.query c.requires.grid c.requires.query c.requires.fits c.in_ok-frames.frames c.in_ok-frames.ensures.value c.in_ok-frames.ensures.children
-    (state c.ask_leaves.new.tree c.ask_leaves.new.tally c.ask_leaves.new.passes (g.R.Ruler.log c.ask_leaves.new.ruler))
-    (subst (λ (l : List NodeFrame). HoldLeaves (bare c.args.tree.now.tree) (length l) l (state c.ask_leaves.new.tree c.ask_leaves.new.tally c.ask_leaves.new.passes (g.R.Ruler.log c.ask_leaves.new.ruler))) c.as_slice-listed.ensures
-    (subst (λ (z : BareTrees). HoldLeaves z (length c.as_slice-listed.result.now) c.as_slice-listed.result.now (state c.ask_leaves.new.tree c.ask_leaves.new.tally c.ask_leaves.new.passes (g.R.Ruler.log c.ask_leaves.new.ruler))) c.in_ok-frames.ensures.walked.walk.bare_same
+    λ grid. leaves_kept c.args.walk.now.tree.now.tree c.args.id c.requires.stands.readable c.stands.ensures.numbered c.root.ensures.tree c.args.query c.requires.grid (c.requires.query ∙
+    ap (λ (r : List Pair). frames_asked r c.args.query.inline c.args.query.block) (sym (ap (λ (q : Query). q.reps) c.requires.query))) c.requires.fits c.in_ok-frames.frames c.in_ok-frames.ensures.value c.in_ok-frames.ensures.children
+    (seen g.R.Ruler.log c.ask_leaves.new.walk)
+    (subst (λ (l : List NodeFrame). HoldLeaves (nodes c.args.walk.now) (length l) l (seen g.R.Ruler.log c.ask_leaves.new.walk)) c.as_slice-listed.ensures
+    (subst (λ (z : BareTrees). HoldLeaves z (length c.as_slice-listed.result.now) c.as_slice-listed.result.now (seen g.R.Ruler.log c.ask_leaves.new.walk)) c.in_ok-frames.ensures.walked.walk.bare_same
     c.in_ok-ask_leaves.ensures.held))
 
 pub returns-in_err-ask_leaves-clause-stopped : goal.returns-in_err-ask_leaves-clause-stopped
 returns-in_err-ask_leaves-clause-stopped g c =
     on_err _ _
-    (c.in_err-ask_leaves.ensures.stopped c.args.query (state c.args.tree.now c.args.tally.now c.args.passes.now (g.R.Ruler.log c.args.ruler.now))
+    (c.in_err-ask_leaves.ensures.stopped c.args.query (seen g.R.Ruler.log c.args.walk.now)
     (subst (λ (z : BareTrees). UsesLeaves z c.args.id c.args.query c.as_slice-listed.result.now) (sym c.in_ok-frames.ensures.walked.walk.bare_same)
-    (subst (UsesLeaves (bare c.args.tree.now.tree) c.args.id c.args.query) (sym c.as_slice-listed.ensures)
-    (leaf_uses c.args.tree.now.tree c.args.id c.requires.readable c.stands.ensures.numbered c.root.ensures.tree c.args.query c.requires.grid c.requires.query c.requires.fits c.in_ok-frames.frames c.in_ok-frames.ensures.value c.in_ok-frames.ensures.children)))
+    (subst (UsesLeaves (nodes c.args.walk.now) c.args.id c.args.query) (sym c.as_slice-listed.ensures)
+    (leaf_uses c.args.walk.now.tree.now.tree c.args.id c.requires.stands.readable c.stands.ensures.numbered c.root.ensures.tree c.args.query c.requires.grid (c.requires.query ∙
+    ap (λ (r : List Pair). frames_asked r c.args.query.inline c.args.query.block) (sym (ap (λ (q : Query). q.reps) c.requires.query))) c.requires.fits c.in_ok-frames.frames c.in_ok-frames.ensures.value c.in_ok-frames.ensures.children)))
     (sym c.in_ok-frames.ensures.walked.walk.bare_same) c.in_ok-frames.ensures.walked)

@@ -1,13 +1,10 @@
-use Rattle.std.proofs.Common.{map, take}
-use Rattle.placing.specs.Nodes.{bare}
-use Rattle.tree_rules.specs.Frames.{grid_child}
-use Rattle.inline_sizes.specs.GridsSeen.{grid_seen}
+use Rattle.std.proofs.Common.{take}
 use Rattle.box_layout.specs.GridFrames.{AreFramesAt}
 use Rattle.block_sizes.specs.Sharing.{IsLastIn}
-use Rattle.block_sizes.specs.Wides.{columns_seen, wides_seen}
+use Rattle.box_layout.specs.Tracked.{frames_by, nodes_in}
 use Rattle.box_layout.proofs.gridded.framed_children.Given as goal
 
 abbrev pub invariant-loop-place : goal.invariant-loop-place
 invariant-loop-place l =
-    AreFramesAt (bare l.tree.tree) l.id (map (grid_child (grid_seen (bare l.tree.tree) l.id l.reps l.width) (columns_seen (bare l.tree.tree) l.id l.reps l.width) l.rows) (wides_seen (bare l.tree.tree) l.id l.reps l.width)) (take l.place-index l.places) l.frames
-    × IsLastIn l.rows l.last
+    AreFramesAt (nodes_in l.grid) l.grid.id (frames_by l.grid) (take l.place-index l.places) l.frames
+    × IsLastIn l.grid.rows.now l.last

@@ -12,6 +12,9 @@ use Rattle.box_layout.proofs.gridded.grid_frames.Goals as goal
 pub turns-requires : goal.turns-requires
 turns-requires c = numbers_small (bare c.args.tree.now.tree) c.args.id c.args.wide.now.parts.base.placed c.as_slice.result.now c.requires.wide.grid.placed.children (c.as_slice.ensures ∙ ap (λ (base : GridBase). base.placed.numbers) c.grid-base.ensures) (c.requires.readable.children c.args.id)
 
+pub framed_again-requires-clause-grid : goal.framed_again-requires-clause-grid
+framed_again-requires-clause-grid c = record { live = c.requires.live; readable = c.requires.readable; grid = c.requires.kind; wide = c.requires.wide; columns = c.requires.columns; rows = c.requires.rows; gap = c.requires.gap }
+
 pub framed_again-requires-clause-places : goal.framed_again-requires-clause-places
 framed_again-requires-clause-places c = c.deref.ensures.value ∙ c.in_ok-places.ensures ∙ ap turns (c.as_slice.ensures ∙ ap (λ (base : GridBase). base.placed.numbers) c.grid-base.ensures)
 
@@ -21,6 +24,9 @@ framed_again-requires-clause-fresh c = ap length c.as_slice-marks.ensures ∙ c.
 pub framed_again-requires-clause-frames : goal.framed_again-requires-clause-frames
 framed_again-requires-clause-frames c =
     subst (λ (l : List Bool). AreFrames (sight_at (bare c.args.tree.now.tree) c.args.id) (kid_at (bare c.args.tree.now.tree)) c.args.wide.now.parts.base c.args.wide.now.columns c.args.rows.now (Marked l) c.in-Some.past.frames) (sym c.as_slice-marks.ensures) c.in-Some.ensures.frames
+
+pub framed_children-requires-clause-grid : goal.framed_children-requires-clause-grid
+framed_children-requires-clause-grid c = record { live = c.requires.live; readable = c.requires.readable; grid = c.requires.kind; wide = c.requires.wide; columns = c.requires.columns; rows = c.requires.rows; gap = c.requires.gap }
 
 pub framed_children-requires-clause-places : goal.framed_children-requires-clause-places
 framed_children-requires-clause-places c =

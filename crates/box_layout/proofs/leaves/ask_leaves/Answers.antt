@@ -3,35 +3,36 @@ use Rattle.placing.proofs.Bares.{distinct_bare}
 use Rattle.placing.proofs.Leaves.{on_err}
 use Rattle.placing.specs.Children.{IsNext}
 use Rattle.placing.specs.Keeping.{is_leaf}
-use Rattle.placing.specs.Nodes.{IsLive, bare, sight_at}
-use Rattle.placing.specs.Ranges.{AreReadable}
-use Rattle.placing.specs.Walks.{State, Stopped, Walked, bare_in, state}
+use Rattle.placing.specs.Nodes.{IsLive, sight_at}
+use Rattle.placing.specs.Walks.{State, Stopped, Walked, bare_in}
 use Rattle.tree_rules.specs.Queries.{IsGivenFor}
 use Rattle.tree_rules.specs.declared.query.Query.{Query}
 use Rattle.box_layout.specs.LeafHeights.{UsesLeaves}
 use Rattle.box_layout.proofs.KidLeaves.{leaf_chain}
 use Rattle.box_layout.proofs.LeafWalks.{all_held, leaf_held, leaf_own, leaf_same, leaf_stopped, leaf_walked, next_leaf, none_held, there}
+use Rattle.walker.specs.Walkers.{nodes, seen}
+use Rattle.walker.proofs.Parts.{parts_then, same_parts}
 use Rattle.box_layout.proofs.leaves.ask_leaves.Goals as goal
 
 pub loop-index-init : goal.loop-index-init
 loop-index-init g c =
     record {
-      right = c.requires.right;
+      stands = c.requires.stands;
+      parts = same_parts c.args.walk.now;
       same = refl;
       walked = λ q s uses start w. w;
       own = refl;
-      held = none_held (bare c.args.tree.now.tree) c.args.frames.now (state c.args.tree.now c.args.tally.now c.args.passes.now (g.R.Ruler.log c.args.ruler.now));
+      held = none_held (nodes c.args.walk.now) c.args.frames.now (seen g.R.Ruler.log c.args.walk.now);
     }
 
 pub ask_leaf-requires : goal.ask_leaf-requires
 ask_leaf-requires g c =
-    let b = bare c.args.tree.now.tree in
-    let d = bare c.loop-index.tree.tree in
+    let b = nodes c.args.walk.now in
+    let d = nodes c.loop-index.walk in
     let f = c.index-frames-index.result in
     let at : drop c.loop-index.index c.args.frames.now ≡ f ∷ drop (c.loop-index.index + 1) c.args.frames.now = there c.args.frames.now c.loop-index.index f (omega (arith, c.loop-index-test.true)) c.index-frames-index.is in
-    let next : IsNext b c.args.id c.loop-index.index f.child = next_leaf b (distinct_bare c.args.tree.now.tree c.stands.ensures.distinct) c.args.id c.args.frames.now c.requires.frames c.root.ensures.tree c.loop-index.index f at in
+    let next : IsNext b c.args.id c.loop-index.index f.child = next_leaf b (distinct_bare c.args.walk.now.tree.now.tree c.stands.ensures.distinct) c.args.id c.args.frames.now c.requires.frames c.root.ensures.tree c.loop-index.index f at in
     let live : IsLive d f.child = subst (λ z. IsLive z f.child) (sym c.loop-index.invariant.same) next.live in
-    let readable : AreReadable d = subst AreReadable (sym c.loop-index.invariant.same) c.requires.readable in
     let alone : is_leaf (sight_at d f.child).label.kind ≡ true →
     (sight_at d f.child).chain ≡ [] = subst (λ z. is_leaf (sight_at z f.child).label.kind ≡ true → (sight_at z f.child).chain ≡ []) (sym c.loop-index.invariant.same) (λ leaf. next.chain ∙ leaf_chain _ c.loop-index.index (sight_at b f.child).label leaf) in
     let given : is_leaf (sight_at d f.child).label.kind ≡ true →
@@ -41,16 +42,17 @@ ask_leaf-requires g c =
 
 pub loop-index-preserved : goal.loop-index-preserved
 loop-index-preserved g c =
-    let b = bare c.args.tree.now.tree in
+    let b = nodes c.args.walk.now in
     let f = c.index-frames-index.result in
     let frames = c.args.frames.now in
     let i = c.loop-index.index in
-    let distinct = distinct_bare c.args.tree.now.tree c.stands.ensures.distinct in
+    let distinct = distinct_bare c.args.walk.now.tree.now.tree c.stands.ensures.distinct in
     let at : drop i frames ≡ f ∷ drop (i + 1) frames = there frames i f (omega (arith, c.loop-index-test.true)) c.index-frames-index.is in
-    let t : State = state c.loop-index.tree c.loop-index.tally c.loop-index.passes (g.R.Ruler.log c.loop-index.ruler) in
-    let u : State = state c.ask_leaf.new.tree c.ask_leaf.new.tally c.ask_leaf.new.passes (g.R.Ruler.log c.ask_leaf.new.ruler) in
+    let t : State = seen g.R.Ruler.log c.loop-index.walk in
+    let u : State = seen g.R.Ruler.log c.ask_leaf.new.walk in
     record {
-      right = c.ask_leaf.ensures.right;
+      stands = c.ask_leaf.ensures.stands;
+      parts = parts_then _ _ _ c.loop-index.invariant.parts c.ask_leaf.ensures.parts;
       same = leaf_same b distinct c.args.id frames c.requires.frames c.root.ensures.tree i f at t u c.loop-index.invariant.same c.in_ok-ask_leaf.ensures.asked ∙ c.loop-index.invariant.same;
       walked = λ q s uses start w. leaf_walked b distinct c.args.id frames c.requires.frames c.root.ensures.tree i f at s t u start c.loop-index.invariant.same q uses (c.loop-index.invariant.walked q s uses start w) c.in_ok-ask_leaf.ensures.asked;
       own = leaf_own b distinct c.args.id frames c.requires.frames c.root.ensures.tree i f at t u c.loop-index.invariant.same c.in_ok-ask_leaf.ensures.asked ∙ c.loop-index.invariant.own;
@@ -59,20 +61,17 @@ loop-index-preserved g c =
 
 pub returns-in_err-ask_leaf-clause-stopped : goal.returns-in_err-ask_leaf-clause-stopped
 returns-in_err-ask_leaf-clause-stopped g c =
-    let b = bare c.args.tree.now.tree in
+    let b = nodes c.args.walk.now in
     let f = c.index-frames-index.result in
     let frames = c.args.frames.now in
     let i = c.loop-index.index in
-    let distinct = distinct_bare c.args.tree.now.tree c.stands.ensures.distinct in
+    let distinct = distinct_bare c.args.walk.now.tree.now.tree c.stands.ensures.distinct in
     let at : drop i frames ≡ f ∷ drop (i + 1) frames = there frames i f (omega (arith, c.loop-index-test.true)) c.index-frames-index.is in
-    let t : State = state c.loop-index.tree c.loop-index.tally c.loop-index.passes (g.R.Ruler.log c.loop-index.ruler) in
-    let u : State = state c.ask_leaf.new.tree c.ask_leaf.new.tally c.ask_leaf.new.passes (g.R.Ruler.log c.ask_leaf.new.ruler) in
-    let all : (q : Query) (s : State) → UsesLeaves b c.args.id q frames → bare_in s ≡ b → Walked c.args.id q s (state c.args.tree.now c.args.tally.now c.args.passes.now (g.R.Ruler.log c.args.ruler.now)) → Stopped c.args.id q s u =
+    let t : State = seen g.R.Ruler.log c.loop-index.walk in
+    let u : State = seen g.R.Ruler.log c.ask_leaf.new.walk in
+    let all : (q : Query) (s : State) → UsesLeaves b c.args.id q frames → bare_in s ≡ b → Walked c.args.id q s (seen g.R.Ruler.log c.args.walk.now) → Stopped c.args.id q s u =
     λ q s uses start w. leaf_stopped b distinct c.args.id frames c.requires.frames c.root.ensures.tree i f at s t u start c.loop-index.invariant.same q uses (c.loop-index.invariant.walked q s uses start w) c.in_err-ask_leaf.ensures.stopped in
     on_err _ _ all
-
-pub returns-clause-right : goal.returns-clause-right
-returns-clause-right g c = c.loop-index.invariant.right
 
 pub returns-clause-walked : goal.returns-clause-walked
 returns-clause-walked g c = c.loop-index.invariant.walked
@@ -81,4 +80,4 @@ pub returns-clause-own : goal.returns-clause-own
 returns-clause-own g c = c.loop-index.invariant.own
 
 pub returns-clause-held : goal.returns-clause-held
-returns-clause-held g c = all_held (bare c.args.tree.now.tree) c.args.frames.now c.loop-index.index (state c.loop-index.tree c.loop-index.tally c.loop-index.passes (g.R.Ruler.log c.loop-index.ruler)) (omega (arith, c.loop-index-test.false)) c.loop-index.invariant.held
+returns-clause-held g c = all_held (nodes c.args.walk.now) c.args.frames.now c.loop-index.index (seen g.R.Ruler.log c.loop-index.walk) (omega (arith, c.loop-index-test.false)) c.loop-index.invariant.held

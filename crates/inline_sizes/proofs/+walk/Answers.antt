@@ -1,0 +1,668 @@
+use Rattle.std.proofs.Common.{Option, drop, rules, arith, refl, sym, ap, subst, ◌≡◌, ◌∙◌, ◌+◌, ◌*◌, ◌<◌, ◌∷◌, ◌++◌, [], List, ℕ, true, false, length, map, pos, ◌&&◌, Bool}
+use Rattle.std.specs.Prelude.{All, Contains, IfSome, get_or}
+use Rattle.std.proofs.lemmas.List.Elements.{All-push}
+use Rattle.placing.specs.Areas.{HasChildren}
+use Rattle.placing.specs.Bases.{HoldsPlaces, same_pairs}
+use Rattle.placing.specs.Children.{IsNext, IsTree}
+use Rattle.placing.specs.Told.{AllBut, AreColumns, AreTold, Each, IsPastColumns, TellsColumns}
+use Rattle.placing.specs.declared.wide.GridBase.{GridBase}
+use Rattle.placing.specs.declared.told.PastColumns.{PastColumns}
+use Rattle.placing.specs.Nodes.{BareTrees, IsLive, children_at, kid_at, kids_at, sight_at, size_at, uses_at}
+use Rattle.placing.specs.Seats.{IsSeat, context_at}
+use Rattle.placing.specs.Counted.{IsGivenSize}
+use Rattle.placing.specs.Walks.{Stopped, Walked, kept_with}
+use Rattle.placing.specs.declared.contexts.Above.TheVariants as above
+use Rattle.placing.specs.declared.node.Answer.TheVariants as answer
+use Rattle.placing.proofs.Entries.{alone_there}
+use Rattle.placing.proofs.Leaves.{on_err}
+use Rattle.placing.proofs.Tellings.{ends_length, has_parts}
+use Rattle.placing.proofs.Walks.{found_walked, stopped, ticked, walked_none}
+use Rattle.tree_rules.specs.Answers.{Pair}
+use Rattle.tree_rules.specs.AskedQueries.{inline_query}
+use Rattle.tree_rules.specs.Chains.{has_chain, has_subgrid, is_grid_kind}
+use Rattle.tree_rules.specs.Labels.{GridStyle}
+use Rattle.tree_rules.specs.KeptAnswers.{IsAbsent}
+use Rattle.tree_rules.specs.Queries.{Fits, answer_of, inline_sizes, lent_items, sees_columns}
+use Rattle.tree_rules.specs.declared.kind.NodeKind.TheVariants as kind
+use Rattle.tree_rules.specs.declared.kind.NodeKind.{NodeKind}
+use Rattle.tree_rules.specs.declared.query.Given.TheVariants as given
+use Rattle.tree_rules.specs.declared.query.Given.{Given}
+use Rattle.tree_rules.specs.declared.query.Query.{Query}
+use Rattle.inline_sizes.proofs.Anew.{flex_answer, flex_quiet, grid_answer, grid_quiet, lent_answer}
+use Rattle.inline_sizes.proofs.Asked.{chain_in_flex, entry_here, fits_no_chain, lent_fit, levels_above, on_ok, pairs_all, rows_fits, shared_asked, shared_chain, shared_fits, sizes_answered, sizes_are, sizes_fit, walked_stopped}
+use Rattle.inline_sizes.proofs.FlexWalks.{flex_uses_next, members_all, members_first, members_next}
+use Rattle.inline_sizes.proofs.Grids.{below_then, grid_there, leads_there, stops_then}
+use Rattle.inline_sizes.proofs.Held.{places_held}
+use Rattle.inline_sizes.proofs.Tellings.{answers_there, columns_there, counted_again, counted_then, laid_there, next_stale, none_stale, past_stale, past_told, places_there, told_again, told_empty, told_then}
+use Rattle.inline_sizes.specs.Flexes.{AreMembers, IsChild, member_of, members_from}
+use Rattle.inline_sizes.specs.Grids.{HaveTold, IsEntry, IsGrid, IsLaid, LeadsOn, items_seen}
+use Rattle.inline_sizes.specs.GridsSeen.{HasLines}
+use Rattle.inline_sizes.specs.Lifted.{IsSelfLifted}
+use Rattle.walker.proofs.Parts.{parts_then, same_parts}
+use Rattle.walker.specs.Walkers.{nodes, seen}
+use Rattle.inline_sizes.proofs.+walk.Goals as goal
+
+abbrev has_kind : NodeKind → GridStyle → Bool
+has_kind k s = is_grid_kind k && has_subgrid s
+
+pub asking::ask_children-loop-index-init : goal.asking::ask_children-loop-index-init
+asking::ask_children-loop-index-init g t c =
+    record {
+      stands = c.requires.stands;
+      parts = same_parts c.args.walk.now;
+      same = refl;
+      walked = λ q leads. walked_none c.args.id q (seen g.R.Ruler.log c.args.walk.now) c.requires.stands.right;
+      counted = (ap length c.in_ok-inlines.ensures, omega arith);
+      told = told_empty (TellsColumns (sight_at (nodes c.args.walk.now) c.args.id) (kid_at (nodes c.args.walk.now)) c.args.base.now) c.in_ok-inlines.inlines c.in_ok-items.items c.in_ok-ends.ends c.in_ok-inlines.ensures c.in_ok-items.ensures c.in_ok-ends.ensures;
+    }
+
+pub asking::ask_children-returns-in_err-inlines-clause-stopped : goal.asking::ask_children-returns-in_err-inlines-clause-stopped
+asking::ask_children-returns-in_err-inlines-clause-stopped g t c =
+    let all : (q : Query) → LeadsOn (nodes c.args.walk.now) c.args.id c.args.base.now q → Stopped c.args.id q (seen g.R.Ruler.log c.args.walk.now) (seen g.R.Ruler.log c.args.walk.now) =
+    λ q leads. stopped c.args.id q 0 _ _ (walked_none c.args.id q (seen g.R.Ruler.log c.args.walk.now) c.requires.stands.right) in
+    on_err _ _ all
+
+pub asking::ask_children-returns-in_err-items-clause-stopped : goal.asking::ask_children-returns-in_err-items-clause-stopped
+asking::ask_children-returns-in_err-items-clause-stopped g t c =
+    let all : (q : Query) → LeadsOn (nodes c.args.walk.now) c.args.id c.args.base.now q → Stopped c.args.id q (seen g.R.Ruler.log c.args.walk.now) (seen g.R.Ruler.log c.args.walk.now) =
+    λ q leads. stopped c.args.id q 0 _ _ (walked_none c.args.id q (seen g.R.Ruler.log c.args.walk.now) c.requires.stands.right) in
+    on_err _ _ all
+
+pub asking::ask_children-returns-in_err-ends-clause-stopped : goal.asking::ask_children-returns-in_err-ends-clause-stopped
+asking::ask_children-returns-in_err-ends-clause-stopped g t c =
+    let all : (q : Query) → LeadsOn (nodes c.args.walk.now) c.args.id c.args.base.now q → Stopped c.args.id q (seen g.R.Ruler.log c.args.walk.now) (seen g.R.Ruler.log c.args.walk.now) =
+    λ q leads. stopped c.args.id q 0 _ _ (walked_none c.args.id q (seen g.R.Ruler.log c.args.walk.now) c.requires.stands.right) in
+    on_err _ _ all
+
+pub asking::ask_children-entry-entry-requires-clause-live : goal.asking::ask_children-entry-entry-requires-clause-live
+asking::ask_children-entry-entry-requires-clause-live g t c = subst (λ (z : BareTrees). IsLive z c.args.id) (sym c.loop-index.invariant.same) c.requires.live
+
+pub asking::ask_children-entry-entry-requires-clause-children : goal.asking::ask_children-entry-entry-requires-clause-children
+asking::ask_children-entry-entry-requires-clause-children g t c = subst (λ (z : BareTrees). HasChildren z c.args.id c.args.base.now.placed) (sym c.loop-index.invariant.same) c.requires.laid.placed.children
+
+pub asking::ask_children-ask_child-requires : goal.asking::ask_children-ask_child-requires
+asking::ask_children-ask_child-requires g t c =
+    let back = sym c.loop-index.invariant.same in
+    let tree : IsTree (nodes c.loop-index.walk) = subst IsTree back c.root.ensures.tree in
+    let live : IsLive (nodes c.loop-index.walk) c.args.id = subst (λ (z : BareTrees). IsLive z c.args.id) back c.requires.live in
+    let grid : (sight_at (nodes c.loop-index.walk) c.args.id).label.kind ≡ kind.Grid = subst (λ (z : BareTrees). (sight_at z c.args.id).label.kind ≡ kind.Grid) back c.requires.grid in
+    let laid : IsLaid (nodes c.loop-index.walk) c.args.id c.args.base.now = subst (λ (z : BareTrees). IsLaid z c.args.id c.args.base.now) back c.requires.laid in
+    let lines : HasLines (context_at (sight_at (nodes c.loop-index.walk) c.args.id) c.args.base.now.pairs) = subst (λ (z : BareTrees). HasLines (context_at (sight_at z c.args.id) c.args.base.now.pairs)) back (c.items_lie_in_their_tracks.ensures.lines c.args.base.now.pairs) in
+    let entry : IsEntry (nodes c.loop-index.walk) c.args.id c.args.base.now c.entry-entry.result =
+    entry_here (nodes c.loop-index.walk) c.args.id c.args.base.now c.entry-entry.result tree grid laid c.entry-entry.ensures.live c.entry-entry.ensures.child c.entry-entry.ensures.inside c.entry-entry.ensures.seat c.entry-entry.ensures.alone lines in
+    let small : 16 * size_at (nodes c.loop-index.walk) c.entry-entry.result.child + 10 < 16 * size_at (nodes c.args.walk.now) c.args.id = omega (arith, entry.smaller, ap (λ (z : BareTrees). size_at z c.args.id) c.loop-index.invariant.same) in
+    search rules
+
+pub asking::ask_children-returns-in_err-sizes-clause-stopped : goal.asking::ask_children-returns-in_err-sizes-clause-stopped
+asking::ask_children-returns-in_err-sizes-clause-stopped g t c =
+    let all : (q : Query) → LeadsOn (nodes c.args.walk.now) c.args.id c.args.base.now q →
+    Stopped c.args.id q (seen g.R.Ruler.log c.args.walk.now) (seen g.R.Ruler.log c.ask_child.new.walk) =
+    λ q leads. stops_then (nodes c.args.walk.now) (nodes c.loop-index.walk) c.loop-index.invariant.same c.args.id c.args.base.now c.entry-entry.result c.loop-index.index c.entry-entry.ensures.next
+    c.root.ensures.steps c.entry-entry.ensures.child q leads _ _ _ refl (c.loop-index.invariant.walked q leads) c.in_err-sizes.ensures.stopped in
+    on_err _ _ all
+
+pub asking::ask_children-returns-in_err-push-clause-stopped : goal.asking::ask_children-returns-in_err-push-clause-stopped
+asking::ask_children-returns-in_err-push-clause-stopped g t c =
+    let all : (q : Query) → LeadsOn (nodes c.args.walk.now) c.args.id c.args.base.now q →
+    Stopped c.args.id q (seen g.R.Ruler.log c.args.walk.now) (seen g.R.Ruler.log c.ask_child.new.walk) =
+    λ q leads. stopped c.args.id q 0 _ _ (below_then (nodes c.args.walk.now) (nodes c.loop-index.walk) c.loop-index.invariant.same c.args.id c.args.base.now c.entry-entry.result c.loop-index.index c.entry-entry.ensures.next
+    c.root.ensures.steps c.entry-entry.ensures.child q leads _ _ _ refl (c.loop-index.invariant.walked q leads) c.in_ok-sizes.ensures.walked) in
+    on_err _ _ all
+
+pub asking::ask_children-returns-in_err-push-2-clause-stopped : goal.asking::ask_children-returns-in_err-push-2-clause-stopped
+asking::ask_children-returns-in_err-push-2-clause-stopped g t c =
+    let all : (q : Query) → LeadsOn (nodes c.args.walk.now) c.args.id c.args.base.now q →
+    Stopped c.args.id q (seen g.R.Ruler.log c.args.walk.now) (seen g.R.Ruler.log c.ask_child.new.walk) =
+    λ q leads. stopped c.args.id q 0 _ _ (below_then (nodes c.args.walk.now) (nodes c.loop-index.walk) c.loop-index.invariant.same c.args.id c.args.base.now c.entry-entry.result c.loop-index.index c.entry-entry.ensures.next
+    c.root.ensures.steps c.entry-entry.ensures.child q leads _ _ _ refl (c.loop-index.invariant.walked q leads) c.in_ok-sizes.ensures.walked) in
+    on_err _ _ all
+
+pub asking::ask_children-loop-index-preserved : goal.asking::ask_children-loop-index-preserved
+asking::ask_children-loop-index-preserved g t c =
+    record {
+      stands = c.ask_child.ensures.stands;
+      parts = parts_then _ _ _ c.loop-index.invariant.parts c.ask_child.ensures.parts;
+      same = c.in_ok-sizes.ensures.walked.walk.bare_same ∙ c.loop-index.invariant.same;
+      walked = λ q leads. below_then (nodes c.args.walk.now) (nodes c.loop-index.walk) c.loop-index.invariant.same c.args.id c.args.base.now c.entry-entry.result c.loop-index.index c.entry-entry.ensures.next
+          c.root.ensures.steps c.entry-entry.ensures.child q leads _ _ _ refl (c.loop-index.invariant.walked q leads) c.in_ok-sizes.ensures.walked;
+      counted = counted_then c.loop-index.inlines _ c.in_ok-sizes.sizes c.loop-index.index (length c.args.base.now.placed.areas) c.in_ok-push.ensures.ok c.loop-index.invariant.counted.0 (omega (arith, c.len-count.ensures));
+      told = told_then (nodes c.args.walk.now) (nodes c.loop-index.walk) c.loop-index.invariant.same c.args.id c.args.base.now c.entry-entry.result c.loop-index.index c.entry-entry.ensures.told _ _ _ _ _ _ c.in_ok-sizes.sizes _ c.loop-index.invariant.counted.0
+          c.loop-index.invariant.told c.in_ok-sizes.ensures.sizes c.in_ok-sizes.ensures.items c.in_ok-push.ensures.ok c.len.ensures c.in_ok-push-2.ensures.ok;
+    }
+
+pub asking::ask_children-returns-clause-told : goal.asking::ask_children-returns-clause-told
+asking::ask_children-returns-clause-told g t c =
+    record {
+      counted = c.loop-index.invariant.counted.0 ∙ (omega (arith, c.loop-index.invariant.counted.1, c.len-count.ensures));
+      told = c.loop-index.invariant.told;
+    }
+
+pub asking::ask_children-returns-clause-below : goal.asking::ask_children-returns-clause-below
+asking::ask_children-returns-clause-below g t c = c.loop-index.invariant.walked
+
+pub asking::ask_stale-loop-index-init : goal.asking::ask_stale-loop-index-init
+asking::ask_stale-loop-index-init g t c =
+    record {
+      stands = c.requires.stands;
+      parts = same_parts c.args.walk.now;
+      same = refl;
+      walked = λ q leads. walked_none c.args.id q (seen g.R.Ruler.log c.args.walk.now) c.requires.stands.right;
+      told = c.requires.told;
+    }
+
+pub asking::ask_stale-entry-entry-requires-clause-live : goal.asking::ask_stale-entry-entry-requires-clause-live
+asking::ask_stale-entry-entry-requires-clause-live g t c = subst (λ (z : BareTrees). IsLive z c.args.id) (sym c.loop-index.invariant.same) c.requires.live
+
+pub asking::ask_stale-entry-entry-requires-clause-children : goal.asking::ask_stale-entry-entry-requires-clause-children
+asking::ask_stale-entry-entry-requires-clause-children g t c = subst (λ (z : BareTrees). HasChildren z c.args.id c.args.base.now.placed) (sym c.loop-index.invariant.same) c.requires.laid.placed.children
+
+pub asking::ask_stale-entry-entry-requires-clause-index : goal.asking::ask_stale-entry-entry-requires-clause-index
+asking::ask_stale-entry-entry-requires-clause-index g t c = c.requires.stale c.loop-index.index-index 0 (omega (arith, c.loop-index-test.true))
+
+pub asking::ask_stale-ask_child-requires : goal.asking::ask_stale-ask_child-requires
+asking::ask_stale-ask_child-requires g t c =
+    let back = sym c.loop-index.invariant.same in
+    let tree : IsTree (nodes c.loop-index.walk) = subst IsTree back c.root.ensures.tree in
+    let live : IsLive (nodes c.loop-index.walk) c.args.id = subst (λ (z : BareTrees). IsLive z c.args.id) back c.requires.live in
+    let grid : (sight_at (nodes c.loop-index.walk) c.args.id).label.kind ≡ kind.Grid = subst (λ (z : BareTrees). (sight_at z c.args.id).label.kind ≡ kind.Grid) back c.requires.grid in
+    let laid : IsLaid (nodes c.loop-index.walk) c.args.id c.args.base.now = subst (λ (z : BareTrees). IsLaid z c.args.id c.args.base.now) back c.requires.laid in
+    let lines : HasLines (context_at (sight_at (nodes c.loop-index.walk) c.args.id) c.args.base.now.pairs) = subst (λ (z : BareTrees). HasLines (context_at (sight_at z c.args.id) c.args.base.now.pairs)) back (c.items_lie_in_their_tracks.ensures.lines c.args.base.now.pairs) in
+    let entry : IsEntry (nodes c.loop-index.walk) c.args.id c.args.base.now c.entry-entry.result =
+    entry_here (nodes c.loop-index.walk) c.args.id c.args.base.now c.entry-entry.result tree grid laid c.entry-entry.ensures.live c.entry-entry.ensures.child c.entry-entry.ensures.inside c.entry-entry.ensures.seat c.entry-entry.ensures.alone lines in
+    let small : 16 * size_at (nodes c.loop-index.walk) c.entry-entry.result.child + 10 < 16 * size_at (nodes c.args.walk.now) c.args.id = omega (arith, entry.smaller, ap (λ (z : BareTrees). size_at z c.args.id) c.loop-index.invariant.same) in
+    search rules
+
+pub asking::ask_stale-returns-in_err-sizes-clause-stopped : goal.asking::ask_stale-returns-in_err-sizes-clause-stopped
+asking::ask_stale-returns-in_err-sizes-clause-stopped g t c =
+    let all : (q : Query) → LeadsOn (nodes c.args.walk.now) c.args.id c.args.base.now q →
+    Stopped c.args.id q (seen g.R.Ruler.log c.args.walk.now) (seen g.R.Ruler.log c.ask_child.new.walk) =
+    λ q leads. stops_then (nodes c.args.walk.now) (nodes c.loop-index.walk) c.loop-index.invariant.same c.args.id c.args.base.now c.entry-entry.result (get_or c.args.stale.now c.loop-index.index-index 0) c.entry-entry.ensures.next
+    c.root.ensures.steps c.entry-entry.ensures.child q leads _ _ _ refl (c.loop-index.invariant.walked q leads) c.in_err-sizes.ensures.stopped in
+    on_err _ _ all
+
+pub asking::ask_stale-returns-in_err-put_items-clause-stopped : goal.asking::ask_stale-returns-in_err-put_items-clause-stopped
+asking::ask_stale-returns-in_err-put_items-clause-stopped g t c =
+    let all : (q : Query) → LeadsOn (nodes c.args.walk.now) c.args.id c.args.base.now q →
+    Stopped c.args.id q (seen g.R.Ruler.log c.args.walk.now) (seen g.R.Ruler.log c.ask_child.new.walk) =
+    λ q leads. stopped c.args.id q 0 _ _ (below_then (nodes c.args.walk.now) (nodes c.loop-index.walk) c.loop-index.invariant.same c.args.id c.args.base.now c.entry-entry.result (get_or c.args.stale.now c.loop-index.index-index 0) c.entry-entry.ensures.next
+    c.root.ensures.steps c.entry-entry.ensures.child q leads _ _ _ refl (c.loop-index.invariant.walked q leads) c.in_ok-sizes.ensures.walked) in
+    on_err _ _ all
+
+pub asking::ask_stale-put_items-requires-clause-parts : goal.asking::ask_stale-put_items-requires-clause-parts
+asking::ask_stale-put_items-requires-clause-parts g t c =
+    has_parts (AllBut (drop c.loop-index.index-index c.args.stale.now)) (TellsColumns (sight_at (nodes c.args.walk.now) c.args.id) (kid_at (nodes c.args.walk.now)) c.args.base.now) c.loop-index.inlines c.loop-index.items c.loop-index.ends c.loop-index.invariant.told.told
+
+pub asking::ask_stale-put_items-requires-clause-index : goal.asking::ask_stale-put_items-requires-clause-index
+asking::ask_stale-put_items-requires-clause-index g t c =
+    let within : get_or c.args.stale.now c.loop-index.index-index 0 < length c.args.base.now.placed.areas = c.requires.stale c.loop-index.index-index 0 (omega (arith, c.loop-index-test.true)) in
+    omega (
+      arith,
+      within,
+      c.loop-index.invariant.told.counted,
+      ends_length (AllBut (drop c.loop-index.index-index c.args.stale.now)) (TellsColumns (sight_at (nodes c.args.walk.now) c.args.id) (kid_at (nodes c.args.walk.now)) c.args.base.now) c.loop-index.inlines
+          c.loop-index.items c.loop-index.ends c.loop-index.invariant.told.told,
+    )
+
+pub asking::ask_stale-set-requires : goal.asking::ask_stale-set-requires
+asking::ask_stale-set-requires g t c =
+    let within : get_or c.args.stale.now c.loop-index.index-index 0 < length c.args.base.now.placed.areas = c.requires.stale c.loop-index.index-index 0 (omega (arith, c.loop-index-test.true)) in
+    omega (arith, within, c.loop-index.invariant.told.counted)
+
+pub asking::ask_stale-loop-index-preserved : goal.asking::ask_stale-loop-index-preserved
+asking::ask_stale-loop-index-preserved g t c =
+    let within : get_or c.args.stale.now c.loop-index.index-index 0 < length c.args.base.now.placed.areas = c.requires.stale c.loop-index.index-index 0 (omega (arith, c.loop-index-test.true)) in
+    record {
+      stands = c.ask_child.ensures.stands;
+      parts = parts_then _ _ _ c.loop-index.invariant.parts c.ask_child.ensures.parts;
+      same = c.in_ok-sizes.ensures.walked.walk.bare_same ∙ c.loop-index.invariant.same;
+      walked = λ q leads. below_then (nodes c.args.walk.now) (nodes c.loop-index.walk) c.loop-index.invariant.same c.args.id c.args.base.now c.entry-entry.result (get_or c.args.stale.now c.loop-index.index-index 0) c.entry-entry.ensures.next
+          c.root.ensures.steps c.entry-entry.ensures.child q leads _ _ _ refl (c.loop-index.invariant.walked q leads) c.in_ok-sizes.ensures.walked;
+      told = record {
+        counted = counted_again c.loop-index.inlines c.set.new.self (get_or c.args.stale.now c.loop-index.index-index 0) c.in_ok-sizes.sizes (length c.args.base.now.placed.areas) c.set.ensures c.loop-index.invariant.told.counted;
+        told =
+            told_again (nodes c.args.walk.now) (nodes c.loop-index.walk) c.loop-index.invariant.same c.args.id c.args.base.now c.entry-entry.result (get_or c.args.stale.now c.loop-index.index-index 0) c.entry-entry.ensures.told
+            (drop (c.loop-index.index-index + 1) c.args.stale.now) c.loop-index.inlines c.set.new.self
+            c.loop-index.items c.put_items.new.items c.loop-index.ends c.put_items.new.ends c.in_ok-sizes.sizes c.as_slice.result.now (omega (arith, within, c.loop-index.invariant.told.counted))
+            (subst (λ l. AreTold (AllBut l) (TellsColumns (sight_at (nodes c.args.walk.now) c.args.id) (kid_at (nodes c.args.walk.now)) c.args.base.now) c.loop-index.inlines c.loop-index.items c.loop-index.ends)
+            (next_stale c.args.stale.now c.loop-index.index-index (omega (arith, c.loop-index-test.true))) c.loop-index.invariant.told.told)
+            c.in_ok-sizes.ensures.sizes (c.as_slice.ensures ∙ c.in_ok-sizes.ensures.items ∙ ap (λ l. l ++ items_seen (nodes c.loop-index.walk) c.args.id c.args.base.now c.entry-entry.result) c.new-own.ensures) c.in_ok-put_items.ensures.items c.in_ok-put_items.ensures.ends c.set.ensures;
+      };
+    }
+
+pub asking::ask_stale-returns-clause-told : goal.asking::ask_stale-returns-clause-told
+asking::ask_stale-returns-clause-told g t c = none_stale (nodes c.args.walk.now) c.args.id c.args.base.now c.args.stale.now c.loop-index.index-index _ _ _ (omega arith) c.loop-index.invariant.told
+
+pub asking::ask_stale-returns-clause-below : goal.asking::ask_stale-returns-clause-below
+asking::ask_stale-returns-clause-below g t c = c.loop-index.invariant.walked
+
+pub asking::ask_needed-ask_again-requires : goal.asking::ask_needed-ask_again-requires
+asking::ask_needed-ask_again-requires g t c =
+    let past : IsPastColumns (nodes c.args.walk.now) c.args.id c.in-Some.past = subst (λ (o : Option PastColumns). IfSome o (IsPastColumns (nodes c.args.walk.now) c.args.id)) c.in-Some.is c.requires.past in
+    let stale : All (λ k. k < length c.args.base.now.placed.areas) c.in-Some.past.stale = past_stale (nodes c.args.walk.now) c.args.id c.in-Some.past c.args.base.now past c.requires.places c.as_slice-counts.result.now
+    (c.as_slice-counts.ensures ∙ ap (λ (z : GridBase). z.pairs) c.grid.ensures) c.same_counts.result (c.same_counts.ensures ∙ ap (same_pairs c.as_slice-counts.result.now) c.as_slice.ensures) c.if-not-same_counts.false in
+    let told : HaveTold (nodes c.args.walk.now) c.args.id c.args.base.now (AllBut c.in-Some.past.stale) c.in-Some.past.told.parts.inlines c.in-Some.past.told.parts.items c.in-Some.past.told.ends = past_told (nodes c.args.walk.now) c.args.id c.in-Some.past c.args.base.now past
+    c.requires.places c.as_slice-counts.result.now (c.as_slice-counts.ensures ∙ ap (λ (z : GridBase). z.pairs) c.grid.ensures) c.same_counts.result (c.same_counts.ensures ∙ ap (same_pairs c.as_slice-counts.result.now) c.as_slice.ensures) c.if-not-same_counts.false in
+    search rules
+
+pub asking::grid_in-returns-in_err-base-clause-stopped : goal.asking::grid_in-returns-in_err-base-clause-stopped
+asking::grid_in-returns-in_err-base-clause-stopped g t c =
+    let all : (q : Query) → q.reps ≡ c.args.seat.now.reps.now → q.inline ≡ c.args.width.now → Stopped c.args.id q (seen g.R.Ruler.log c.args.walk.now) (seen g.R.Ruler.log c.shared_base.new.walk) =
+    λ q r w. c.shared_base.ensures.stopped q _ (stopped c.args.id q 0 _ _ (walked_none c.args.id q (seen g.R.Ruler.log c.shared_base.new.walk) c.shared_base.ensures.stands.right)) in
+    on_err _ _ all
+
+pub asking::grid_in-ask_needed-requires : goal.asking::grid_in-ask_needed-requires
+asking::grid_in-ask_needed-requires g t c =
+    let back = sym c.in_ok-base.ensures.same in
+    let live : IsLive (nodes c.shared_base.new.walk) c.args.id = subst (λ (z : BareTrees). IsLive z c.args.id) back c.requires.live in
+    let grid : (sight_at (nodes c.shared_base.new.walk) c.args.id).label.kind ≡ kind.Grid = subst (λ (z : BareTrees). (sight_at z c.args.id).label.kind ≡ kind.Grid) back c.requires.grid in
+    let laid : IsLaid (nodes c.shared_base.new.walk) c.args.id c.grid.result.now = laid_there (nodes c.args.walk.now) (nodes c.shared_base.new.walk) c.in_ok-base.ensures.same c.args.id c.args.seat.now.reps.now c.args.width.now c.in_ok-base.base c.grid.result.now c.grid.ensures
+    c.in_ok-base.ensures.value in
+    let places : HoldsPlaces (sight_at (nodes c.shared_base.new.walk) c.args.id) (children_at (nodes c.shared_base.new.walk) c.args.id) c.grid.result.now = places_there (nodes c.args.walk.now) (nodes c.shared_base.new.walk) c.in_ok-base.ensures.same c.args.id
+    c.args.seat.now.reps.now c.args.width.now c.in_ok-base.base c.grid.result.now c.grid.ensures c.in_ok-base.ensures.value in
+    let past : IfSome c.args.past (IsPastColumns (nodes c.shared_base.new.walk) c.args.id) = subst (λ (z : BareTrees). IfSome c.args.past (IsPastColumns z c.args.id)) back c.requires.past in
+    search rules
+
+pub asking::grid_in-returns-in_err-inlines-clause-stopped : goal.asking::grid_in-returns-in_err-inlines-clause-stopped
+asking::grid_in-returns-in_err-inlines-clause-stopped g t c =
+    let all : (q : Query) → q.reps ≡ c.args.seat.now.reps.now → q.inline ≡ c.args.width.now →
+    Stopped c.args.id q (seen g.R.Ruler.log c.args.walk.now) (seen g.R.Ruler.log c.ask_needed.new.walk) =
+    λ q r w. c.in_ok-base.ensures.stopped q _
+    (c.in_err-inlines.ensures.stopped q
+    (leads_there (nodes c.args.walk.now) (nodes c.shared_base.new.walk) c.in_ok-base.ensures.same c.args.id c.args.seat.now.reps.now c.args.width.now c.in_ok-base.base c.grid.result.now c.grid.ensures c.in_ok-base.ensures.value c.requires.grid q r w)) in
+    on_err _ _ all
+
+pub asking::grid_in-returns-clause-value : goal.asking::grid_in-returns-clause-value
+asking::grid_in-returns-clause-value g t c =
+    grid_there (nodes c.args.walk.now) (nodes c.shared_base.new.walk) c.in_ok-base.ensures.same c.args.id c.args.seat.now.reps.now c.args.width.now c.in_ok-base.base c.grid.result.now c.grid.ensures c.in_ok-base.ensures.value _ _
+    (answers_there (nodes c.args.walk.now) (nodes c.shared_base.new.walk) c.in_ok-base.ensures.same c.args.id c.args.seat.now.reps.now c.args.width.now c.in_ok-base.base c.grid.result.now c.grid.ensures c.in_ok-base.ensures.value _ _ _ c.in_ok-inlines.ensures.told
+    (subst IsTree (sym c.in_ok-base.ensures.same) c.root.ensures.tree))
+
+pub asking::grid_in-returns-clause-told : goal.asking::grid_in-returns-clause-told
+asking::grid_in-returns-clause-told g t c =
+    columns_there (nodes c.args.walk.now) (nodes c.shared_base.new.walk) c.in_ok-base.ensures.same c.args.id c.args.seat.now.reps.now c.args.width.now c.in_ok-base.base c.grid.result.now c.grid.ensures c.in_ok-base.ensures.value _ _ _ c.in_ok-inlines.ensures.told
+
+pub asking::grid_in-returns-clause-below : goal.asking::grid_in-returns-clause-below
+asking::grid_in-returns-clause-below g t c = λ q r w. c.in_ok-base.ensures.below q 0 _
+    (c.in_ok-inlines.ensures.below q (leads_there (nodes c.args.walk.now) (nodes c.shared_base.new.walk) c.in_ok-base.ensures.same c.args.id c.args.seat.now.reps.now c.args.width.now c.in_ok-base.base c.grid.result.now c.grid.ensures c.in_ok-base.ensures.value c.requires.grid q r w))
+
+pub walk::grid_anew-put-requires-clause-live : goal.walk::grid_anew-put-requires-clause-live
+walk::grid_anew-put-requires-clause-live g t c = subst (λ (z : BareTrees). IsLive z c.args.id) (sym c.in_ok-low.ensures.below.walk.bare_same) c.requires.live
+
+pub walk::grid_anew-put-requires-clause-absent : goal.walk::grid_anew-put-requires-clause-absent
+walk::grid_anew-put-requires-clause-absent g t c = subst (IsAbsent c.args.query) (sym c.in_ok-low.ensures.below.own) c.requires.absent
+
+pub walk::grid_anew-put-requires-clause-fits : goal.walk::grid_anew-put-requires-clause-fits
+walk::grid_anew-put-requires-clause-fits g t c = subst (λ (z : BareTrees). Fits (sight_at z c.args.id) c.args.query) (sym c.in_ok-low.ensures.below.walk.bare_same) c.requires.fits
+
+pub walk::grid_anew-put-requires-clause-value : goal.walk::grid_anew-put-requires-clause-value
+walk::grid_anew-put-requires-clause-value g t c = c.in_ok-low.ensures.value ∙ ap (λ (z : BareTrees). answer_of (sight_at z c.args.id) c.args.query) (sym c.in_ok-low.ensures.below.walk.bare_same)
+
+pub walk::grid_anew-put-requires-clause-quiet : goal.walk::grid_anew-put-requires-clause-quiet
+walk::grid_anew-put-requires-clause-quiet g t c = grid_quiet (nodes c.grid_sizes.new.walk) c.args.id c.args.query (subst (λ (z : BareTrees). (sight_at z c.args.id).label.kind ≡ kind.Grid) (sym c.in_ok-low.ensures.below.walk.bare_same) c.requires.grid)
+
+pub walk::grid_anew-returns-clause-walked : goal.walk::grid_anew-returns-clause-walked
+walk::grid_anew-returns-clause-walked g t c = c.in_ok-put.ensures.joins _ 2 (omega arith) c.in_ok-low.ensures.below
+
+pub walk::grid_anew-returns-in_err-put-clause-stopped : goal.walk::grid_anew-returns-in_err-put-clause-stopped
+walk::grid_anew-returns-in_err-put-clause-stopped g t c = on_err _ _ (c.in_err-put.ensures.stopped _ 2 c.in_ok-low.ensures.below)
+
+pub walk::grid_anew-returns-clause-own : goal.walk::grid_anew-returns-clause-own
+walk::grid_anew-returns-clause-own g t c = c.in_ok-put.ensures.own ∙ ap (λ l. kept_with l ((c.args.query, answer.Sizes c.in_ok-low.low c.in_ok-low.high) ∷ [])) c.in_ok-low.ensures.below.own
+
+pub walk::grid_sizes-returns-in_err-past-clause-stopped : goal.walk::grid_sizes-returns-in_err-past-clause-stopped
+walk::grid_sizes-returns-in_err-past-clause-stopped g t c =
+    on_err _ _
+    (c.take_columns.ensures.stopped c.args.query.now (seen g.R.Ruler.log c.take_columns.new.self) (stopped c.args.id c.args.query.now 0 _ _ (walked_none c.args.id c.args.query.now (seen g.R.Ruler.log c.take_columns.new.self) c.take_columns.ensures.stands.right)))
+
+pub walk::grid_sizes-grid_in-requires : goal.walk::grid_sizes-grid_in-requires
+walk::grid_sizes-grid_in-requires g t c =
+    let back = sym c.take_columns.ensures.bare in
+    let live : IsLive (nodes c.take_columns.new.self) c.args.id = subst (λ (z : BareTrees). IsLive z c.args.id) back c.requires.live in
+    let grid : (sight_at (nodes c.take_columns.new.self) c.args.id).label.kind ≡ kind.Grid = subst (λ (z : BareTrees). (sight_at z c.args.id).label.kind ≡ kind.Grid) back c.requires.grid in
+    let counts : length c.args.seat.now.reps.now ≡ length (sight_at (nodes c.take_columns.new.self) c.args.id).chain = ap length (sym (ap (λ (z : Query). z.reps) c.requires.query)) ∙ c.requires.fits.reps ∙ ap (λ (z : BareTrees). length (sight_at z c.args.id).chain) back in
+    let seat : IsSeat (sight_at (nodes c.take_columns.new.self) c.args.id) c.args.seat.now.reps.now c.args.seat.now.above.now c.args.seat.now.area = subst (λ (z : BareTrees). IsSeat (sight_at z c.args.id) c.args.seat.now.reps.now c.args.seat.now.above.now c.args.seat.now.area) back
+    c.requires.seat in
+    let width : IsGivenSize c.args.query.now.inline = subst IsGivenSize (sym (ap (λ (z : Query). z.inline) c.requires.query)) tt in
+    let past : IfSome c.in_ok-past.past (IsPastColumns (nodes c.take_columns.new.self) c.args.id) = subst (λ (z : BareTrees). IfSome c.in_ok-past.past (IsPastColumns z c.args.id)) back c.in_ok-past.ensures.told in
+    search rules
+
+pub walk::grid_sizes-returns-in_err-told-clause-stopped : goal.walk::grid_sizes-returns-in_err-told-clause-stopped
+walk::grid_sizes-returns-in_err-told-clause-stopped g t c =
+    on_err _ _
+    (c.take_columns.ensures.stopped c.args.query.now (seen g.R.Ruler.log c.grid_in.new.walk) (c.in_err-told.ensures.stopped c.args.query.now (ap (λ (z : Query). z.reps) c.requires.query) refl))
+
+pub walk::grid_sizes-grid_inline-requires-clause-live : goal.walk::grid_sizes-grid_inline-requires-clause-live
+walk::grid_sizes-grid_inline-requires-clause-live g t c =
+    subst (λ (z : BareTrees). IsLive z c.args.id)
+    (sym
+    (c.take_columns.ensures.below c.args.query.now 0 (seen g.R.Ruler.log c.grid_in.new.walk) (c.in_ok-told.ensures.below c.args.query.now (ap (λ (z : Query). z.reps) c.requires.query) refl)).walk.bare_same)
+    c.requires.live
+
+pub walk::grid_sizes-grid_inline-requires-clause-own : goal.walk::grid_sizes-grid_inline-requires-clause-own
+walk::grid_sizes-grid_inline-requires-clause-own g t c =
+    subst (λ (z : BareTrees). sees_columns (sight_at z c.args.id) ≡ false)
+    (sym
+    (c.take_columns.ensures.below c.args.query.now 0 (seen g.R.Ruler.log c.grid_in.new.walk) (c.in_ok-told.ensures.below c.args.query.now (ap (λ (z : Query). z.reps) c.requires.query) refl)).walk.bare_same)
+    (sizes_fit (sight_at (nodes c.args.walk.now) c.args.id) c.args.query.now (ap (λ (z : Query). z.ask) c.requires.query) c.requires.fits)
+
+pub walk::grid_sizes-grid_inline-requires-clause-grid : goal.walk::grid_sizes-grid_inline-requires-clause-grid
+walk::grid_sizes-grid_inline-requires-clause-grid g t c =
+    record {
+      outer = c.args.query.now.reps;
+      width = given.None;
+      grid =
+          subst (λ (z : BareTrees). IsGrid z c.args.id c.args.query.now.reps given.None c.in_ok-told.told.parts) (sym (c.in_ok-told.ensures.below c.args.query.now (ap (λ (z : Query). z.reps) c.requires.query) refl).walk.bare_same)
+          (subst (λ (o : List Pair). IsGrid (nodes c.take_columns.new.self) c.args.id o given.None c.in_ok-told.told.parts) (sym (ap (λ (z : Query). z.reps) c.requires.query))
+          (subst (λ (w : Given). IsGrid (nodes c.take_columns.new.self) c.args.id c.args.seat.now.reps.now w c.in_ok-told.told.parts) (ap (λ (z : Query). z.inline) c.requires.query) c.in_ok-told.ensures.value));
+    }
+
+pub walk::grid_sizes-returns-in_err-sizes-clause-stopped : goal.walk::grid_sizes-returns-in_err-sizes-clause-stopped
+walk::grid_sizes-returns-in_err-sizes-clause-stopped g t c =
+    on_err _ _
+    (stopped c.args.id c.args.query.now 2 _ _
+    (ticked c.args.id c.args.query.now 0 2 _ _ c.grid_inline.new.passes c.in_err-sizes.ensures.stopped.1
+    (c.take_columns.ensures.below c.args.query.now 0 (seen g.R.Ruler.log c.grid_in.new.walk) (c.in_ok-told.ensures.below c.args.query.now (ap (λ (z : Query). z.reps) c.requires.query) refl))))
+
+pub walk::grid_sizes-keep_told-requires-clause-live : goal.walk::grid_sizes-keep_told-requires-clause-live
+walk::grid_sizes-keep_told-requires-clause-live g t c =
+    subst (λ (z : BareTrees). IsLive z c.args.id)
+    (sym
+    (c.take_columns.ensures.below c.args.query.now 0 (seen g.R.Ruler.log c.grid_in.new.walk) (c.in_ok-told.ensures.below c.args.query.now (ap (λ (z : Query). z.reps) c.requires.query) refl)).walk.bare_same)
+    c.requires.live
+
+pub walk::grid_sizes-keep_told-requires-clause-places : goal.walk::grid_sizes-keep_told-requires-clause-places
+walk::grid_sizes-keep_told-requires-clause-places g t c =
+    places_held (nodes c.grid_in.new.walk) c.args.id c.args.query.now.reps given.None c.in_ok-told.told.parts.base
+    (subst (λ (z : BareTrees). IsGrid z c.args.id c.args.query.now.reps given.None c.in_ok-told.told.parts) (sym (c.in_ok-told.ensures.below c.args.query.now (ap (λ (z : Query). z.reps) c.requires.query) refl).walk.bare_same)
+    (subst (λ (o : List Pair). IsGrid (nodes c.take_columns.new.self) c.args.id o given.None c.in_ok-told.told.parts) (sym (ap (λ (z : Query). z.reps) c.requires.query))
+    (subst (λ (w : Given). IsGrid (nodes c.take_columns.new.self) c.args.id c.args.seat.now.reps.now w c.in_ok-told.told.parts) (ap (λ (z : Query). z.inline) c.requires.query) c.in_ok-told.ensures.value))).base
+
+pub walk::grid_sizes-keep_told-requires-clause-told : goal.walk::grid_sizes-keep_told-requires-clause-told
+walk::grid_sizes-keep_told-requires-clause-told g t c = subst (λ (z : BareTrees). AreColumns (sight_at z c.args.id) (kid_at z) Each c.in_ok-told.told) (sym (c.in_ok-told.ensures.below c.args.query.now (ap (λ (z : Query). z.reps) c.requires.query) refl).walk.bare_same) c.in_ok-told.ensures.told
+
+pub walk::grid_sizes-returns-clause-value : goal.walk::grid_sizes-returns-clause-value
+walk::grid_sizes-returns-clause-value g t c =
+    ap inline_sizes
+    (c.in_ok-sizes.ensures.value c.args.query.now.reps given.None
+    (subst (λ (z : BareTrees). IsGrid z c.args.id c.args.query.now.reps given.None c.in_ok-told.told.parts) (sym (c.in_ok-told.ensures.below c.args.query.now (ap (λ (z : Query). z.reps) c.requires.query) refl).walk.bare_same)
+    (subst (λ (o : List Pair). IsGrid (nodes c.take_columns.new.self) c.args.id o given.None c.in_ok-told.told.parts) (sym (ap (λ (z : Query). z.reps) c.requires.query))
+    (subst (λ (w : Given). IsGrid (nodes c.take_columns.new.self) c.args.id c.args.seat.now.reps.now w c.in_ok-told.told.parts) (ap (λ (z : Query). z.inline) c.requires.query) c.in_ok-told.ensures.value)))) ∙
+    grid_answer (nodes c.grid_in.new.walk) c.args.id c.args.query.now (subst (λ (z : BareTrees). (sight_at
+    z c.args.id).label.kind ≡ kind.Grid) (sym (c.take_columns.ensures.below c.args.query.now 0 (seen g.R.Ruler.log c.grid_in.new.walk) (c.in_ok-told.ensures.below c.args.query.now (ap (λ (z : Query). z.reps) c.requires.query) refl)).walk.bare_same) c.requires.grid) (ap (λ (z :
+    Query). z.ask) c.requires.query)
+    ∙ ap (λ (z : BareTrees). answer_of (sight_at z c.args.id) c.args.query.now)
+    (c.take_columns.ensures.below c.args.query.now 0 (seen g.R.Ruler.log c.grid_in.new.walk) (c.in_ok-told.ensures.below c.args.query.now (ap (λ (z : Query). z.reps) c.requires.query) refl)).walk.bare_same
+
+pub walk::grid_sizes-returns-clause-below : goal.walk::grid_sizes-returns-clause-below
+walk::grid_sizes-returns-clause-below g t c =
+    c.keep_told.ensures.below c.args.query.now 2 _
+    (ticked c.args.id c.args.query.now 0 2 _ _ c.grid_inline.new.passes (omega (arith, c.in_ok-sizes.ensures.step))
+    (c.take_columns.ensures.below c.args.query.now 0 (seen g.R.Ruler.log c.grid_in.new.walk) (c.in_ok-told.ensures.below c.args.query.now (ap (λ (z : Query). z.reps) c.requires.query) refl)))
+
+pub walk::grid_sizes-returns-in_err-keep_told-clause-stopped : goal.walk::grid_sizes-returns-in_err-keep_told-clause-stopped
+walk::grid_sizes-returns-in_err-keep_told-clause-stopped g t c =
+    on_err _ _
+    (stopped c.args.id c.args.query.now 2 _ _
+    (c.keep_told.ensures.below c.args.query.now 2 _
+    (ticked c.args.id c.args.query.now 0 2 _ _ c.grid_inline.new.passes (omega (arith, c.in_ok-sizes.ensures.step))
+    (c.take_columns.ensures.below c.args.query.now 0 (seen g.R.Ruler.log c.grid_in.new.walk) (c.in_ok-told.ensures.below c.args.query.now (ap (λ (z : Query). z.reps) c.requires.query) refl)))))
+
+pub asking::ask_shared-lend_columns_at-requires : goal.asking::ask_shared-lend_columns_at-requires
+asking::ask_shared-lend_columns_at-requires g t c =
+    let b = nodes c.args.walk.now in
+    let live : IsLive (nodes c.args.walk.now) c.args.entry.child = c.requires.entry.live in
+    let fits : Fits (sight_at (nodes c.args.walk.now) c.args.entry.child) (inline_query true c.as_slice-reps.result.now) = subst (λ (r : List Pair). Fits (sight_at (nodes c.args.walk.now) c.args.entry.child) (inline_query true r)) (sym c.as_slice-reps.ensures)
+    (shared_fits b c.args.id c.args.base.now c.args.entry c.requires.entry c.requires.shared) in
+    let seat : IsSeat (sight_at (nodes c.args.walk.now) c.args.entry.child) c.as_slice-reps.result.now c.args.base.now.above c.args.entry.area = subst (λ (r : List Pair). IsSeat (sight_at (nodes c.args.walk.now) c.args.entry.child) r c.args.base.now.above c.args.entry.area)
+    (sym c.as_slice-reps.ensures) (c.requires.entry.seat (shared_chain b c.args.id c.args.base.now c.args.entry c.requires.entry c.requires.shared)) in
+    let small : 16 * size_at (nodes c.args.walk.now) c.args.entry.child + 7 < 16 * size_at (nodes c.args.walk.now) c.args.entry.child + 8 = omega arith in
+    search rules
+
+pub asking::ask_shared-returns-in_err-lent-clause-stopped : goal.asking::ask_shared-returns-in_err-lent-clause-stopped
+asking::ask_shared-returns-in_err-lent-clause-stopped g t c =
+    let as_asked = sym (shared_asked (nodes c.args.walk.now) c.args.id c.args.base.now c.args.entry c.requires.entry c.requires.shared ∙ ap (inline_query true) (sym c.as_slice-reps.ensures)) in
+    on_err _ _
+    (subst
+    (λ (q : Query). Stopped c.args.entry.child q (seen g.R.Ruler.log c.args.walk.now)
+    (seen g.R.Ruler.log c.lend_columns_at.new.walk)) as_asked c.in_err-lent.ensures.stopped)
+
+pub asking::ask_shared-returns-clause-stopped : goal.asking::ask_shared-returns-clause-stopped
+asking::ask_shared-returns-clause-stopped g t c =
+    let as_asked = sym (shared_asked (nodes c.args.walk.now) c.args.id c.args.base.now c.args.entry c.requires.entry c.requires.shared ∙ ap (inline_query true) (sym c.as_slice-reps.ensures)) in
+    on_err _ _
+    (walked_stopped _ _ _ _
+    (subst
+    (λ (q : Query). Walked c.args.entry.child q (seen g.R.Ruler.log c.args.walk.now)
+    (seen g.R.Ruler.log c.lend_columns_at.new.walk)) as_asked c.in_ok-lent.ensures.walked))
+
+pub asking::ask_sizes-inline_at-requires : goal.asking::ask_sizes-inline_at-requires
+asking::ask_sizes-inline_at-requires g t c =
+    let b = nodes c.args.walk.now in
+    let some : has_chain (sight_at (nodes c.args.walk.now) c.args.entry.child).chain ≡ true =
+    c.requires.entry.chain ∙ (λ i. has_kind (sym c.node_at.ensures.kind i) (sym c.node_at.ensures.grid i)) ∙ sym c.has_subgrid.ensures ∙ c.if-has_subgrid.true in
+    let live : IsLive (nodes c.args.walk.now) c.args.entry.child = c.requires.entry.live in
+    let fits : Fits (sight_at (nodes c.args.walk.now) c.args.entry.child) (inline_query false c.as_slice-reps.result.now) = subst (λ (r : List Pair). Fits (sight_at (nodes c.args.walk.now) c.args.entry.child) (inline_query false r)) (sym c.as_slice-reps.ensures)
+    (rows_fits b c.args.id c.args.base.now c.args.entry c.requires.entry c.requires.own some) in
+    let seat : IsSeat (sight_at (nodes c.args.walk.now) c.args.entry.child) c.as_slice-reps.result.now c.args.base.now.above c.args.entry.area = subst (λ (r : List Pair). IsSeat (sight_at (nodes c.args.walk.now) c.args.entry.child) r c.args.base.now.above c.args.entry.area)
+    (sym c.as_slice-reps.ensures) (c.requires.entry.seat some) in
+    let small : 16 * size_at (nodes c.args.walk.now) c.args.entry.child + 7 < 16 * size_at (nodes c.args.walk.now) c.args.entry.child + 9 = omega arith in
+    search rules
+
+pub asking::ask_sizes-returns-in-Some-clause-sizes : goal.asking::ask_sizes-returns-in-Some-clause-sizes
+asking::ask_sizes-returns-in-Some-clause-sizes g t c =
+    let some : has_chain (sight_at (nodes c.args.walk.now) c.args.entry.child).chain ≡ true =
+    c.requires.entry.chain ∙ (λ i. has_kind (sym c.node_at.ensures.kind i) (sym c.node_at.ensures.grid i)) ∙ sym c.has_subgrid.ensures ∙ c.if-has_subgrid.true in
+    sizes_answered (nodes c.args.walk.now) c.args.id c.args.base.now c.args.entry c.requires.entry c.requires.own c.as_slice-reps.result.now _ (pairs_all (nodes c.args.walk.now) c.args.id c.args.base.now c.args.entry c.requires.entry some ∙ sym c.as_slice-reps.ensures)
+    c.in-Some.ensures.value
+
+pub asking::ask_sizes-returns-in-Some-clause-walked : goal.asking::ask_sizes-returns-in-Some-clause-walked
+asking::ask_sizes-returns-in-Some-clause-walked g t c =
+    found_walked c.args.entry.child _ (seen g.R.Ruler.log c.args.walk.now) c.requires.stands.right
+
+pub walk::columns_anew-grid_in-requires : goal.walk::columns_anew-grid_in-requires
+walk::columns_anew-grid_in-requires g t c =
+    let grid : (sight_at (nodes c.args.walk.now) c.args.id).label.kind ≡ kind.Grid = c.subgrids_are_grids.ensures (lent_fit (sight_at (nodes c.args.walk.now) c.args.id) c.args.query (ap (λ (q : Query). q.ask) c.requires.query) c.requires.fits) in
+    let counts : length c.args.seat.now.reps.now ≡ length (sight_at (nodes c.args.walk.now) c.args.id).chain = ap length (sym (ap (λ (z : Query). z.reps) c.requires.query)) ∙ c.requires.fits.reps in
+    let seat : IsSeat (sight_at (nodes c.args.walk.now) c.args.id) c.args.seat.now.reps.now c.args.seat.now.above.now c.args.seat.now.area = c.requires.seat in
+    let width : IsGivenSize c.args.query.inline = subst IsGivenSize (sym (ap (λ (q : Query). q.inline) c.requires.query)) tt in
+    search rules
+
+pub walk::columns_anew-grid_lends-requires : goal.walk::columns_anew-grid_lends-requires
+walk::columns_anew-grid_lends-requires g t c =
+    record {
+      lifted = subst IsSelfLifted (sym (levels_above (context_at (sight_at (nodes c.args.walk.now) c.args.id) c.in_ok-told.told.parts.base.pairs) c.in_ok-told.told.parts.base.above c.in_ok-told.ensures.value.base.laid.context))
+          (c.items_lie_in_their_tracks.ensures.lines c.in_ok-told.told.parts.base.pairs).column_self;
+    }
+
+pub walk::columns_anew-returns-in_err-items-clause-stopped : goal.walk::columns_anew-returns-in_err-items-clause-stopped
+walk::columns_anew-returns-in_err-items-clause-stopped g t c = on_err _ _ (stopped c.args.id c.args.query 0 _ _ (c.in_ok-told.ensures.below c.args.query (ap (λ (z : Query). z.reps) c.requires.query) refl))
+
+pub walk::columns_anew-returns-in_err-lent-clause-stopped : goal.walk::columns_anew-returns-in_err-lent-clause-stopped
+walk::columns_anew-returns-in_err-lent-clause-stopped g t c = on_err _ _ (stopped c.args.id c.args.query 0 _ _ (c.in_ok-told.ensures.below c.args.query (ap (λ (z : Query). z.reps) c.requires.query) refl))
+
+pub walk::columns_anew-put-requires-clause-live : goal.walk::columns_anew-put-requires-clause-live
+walk::columns_anew-put-requires-clause-live g t c = subst (λ (z : BareTrees). IsLive z c.args.id) (sym (c.in_ok-told.ensures.below c.args.query (ap (λ (z : Query). z.reps) c.requires.query) refl).walk.bare_same) c.requires.live
+
+pub walk::columns_anew-put-requires-clause-absent : goal.walk::columns_anew-put-requires-clause-absent
+walk::columns_anew-put-requires-clause-absent g t c = subst (IsAbsent c.args.query) (sym (c.in_ok-told.ensures.below c.args.query (ap (λ (z : Query). z.reps) c.requires.query) refl).own) c.requires.absent
+
+pub walk::columns_anew-put-requires-clause-fits : goal.walk::columns_anew-put-requires-clause-fits
+walk::columns_anew-put-requires-clause-fits g t c = subst (λ (z : BareTrees). Fits (sight_at z c.args.id) c.args.query) (sym (c.in_ok-told.ensures.below c.args.query (ap (λ (z : Query). z.reps) c.requires.query) refl).walk.bare_same) c.requires.fits
+
+pub walk::flex_anew-put-requires-clause-live : goal.walk::flex_anew-put-requires-clause-live
+walk::flex_anew-put-requires-clause-live g t c = subst (λ (z : BareTrees). IsLive z c.args.id) (sym (c.in_ok-parts.ensures.below c.args.query).walk.bare_same) c.requires.live
+
+pub walk::flex_anew-put-requires-clause-absent : goal.walk::flex_anew-put-requires-clause-absent
+walk::flex_anew-put-requires-clause-absent g t c = subst (IsAbsent c.args.query) (sym (c.in_ok-parts.ensures.below c.args.query).own) c.requires.absent
+
+pub walk::flex_anew-put-requires-clause-fits : goal.walk::flex_anew-put-requires-clause-fits
+walk::flex_anew-put-requires-clause-fits g t c = subst (λ (z : BareTrees). Fits (sight_at z c.args.id) c.args.query) (sym (c.in_ok-parts.ensures.below c.args.query).walk.bare_same) c.requires.fits
+
+pub walk::columns_anew-put-requires-clause-value : goal.walk::columns_anew-put-requires-clause-value
+walk::columns_anew-put-requires-clause-value g t c =
+    ap lent_items (c.in_ok-items.ensures (nodes c.args.walk.now) c.args.id c.args.query.reps given.None (subst (λ (o : List Pair). IsGrid (nodes c.args.walk.now) c.args.id o given.None c.in_ok-told.told.parts) (sym (ap (λ (z : Query). z.reps) c.requires.query))
+    (subst (λ (w : Given). IsGrid (nodes c.args.walk.now) c.args.id c.args.seat.now.reps.now w c.in_ok-told.told.parts) (ap (λ (q : Query). q.inline) c.requires.query) c.in_ok-told.ensures.value))) ∙ lent_answer (nodes c.args.walk.now) c.args.id c.args.query (c.subgrids_are_grids.ensures (lent_fit
+    (sight_at (nodes c.args.walk.now) c.args.id) c.args.query (ap (λ (q : Query). q.ask) c.requires.query) c.requires.fits)) (ap (λ (q : Query). q.ask) c.requires.query)
+    ∙ ap (λ (z : BareTrees). answer_of (sight_at z c.args.id) c.args.query) (sym (c.in_ok-told.ensures.below c.args.query (ap (λ (z : Query). z.reps) c.requires.query) refl).walk.bare_same)
+
+pub walk::columns_anew-returns-clause-value : goal.walk::columns_anew-returns-clause-value
+walk::columns_anew-returns-clause-value g t c =
+    ap lent_items (c.in_ok-lent.ensures ∙ c.as_slice.ensures) ∙
+    ap lent_items (c.in_ok-items.ensures (nodes c.args.walk.now) c.args.id c.args.query.reps given.None (subst (λ (o : List Pair). IsGrid (nodes c.args.walk.now) c.args.id o given.None c.in_ok-told.told.parts) (sym (ap (λ (z : Query). z.reps) c.requires.query))
+    (subst (λ (w : Given). IsGrid (nodes c.args.walk.now) c.args.id c.args.seat.now.reps.now w c.in_ok-told.told.parts) (ap (λ (q : Query). q.inline) c.requires.query) c.in_ok-told.ensures.value))) ∙ lent_answer (nodes c.args.walk.now) c.args.id c.args.query (c.subgrids_are_grids.ensures (lent_fit
+    (sight_at (nodes c.args.walk.now) c.args.id) c.args.query (ap (λ (q : Query). q.ask) c.requires.query) c.requires.fits)) (ap (λ (q : Query). q.ask) c.requires.query)
+
+pub walk::columns_anew-returns-clause-walked : goal.walk::columns_anew-returns-clause-walked
+walk::columns_anew-returns-clause-walked g t c = c.in_ok-put.ensures.joins _ 0 (omega arith) (c.in_ok-told.ensures.below c.args.query (ap (λ (z : Query). z.reps) c.requires.query) refl)
+
+pub walk::columns_anew-returns-in_err-put-clause-stopped : goal.walk::columns_anew-returns-in_err-put-clause-stopped
+walk::columns_anew-returns-in_err-put-clause-stopped g t c = on_err _ _ (c.in_err-put.ensures.stopped _ 0 (c.in_ok-told.ensures.below c.args.query (ap (λ (z : Query). z.reps) c.requires.query) refl))
+
+pub walk::columns_anew-returns-clause-own : goal.walk::columns_anew-returns-clause-own
+walk::columns_anew-returns-clause-own g t c =
+    c.in_ok-put.ensures.own ∙ (λ i. kept_with ((c.in_ok-told.ensures.below c.args.query (ap (λ (z : Query). z.reps) c.requires.query) refl).own i) ((c.args.query, answer.Lent (sym (c.in_ok-lent.ensures ∙ c.as_slice.ensures) i)) ∷ []))
+
+pub walk::flex_anew-flex_inline-requires-clause-live : goal.walk::flex_anew-flex_inline-requires-clause-live
+walk::flex_anew-flex_inline-requires-clause-live g t c = subst (λ (z : BareTrees). IsLive z c.args.id) (sym (c.in_ok-parts.ensures.below c.args.query).walk.bare_same) c.requires.live
+
+pub walk::flex_anew-flex_inline-requires-clause-members : goal.walk::flex_anew-flex_inline-requires-clause-members
+walk::flex_anew-flex_inline-requires-clause-members g t c = subst (λ (z : BareTrees). AreMembers z c.args.id c.in_ok-parts.parts.members) (sym (c.in_ok-parts.ensures.below c.args.query).walk.bare_same) c.in_ok-parts.ensures.value
+
+pub walk::flex_anew-returns-in_err-low-clause-stopped : goal.walk::flex_anew-returns-in_err-low-clause-stopped
+walk::flex_anew-returns-in_err-low-clause-stopped g t c = on_err _ _ (stopped c.args.id c.args.query 0 _ _ (c.in_ok-parts.ensures.below c.args.query))
+
+pub walk::flex_anew-put-requires-clause-value : goal.walk::flex_anew-put-requires-clause-value
+walk::flex_anew-put-requires-clause-value g t c =
+    ap inline_sizes c.in_ok-low.ensures ∙
+    flex_answer (nodes c.flex_in.new.walk) c.args.id c.args.query (subst (λ (z : BareTrees). (sight_at z c.args.id).label.kind ≡ kind.Flex) (sym (c.in_ok-parts.ensures.below c.args.query).walk.bare_same) c.requires.flex) c.requires.ask
+
+pub walk::flex_anew-put-requires-clause-quiet : goal.walk::flex_anew-put-requires-clause-quiet
+walk::flex_anew-put-requires-clause-quiet g t c = flex_quiet (nodes c.flex_in.new.walk) c.args.id c.args.query (subst (λ (z : BareTrees). (sight_at z c.args.id).label.kind ≡ kind.Flex) (sym (c.in_ok-parts.ensures.below c.args.query).walk.bare_same) c.requires.flex)
+
+pub walk::flex_anew-returns-clause-value : goal.walk::flex_anew-returns-clause-value
+walk::flex_anew-returns-clause-value g t c =
+    ap inline_sizes c.in_ok-low.ensures ∙
+    flex_answer (nodes c.flex_in.new.walk) c.args.id c.args.query (subst (λ (z : BareTrees). (sight_at z c.args.id).label.kind ≡ kind.Flex) (sym (c.in_ok-parts.ensures.below c.args.query).walk.bare_same) c.requires.flex) c.requires.ask
+    ∙ ap (λ (z : BareTrees). answer_of (sight_at z c.args.id) c.args.query) (c.in_ok-parts.ensures.below c.args.query).walk.bare_same
+
+pub walk::flex_anew-returns-clause-walked : goal.walk::flex_anew-returns-clause-walked
+walk::flex_anew-returns-clause-walked g t c = c.in_ok-put.ensures.joins _ 0 (omega arith) (c.in_ok-parts.ensures.below c.args.query)
+
+pub walk::flex_anew-returns-in_err-put-clause-stopped : goal.walk::flex_anew-returns-in_err-put-clause-stopped
+walk::flex_anew-returns-in_err-put-clause-stopped g t c = on_err _ _ (c.in_err-put.ensures.stopped _ 0 (c.in_ok-parts.ensures.below c.args.query))
+
+pub walk::flex_anew-returns-clause-own : goal.walk::flex_anew-returns-clause-own
+walk::flex_anew-returns-clause-own g t c = c.in_ok-put.ensures.own ∙ ap (λ l. kept_with l ((c.args.query, answer.Sizes c.in_ok-low.low c.in_ok-low.high) ∷ [])) (c.in_ok-parts.ensures.below c.args.query).own
+
+pub walk::flex_in-returns-in_err-numbers-clause-stopped : goal.walk::flex_in-returns-in_err-numbers-clause-stopped
+walk::flex_in-returns-in_err-numbers-clause-stopped g t c =
+    let all : (q : Query) → Stopped c.args.id q (seen g.R.Ruler.log c.args.walk.now) (seen g.R.Ruler.log c.args.walk.now) =
+    λ q. stopped c.args.id q 0 _ _ (walked_none c.args.id q (seen g.R.Ruler.log c.args.walk.now) c.requires.stands.right) in
+    on_err _ _ all
+
+pub walk::flex_in-returns-in_err-members-clause-stopped : goal.walk::flex_in-returns-in_err-members-clause-stopped
+walk::flex_in-returns-in_err-members-clause-stopped g t c =
+    let all : (q : Query) → Stopped c.args.id q (seen g.R.Ruler.log c.args.walk.now) (seen g.R.Ruler.log c.args.walk.now) =
+    λ q. stopped c.args.id q 0 _ _ (walked_none c.args.id q (seen g.R.Ruler.log c.args.walk.now) c.requires.stands.right) in
+    on_err _ _ all
+
+pub walk::flex_in-loop-number-init : goal.walk::flex_in-loop-number-init
+walk::flex_in-loop-number-init g t c =
+    record {
+      stands = c.requires.stands;
+      parts = same_parts c.args.walk.now;
+      same = refl;
+      walked = λ q. walked_none c.args.id q (seen g.R.Ruler.log c.args.walk.now) c.requires.stands.right;
+      members = ap (λ l. map (member_of (nodes c.args.walk.now)) l ++ members_from (nodes c.args.walk.now) c.args.id 0) c.in_ok-members.ensures ∙ members_first (nodes c.args.walk.now) c.args.id;
+      children = λ k d h. absurd (omega (arith, ap length c.in_ok-members.ensures));
+    }
+
+pub walk::flex_in-child-child-requires : goal.walk::flex_in-child-child-requires
+walk::flex_in-child-child-requires g t c =
+    let there : c.loop-number.number-index < length c.in_ok-numbers.numbers = omega (arith, ap length c.as_slice-number-items.ensures, c.loop-number-test.true) in
+    subst (λ (l : List ℕ). get_or l c.loop-number.number-index 0 < length (kids_at (nodes c.loop-number.walk) c.args.id)) (sym c.as_slice-number-items.ensures)
+    (subst (λ (z : BareTrees). get_or c.in_ok-numbers.numbers c.loop-number.number-index 0 < length (kids_at z c.args.id)) (sym c.loop-number.invariant.same) (c.in_ok-numbers.ensures.within c.loop-number.number-index 0 there))
+
+pub walk::flex_in-ask_alone-requires : goal.walk::flex_in-ask_alone-requires
+walk::flex_in-ask_alone-requires g t c =
+    let none = (chain_in_flex (nodes c.loop-number.walk) c.args.id c.child-child.result _ c.child-child.ensures.next (subst (λ (z : BareTrees). (sight_at z c.args.id).label.kind ≡ kind.Flex) (sym c.loop-number.invariant.same) c.requires.flex)) in
+    let live : IsLive (nodes c.loop-number.walk) c.child-child.result = c.child-child.ensures.next.live in
+    let fits : Fits (sight_at (nodes c.loop-number.walk) c.child-child.result) (inline_query false []) = fits_no_chain (sight_at (nodes c.loop-number.walk) c.child-child.result) none in
+    let seat : IsSeat (sight_at (nodes c.loop-number.walk) c.child-child.result) [] above.Nothing (record { columns = record { start = pos 0; end = pos 0 }; rows = record { start = pos 0; end = pos 0 } }) = alone_there (nodes c.loop-number.walk) c.child-child.result _ (ap has_chain none) in
+    let small : 16 * size_at (nodes c.loop-number.walk) c.child-child.result + 8 < 16 * size_at (nodes c.args.walk.now) c.args.id + 3 = omega (arith, c.child-child.ensures.next.smaller, ap (λ (z : BareTrees). size_at z c.args.id) c.loop-number.invariant.same) in
+    search rules
+
+pub walk::flex_in-returns-in_err-inline-clause-stopped : goal.walk::flex_in-returns-in_err-inline-clause-stopped
+walk::flex_in-returns-in_err-inline-clause-stopped g t c =
+    let all : (q : Query) → Stopped c.args.id q (seen g.R.Ruler.log c.args.walk.now) (seen g.R.Ruler.log c.ask_alone.new.walk) =
+    λ q. c.child-child.ensures.step.stops q (inline_query false []) 0 _ _ _
+    (subst (λ (z : BareTrees). Contains (uses_at z c.args.id q) (get_or c.as_slice-number-items.result.now c.loop-number.number-index 0, inline_query false [])) (sym c.loop-number.invariant.same)
+    (flex_uses_next (nodes c.args.walk.now) c.args.id c.as_slice-number-items.result.now (c.as_slice-number-items.ensures ∙ c.in_ok-numbers.ensures.value) c.loop-number.number-index (omega (arith, c.loop-number-test.true)) c.child-child.result
+    (subst (λ (z : BareTrees). IsNext z c.args.id (get_or c.as_slice-number-items.result.now c.loop-number.number-index 0) c.child-child.result) c.loop-number.invariant.same c.child-child.ensures.next) q c.requires.flex))
+    refl (c.loop-number.invariant.walked q) c.in_err-inline.ensures.stopped in
+    on_err _ _ all
+
+pub walk::flex_in-returns-in_err-push-clause-stopped : goal.walk::flex_in-returns-in_err-push-clause-stopped
+walk::flex_in-returns-in_err-push-clause-stopped g t c =
+    let all : (q : Query) → Stopped c.args.id q (seen g.R.Ruler.log c.args.walk.now) (seen g.R.Ruler.log c.ask_alone.new.walk) =
+    λ q. stopped c.args.id q 0 _ _ (c.child-child.ensures.step.below q (inline_query false []) 0 _ _ _
+    (subst (λ (z : BareTrees). Contains (uses_at z c.args.id q) (get_or c.as_slice-number-items.result.now c.loop-number.number-index 0, inline_query false [])) (sym c.loop-number.invariant.same)
+    (flex_uses_next (nodes c.args.walk.now) c.args.id c.as_slice-number-items.result.now (c.as_slice-number-items.ensures ∙ c.in_ok-numbers.ensures.value) c.loop-number.number-index (omega (arith, c.loop-number-test.true)) c.child-child.result
+    (subst (λ (z : BareTrees). IsNext z c.args.id (get_or c.as_slice-number-items.result.now c.loop-number.number-index 0) c.child-child.result) c.loop-number.invariant.same c.child-child.ensures.next) q c.requires.flex))
+    refl (c.loop-number.invariant.walked q) c.in_ok-inline.ensures.walked) in
+    on_err _ _ all
+
+pub walk::flex_in-loop-number-preserved : goal.walk::flex_in-loop-number-preserved
+walk::flex_in-loop-number-preserved g t c =
+    record {
+      stands = c.ask_alone.ensures.stands;
+      parts = parts_then _ _ _ c.loop-number.invariant.parts c.ask_alone.ensures.parts;
+      same = c.in_ok-inline.ensures.walked.walk.bare_same ∙ c.loop-number.invariant.same;
+      walked = λ q. c.child-child.ensures.step.below q (inline_query false []) 0 _ _ _
+          (subst (λ (z : BareTrees). Contains (uses_at z c.args.id q) (get_or c.as_slice-number-items.result.now c.loop-number.number-index 0, inline_query false [])) (sym c.loop-number.invariant.same)
+          (flex_uses_next (nodes c.args.walk.now) c.args.id c.as_slice-number-items.result.now (c.as_slice-number-items.ensures ∙ c.in_ok-numbers.ensures.value) c.loop-number.number-index (omega (arith, c.loop-number-test.true)) c.child-child.result
+          (subst (λ (z : BareTrees). IsNext z c.args.id (get_or c.as_slice-number-items.result.now c.loop-number.number-index 0) c.child-child.result) c.loop-number.invariant.same c.child-child.ensures.next) q c.requires.flex))
+          refl (c.loop-number.invariant.walked q) c.in_ok-inline.ensures.walked;
+      members =
+          members_next (nodes c.args.walk.now) c.args.id c.as_slice-number-items.result.now (c.as_slice-number-items.ensures ∙ c.in_ok-numbers.ensures.value) c.loop-number.number-index (omega (arith, c.loop-number-test.true)) c.child-child.result
+          (subst (λ (z : BareTrees). IsNext z c.args.id (get_or c.as_slice-number-items.result.now c.loop-number.number-index 0) c.child-child.result) c.loop-number.invariant.same c.child-child.ensures.next) _ _ c.in_ok-inline.inline
+          (sizes_are _ _ c.in_ok-inline.ensures.value ∙ ap (λ (z : BareTrees). (kid_at z c.child-child.result).answers.inline []) c.loop-number.invariant.same)
+          c.in_ok-push.ensures.ok c.loop-number.invariant.members;
+      children = subst (All (IsChild (nodes c.args.walk.now) c.args.id)) (sym c.in_ok-push.ensures.ok)
+          (All-push (IsChild (nodes c.args.walk.now) c.args.id) _ _ c.loop-number.invariant.children
+          (record {
+            number = (subst (λ (z : BareTrees). IsNext z c.args.id (get_or c.as_slice-number-items.result.now c.loop-number.number-index 0) c.child-child.result) c.loop-number.invariant.same c.child-child.ensures.next).number;
+            live = (subst (λ (z : BareTrees). IsNext z c.args.id (get_or c.as_slice-number-items.result.now c.loop-number.number-index 0) c.child-child.result) c.loop-number.invariant.same c.child-child.ensures.next).live;
+          }));
+    }
+
+pub walk::flex_in-returns-clause-value : goal.walk::flex_in-returns-clause-value
+walk::flex_in-returns-clause-value g t c =
+    record {
+      same = members_all (nodes c.args.walk.now) c.args.id c.as_slice-number-items.result.now (c.as_slice-number-items.ensures ∙ c.in_ok-numbers.ensures.value) c.loop-number.number-index c.loop-number.members (omega arith) c.loop-number.invariant.members;
+      children = c.loop-number.invariant.children;
+    }
+
+pub walk::flex_in-returns-clause-below : goal.walk::flex_in-returns-clause-below
+walk::flex_in-returns-clause-below g t c = c.loop-number.invariant.walked
+
+pub walk::columns_anew-put-requires-clause-quiet : goal.walk::columns_anew-put-requires-clause-quiet
+walk::columns_anew-put-requires-clause-quiet g t c =
+    grid_quiet (nodes c.grid_in.new.walk) c.args.id c.args.query
+    (subst (λ (z : BareTrees). (sight_at z c.args.id).label.kind ≡ kind.Grid) (sym (c.in_ok-told.ensures.below c.args.query (ap (λ (z : Query). z.reps) c.requires.query) refl).walk.bare_same)
+    (c.subgrids_are_grids.ensures (lent_fit (sight_at (nodes c.args.walk.now) c.args.id) c.args.query (ap (λ (q : Query). q.ask) c.requires.query) c.requires.fits)))
+
+pub walk::inline_at-returns-in_err-query-clause-stopped : goal.walk::inline_at-returns-in_err-query-clause-stopped
+walk::inline_at-returns-in_err-query-clause-stopped g t c = on_err _ _ (stopped c.args.id _ 0 _ _ (walked_none c.args.id (inline_query false c.args.seat.now.reps.now) (seen g.R.Ruler.log c.args.walk.now) c.requires.stands.right))
+
+pub walk::inline_at-returns-in-Some-clause-walked : goal.walk::inline_at-returns-in-Some-clause-walked
+walk::inline_at-returns-in-Some-clause-walked g t c = found_walked c.args.id (inline_query false c.args.seat.now.reps.now) (seen g.R.Ruler.log c.args.walk.now) c.requires.stands.right
+
+pub walk::lend_columns_at-returns-in_err-query-clause-stopped : goal.walk::lend_columns_at-returns-in_err-query-clause-stopped
+walk::lend_columns_at-returns-in_err-query-clause-stopped g t c = on_err _ _ (stopped c.args.id _ 0 _ _ (walked_none c.args.id (inline_query true c.args.seat.now.reps.now) (seen g.R.Ruler.log c.args.walk.now) c.requires.stands.right))
+
+pub walk::lend_columns_at-returns-in-Some-clause-walked : goal.walk::lend_columns_at-returns-in-Some-clause-walked
+walk::lend_columns_at-returns-in-Some-clause-walked g t c = on_ok _ _ (found_walked c.args.id (inline_query true c.args.seat.now.reps.now) (seen g.R.Ruler.log c.args.walk.now) c.requires.stands.right)
+
+pub walk::lend_columns_at-returns-in-Some-clause-stopped : goal.walk::lend_columns_at-returns-in-Some-clause-stopped
+walk::lend_columns_at-returns-in-Some-clause-stopped g t c = on_err _ _ (stopped c.args.id _ 0 _ _ (walked_none c.args.id (inline_query true c.args.seat.now.reps.now) (seen g.R.Ruler.log c.args.walk.now) c.requires.stands.right))
