@@ -14,7 +14,7 @@ use Rattle.session.specs.Input.{limit, IsReadToEnd, IsFront}
 use Rattle.session.specs.Printing.{print}
 use Rattle.session.specs.Script.{has_end, before_end, after_end, document_of_lines, made_in, made_from, all_made, text_of, texts, has_fault, or_refused}
 use Rattle.session.specs.Outcome.{answer_of, document_in, out, verdict, early_lines, IsEarlyFault}
-use Rattle.session.specs.Runs.{IsSilent, WritesAll, WritesPrefix, Stands, IsWhole, IsEnded, EndsAll, EndsBad, EndsEarly, Judged, Runs, HasRun, Permits, PermitsOver, IsComplete, IsOverComplete, IsHeadline}
+use Rattle.session.specs.Runs.{IsSilent, WritesAll, WritesPrefix, Stands, IsWhole, IsEnded, EndsAll, EndsBad, EndsEarly, Judged, Runs, HasRun, Permits, PermitsOver, IsComplete, IsOverComplete, IsHeadline, HasOutput}
 use Rattle.session.specs.declared.status.Status.{Status}
 use Rattle.session.specs.declared.status.Status.TheVariants.{Done, BadDocument, SomeRefused, ReadFault, WriteFault, NoMemory, InputLimit, TooLong, BadWords}
 use Rattle.session.proofs.Due.{prefix_due}
@@ -253,7 +253,7 @@ has_run stats left left' w w' l l' s s' k k' status p read write =
 
 -- ---- without counts
 
-pub plain_prefix : (left left' w w' : Option (List ℕ)) (l l' : Option (List Event)) (s s' k k' : ℕ) (status : Status) → HasRun false left left' w w' l l' s s' k k' status → IfSome left (λ b. AddsPrefix w w' (out b))
+plain_prefix : (left left' w w' : Option (List ℕ)) (l l' : Option (List Event)) (s s' k k' : ℕ) (status : Status) → HasRun false left left' w w' l l' s s' k k' status → IfSome left (λ b. AddsPrefix w w' (out b))
 plain_prefix None left' w w' l l' s s' k k' status p = tt
 plain_prefix (Some told) left' w w' l l' s s' k k' status p = plain_front w w' l l' 0 (all_made (lines_of told)) p.prefix
 
@@ -280,12 +280,12 @@ module _ (w w' : Option (List ℕ)) (l l' : Option (List Event)) where
   ends_plain told status (inl e) = inl e
   ends_plain told status (inr h) = inr (h.0, plain_wrote told h.1)
 
-  pub plain_permits : (left left' : Option (List ℕ)) (s s' k k' : ℕ) (status : Status) → HasRun false left left' w w' l l' s s' k k' status
+  plain_permits : (left left' : Option (List ℕ)) (s s' k k' : ℕ) (status : Status) → HasRun false left left' w w' l l' s s' k k' status
       → IfSome left (λ b. length b ≤ limit → Permits (Adds w w' (out b)) b status)
   plain_permits None left' s s' k k' status p = tt
   plain_permits (Some told) left' s s' k k' status p = λ few. as_plain told status (p.permits few)
 
-  pub plain_complete : (left left' : Option (List ℕ)) (s s' k k' : ℕ) (status : Status) → HasRun false left left' w w' l l' s s' k k' status → IsComplete left (λ b. Adds w w' (out b)) s s' k k' status
+  plain_complete : (left left' : Option (List ℕ)) (s s' k k' : ℕ) (status : Status) → HasRun false left left' w w' l l' s s' k k' status → IsComplete left (λ b. Adds w w' (out b)) s s' k k' status
   plain_complete None left' s s' k k' status p = tt
   plain_complete (Some told) left' s s' k k' status p = λ few no_read no_write. ends_plain told status (p.complete few no_read no_write)
 
@@ -293,7 +293,7 @@ out_is : (told : List ℕ) (doc : Doc) → document_in told ≡ Ok doc → out t
 unfolding text_of
 out_is told doc is = ap (λ (made : Result Doc Fault). texts 0 (made_from made (after_end (lines_of told)))) is
 
-pub headline : (left w w' : Option (List ℕ)) (s s' k k' : ℕ) (status : Status) → IsComplete left (λ b. Adds w w' (out b)) s s' k k' status → IsHeadline left w w' s s' k k' status
+headline : (left w w' : Option (List ℕ)) (s s' k k' : ℕ) (status : Status) → IsComplete left (λ b. Adds w w' (out b)) s s' k k' status → IsHeadline left w w' s s' k k' status
 headline None w w' s s' k k' status p = tt
 headline (Some told) w w' s s' k k' status p = λ few doc is no_read no_write memory. by_cases doc is memory (p few no_read no_write)
   where
@@ -301,3 +301,14 @@ headline (Some told) w w' s s' k k' status p = λ few doc is no_read no_write me
         → Adds w w' (print 0 (boxes_of doc) ++ texts 1 (made_in (begins doc) (after_end (lines_of told))))
     by_cases doc is memory (inl e) = absurd (memory e)
     by_cases doc is memory (inr h) = subst (λ (x : List ℕ). Adds w w' x) (out_is told doc is) h.1
+
+-- the output of a run without counts
+pub has_output : {left left' w w' : Option (List ℕ)} {l l' : Option (List Event)} {s s' k k' : ℕ} {status : Status} → HasRun false left left' w w' l l' s s' k k' status → HasOutput left w w' s s' k k' status
+has_output {left = left} {left' = left'} {w = w} {w' = w'} {l = l} {l' = l'} {s = s} {s' = s'} {k = k} {k' = k'} {status = status} p =
+    let whole = plain_complete w w' l l' left left' s s' k k' status p in
+    record {
+      prefix = plain_prefix left left' w w' l l' s s' k k' status p;
+      permits = plain_permits w w' l l' left left' s s' k k' status p;
+      complete = whole;
+      headline = headline left w w' s s' k k' status whole;
+    }

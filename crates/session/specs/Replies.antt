@@ -23,6 +23,7 @@ use Rattle.session.specs.Logs.{AreMeasuring}
 use Rattle.session.specs.Printing.{counts}
 use Rattle.session.specs.Script.{all_made, has_end, text_of}
 use Rattle.session.specs.Input.{AreFirst}
+use Rattle.session.specs.Spares.{Spares}
 use Rattle.session.specs.Standing.{doc_of}
 use Rattle.session.specs.declared.said.Said.{Said}
 use Rattle.session.specs.Touched.{FollowsLines, touched_lines}
@@ -193,3 +194,12 @@ module _ (stats : Bool) (held held' : Option (List ℕ)) (events events' : Optio
   HasReplied lines ReadFault = RepliesFront lines
   HasReplied lines InputLimit = RepliesFront lines
   HasReplied lines status = ⊤
+
+-- what a run measured, kept and sized for all bytes of its input
+pub record KeepsBounds (stats : Bool) (left held held' : Option (List ℕ)) (events events' : Option (List Event)) (passes passes' : ℕ) (status : Status) : Type
+    0 where
+  -- no leaf was measured again at a width unless an edit reached it or sixteen other widths followed
+  pub spares : IfSome left (λ b. Spares (touched_lines (lines_of b)) events events')
+  -- In each layout every new leaf of a grid was measured at the content width of its box. A, the count of answers that it kept, is at least the number of new
+  -- containers, and at most that of all questions where no node has more than sixteen. There are at most four passes for each of the answers.
+  pub replies : IfSome left (λ b. HasReplied stats held held' events events' passes passes' (lines_of b) status)

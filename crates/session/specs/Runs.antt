@@ -1,7 +1,7 @@
 -- How a run ends, and what it took, wrote and logged until then.
 use Rattle.std.specs.Prelude.{◌≡◌, ◌≢◌, ℕ, ◌+◌, ◌≤◌, ◌<◌, Bool, true, false, if◌then◌else◌, List, [], ◌∷◌, length, ◌++◌, ◌⊎◌, Option, Result, Ok, IfSome, ⊤}
 use Rattle.outside.specs.Faults.{Rose}
-use Rattle.outside.specs.Told.{Stays, Adds, Loses}
+use Rattle.outside.specs.Told.{Stays, Adds, AddsPrefix, Loses}
 use Rattle.outside.specs.declared.event.Event.{Event}
 use Rattle.text_scan.specs.declared.line.Line.{Line}
 use Rattle.text_scan.specs.Lines.{lines_of, whole_lines}
@@ -12,7 +12,7 @@ use Rattle.session.specs.Written.{Writes, WritesFront, WritesBehind}
 use Rattle.session.specs.Input.{limit, IsReadToEnd, IsFront, AreFirst, HasLastPiece}
 use Rattle.session.specs.Printing.{print}
 use Rattle.session.specs.Script.{has_end, before_end, after_end, document_of_lines, texts, made_in, all_made, has_fault}
-use Rattle.session.specs.Outcome.{document_in, verdict_of, verdict, early_lines, IsEarlyFault}
+use Rattle.session.specs.Outcome.{document_in, out, verdict_of, verdict, early_lines, IsEarlyFault}
 use Rattle.session.specs.declared.said.Said.{Said}
 use Rattle.session.specs.declared.status.Status.{Status}
 use Rattle.session.specs.declared.status.Status.TheVariants.{Done, BadDocument, SomeRefused, ReadFault, WriteFault, NoMemory, InputLimit}
@@ -171,3 +171,15 @@ abbrev pub IsHeadline : (left held held' : Option (List ℕ)) (reads reads' writ
 IsHeadline left held held' reads reads' writes writes' status =
     IfSome left (λ b. length b ≤ limit → (doc : Doc) → document_in b ≡ Ok doc → ¬ Rose reads reads' → ¬ Rose writes writes' → status ≢ NoMemory
     → Adds held held' (print 0 (boxes_of doc) ++ texts 1 (made_in (begins doc) (after_end (lines_of b)))))
+
+-- what is known of a run without counts over all bytes of its input, by their output
+pub record HasOutput (left held held' : Option (List ℕ)) (reads reads' writes writes' : ℕ) (status : Status) : Type 0 where
+  -- at every exit what was written is a prefix of the output
+  pub prefix : IfSome left (λ b. AddsPrefix held held' (out b))
+  -- the answers to an input that is not too long: its verdict with all of the output written, want of memory, or a fault
+  pub permits : IfSome left (λ b. length b ≤ limit → Permits (Adds held held' (out b)) b status)
+  -- where no count rose, of such an input: the verdict with all of the output written, or want of memory
+  pub complete : IsComplete left (λ b. Adds held held' (out b)) reads reads' writes writes' status
+  -- the boxes written are those of the document that the bytes hold, and then, for each edit line, those of the edited document
+  -- or the line of the refusal
+  pub headline : IsHeadline left held held' reads reads' writes writes' status

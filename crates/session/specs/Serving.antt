@@ -15,7 +15,7 @@ use Rattle.session.specs.declared.text.Text.{Text}
 use Rattle.session.specs.Input.{HasGiven, HasGivenLine, HasGivenAll, Stops}
 use Rattle.session.specs.Courses.{Course, begun, last_course}
 use Rattle.session.specs.Script.{is_end_of_document, has_end, before_end, after_end, document_of_lines, made_in, all_made, has_fault, or_refused, some_refused}
-use Rattle.session.specs.Runs.{WritesAll, Runs}
+use Rattle.session.specs.Runs.{WritesAll, WritesFrom, Runs}
 use Rattle.session.specs.declared.answer.Progress.{Progress}
 use Rattle.session.specs.declared.said.Said.{Said}
 use Rattle.session.specs.declared.status.Status.{Status}
@@ -102,6 +102,13 @@ pub record HasAnswered (stats : Bool) (held held' : Option (List ℕ))
     0 where
   pub laid : IsLaid given c k bad
   pub output : WritesAll stats held held' events events' given
+
+-- one line more was answered too, and the run stands here; or writing stopped in the answer to that line
+abbrev pub AnswersNext : (stats : Bool) (held held' : Option (List ℕ)) (events events' : Option (List Event)) → List Line → Line → Progress →
+    Result (Unit {0}) Status → Type 0
+AnswersNext stats held held' events events' given line progress (Ok done) =
+    HasAnswered stats held held' events events' (given ++ line ∷ []) (course_of progress.engine) progress.number progress.refused
+AnswersNext stats held held' events events' given line progress (Err status) = WritesFrom stats held held' events events' given (given ++ line ∷ [])
 
 -- these lines were given and answered, and nothing else was written or logged
 pub record IsAt (stats : Bool) (before now held held' : Option (List ℕ)) (events events' : Option (List Event))

@@ -1,4 +1,4 @@
-ghost use Rattle.std.specs.Prelude.{◌≡◌, ◌≤◌, ◌∷◌, ◌++◌, [], ℕ, List, Option, Ok, Err, IfOk, IfErr, OnOk, OnErr, Bool, false, true, if◌then◌else◌};
+ghost use Rattle.std.specs.Prelude.{◌≡◌, ◌≤◌, ◌∷◌, [], ℕ, List, Option, Ok, Err, IfOk, IfErr, OnOk, OnErr, Bool, false, true, if◌then◌else◌};
 ghost use Rattle.sparing.specs.Sparing.{Touches};
 ghost use Rattle.session.specs.Spares.{SparesAfter, SparesFirst, SparesPage};
 ghost use Rattle.session.specs.Touched.{Agrees};
@@ -12,8 +12,8 @@ ghost use Rattle.text_scan.specs.declared.line.Line.{Line};
 ghost use Rattle.session.specs.Courses.{made_by, no_steps};
 ghost use Rattle.session.specs.Engine.{IsAnswered};
 ghost use Rattle.session.specs.Replies.{Replies};
-ghost use Rattle.session.specs.Runs.{StopsWriting, WritesFrom};
-ghost use Rattle.session.specs.Serving.{Answers, AnswersPrefix, EndsFirst, Begins, HasAnswered};
+ghost use Rattle.session.specs.Runs.{StopsWriting};
+ghost use Rattle.session.specs.Serving.{Answers, AnswersPrefix, AnswersNext, EndsFirst, Begins, HasAnswered};
 ghost use Rattle.session.specs.Standing.{course_of, doc_of};
 
 use crate::Status;
@@ -194,19 +194,11 @@ pub(crate) fn handle_line<K: Sink, R: Ruler, L: Ledger>(
     requires laid { progress.old.engine.laid ≡ true }
     requires short { IsShort line.now }
     ensures laid { OnOk result (progress.new.engine.laid ≡ true) }
-    ensures ok { (held : Option (List ℕ)) (events : Option (List Event)) (given : List Line) →
+    ensures answered { (held : Option (List ℕ)) (events : Option (List Event)) (given : List Line) →
         HasAnswered stats held (K.written sink.old) events (R.log ruler.old) given
         (course_of progress.old.engine) progress.old.number progress.old.refused →
-        OnOk result
-        (HasAnswered stats held (K.written sink.new) events (R.log ruler.new)
-        (given ++ line.now ∷ []) (course_of progress.new.engine) progress.new.number
-        progress.new.refused) }
-    ensures err { (held : Option (List ℕ)) (events : Option (List Event)) (given : List Line) →
-        HasAnswered stats held (K.written sink.old) events (R.log ruler.old) given
-        (course_of progress.old.engine) progress.old.number progress.old.refused →
-        OnErr result
-        (WritesFrom stats held (K.written sink.new) events (R.log ruler.new) given
-        (given ++ line.now ∷ [])) }
+        AnswersNext stats held (K.written sink.new) events (R.log ruler.new) given line.now
+        progress.new result }
     ensures replies { (touches : Touches) → 1 ≤ progress.old.number →
         (is_skipped line.now ≡ false →
         Agrees touches progress.old.number (course_of progress.old.engine) line.now) →

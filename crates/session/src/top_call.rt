@@ -1,18 +1,13 @@
-ghost use Rattle.std.specs.Prelude.{◌≡◌, ◌≤◌, ℕ, Bool, false, length, Some, IfOk, IfErr, IfSome};
+ghost use Rattle.std.specs.Prelude.{◌≡◌, ℕ, Bool, false, Some, IfOk, IfErr};
 ghost use Rattle.outside.specs.Faults.{HasCauseOf};
-ghost use Rattle.outside.specs.Told.{Adds, AddsPrefix};
 ghost use Rattle.command_words.specs.Commands.{HasNodes};
 ghost use Rattle.command_words.specs.declared.Command.TheVariants.{Layout, Make, Write};
-ghost use Rattle.session.specs.Outcome.{out};
-ghost use Rattle.session.specs.Input.{limit, AsksOnce};
+ghost use Rattle.session.specs.Input.{AsksOnce};
 ghost use Rattle.session.specs.Made.{HasMade};
-ghost use Rattle.session.specs.Runs.{HasRun, Permits, IsComplete, IsHeadline};
-ghost use Rattle.session.specs.Replies.{HasReplied};
+ghost use Rattle.session.specs.Runs.{HasRun, HasOutput};
+ghost use Rattle.session.specs.Replies.{KeepsBounds};
 ghost use Rattle.session.specs.Words.{asked, is_served, IsUnserved};
 ghost use Rattle.session.specs.Writing.{HasWritten};
-ghost use Rattle.text_scan.specs.Lines.{lines_of};
-ghost use Rattle.session.specs.Spares.{Spares};
-ghost use Rattle.session.specs.Touched.{touched_lines};
 
 use crate::Status;
 use crate::made::make;
@@ -42,11 +37,8 @@ fn run_layout<S: Source, K: Sink, R: Ruler, L: Ledger>(
         (result ≡ Status.WriteFault) }
     ensures asked { AsksOnce (S.left source.old) (S.left source.new) (S.asked source.old)
         (S.asked source.new) }
-    ensures spares { IfSome (S.left source.old)
-        (λ b. Spares (touched_lines (lines_of b)) (R.log ruler.old) (R.log ruler.new)) }
-    ensures replies { IfSome (S.left source.old)
-        (λ b. HasReplied stats (K.written sink.old) (K.written sink.new) (R.log ruler.old)
-        (R.log ruler.new) passes.old passes.new (lines_of b) result) }
+    ensures bounds { KeepsBounds stats (S.left source.old) (K.written sink.old)
+        (K.written sink.new) (R.log ruler.old) (R.log ruler.new) passes.old passes.new result }
 {
     serve(alloc, stats, source, sink, ruler, passes)
 }
@@ -133,16 +125,30 @@ pub fn run<S: Source, K: Sink, R: Ruler, L: Ledger>(
     ruler: &mut R,
     passes: &mut Steps<L>,
 ) -> Status
+    // Where the words are no command, nothing is done.
     ensures words { result ≡ Status.BadWords → is_served (asked words.items) ≡ false }
-    ensures unserved { is_served (asked words.items) ≡ false → IsUnserved result }
-    ensures untouched { is_served (asked words.items) ≡ false →
-        (source.new ≡ source.old) × (sink.new ≡ sink.old) × (ruler.new ≡ ruler.old) }
-    // What was taken, written and logged, by the answer, and what follows of it for all bytes of
-    // the source: with counts or not.
+    ensures unserved { is_served (asked words.items) ≡ false →
+        IsUnserved result × (source.new ≡ source.old) × (sink.new ≡ sink.old) ×
+        (ruler.new ≡ ruler.old) }
+    // Under `layout`, with counts or without: what was taken, written and logged, by the answer, and
+    // what follows of it for all bytes of the source.
     ensures run { (stats : Bool) → asked words.items ≡ Some (Layout stats) →
         HasRun stats (S.left source.old) (S.left source.new) (K.written sink.old)
         (K.written sink.new) (R.log ruler.old) (R.log ruler.new) (S.faults source.old)
         (S.faults source.new) (K.faults sink.old) (K.faults sink.new) result }
+    // Without counts: what is written at every exit is a prefix of the output of the source's bytes.
+    // Where these are not too many and no count rose, it is all of it, or memory was wanting.
+    // `headline`: the boxes written are those of the document that the source's bytes hold, and then,
+    // for each edit line, those of the edited document or the line of the refusal.
+    ensures output { asked words.items ≡ Some (Layout false) →
+        HasOutput (S.left source.old) (K.written sink.old) (K.written sink.new)
+        (S.faults source.old) (S.faults source.new) (K.faults sink.old) (K.faults sink.new)
+        result }
+    // What was measured, kept and sized, with counts or without. `spares`: no leaf was measured
+    // again at a width unless an edit reached it or sixteen other widths followed.
+    ensures bounds { (stats : Bool) → asked words.items ≡ Some (Layout stats) →
+        KeepsBounds stats (S.left source.old) (K.written sink.old) (K.written sink.new)
+        (R.log ruler.old) (R.log ruler.new) passes.old passes.new result }
     // Under `make` nothing is read. At every exit what was written is a prefix of the nine lines,
     // and with `Done` it is all of them.
     ensures made { (seed nodes : ℕ) → asked words.items ≡ Some (Make seed nodes) →
@@ -163,37 +169,6 @@ pub fn run<S: Source, K: Sink, R: Ruler, L: Ledger>(
     // How often the source was asked, at every exit: for each byte that it gave, and once more.
     ensures asked { AsksOnce (S.left source.old) (S.left source.new) (S.asked source.old)
         (S.asked source.new) }
-    // Without counts what is written at every exit is a prefix of the output of the source's bytes.
-    ensures prefix { asked words.items ≡ Some (Layout false) →
-        IfSome (S.left source.old)
-        (λ b. AddsPrefix (K.written sink.old) (K.written sink.new) (out b)) }
-    ensures permits { asked words.items ≡ Some (Layout false) →
-        IfSome (S.left source.old)
-        (λ b. length b ≤ limit →
-        Permits (Adds (K.written sink.old) (K.written sink.new) (out b)) b result) }
-    // Where no count rose: the verdict with all of the output written, or want of memory.
-    ensures complete { asked words.items ≡ Some (Layout false) →
-        IsComplete (S.left source.old) (λ b. Adds (K.written sink.old) (K.written sink.new) (out b))
-        (S.faults source.old) (S.faults source.new) (K.faults sink.old) (K.faults sink.new)
-        result }
-    // The boxes written are those of the document that the source's bytes hold, and then, for each
-    // edit line, those of the edited document or the line of the refusal.
-    ensures headline { asked words.items ≡ Some (Layout false) →
-        IsHeadline (S.left source.old) (K.written sink.old) (K.written sink.new)
-        (S.faults source.old) (S.faults source.new) (K.faults sink.old) (K.faults sink.new)
-        result }
-    // No leaf was measured again at a width unless an edit reached it or sixteen other widths
-    // followed.
-    ensures spares { (stats : Bool) → asked words.items ≡ Some (Layout stats) →
-        IfSome (S.left source.old)
-        (λ b. Spares (touched_lines (lines_of b)) (R.log ruler.old) (R.log ruler.new)) }
-    // In each layout every new leaf of a grid was measured at the content width of its box. A is at
-    // least the number of new containers, and at most that of all questions where no node has more
-    // than sixteen. There are at most four passes for each of the answers.
-    ensures replies { (stats : Bool) → asked words.items ≡ Some (Layout stats) →
-        IfSome (S.left source.old)
-        (λ b. HasReplied stats (K.written sink.old) (K.written sink.new) (R.log ruler.old)
-        (R.log ruler.new) passes.old passes.new (lines_of b) result) }
 {
     match served(alloc, words.as_slice()) {
         Ok(Command::Layout { stats }) => run_layout(alloc, stats, source, sink, ruler, passes),

@@ -5,5 +5,5 @@ use Rattle.gridlay_c.proofs.answer.run_layout.Goals as goal
 pub returns : goal.returns
 returns g c =
     answered_from c.args.source.now.left c.args.sink.now c.run.new.sink c.run.result c.requires.empty
-    (c.run.ensures.complete c.requires.words) ((c.run.ensures.run false c.requires.words).over_complete)
-    (c.run.ensures.prefix c.requires.words)
+    (c.run.ensures.output c.requires.words).complete (c.run.ensures.run false c.requires.words).over_complete
+    (c.run.ensures.output c.requires.words).prefix

@@ -4,17 +4,17 @@ use Rattle.session.specs.Standing.{course_of}
 use Rattle.session.proofs.Replies.{edit_replies, skipped_replies}
 use Rattle.session.proofs.answer.handle_line.Goals as goal
 
-pub returns-then-is_skipped-clause-ok : goal.returns-then-is_skipped-clause-ok
-returns-then-is_skipped-clause-ok g c =
+pub returns-then-is_skipped-clause-answered : goal.returns-then-is_skipped-clause-answered
+returns-then-is_skipped-clause-answered g c =
     λ held events given p. skips c.args.stats held (g.K.Sink.written c.args.sink.now) events (g.R.Ruler.log c.args.ruler.now) given (course_of c.args.progress.now.engine) c.args.progress.now.number c.args.progress.now.refused c.args.line.now p (sym c.is_skipped.ensures ∙ c.if-is_skipped.true)
 
-pub returns-in-Ok-clause-ok : goal.returns-in-Ok-clause-ok
-returns-in-Ok-clause-ok g c =
+pub returns-in-Ok-clause-answered : goal.returns-in-Ok-clause-answered
+returns-in-Ok-clause-answered g c =
     λ held events given p. answers c.args.stats held (g.K.Sink.written c.args.sink.now) events (g.R.Ruler.log c.args.ruler.now) given (course_of c.args.progress.now.engine) c.args.progress.now.number c.args.progress.now.refused c.args.line.now p
     (g.K.Sink.written c.write_answer.new.sink) (g.R.Ruler.log c.write_answer.new.ruler) (course_of c.write_answer.new.engine) c.in-Ok.refused (sym c.is_skipped.ensures ∙ c.if-is_skipped.false) c.in-Ok.ensures.answered c.in-Ok.ensures.answers
 
-pub returns-in-Err-clause-err : goal.returns-in-Err-clause-err
-returns-in-Err-clause-err g c =
+pub returns-in-Err-clause-answered : goal.returns-in-Err-clause-answered
+returns-in-Err-clause-answered g c =
     λ held events given p. answers_part c.args.stats held (g.K.Sink.written c.args.sink.now) events (g.R.Ruler.log c.args.ruler.now) given (course_of c.args.progress.now.engine) c.args.progress.now.number c.args.progress.now.refused c.args.line.now p
     (g.K.Sink.written c.write_answer.new.sink) (g.R.Ruler.log c.write_answer.new.ruler) (sym c.is_skipped.ensures ∙ c.if-is_skipped.false) c.in-Err.ensures.prefix
 

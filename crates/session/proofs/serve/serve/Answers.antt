@@ -24,7 +24,7 @@ returns-in-Err-handle_line-clause-runs g c =
     let at = c.loop-line.invariant.at in
     let line = line_given left now at.given c.in-Ok-Some.line c.next_line.new.reader.lines c.next_line.new.reader.ended c.in-Ok-Some.field-0 c.in-Ok-Some.field-0-is (c.in-Ok-Some.ensures.next left at.given at.input) in
     part_written c.args.stats left now held (g.K.Sink.written c.handle_line.new.sink) events (g.R.Ruler.log c.handle_line.new.ruler) at.given c.in-Ok-Some.line c.next_line.new.reader.lines c.next_line.new.reader.ended c.in-Err-handle_line.status line at.answered.laid.ended
-    c.in-Err-handle_line.ensures.stops (c.in-Err-handle_line.ensures.err held events at.given at.answered)
+    c.in-Err-handle_line.ensures.stops (c.in-Err-handle_line.ensures.answered held events at.given at.answered)
 
 pub loop-line-smaller : goal.loop-line-smaller
 loop-line-smaller g c =
@@ -44,7 +44,7 @@ loop-line-preserved g c =
       at = record {
         given = at.given ++ c.in-Ok-Some.line ∷ [];
         input = line.all;
-        answered = c.in-Ok-handle_line.ensures.ok (g.K.Sink.written c.args.sink.now) (g.R.Ruler.log c.args.ruler.now) at.given at.answered;
+        answered = c.in-Ok-handle_line.ensures.answered (g.K.Sink.written c.args.sink.now) (g.R.Ruler.log c.args.ruler.now) at.given at.answered;
       };
       spared = λ touches f.
           c.in-Ok-handle_line.ensures.spares touches (g.R.Ruler.log c.args.ruler.now)

@@ -8,11 +8,11 @@ returns-clause-run g c =
     has_run c.args.stats (g.S.Source.left c.args.source.now) (g.S.Source.left c.serve.new.source) (g.K.Sink.written c.args.sink.now) (g.K.Sink.written c.serve.new.sink) (g.R.Ruler.log c.args.ruler.now) (g.R.Ruler.log c.serve.new.ruler) (g.S.Source.faults c.args.source.now)
     (g.S.Source.faults c.serve.new.source) (g.K.Sink.faults c.args.sink.now) (g.K.Sink.faults c.serve.new.sink) c.serve.result c.serve.ensures.runs c.serve.ensures.read.cause c.serve.ensures.write.cause
 
-pub returns-clause-spares : goal.returns-clause-spares
-returns-clause-spares g c = spares_input (g.S.Source.left c.args.source.now) (g.R.Ruler.log c.args.ruler.now) (g.R.Ruler.log c.serve.new.ruler) c.serve.ensures.spares
-
-pub returns-clause-replies : goal.returns-clause-replies
-returns-clause-replies g c = replied c.args.stats (g.K.Sink.written c.args.sink.now) (g.K.Sink.written c.serve.new.sink) (g.R.Ruler.log c.args.ruler.now) (g.R.Ruler.log c.serve.new.ruler) c.args.passes.now c.serve.new.passes (g.S.Source.left c.args.source.now) c.serve.result c.serve.ensures.replies
+pub returns-clause-bounds : goal.returns-clause-bounds
+returns-clause-bounds g c = record {
+  spares = spares_input (g.S.Source.left c.args.source.now) (g.R.Ruler.log c.args.ruler.now) (g.R.Ruler.log c.serve.new.ruler) c.serve.ensures.spares;
+  replies = replied c.args.stats (g.K.Sink.written c.args.sink.now) (g.K.Sink.written c.serve.new.sink) (g.R.Ruler.log c.args.ruler.now) (g.R.Ruler.log c.serve.new.ruler) c.args.passes.now c.serve.new.passes (g.S.Source.left c.args.source.now) c.serve.result c.serve.ensures.replies;
+}
 
 pub returns-clause-asked : goal.returns-clause-asked
 returns-clause-asked g c = c.serve.ensures.asks
