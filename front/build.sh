@@ -54,16 +54,30 @@ build() {
     rm -f -- "$log"
 }
 
+# How many searches for proofs run side by side: GRIDLAY_JOBS where it is set, else one for each processor and each 4 GB of free memory, at
+# most four. (rt itself reckons with two to three times the memory that the layers of layout take, and would run one.)
+jobs() {
+    local memory=0 most
+    most=$(nproc 2>/dev/null) || most=1
+    [ ! -r /proc/meminfo ] || memory=$(awk '/^MemAvailable:/ { print int($2 / 4000000) }' /proc/meminfo)
+    [ "$most" -le "$memory" ] || most=$memory
+    [ "$most" -le 4 ] || most=4
+    [ "$most" -ge 1 ] || most=1
+    echo "${GRIDLAY_JOBS:-$most}"
+}
+
+# build_crate NAME LOG: proves one crate. `rt lib` proves a library where it builds it, so that the next crate need not build it once
+# more, as it would after `rt check`.
 build_crate() {
-    (cd "$top/crates/$1" && rt check) </dev/null >"$2" 2>&1 || return
     case $1 in
         gridlay)
             # `rt run` builds what is proved, and runs it; on the word `build` the program reads nothing and ends with status
             # 64. So whether it was built is seen by the file, and an older one has to go.
+            (cd "$top/crates/$1" && rt check) </dev/null >"$2" 2>&1 || return
             rm -f -- "$built" "$built.stamp"
             (cd "$top/crates/$1" && rt run -- build) </dev/null >"$2" 2>&1
             [ -x "$built" ] ;;
-        gridlay_c) (cd "$top/crates/$1" && rt lib) </dev/null >"$2" 2>&1 ;;
+        *) (cd "$top/crates/$1" && rt lib --jobs "$(jobs)") </dev/null >"$2" 2>&1 ;;
     esac
 }
 

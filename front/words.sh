@@ -124,6 +124,7 @@ With any of them:
 An example:  ./gridlay --unproved examples/first.gridlay
 Without --unproved the program is proved and built first, where it is not yet; that takes more than an hour.
 GRIDLAY_PROGRAM=PATH takes a program that is built elsewhere.
+GRIDLAY_JOBS=N proves with N searches side by side; without it as many as processors and memory allow, at most four.
 README.md tells more, and docs/FORMAT.md how a FILE is written.
 TEXT
 }

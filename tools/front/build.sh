@@ -8,7 +8,8 @@ cp -R "$top/gridlay" "$top/front" "$works/"
 printf 'low:\ngridlay: low\nother: low\n' >"$works/crates.txt"
 echo code >"$works/crates/low/src/lib.rt"
 echo code >"$works/crates/gridlay/src/main.rt"
-# It notes its calls. `check` fails in the crate that $works/fails names; `run` builds a program, but where that file says `run`.
+# It notes its calls. `lib` and `check` fail in the crate that $works/fails names; `run` builds a program, but where that file says
+# `run`.
 cat >"$works/bin/rt" <<'STUB'
 #!/usr/bin/env bash
 crate=${PWD##*/}
@@ -16,8 +17,8 @@ echo "$crate $*" >>"$WORKS/calls"
 fails=$(cat "$WORKS/fails" 2>/dev/null)
 case $1 in
     version) echo "rattle-kit-of-tests" ;;
-    check)
-        echo "this is what the check of $crate said"
+    lib | check)
+        echo "this is what the $1 of $crate said"
         [ "$fails" != "$crate" ] ;;
     run)
         [ "$fails" != run ] || exit 1
@@ -34,7 +35,7 @@ STUB
 chmod +x "$works/bin/rt"
 works_call() {
     rm -f "$works/calls"
-    try env PATH="$works/bin:$PATH" WORKS="$works" "$works/gridlay" "$@"
+    try env PATH="$works/bin:$PATH" WORKS="$works" GRIDLAY_JOBS=2 "$works/gridlay" "$@"
 }
 # calls TITLE CALL..: the calls of rt
 calls() {
@@ -51,7 +52,7 @@ wants_status "a first call" 0
 wants "a first call runs the program" out "program called with layout"
 wants "a first call says how long it takes" err "more than an hour"
 wants "a first call says how far it is" err "proving low, 1 of 2"
-calls "a first call" "low check" "gridlay check" "gridlay run -- build"
+calls "a first call" "low lib --jobs 2" "gridlay check" "gridlay run -- build"
 works_call "$first"
 wants "a second call runs the program" out "program called with layout"
 wants_nothing "a second call says nothing" err
@@ -66,7 +67,7 @@ wants "--version of a program that is older" out "older than its sources"
 echo low >"$works/fails"
 works_call "$first"
 wants_status "a proof that fails" 70
-wants "a proof that fails: what the check said" err "this is what the check of low said"
+wants "a proof that fails: what was said" err "this is what the lib of low said"
 wants "a proof that fails" err "low was not proved, so the program was not built"
 wants_nothing "a proof that fails: nothing is run" out
 works_call --version

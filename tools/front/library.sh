@@ -15,13 +15,10 @@ crate=${PWD##*/}
 echo "$crate $*" >>"$WORKS/calls"
 fails=$(cat "$WORKS/fails" 2>/dev/null)
 case $1 in
-    check)
-        echo "this is what the check of $crate said"
-        [ "$fails" != "$crate" ] ;;
     lib)
-        [ "$fails" != lib ] || exit 1
-        mkdir -p out
-        echo proved >out/libgridlay_c.a ;;
+        echo "this is what the lib of $crate said"
+        [ "$fails" != "$crate" ] || exit 1
+        [ "$crate" != gridlay_c ] || { mkdir -p out && echo proved >out/libgridlay_c.a; } ;;
     try)
         echo "this is what try said"
         [ "$fails" != try ] || exit 1
@@ -63,7 +60,7 @@ wants_status "the library" 0
 wants "the library: how far it is" err "proving low, 1 of 2"
 wants "the library: where it lies" err "gcc -Iinclude PROGRAM.c out/libgridlay.a"
 holds "the library: its path on standard output" [ "$(cat "$room/out")" = "$works/out/libgridlay.a" ]
-calls "the library" "low check" "gridlay_c check" "gridlay_c lib"
+calls "the library" "low lib --jobs 2" "gridlay_c lib --jobs 2"
 printf '%s\n' "create joined.a" "addlib parts/libgridlay_c.a" "addlib parts/liblibc_c.a" save end proved heap >"$room/wanted"
 sort "$room/wanted" >"$room/wanted.sorted"
 sort "$works/out/libgridlay.a" >"$room/joined.sorted"
@@ -92,7 +89,7 @@ works_call --unproved library
 wants "the library, unproved, again" err "is compiled already"
 
 touch -d '1 minute' "$works/crates/low/src/lib.rt"
-for what in low gridlay_c lib; do
+for what in low gridlay_c; do
     echo "$what" >"$works/fails"
     works_call library
     wants_status "the library, where $what fails" 70
