@@ -12,6 +12,9 @@ use crate::BadName;
 use std::cmp::Ordering;
 use std::marker::Model;
 
+/// How many bytes of two names are compared one by one: so few are compared faster so.
+const SHORT: usize = 16;
+
 /// A name of a node, a line or an area: at most 64 bytes. Contracts see the bytes, and names are ordered by them.
 #[derive(Clone, Copy, Debug)]
 pub struct Name {
@@ -67,6 +70,33 @@ fn write_at(out: &mut [u8], at: usize, text: &[u8])
     ensures { out.new ≡ take at out.old ++ text.now ++ drop (at + length text.now) out.old }
 {
     out[at..at + text.len()].copy_from_slice(text);
+}
+
+/// The bytes of a text from an index on.
+fn past(text: &[u8], index: usize) -> &[u8]
+    requires { index ≤ length text.now }
+    ensures { result.now ≡ drop index text.now }
+{
+    &text[index..]
+}
+
+#[tactic(auto, using(crate::proofs::Orders::orders))]
+/// The order of two texts. Their first bytes are compared one by one, since most names differ there.
+fn order(a: &[u8], b: &[u8]) -> Ordering
+    ensures { result ≡ slice_cmp nat_cmp a.now b.now }
+{
+    let shorter = a.len().min(b.len());
+    let both = shorter.min(SHORT);
+    for index in 0..both {
+        let (x, y) = (a[index], b[index]);
+        if x != y {
+            return x.cmp(&y);
+        }
+    }
+    if both == shorter {
+        return a.len().cmp(&b.len());
+    }
+    past(a, both).cmp(past(b, both))
 }
 
 impl Name {
@@ -151,7 +181,7 @@ impl Ord for Name {
     ghost matches_eq = { Prim.search (comparing, rules) };
 
     fn cmp(&self, other: &Name) -> Ordering {
-        self.bytes().cmp(other.bytes())
+        order(self.bytes(), other.bytes())
     }
 }
 
