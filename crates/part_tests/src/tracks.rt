@@ -1,4 +1,4 @@
-//! Whether sizes of tracks for a max-content space are told to be also those for their own total.
+//! Sizes of tracks for a max-content space, and whether they are told to be also those for their own total.
 
 ghost use Rattle.std.specs.Prelude.{◌≡◌, ◌<◌, ◌≤ℤ◌, IfOk, IfSome, length, negsuc, pos};
 ghost use Rattle.track_sizing.specs.Fits.{HaveFixed, IsFixed, IsKnownSpace};
@@ -22,15 +22,17 @@ enum Track {
     Gone,
 }
 
-/// An item of one track: the place of the track, and its min-content, max-content and minimum
-/// contributions.
-type Placed = (u8, [i64; 3]);
+/// An item: the place of its first track, how many tracks follow that, and its min-content,
+/// max-content and minimum contributions.
+type Placed = (u8, u8, [i64; 3]);
 
-/// Tracks with gaps of 5 and their items.
+/// Tracks with gaps of 5 and their items, the sizes of the tracks, and whether they last.
 struct Row {
     shows: &'static str,
     tracks: &'static [Track],
     items: &'static [Placed],
+    sizes: &'static [i64],
+    lasts: bool,
 }
 
 /// The coordinate of the first track.
@@ -70,19 +72,19 @@ fn rules(alloc: Global, tracks: &[Track]) -> Result<Vec<Rule>, NoMemory>
     Ok(all)
 }
 
-/// The item, where there are as many tracks.
+/// The item, where there are its tracks.
 fn item(count: usize, placed: &Placed) -> Option<Item>
     ensures { IfSome result (λ i. IsIn (negsuc 1) count i) }
 {
-    let (place, [low, high, least]) = *placed;
-    if count <= usize::from(place) {
+    let (place, more, [low, high, least]) = *placed;
+    if count <= usize::from(place) + usize::from(more) {
         return None;
     }
     let start = FIRST + i32::from(place);
     Some(Item {
         span: Span {
             start,
-            end: start + 1,
+            end: start + i32::from(more) + 1,
         },
         low: Lu::of(low),
         high: Lu::of(high),
@@ -119,7 +121,19 @@ fn widest() -> Fit<INLINE>
     }
 }
 
-fn lasts<L: Ledger>(
+fn are(sizes: &[Lu], due: &[i64]) -> bool {
+    if sizes.len() != due.len() {
+        return false;
+    }
+    for (place, size) in sizes.iter().enumerate() {
+        if size.units() != due[place] {
+            return false;
+        }
+    }
+    true
+}
+
+fn is_right<L: Ledger>(
     rt: &impl Abort,
     alloc: Global,
     passes: &mut Steps<L>,
@@ -129,11 +143,12 @@ fn lasts<L: Ledger>(
     assert!(rt; rules.len() < 100);
     let items = items(alloc, rules.len(), row.items)?;
     let made = size_axis_lasting(alloc, &rules, FIRST, &items, &widest(), passes)?;
-    assert!(rt; made.lasting, "{}", row.shows);
+    assert!(rt; are(&made.sizes, row.sizes), "{}", row.shows);
+    assert_eq!(rt; made.lasting, row.lasts, "{}", row.shows);
     Ok(())
 }
 
-fn all_last<L: Ledger>(
+fn all_are_right<L: Ledger>(
     rt: &impl Abort,
     alloc: Global,
     blank: Blank,
@@ -145,36 +160,54 @@ fn all_last<L: Ledger>(
 {
     let mut passes: Steps<L> = Steps::new(blank);
     for row in rows {
-        lasts(rt, alloc, &mut passes, row)?;
+        is_right(rt, alloc, &mut passes, row)?;
     }
     Ok(())
 }
 
-/// Items of one track make the sizes; no clause says that these are told to last.
+/// Items of one track make sizes that last; no clause says that these are told to. Where the items
+/// span all tracks, as here, each track gets a third of what the greatest need leaves beside the
+/// gaps, and the first ones a unit more: of 110 - 10 one gets 34 and two get 33, and of the 31 that
+/// the greatest max-content contribution adds, 141 - 10 - 100, one gets 11 and two get 10.
 #[test]
-fn sizes_by_items_of_one_track_last(rt: HostRuntime) -> Result<(), Fail> {
+fn tracks_are_sized_by_their_items(rt: HostRuntime) -> Result<(), Fail> {
     static ROWS: &[Row] = &[
         Row {
             shows: "two automatic tracks",
             tracks: &[Auto, Auto],
-            items: &[(0, [30, 50, 25]), (1, [20, 42, 20])],
+            items: &[(0, 0, [30, 50, 25]), (1, 0, [20, 42, 20])],
+            sizes: &[50, 42],
+            lasts: true,
         },
         Row {
             shows: "a track between two lengths",
             tracks: &[Between(10, 70), Auto],
-            items: &[(0, [30, 50, 25]), (1, [20, 42, 20])],
+            items: &[(0, 0, [30, 50, 25]), (1, 0, [20, 42, 20])],
+            sizes: &[70, 42],
+            lasts: true,
         },
         Row {
             shows: "a track that fits its content up to a limit",
             tracks: &[Limited(27), Auto],
-            items: &[(0, [30, 50, 25]), (1, [20, 42, 20])],
+            items: &[(0, 0, [30, 50, 25]), (1, 0, [20, 42, 20])],
+            sizes: &[27, 42],
+            lasts: true,
         },
         Row {
             shows: "a collapsed track",
             tracks: &[Auto, Gone, Auto],
-            items: &[(0, [30, 50, 25]), (2, [20, 42, 20])],
+            items: &[(0, 0, [30, 50, 25]), (2, 0, [20, 42, 20])],
+            sizes: &[50, 0, 42],
+            lasts: true,
+        },
+        Row {
+            shows: "items over all of three tracks",
+            tracks: &[Auto, Auto, Auto],
+            items: &[(0, 2, [110, 110, 110]), (0, 2, [87, 141, 60])],
+            sizes: &[45, 43, 43],
+            lasts: false,
         },
     ];
-    all_last::<Brand>(&rt, rt.alloc(), Blank::new(1), ROWS)?;
+    all_are_right::<Brand>(&rt, rt.alloc(), Blank::new(1), ROWS)?;
     Ok(())
 }

@@ -36,6 +36,18 @@ none_left : (rooms : List (Option ℤ)) → unshared (pos 0) rooms ≡ pos 0
 unfolding rounds
 none_left rooms = unshared_is (pos 0) rooms
 
+pub turn_none : (room : Track → Option ℤ) (space : ℤ) (ts : List Track) → space ≡ pos 0 → ts ≡ zipped incur ts (shares space (map room ts))
+turn_none room space ts e =
+    let each : List (Option ℤ) = map room ts in
+    sym (ap (λ (z : ℤ). zipped incur ts (shares z each)) e ∙ ap (zipped incur ts) (none_shared each) ∙ zipped_none ts each (map_length room ts))
+
+pub turn_none_left : (room : Track → Option ℤ) (space : ℤ) (ts : List Track) → space ≡ pos 0 → space ≡ unshared space (map room ts)
+turn_none_left room space ts e =
+    let each : List (Option ℤ) = map room ts in
+    e ∙ sym (ap (λ (z : ℤ). unshared z each) e ∙ none_left each)
+
+pub ruleset turn_idle = (turn_none, turn_none_left)
+
 pub idle_turns : (rooms : List (Track → Option ℤ)) (ts : List Track) → in_turns rooms (pos 0) ts ≡ ts
 idle_turns [] ts = refl
 idle_turns (room ∷ rooms) ts =

@@ -36,3 +36,9 @@ pub mod Levelled
 pub mod Again
 pub mod Lows
 pub mod Steady
+pub mod Once
+pub mod Unspanned
+pub mod EvenShares
+pub mod Evenly
+pub mod EvenSteps
+pub mod EvenGroup

@@ -32,7 +32,7 @@ no_growth : (t : Track) → IsUnits t.base → grow_base t (pos 0) ≡ t
 unfolding clamp
 no_growth t u = let same : clamp (t.base +ℤ pos 0) ≡ t.base = omega (arith, ints, clamps, u.0, u.1) in ap (λ (z : ℤ). record t { base = z }) same
 
-zipped_same : (ts : List Track) (rooms : List (Option ℤ)) → length rooms ≡ length ts → HaveUnits ts → zipped grow_base ts (nothings rooms) ≡ ts
+pub zipped_same : (ts : List Track) (rooms : List (Option ℤ)) → length rooms ≡ length ts → HaveUnits ts → zipped grow_base ts (nothings rooms) ≡ ts
 zipped_same [] rooms e h = refl
 zipped_same (t ∷ ts) [] e h = absurd (omega arith)
 zipped_same (t ∷ ts) (r ∷ rs) e h = ap (λ (x : Track). x ∷ zipped grow_base ts (nothings rs)) (no_growth t h.0) ∙ ap (λ (xs : List Track). t ∷ xs) (zipped_same ts rs (omega arith) h.1)

@@ -23,6 +23,14 @@ is_alone i t = int_eq i.span.start t.at && int_eq i.span.end (t.at +ℤ pos 1)
 abbrev pub fit_or_pass : {axis : ℕ} → Space axis → ℤ → List Item → List Track → Track → Track
 fit_or_pass space gap items ts t = if flexible t then t else fit_items space gap ts (alone items t) t
 
+-- an item that spans one track
+abbrev pub is_single : Item → Bool
+is_single i = int_eq i.span.end (i.span.start +ℤ pos 1)
+
+-- the track by no item
+abbrev pub fit_none : Track → Track
+fit_none t = if flexible t then t else raise_limit t
+
 -- ---- the same, one item after another
 
 -- the contribution by which a growth limit goes

@@ -1,6 +1,6 @@
 -- The steps for a group of items.
-use Rattle.std.specs.Prelude.{ℤ, Bool, List, [], ◌∷◌, ◌++◌, if◌then◌else◌}
-use Rattle.part_rules.specs.Tracks.{BaseStep, Track, raise_limit, raised_base, unmarked}
+use Rattle.std.specs.Prelude.{◌≡◌, ℤ, Bool, List, [], ◌∷◌, ◌++◌, if◌then◌else◌}
+use Rattle.part_rules.specs.Tracks.{BaseStep, Track, close_limit, raise_limit, raised_base, unmarked}
 use Rattle.track_sizing.specs.declared.kinds.Kind.{Kind}
 use Rattle.track_sizing.specs.declared.kinds.Kind.TheVariants as kind
 use Rattle.track_sizing.specs.declared.kinds.Affected.{Affected}
@@ -27,3 +27,12 @@ base_steps_of definite max gap crossing =
 -- a track after the steps for a group whose items give it nothing
 abbrev pub passed : Track → Track
 passed t = unmarked (raise_limit (raised_base t))
+
+-- a track after such steps, with a growth limit that has an end
+abbrev pub passed_closed : Track → Track
+passed_closed t = close_limit (passed t)
+
+-- tracks of which each stays as it is where its base size is raised
+abbrev pub AreAtBase : List Track → Type 0
+AreAtBase [] = Unit {0}
+AreAtBase (t ∷ ts) = (raised_base t ≡ t) × AreAtBase ts

@@ -11,4 +11,5 @@ pub mod Whole
 pub mod Ordered
 pub mod Reached
 pub mod Calm
+pub mod Even
 pub mod Again

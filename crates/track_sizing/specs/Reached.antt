@@ -45,6 +45,11 @@ pub record Stays (t : Track) : Type 0 where
   pub raised : raised_limit t ≡ t
   pub marked : mark_endless t t ≡ t
 
+-- each of these tracks stays as it is where its growth limit is raised
+abbrev pub AllRaised : List Track → Type 0
+AllRaised [] = Unit {0}
+AllRaised (t ∷ ts) = (raised_limit t ≡ t) × AllRaised ts
+
 -- each of these tracks stays as it is
 abbrev pub AllStay : List Track → Type 0
 AllStay [] = Unit {0}

@@ -5,7 +5,7 @@ ghost use Rattle.std.specs.List.{list_any};
 ghost use Rattle.std.specs.Ordering.{int_eq};
 ghost use Rattle.part_rules.specs.Lists.{zipped};
 ghost use Rattle.part_rules.specs.Tracks.{fit_alone, is_auto_most, is_definite};
-ghost use Rattle.track_sizing.specs.Alone.{base_alone, content_ask, fit_single, is_special, limit_ask, limit_most, limit_single, plain_asks, plain_least, single_alone, single_asks, single_by, single_content, single_least, single_none, single_of, single_plain};
+ghost use Rattle.track_sizing.specs.Alone.{base_alone, content_ask, fit_none, fit_single, is_single, is_special, limit_ask, limit_most, limit_single, plain_asks, plain_least, single_alone, single_asks, single_by, single_content, single_least, single_none, single_of, single_plain};
 ghost use Rattle.track_sizing.specs.Calm.{AreQuietItems, IsQuiet};
 ghost use Rattle.track_sizing.specs.Placed.{AreIn, AreSet, IsIn};
 
@@ -129,7 +129,7 @@ fn single_more(definite: bool, item: &Item, row: &Row, single: &Single) -> Singl
 
 /// Whether an item spans one track.
 fn is_single(item: &Item) -> bool
-    ensures { result ≡ int_eq item.now.span.end (item.now.span.start +ℤ pos 1) }
+    ensures { result ≡ is_single item.now }
 {
     i64::from(item.span.end) - 1 == i64::from(item.span.start)
 }
@@ -205,7 +205,7 @@ fn is_auto_most(most: &Most) -> bool
 
 #[tactic(auto, unfolding(crate::specs::Alone::is_special))]
 /// Whether a track has another min or max function than `auto`.
-fn is_special(row: &Row) -> bool
+pub fn is_special(row: &Row) -> bool
     ensures { result ≡ is_special row.now }
 {
     let rule = row.rule();
@@ -225,7 +225,7 @@ fn some_special(rows: &[Row]) -> bool
 }
 
 /// The minimum contribution of an item to a track that has no other function than `auto` and that it spans alone.
-fn plain_least(item: &Item) -> Lu
+pub fn plain_least(item: &Item) -> Lu
     ensures { result ≡ plain_least item.now.floor }
 {
     match item.floor {
@@ -239,7 +239,7 @@ fn plain_least(item: &Item) -> Lu
 }
 
 /// What such an item asks for.
-fn plain_asks(definite: bool, item: &Item) -> Lu
+pub fn plain_asks(definite: bool, item: &Item) -> Lu
     ensures { result ≡ plain_asks definite item.now }
 {
     let least = plain_least(item);
@@ -407,6 +407,55 @@ fn fit_each(rows: &mut [Row], singles: &[Single])
     }
 }
 
+/// Whether some item spans one track.
+fn some_single(items: &[Item]) -> bool
+    ensures { result ≡ list_any is_single items.now }
+{
+    for item in items {
+        if is_single(item) {
+            return true;
+        }
+    }
+    false
+}
+
+#[tactic(auto, using(crate::proofs::Unspanned::items_idle))]
+/// Whether all items surely give nothing.
+fn are_idle(gap: Lu, items: &[Item]) -> bool
+    ensures { result ≡ true → AreQuietItems gap items.now }
+{
+    for item in items {
+        if !is_idle(gap, item) {
+            return false;
+        }
+    }
+    true
+}
+
+#[tactic(auto, using(crate::proofs::Unspanned::as_it_was))]
+/// Fits the track to no item: its growth limit is not below its base size. A flexible track is left as it is.
+fn fit_none(row: &mut Row)
+    ensures { row.new ≡ fit_none row.old }
+{
+    if flexible(row) {
+        return;
+    }
+    match row.limit() {
+        Some(limit) => row.fit(row.base(), Some(longer(row.base(), limit))),
+        None => {}
+    }
+}
+
+#[tactic(auto, using(crate::proofs::Loops::changing))]
+/// Fits each track to no item.
+fn fit_to_none(rows: &mut [Row])
+    ensures { rows.new ≡ map fit_none rows.old }
+{
+    for row in rows.iter_mut() {
+        fit_none(row);
+    }
+}
+
 /// Fits the tracks to the items that span one alone. Answers whether the items surely give nothing to more tracks.
 pub fn fit_alone<const AXIS: u8>(
     alloc: Global,
@@ -422,6 +471,10 @@ pub fn fit_alone<const AXIS: u8>(
     ensures rows { OnOk result (rows.new ≡ fit_alone space.now gap items.now rows.old) }
     ensures quiet { IfOk result (λ quiet. quiet ≡ true → AreQuietItems gap items.now) }
 {
+    if !some_single(items) {
+        fit_to_none(rows);
+        return Ok(are_idle(gap, items));
+    }
     let mut singles = no_singles(alloc, rows)?;
     let quiet = count_items(space, gap, first, rows, items, &mut singles);
     fit_each(rows, &singles);

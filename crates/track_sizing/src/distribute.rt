@@ -3,10 +3,11 @@
 ghost use Rattle.std.specs.Prelude.{◌≡◌, ◌<◌, ◌^◌, ◌≤◌, ◌+ℤ◌, ◌≤ℤ◌, length, map, pos, true};
 ghost use Rattle.part_rules.specs.Lists.{zipped};
 ghost use Rattle.part_rules.specs.Tracks.{base_distributed, base_planned_by, base_planned_by_all, high_limits, limit_planned_by, limit_planned_by_all, low_limits, raise_limit, raised_base, raised_limit_by};
+ghost use Rattle.track_sizing.specs.Groups.{AreAtBase};
 ghost use Rattle.track_sizing.specs.Here.{HaveLengths};
 ghost use Rattle.track_sizing.specs.Kinds.{affected_of};
 ghost use Rattle.track_sizing.specs.Placed.{AreIn, AreSet, IsIn, base_step_of, limit_step_in, marked_limit_by};
-ghost use Rattle.track_sizing.specs.Reached.{AllStay, marked_where, raised_where};
+ghost use Rattle.track_sizing.specs.Reached.{AllRaised, AllStay, marked_where, raised_where};
 
 use crate::item::{is_idle, span_length};
 use crate::kinds::{Affected, Kind, some_affected};
@@ -148,9 +149,38 @@ pub fn distribute_bases(
         (base_step_of step.now.affected step.now.receives definite gap step.now.asks) gap
         items.now rows.old }
     ensures set { AreSet first rows.new }
+    ensures raised { AreAtBase rows.new }
 {
     plan_bases(step, definite, gap, first, items, rows, takers);
     raise_bases(rows);
+}
+
+/// One step more on base sizes, which raises none where it affects no track.
+pub fn distribute_more_bases(
+    step: &BaseStep,
+    definite: bool,
+    gap: Lu,
+    first: Wide,
+    items: &[Item],
+    rows: &mut [Row],
+    takers: &mut [Share],
+)
+    requires few { length rows.old < 2 ^ 32 }
+    requires length { length takers.old ≡ length rows.old }
+    requires set { AreSet first rows.old }
+    requires raised { AreAtBase rows.old }
+    requires items { AreIn first (length rows.old) items.now }
+    ensures rows { rows.new ≡
+        base_distributed
+        (base_step_of step.now.affected step.now.receives definite gap step.now.asks) gap
+        items.now rows.old }
+    ensures set { AreSet first rows.new }
+    ensures raised { AreAtBase rows.new }
+{
+    if !some_affected(&step.affected, rows) {
+        return;
+    }
+    distribute_bases(step, definite, gap, first, items, rows, takers);
 }
 
 #[tactic(auto, using(crate::proofs::Groups::mine))]
@@ -269,6 +299,19 @@ fn all_stay(rows: &[Row]) -> bool
     true
 }
 
+#[tactic(auto, using(crate::proofs::Staying::rows_raised))]
+/// Whether all tracks surely stay as they are where growth limits are raised.
+fn all_raised(rows: &[Row]) -> bool
+    ensures { result ≡ true → AllRaised rows.now }
+{
+    for row in rows {
+        if !row.is_raised() {
+            return false;
+        }
+    }
+    true
+}
+
 #[tactic(auto, using(crate::proofs::Noted::reaches, crate::proofs::Staying::limits_stay))]
 /// Raises the growth limits that some item reaches, with the marks for the next step.
 fn raise_marked_limits(
@@ -291,7 +334,7 @@ fn raise_marked_limits(
     raise_and_mark_noted(rows, notes);
 }
 
-#[tactic(auto, using(crate::proofs::Noted::reaches, crate::proofs::Staying::limits_stay))]
+#[tactic(auto, using(crate::proofs::Noted::reaches, crate::proofs::Staying::limits_raised))]
 /// Raises the growth limits that some item reaches.
 fn raise_limits(
     affected: &Affected,
@@ -306,7 +349,7 @@ fn raise_limits(
     requires items { AreIn first (length rows.old) items.now }
     ensures { rows.new ≡ map (raised_limit_by (affected_of affected.now) items.now) rows.old }
 {
-    if all_stay(rows) {
+    if all_raised(rows) {
         return;
     }
     note_reached(affected, first, items, rows, notes);

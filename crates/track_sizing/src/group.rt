@@ -2,11 +2,12 @@
 
 ghost use Rattle.std.specs.Prelude.{◌≡◌, ◌<◌, ◌^◌, length, map};
 ghost use Rattle.part_rules.specs.Tracks.{each_distributed, group_fitted, is_definite, is_max_content};
-ghost use Rattle.track_sizing.specs.Groups.{base_steps_of, last_steps_of, passed};
+ghost use Rattle.track_sizing.specs.Groups.{AreAtBase, base_steps_of, last_steps_of, passed, passed_closed};
 ghost use Rattle.track_sizing.specs.Placed.{AreIn, AreSet};
 
 use crate::distribute::{
-    distribute_bases, distribute_high_limits, distribute_low_limits, raise_limits_to_bases,
+    distribute_bases, distribute_high_limits, distribute_low_limits, distribute_more_bases,
+    raise_limits_to_bases,
 };
 use crate::item::Asks;
 use crate::kinds::{Affected, Kind};
@@ -50,6 +51,7 @@ fn fit_last_bases(
     requires few { length rows.old < 2 ^ 32 }
     requires length { length takers.old ≡ length rows.old }
     requires set { AreSet first rows.old }
+    requires raised { AreAtBase rows.old }
     requires items { AreIn first (length rows.old) items.now }
     ensures rows { rows.new ≡
         each_distributed (last_steps_of definite max gap crossing) gap items.now rows.old }
@@ -72,10 +74,10 @@ fn fit_last_bases(
         asks: Asks::High,
     };
     if max {
-        distribute_bases(&limited, definite, gap, first, items, rows, takers);
-        distribute_bases(&whole, definite, gap, first, items, rows, takers);
+        distribute_more_bases(&limited, definite, gap, first, items, rows, takers);
+        distribute_more_bases(&whole, definite, gap, first, items, rows, takers);
     } else {
-        distribute_bases(&whole, definite, gap, first, items, rows, takers);
+        distribute_more_bases(&whole, definite, gap, first, items, rows, takers);
     }
 }
 
@@ -115,7 +117,7 @@ fn fit_bases(
         asks: Asks::Low,
     };
     distribute_bases(&minimum, definite, gap, first, items, rows, takers);
-    distribute_bases(&low, definite, gap, first, items, rows, takers);
+    distribute_more_bases(&low, definite, gap, first, items, rows, takers);
     fit_last_bases(definite, max, gap, crossing, first, items, rows, takers);
 }
 
@@ -169,4 +171,30 @@ pub fn pass_group(first: Wide, rows: &mut [Row])
     ensures set { AreSet first rows.new }
 {
     pass_each(rows);
+}
+
+/// The track after such steps, with a growth limit that has an end.
+fn passed_closed(row: &Row) -> Row
+    ensures { result ≡ passed_closed row.now }
+{
+    passed(row).close_limit()
+}
+
+#[tactic(auto, using(crate::proofs::Loops::changing))]
+/// The tracks after such steps, with growth limits that have an end.
+fn close_each(rows: &mut [Row])
+    ensures { rows.new ≡ map passed_closed rows.old }
+{
+    for row in rows.iter_mut() {
+        *row = passed_closed(row);
+    }
+}
+
+/// The tracks after the steps for a group whose items give them nothing, with growth limits that have an end.
+pub fn pass_and_close(first: Wide, rows: &mut [Row])
+    requires { AreSet first rows.old }
+    ensures rows { rows.new ≡ map passed_closed rows.old }
+    ensures set { AreSet first rows.new }
+{
+    close_each(rows);
 }

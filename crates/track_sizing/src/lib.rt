@@ -7,6 +7,7 @@ mod alone;
 mod calm;
 mod content;
 mod distribute;
+mod even;
 mod factors;
 mod flex;
 mod group;

@@ -1,9 +1,9 @@
 //! Exact numbers of units.
 
-ghost use Rattle.std.specs.Prelude.{◌≡◌, ◌+ℤ◌, ◌-ℤ◌, ◌≤ℤ◌, ◌&&◌, pos, true};
+ghost use Rattle.std.specs.Prelude.{◌≡◌, ◌≤◌, ◌^◌, ◌+ℤ◌, ◌-ℤ◌, ◌≤ℤ◌, ◌&&◌, pos, true};
 ghost use Rattle.std.specs.Int.{int_max, int_min};
 ghost use Rattle.lunit.specs.Units.{IsUnits, clamp};
-ghost use Rattle.part_rules.specs.Lists.{at_most};
+ghost use Rattle.part_rules.specs.Lists.{above_zero, at_most};
 
 use lunit::{Lu, Wide};
 
@@ -124,4 +124,21 @@ pub fn both(one: bool, other: bool) -> bool
     ensures { result ≡ (one && other) }
 {
     one && other
+}
+
+/// The units of a length, or 0 where it is below 0.
+pub fn units_of(length: Lu) -> u64
+    ensures value { result ≡ above_zero length }
+    ensures range { result ≤ 2 ^ 30 }
+{
+    u64::try_from(length.units()).unwrap_or(0)
+}
+
+#[tactic(auto, unfolding(lunit::specs::Units::clamp))]
+/// The length of so many units.
+pub fn length_of(units: u64) -> Lu
+    requires { units ≤ 2 ^ 30 }
+    ensures { result ≡ pos units }
+{
+    Wide::of(units as i128).clamp()
 }

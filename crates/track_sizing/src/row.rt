@@ -5,6 +5,7 @@ ghost use Rattle.std.specs.Int.{int_max};
 ghost use Rattle.lunit.specs.Units.{IsLong, IsUnits, clamp};
 ghost use Rattle.part_rules.specs.Tracks.{close_limit, fixed_least, fixed_most, full, grow_base, incur, initial, limit_of, plan, raise_limit, raised_base, raised_limit};
 ghost use Rattle.track_sizing.specs.Calm.{IsSure};
+ghost use Rattle.track_sizing.specs.Even.{lifted};
 ghost use Rattle.track_sizing.specs.Reached.{Stays};
 ghost use Rattle.track_sizing.specs.Rows.{IsLimit};
 
@@ -213,6 +214,32 @@ impl Row {
             limit: Some((self.limit_or_base().wide() + self.planned.wide()).clamp()),
             planned: Lu::of(0),
             ..*self
+        }
+    }
+
+    #[tactic(auto, unfolding(lunit::specs::Units::clamp))]
+    /// The track with a growth limit that is greater by a share; one without end counts as the base size.
+    pub fn lifted(&self, share: Lu) -> Row
+        requires { pos 0 ≤ℤ share }
+        ensures { result ≡ lifted self.now share }
+    {
+        Row {
+            limit: Some((self.limit_or_base().wide() + share.wide()).clamp()),
+            planned: Lu::of(0),
+            ..*self
+        }
+    }
+
+    /// Whether the track surely stays as it is where its growth limit is raised.
+    pub fn is_raised(&self) -> bool
+        ensures { result ≡ true → raised_limit self.now ≡ self.now }
+    {
+        if !is_nothing(self.planned) {
+            return false;
+        }
+        match self.limit {
+            Some(limit) => stays_with(limit, self.planned),
+            None => false,
         }
     }
 

@@ -88,7 +88,7 @@ pub fn run_length(number: Wide, items: &[Item]) -> usize
 }
 
 /// Whether an item spans so many tracks.
-fn has(number: Wide, item: &Item) -> bool
+pub fn has(number: Wide, item: &Item) -> bool
     ensures { result ≡ has number item.now }
 {
     tracks(item) == number

@@ -7,6 +7,7 @@ ghost use Rattle.part_rules.specs.Sharing.{shares, unshared};
 ghost use Rattle.part_rules.specs.Tracks.{incur};
 ghost use Rattle.track_sizing.specs.Here.{AreBelow, AreFitting, incur_share, room_of, share_of};
 
+use crate::numbers::is_nothing;
 use crate::rooms::{Rooms, share};
 use crate::row::Row;
 use lunit::Lu;
@@ -36,8 +37,9 @@ fn incur_shares(rows: &mut [Row], takers: &[Share])
     }
 }
 
-#[tactic(auto, using(crate::proofs::Turns::turn_rows, crate::proofs::Turns::turn_left))]
-/// Hands the space out to the tracks in equal parts, as far as they have room, and answers what is left.
+#[tactic(auto, using(crate::proofs::Turns::turn_rows, crate::proofs::Turns::turn_left, crate::proofs::Idle::turn_idle))]
+/// Hands the space out to the tracks in equal parts, as far as they have room, and answers what is left. Where there is no space,
+/// they stay as they are.
 pub fn hand_out_to(rooms: &Rooms, space: Lu, rows: &mut [Row], takers: &mut [Share]) -> Lu
     requires length { length takers.old ≡ length rows.old }
     requires some { pos 0 ≤ℤ space }
@@ -48,6 +50,9 @@ pub fn hand_out_to(rooms: &Rooms, space: Lu, rows: &mut [Row], takers: &mut [Sha
     ensures some { pos 0 ≤ℤ result }
     ensures below { AreBelow (top -ℤ result) rows.new }
 {
+    if is_nothing(space) {
+        return space;
+    }
     set_rooms(rooms, rows, takers);
     let left = hand_out(space, takers);
     incur_shares(rows, takers);
