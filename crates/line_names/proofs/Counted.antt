@@ -1,9 +1,10 @@
 -- The lines of a name after a line and before it, and the width of a limit.
-use Rattle.std.proofs.Common.{arith, rules, refl, ap, ◌∙◌, ◌≡◌, ℕ, zero, suc, ◌<◌, ◌≤◌, ℤ, pos, ◌+ℤ◌, ◌-ℤ◌, ◌<ℤ◌, ◌≤ℤ◌, Bool, true, false, List, [], ◌∷◌, length, get_or, take, drop, int_lt, if◌then◌else◌}
-use Rattle.std.specs.Prelude.{filter}
+use Rattle.std.proofs.Common.{arith, rules, refl, sym, ap, subst, ◌∙◌, ◌≡◌, ℕ, zero, suc, ◌<◌, ◌≤◌, ℤ, pos, ◌+ℤ◌, ◌-ℤ◌, ◌<ℤ◌, ◌≤ℤ◌, Bool, true, false, List, [], ◌∷◌, length, get_or, take, drop, int_lt, if◌then◌else◌}
+use Rattle.std.specs.Prelude.{filter, int_le}
 use Rattle.std.proofs.lemmas.Int.{ints}
 use Rattle.part_rules.specs.Lists.{above_zero}
 use Rattle.part_rules.specs.LineNames.{Table, named_lines}
+use Rattle.line_names.specs.Counting.{AreAscending}
 use Rattle.line_names.proofs.Names.{named_from-ascends}
 
 passes : (a b : ℤ) → a <ℤ b → int_lt a b ≡ true
@@ -11,6 +12,12 @@ passes a b h = search rules
 
 fails : (a b : ℤ) → b ≤ℤ a → int_lt a b ≡ false
 fails a b h = search rules
+
+le_passes : (a b : ℤ) → a ≤ℤ b → int_le a b ≡ true
+le_passes a b h = search rules
+
+le_fails : (a b : ℤ) → b <ℤ a → int_le a b ≡ false
+le_fails a b h = search rules
 
 kept : (b : Bool) (x : ℤ) (xs : List ℤ) → b ≡ true → (if b then x ∷ xs else xs) ≡ x ∷ xs
 kept b x xs e = ap (λ t. if t then x ∷ xs else xs) e
@@ -42,12 +49,14 @@ after_counted xs line n f g = filter_drops (λ l. int_lt line l) n xs (λ i h k.
 pub before_counted : (xs : List ℤ) (line : ℤ) (n : ℕ) → ((i : ℕ) → i < n → get_or xs i (pos 0) ≤ℤ (line -ℤ pos 1)) → ((i : ℕ) → n ≤ i → i < length xs → (line -ℤ pos 1) <ℤ get_or xs i (pos 0)) → filter (λ l. int_lt l line) xs ≡ take n xs
 before_counted xs line n f g = filter_takes (λ l. int_lt l line) n xs (λ i h k. passes (get_or xs i (pos 0)) line (omega (arith, ints, f i h))) (λ i h k. fails (get_or xs i (pos 0)) line (omega (arith, ints, g i h k)))
 
-pub named_ascend : (t : Table) (name : List ℕ) (i j : ℕ) → i ≤ j → j < length (named_lines t name) → get_or (named_lines t name) i (pos 0) ≤ℤ get_or (named_lines t name) j (pos 0)
-named_ascend t name i j h k = named_from-ascends name (pos 0) t.lines (pos 0) i j h k
+pub from_counted : (xs : List ℤ) (line : ℤ) (n : ℕ) → ((i : ℕ) → i < n → get_or xs i (pos 0) ≤ℤ (line -ℤ pos 1)) → ((i : ℕ) → n ≤ i → i < length xs → (line -ℤ pos 1) <ℤ get_or xs i (pos 0)) → filter (λ l. int_le line l) xs ≡ drop n xs
+from_counted xs line n f g = filter_drops (λ l. int_le line l) n xs (λ i h k. le_fails line (get_or xs i (pos 0)) (omega (arith, ints, f i h))) (λ i h k. le_passes line (get_or xs i (pos 0)) (omega (arith, ints, g i h k)))
+
+pub up_to_counted : (xs : List ℤ) (line : ℤ) (n : ℕ) → ((i : ℕ) → i < n → get_or xs i (pos 0) ≤ℤ line) → ((i : ℕ) → n ≤ i → i < length xs → line <ℤ get_or xs i (pos 0)) → filter (λ l. int_le l line) xs ≡ take n xs
+up_to_counted xs line n f g = filter_takes (λ l. int_le l line) n xs (λ i h k. le_passes (get_or xs i (pos 0)) line (f i h)) (λ i h k. le_fails (get_or xs i (pos 0)) line (g i h k))
 
 pub width : (low high : ℤ) (n : ℕ) → high ≡ low +ℤ pos n → above_zero (high -ℤ low) ≡ n
 width low high n h = let e : high -ℤ low ≡ pos n = omega (arith, ints, h) in ap above_zero e
 
-pub ruleset lines_after_all = (after_counted, named_ascend)
-
-pub ruleset lines_before_all = (before_counted, named_ascend)
+pub named_ascend : (t : Table) (name : List ℕ) (xs : List ℤ) → xs ≡ named_lines t name → AreAscending xs
+named_ascend t name xs e = subst (λ ls. AreAscending ls) (sym e) (λ i j h k. named_from-ascends name (pos 0) t.lines (pos 0) i j h k)

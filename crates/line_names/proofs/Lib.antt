@@ -1,7 +1,11 @@
 pub mod Names
 pub mod Lines
 pub mod Cut
+pub mod Edges
 pub mod Made
 pub mod Sides
 pub mod Counted
 pub mod Repeats
+pub mod Told
+pub mod Passing
+pub mod Shared

@@ -1,16 +1,8 @@
 -- Lines with their names, as they are collected.
-use Rattle.std.proofs.Common.{arith, refl, sym, ap, ◌∙◌, ◌≡◌, ◌≢◌, ℕ, zero, suc, ◌+◌, ◌<◌, ℤ, pos, negsuc, ◌⊎◌, inl, inr, List, [], ◌∷◌, ◌++◌, length, take, get_or, slice_set, length-append, append_assoc}
-use Rattle.std.specs.Prelude.{None, unwrap_or, slice_get}
-use Rattle.std.proofs.Math.ListN.{get_or-append}
-use Rattle.std.proofs.Math.Seq.{get_or-append_seam}
-use Rattle.std.proofs.lemmas.List.{append-nil, take_more, get_or-set_same, set-get_or}
-use lib.IntN.{nat_abs}
-use Rattle.std.proofs.lemmas.Bool.{cases_eq}
-use Rattle.std.proofs.lemmas.Option.{unwrap_or-slice_get}
-use Rattle.part_rules.specs.LineNames.{Table, NamedSpan, names_at, area_names, names_by_areas}
+use Rattle.std.proofs.Common.{arith, refl, sym, ap, ◌∙◌, ◌≡◌, ℕ, zero, suc, ◌+◌, ◌<◌, ℤ, pos, List, [], ◌∷◌, ◌++◌, length, take, get_or, slice_set, append_assoc}
+use Rattle.std.proofs.lemmas.List.{append-nil, take_more, get_or-set_same}
+use Rattle.part_rules.specs.LineNames.{NamedSpan, area_names, names_by_areas}
 use Rattle.line_names.specs.Tables.{AreLines}
-
--- ---- one line after another
 
 -- ---- names put on a line
 
@@ -53,10 +45,3 @@ areas_next old now next areas i area h e f g =
           ∙ append_assoc (get_or old line []) (names_by_areas (pos line) (take i areas)) (area_names (pos line) area)
           ∙ ap (λ names. get_or old line [] ++ names) (names_by_areas-more (pos line) areas i area h e);
     }
-
--- ---- the names of a line
-
--- a line that has no set has no names
-pub names_none : (t : Table) (line : ℤ) → None ≡ slice_get t.lines (nat_abs line) → [] ≡ names_at t line
-names_none t (pos line) h = ap (λ o. unwrap_or o []) h ∙ unwrap_or-slice_get t.lines line []
-names_none t (negsuc line) h = refl

@@ -1,9 +1,13 @@
 -- The lines of a name, one line after another.
-use Rattle.std.proofs.Common.{arith, rules, refl, sym, ap, ◌∙◌, ◌≡◌, ℕ, zero, suc, ◌+◌, ◌-◌, ◌<◌, ◌≤◌, ℤ, pos, ◌+ℤ◌, ◌<ℤ◌, ◌≤ℤ◌, Bool, true, false, ◌||◌, List, [], ◌∷◌, ◌++◌, length, take, get_or, int_lt, if◌then◌else◌, length-append}
+use Rattle.std.proofs.Common.{arith, rules, refl, sym, ap, ◌∙◌, ◌≡◌, ◌⊎◌, inl, inr, ℕ, zero, suc, ◌+◌, ◌-◌, ◌<◌, ◌≤◌, ℤ, pos, ◌+ℤ◌, ◌<ℤ◌, ◌≤ℤ◌, Bool, true, false, ◌||◌, List, [], ◌∷◌, ◌++◌, length, take, get_or, int_lt, if◌then◌else◌, length-append}
+use Rattle.std.specs.Cmp.Lexicographic.{pointwise, pointwise_decides}
+use Rattle.std.proofs.lemmas.Slice.Eq.{bytes_eq-Decides}
+use Rattle.line_names.specs.Indexes.{noted_all, marked_all}
 use Rattle.std.proofs.Math.ListN.{length-take}
 use Rattle.std.proofs.Math.Seq.{get_or-append_seam}
-use Rattle.std.proofs.lemmas.List.{append-nil, take_more}
-use Rattle.std.specs.Prelude.{Some, slice_get}
+use Rattle.std.proofs.lemmas.List.{append-nil, take_more, get_or_default}
+use Rattle.std.specs.Prelude.{Option, Some, None, slice_get}
+use Rattle.std.proofs.lemmas.Bool.{true≢false, cases_lt}
 use Rattle.std.specs.Str.{bytes_eq}
 use Rattle.std.proofs.lemmas.Int.{ints}
 use Rattle.std.proofs.lemmas.List.Folds.{list_any_more}
@@ -11,12 +15,10 @@ use Rattle.std.proofs.lemmas.Map.Text.{is_eq-slice_cmp}
 use Rattle.std.proofs.lemmas.Option.{slice_get-get_or}
 use Rattle.part_rules.specs.LineNames.{named_from, holds_name}
 use Rattle.line_names.specs.Indexes.{precedes, ends_before, noted, marked}
+use Rattle.line_names.specs.Levels.{picked}
 
 -- the order of names as bytes tells the same names apart
 pub ruleset found = (is_eq-slice_cmp)
-
-abbrev picked : Bool → ℤ → List ℤ → List ℤ
-picked held line more = if held then line ∷ more else more
 
 picked-append : (held : Bool) (line : ℤ) (xs ys : List ℤ) → picked held line (xs ++ ys) ≡ picked held line xs ++ ys
 picked-append true line xs ys = refl
@@ -29,7 +31,7 @@ named_from-append name line (x ∷ xs) ys =
     let rest : named_from name (line +ℤ pos 1) (xs ++ ys) ≡ named_from name (line +ℤ pos 1) xs ++ named_from name (line +ℤ pos (length (x ∷ xs))) ys = named_from-append name (line +ℤ pos 1) xs ys ∙ ap (λ z. named_from name (line +ℤ pos 1) xs ++ named_from name z ys) at in
     ap (λ more. picked (holds_name name x) line more) rest ∙ picked-append (holds_name name x) line (named_from name (line +ℤ pos 1) xs) (named_from name (line +ℤ pos (length (x ∷ xs))) ys)
 
-picked-low : (held : Bool) (line : ℤ) (more : List ℤ) (d : ℤ) → ((k : ℕ) → k < length more → (line +ℤ pos 1) ≤ℤ get_or more k d) → (i : ℕ) → i < length (picked held line more) → line ≤ℤ get_or (picked held line more) i d
+pub picked-low : (held : Bool) (line : ℤ) (more : List ℤ) (d : ℤ) → ((k : ℕ) → k < length more → (line +ℤ pos 1) ≤ℤ get_or more k d) → (i : ℕ) → i < length (picked held line more) → line ≤ℤ get_or (picked held line more) i d
 picked-low true line more d f zero h = omega (arith, ints)
 picked-low true line more d f (suc i) h = omega (arith, ints, f i (omega arith))
 picked-low false line more d f i h = omega (arith, ints, f i h)
@@ -39,7 +41,7 @@ picked-high true line high more d l f zero h = l
 picked-high true line high more d l f (suc i) h = f i (omega arith)
 picked-high false line high more d l f i h = f i h
 
-picked-ascends : (held : Bool) (line : ℤ) (more : List ℤ) (d : ℤ) → ((k : ℕ) → k < length more → (line +ℤ pos 1) ≤ℤ get_or more k d) → ((i j : ℕ) → i ≤ j → j < length more → get_or more i d ≤ℤ get_or more j d) → (i j : ℕ) → i ≤ j → j < length (picked held line more) →
+pub picked-ascends : (held : Bool) (line : ℤ) (more : List ℤ) (d : ℤ) → ((k : ℕ) → k < length more → (line +ℤ pos 1) ≤ℤ get_or more k d) → ((i j : ℕ) → i ≤ j → j < length more → get_or more i d ≤ℤ get_or more j d) → (i j : ℕ) → i ≤ j → j < length (picked held line more) →
     get_or (picked held line more) i d ≤ℤ get_or (picked held line more) j d
 picked-ascends true line more d f g zero zero h k = omega (arith, ints)
 picked-ascends true line more d f g zero (suc j) h k = omega (arith, ints, f j (omega arith))
@@ -83,21 +85,6 @@ ends_before-pushed xs line =
     let e : slice_get (xs ++ line ∷ []) (length xs) ≡ Some (get_or (xs ++ line ∷ []) (length xs) line) = slice_get-get_or (xs ++ line ∷ []) (length xs) line (omega (arith, length-append xs (line ∷ []))) in
     ap (λ k. precedes (slice_get (xs ++ line ∷ []) k) line) n ∙ ap (λ o. precedes o line) e ∙ ap (λ z. int_lt z line) (get_or-append_seam xs line [] line) ∙ int_lt-same line
 
-noted_again : (held : Bool) (xs : List ℤ) (line : ℤ) → noted (marked held xs line) line ≡ noted xs line
-noted_again false xs line = refl
-noted_again true xs line = again (ends_before xs line) refl
-  where
-    again : (b : Bool) → b ≡ ends_before xs line → noted (if b then xs ++ line ∷ [] else xs) line ≡ (if b then xs ++ line ∷ [] else xs)
-    again true e = ap (λ b. if b then (xs ++ line ∷ []) ++ line ∷ [] else xs ++ line ∷ []) (ends_before-pushed xs line)
-    again false e = ap (λ b. if b then xs ++ line ∷ [] else xs) (sym e)
-
--- marked twice is marked by either
-pub marked_again : (first second : Bool) (xs : List ℤ) (line : ℤ) → marked second (marked first xs line) line ≡ marked (first || second) xs line
-marked_again true true xs line = noted_again true xs line
-marked_again true false xs line = refl
-marked_again false true xs line = refl
-marked_again false false xs line = refl
-
 marked_end : (held : Bool) (xs : List ℤ) (line : ℤ) → ends_before xs line ≡ true → xs ++ picked held line [] ≡ marked held xs line
 marked_end true xs line e = sym (ap (λ b. if b then xs ++ line ∷ [] else xs) e)
 marked_end false xs line e = append-nil xs
@@ -115,14 +102,106 @@ named_step name xs k d h =
     let n : length (take k xs) ≡ k = omega (arith, length-take k xs) in
     ap (λ ys. named_from name (pos 0) ys) (take_more xs k d h) ∙ named_more name (take k xs) (get_or xs k d) ∙ ap (λ m. marked (holds_name name (get_or xs k d)) (named_from name (pos 0) (take k xs)) (pos m)) n
 
--- a name of a line more
-pub marked_step : (other : List ℕ) (names : List (List ℕ)) (i : ℕ) (name : List ℕ) (now before : List ℤ) (line : ℤ) → i < length names → name ≡ get_or names i name → now ≡ marked (holds_name other (take i names)) before line →
-    marked (bytes_eq name other) now line ≡ marked (holds_name other (take (i + 1) names)) before line
-marked_step other names i name now before line h e f =
-    ap (λ xs. marked (bytes_eq name other) xs line) f ∙ marked_again (holds_name other (take i names)) (bytes_eq name other) before line ∙ ap (λ n. marked (holds_name other (take i names) || bytes_eq n other) before line) e ∙
-    ap (λ b. marked b before line) (sym (list_any_more (λ held. bytes_eq held other) names i name h))
+-- ---- lines with the same names
+
+pub same_names : (a b : List (List ℕ)) → pointwise bytes_eq a b ≡ true → a ≡ b
+same_names a b h = (pointwise_decides bytes_eq-Decides a b).0 h
+
+int_lt-not : (a b : ℤ) → b ≤ℤ a → int_lt a b ≡ false
+int_lt-not a b h = search rules
+
+int_lt-tells : (a b : ℤ) → int_lt a b ≡ false → b ≤ℤ a
+int_lt-tells a b h = search rules
+
+-- a line that does not come after the last of these comes before no later one
+not_before : (last : Option ℤ) (a b : ℤ) → a ≤ℤ b → precedes last b ≡ false → precedes last a ≡ false
+not_before None a b h f = elim (true≢false f) [ ]
+not_before (Some last) a b h f =
+    let g : b ≤ℤ last = int_lt-tells last b f in
+    int_lt-not last a (omega (arith, ints, g, h))
+
+-- once a line is noted, no line up to it is noted again
+noted-ends : (xs : List ℤ) (a b : ℤ) → a ≤ℤ b → ends_before (noted xs b) a ≡ false
+noted-ends xs a b h = by (ends_before xs b) refl
+  where
+    by : (t : Bool) → ends_before xs b ≡ t → ends_before (if t then xs ++ b ∷ [] else xs) a ≡ false
+    by true e = not_before (slice_get (xs ++ b ∷ []) (length (xs ++ b ∷ []) - 1)) a b h (ends_before-pushed xs b)
+    by false e = not_before (slice_get xs (length xs - 1)) a b h e
+
+noted-kept : (xs : List ℤ) (line : ℤ) → ends_before xs line ≡ false → noted xs line ≡ xs
+noted-kept xs line e = ap (λ b. if b then xs ++ line ∷ [] else xs) e
+
+noted_all-ends : (xs : List ℤ) (first n k : ℕ) → k < n → ends_before (noted_all xs first n) (pos (first + k)) ≡ false
+noted_all-ends xs first zero k h = absurd (omega arith)
+noted_all-ends xs first (suc n) k h = noted-ends (noted_all xs first n) (pos (first + k)) (pos (first + n)) (omega (arith, ints, h))
+
+kept_all : (ys : List ℤ) (first n m : ℕ) → m ≤ n → ((k : ℕ) → k < n → ends_before ys (pos (first + k)) ≡ false) → noted_all ys first m ≡ ys
+kept_all ys first n zero h f = refl
+kept_all ys first n (suc m) h f =
+    ap (λ zs. noted zs (pos (first + m))) (kept_all ys first n m (omega (arith, h)) f)
+    ∙ noted-kept ys (pos (first + m)) (f m (omega (arith, h)))
+
+noted_all-again : (xs : List ℤ) (first n : ℕ) → noted_all (noted_all xs first n) first n ≡ noted_all xs first n
+noted_all-again xs first n = kept_all (noted_all xs first n) first n n (omega arith) (λ k h. noted_all-ends xs first n k h)
+
+-- marked twice is marked by either
+pub marked_all-again : (one two : Bool) (xs : List ℤ) (first n : ℕ) → marked_all two (marked_all one xs first n) first n ≡ marked_all (one || two) xs first n
+marked_all-again true true xs first n = noted_all-again xs first n
+marked_all-again true false xs first n = refl
+marked_all-again false true xs first n = refl
+marked_all-again false false xs first n = refl
 
 -- a line more
-pub index_step : (name : List ℕ) (lines : List (List (List ℕ))) (k : ℕ) (names : List (List ℕ)) (now : List ℤ) → k < length lines → names ≡ get_or lines k names → now ≡ named_from name (pos 0) (take k lines) → marked (holds_name name names) now (pos k) ≡ named_from name (pos 0) (take (k + 1) lines)
-index_step name lines k names now h e f =
-    ap (λ xs. marked (holds_name name names) xs (pos k)) f ∙ ap (λ n. marked (holds_name name n) (named_from name (pos 0) (take k lines)) (pos k)) e ∙ sym (named_step name lines k names h)
+marked_all-more : (held : Bool) (xs : List ℤ) (first n : ℕ) → marked held (marked_all held xs first n) (pos (first + n)) ≡ marked_all held xs first (suc n)
+marked_all-more true xs first n = refl
+marked_all-more false xs first n = refl
+
+-- a name of these lines more
+pub marked_step : (other : List ℕ) (names : List (List ℕ)) (i : ℕ) (name : List ℕ) (now before : List ℤ) (first n : ℕ) → i < length names → name ≡ get_or names i name → now ≡ marked_all (holds_name other (take i names)) before first n →
+    marked_all (bytes_eq name other) now first n ≡ marked_all (holds_name other (take (i + 1) names)) before first n
+marked_step other names i name now before first n h e f =
+    ap (λ xs. marked_all (bytes_eq name other) xs first n) f ∙ marked_all-again (holds_name other (take i names)) (bytes_eq name other) before first n ∙ ap (λ m. marked_all (holds_name other (take i names) || bytes_eq m other) before first n) e ∙
+    ap (λ b. marked_all b before first n) (sym (list_any_more (λ held. bytes_eq held other) names i name h))
+
+-- two lines that were compared are the same, whatever stands past the last
+pub same_line : (lines : List (List (List ℕ))) (i j : ℕ) (a b : List (List ℕ)) → i < length lines → j < length lines → a ≡ get_or lines i a → b ≡ get_or lines j b → a ≡ b
+    → (d : List (List ℕ)) → get_or lines i d ≡ get_or lines j d
+same_line lines i j a b h k e f same d =
+    get_or_default lines i d a h ∙ sym e ∙ same ∙ f ∙ get_or_default lines j b d k
+
+-- how many lines are alike
+pub alike_one : (lines : List (List (List ℕ))) (first k : ℕ) (d : List (List ℕ)) → k < 1 → get_or lines (first + k) d ≡ get_or lines first d
+alike_one lines first k d h = let e : first + k ≡ first = omega (arith, h) in ap (λ n. get_or lines n d) e
+
+pub alike_more : (lines : List (List (List ℕ))) (first count : ℕ) → ((d : List (List ℕ)) → get_or lines (first + count) d ≡ get_or lines first d) → ((k : ℕ) (d : List (List ℕ)) → k < count → get_or lines (first + k) d ≡ get_or lines first d)
+    → (k : ℕ) (d : List (List ℕ)) → k < count + 1 → get_or lines (first + k) d ≡ get_or lines first d
+alike_more lines first count next same k d h = either (cases_lt k count)
+  where
+    either : (k < count) ⊎ (count ≤ k) → get_or lines (first + k) d ≡ get_or lines first d
+    either (inl less) = same k d less
+    either (inr more) = let e : first + k ≡ first + count = omega (arith, h, more) in ap (λ n. get_or lines n d) e ∙ next d
+
+-- so many lines more, which have the same names
+alike_lines : (name : List ℕ) (lines : List (List (List ℕ))) (at n : ℕ) (d : List (List ℕ)) → at + n ≤ length lines → ((k : ℕ) → k < n → get_or lines (at + k) d ≡ get_or lines at d)
+    → named_from name (pos 0) (take (at + n) lines) ≡ marked_all (holds_name name (get_or lines at d)) (named_from name (pos 0) (take at lines)) at n
+alike_lines name lines at zero d h same =
+    let e : at + 0 ≡ at = omega arith in
+    ap (λ m. named_from name (pos 0) (take m lines)) e ∙ sym (none (holds_name name (get_or lines at d)) (named_from name (pos 0) (take at lines)))
+  where
+    none : (held : Bool) (xs : List ℤ) → marked_all held xs at 0 ≡ xs
+    none true xs = refl
+    none false xs = refl
+alike_lines name lines at (suc n) d h same =
+    let e : at + suc n ≡ at + n + 1 = omega arith in
+    ap (λ m. named_from name (pos 0) (take m lines)) e
+    ∙ named_step name lines (at + n) d (omega (arith, h))
+    ∙ ap (λ names. marked (holds_name name names) (named_from name (pos 0) (take (at + n) lines)) (pos (at + n))) (same n (omega arith))
+    ∙ ap (λ xs. marked (holds_name name (get_or lines at d)) xs (pos (at + n))) (alike_lines name lines at n d (omega (arith, h)) (λ k g. same k (omega (arith, g))))
+    ∙ marked_all-more (holds_name name (get_or lines at d)) (named_from name (pos 0) (take at lines)) at n
+
+pub index_step : (name : List ℕ) (lines : List (List (List ℕ))) (at n : ℕ) (names : List (List ℕ)) (now : List ℤ) → at + n ≤ length lines → names ≡ get_or lines at names → ((k : ℕ) (d : List (List ℕ)) → k < n → get_or lines (at + k) d ≡ get_or lines at d)
+    → now ≡ named_from name (pos 0) (take at lines) → marked_all (holds_name name names) now at n ≡ named_from name (pos 0) (take (at + n) lines)
+index_step name lines at n names now h e same f =
+    ap (λ xs. marked_all (holds_name name names) xs at n) f
+    ∙ ap (λ m. marked_all (holds_name name m) (named_from name (pos 0) (take at lines)) at n) e
+    ∙ sym (alike_lines name lines at n names h (λ k g. same k names g))

@@ -1,5 +1,7 @@
 pub mod Counting
 pub mod Indexes
+pub mod Levels
+pub mod Parts
 pub mod Repeats
 pub mod Sides
 pub mod Tables

@@ -1,9 +1,10 @@
 -- The tables of lines as the code keeps them.
-use Rattle.std.specs.Prelude.{◌≡◌, ℕ, ◌+◌, ◌<◌, ◌≤◌, nat_le, ℤ, pos, neg_ℤ, ◌+ℤ◌, ◌≤ℤ◌, ◌<ℤ◌, int_lt, int_le, Bool, ◌&&◌, IsTrue, List, [], ◌++◌, length, get_or}
+use Rattle.std.specs.Prelude.{◌≡◌, ℕ, ◌<◌, ◌≤◌, nat_le, ℤ, pos, neg_ℤ, ◌+ℤ◌, ◌≤ℤ◌, ◌<ℤ◌, int_lt, int_le, Bool, ◌&&◌, IsTrue, List, [], length, get_or}
 use Rattle.std.specs.List.{list_all}
 use Rattle.lunit.specs.declared.geometry.Span.{Span}
-use Rattle.part_rules.specs.LineNames.{NamedSpan, Table, names_at}
-use Rattle.line_names.specs.Indexes.{IsIndexOf}
+use Rattle.part_rules.specs.LineNames.{NamedSpan, Table, holds_name, named_from, names_by_areas}
+use Rattle.line_names.specs.Levels.{lines_under, names_in, seen_in, AreOrdered}
+use Rattle.line_names.specs.declared.levels.Level.{Level}
 use Rattle.line_names.specs.declared.table.LineTable.TheInside.{Inside}
 
 -- an area that lies in the lines from 0 to this number of tracks, and whose edges can be named
@@ -19,8 +20,12 @@ pub record AreLines (names : ℕ → List (List ℕ)) (count : ℕ) (lines : Lis
   pub counted : length lines ≡ count
   pub named : (line : ℕ) → line < count → get_or lines line [] ≡ names line
 
+-- the table of a grid of these levels
+abbrev pub table_by : Span → Level → List Level → Table
+table_by limit level above = record { tracks = level.tracks; lines = lines_under level above; areas = level.areas; low = limit.start; high = limit.end }
+
 abbrev pub table_of : Inside → Table
-table_of t = record { tracks = t.tracks; lines = t.lines; areas = t.areas; low = t.limit.start; high = t.limit.end }
+table_of t = table_by t.limit t.level t.above
 
 -- a span that lies in the lines that a table can have
 pub record IsWithinLines (span : Span) : Type 0 where
@@ -34,16 +39,18 @@ pub record IsLimit (limit : Span) : Type 0 where
   pub some : limit.start <ℤ limit.end
   pub high : limit.end ≤ℤ (limit.start +ℤ pos 20000)
 
--- the lines and the limit of a table, and its index
-pub record IsTable (t : Inside) : Type 0 where
-  pub tracks : t.tracks ≤ 65536
-  pub lines : length t.lines ≡ t.tracks + 1
-  pub areas : IsTrue (are_areas t.tracks t.areas)
-  pub limit : IsLimit t.limit
-  pub index : IsIndexOf t.index.lines t.lines
+-- the limit of a table, which the topmost grid has too, its areas, whose names stand on its lines, and the lines of its names as its
+-- index and the levels above have them
+pub record IsTableBy (limit : Span) (base : ℤ) (level : Level) (above : List Level) : Type 0 where
+  pub tracks : level.tracks ≤ 65536
+  pub areas : IsTrue (are_areas level.tracks level.areas)
+  pub fits : IsLimit limit
+  pub low : neg_ℤ (pos 10000) ≤ℤ (base +ℤ limit.start)
+  pub high : (base +ℤ limit.end) ≤ℤ pos 10000
+  pub ordered : AreOrdered above
+  pub named : (name : List ℕ) (line : ℤ) → IsTrue (holds_name name (names_by_areas line level.areas)) →
+      IsTrue (holds_name name (names_in (lines_under level above) line))
+  pub lines : (name : List ℕ) → seen_in level.index above base limit.start limit.end name ≡ named_from name (pos 0) (lines_under level above)
 
--- the first so many lines have the names that a table has from a line on, after their own
-pub record IsInheritedUpTo (t : Table) (start : ℤ) (old : List (List (List ℕ))) (count : ℕ) (now : List (List (List ℕ))) : Type 0 where
-  pub counted : length now ≡ length old
-  pub named : (line : ℕ) → line < count → get_or now line [] ≡ get_or old line [] ++ names_at t (start +ℤ pos line)
-  pub left : (line : ℕ) → count ≤ line → get_or now line [] ≡ get_or old line []
+abbrev pub IsTable : Inside → Type 0
+IsTable t = IsTableBy t.limit t.base.line t.level t.above

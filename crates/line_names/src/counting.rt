@@ -1,8 +1,9 @@
 //! Lines that are found by counting: the so-manyth one of a name, on from a line or back from it (CSS Grid 2, 8.3).
 
-ghost use Rattle.std.specs.Prelude.{◌≡◌, ◌≤◌, ◌<◌, ◌+◌, ◌-◌, ℕ, pos, length, get_or, ◌+ℤ◌, ◌-ℤ◌, ◌≤ℤ◌, ◌<ℤ◌};
+ghost use Rattle.std.specs.Prelude.{◌≡◌, ◌≤◌, ◌<◌, ◌+◌, ◌-◌, ℕ, pos, length, get_or, slice_get, IfSome, drop, take, filter, int_le, int_lt, ◌+ℤ◌, ◌-ℤ◌, ◌≤ℤ◌, ◌<ℤ◌};
 ghost use Rattle.part_rules.specs.LineNames.{going_back, going_on};
 ghost use Rattle.line_names.specs.Counting.{IsNear, IsFar, AreAscending};
+ghost use Rattle.line_names.specs.Levels.{told};
 
 /// The line that lies so many lines after this one.
 pub(crate) fn after(line: i64, more: u32) -> i64
@@ -22,13 +23,46 @@ pub(crate) fn before(line: i64, more: u32) -> i64
     line - more as i64
 }
 
+/// The line of the topmost grid that counts as line 0.
+#[derive(Clone, Copy)]
+pub(crate) struct Base {
+    pub(crate) line: i32,
+}
+
+/// The lines of a name in order, as lines of the topmost grid, beside the one that counts as line 0.
+#[derive(Clone, Copy)]
+pub(crate) struct NamedLines<'a> {
+    pub(crate) lines: &'a [i32],
+    pub(crate) base: Base,
+}
+
+#[tactic(auto, using(crate::proofs::Told::told_laws))]
+/// How many lines there are.
+fn count_of(lines: NamedLines) -> usize
+    ensures { result ≡ length (told lines.entry) }
+{
+    lines.lines.len()
+}
+
+#[tactic(auto, using(crate::proofs::Told::told_laws))]
 /// The line at an index.
-fn line_at(lines: &[i32], at: usize) -> i64
-    requires { at < length lines.now }
-    ensures value { result ≡ get_or lines.now at (pos 0) }
+pub(crate) fn line_at(lines: NamedLines, at: usize) -> i64
+    requires { at < length (told lines) }
+    ensures value { result ≡ get_or (told lines.entry) at (pos 0) }
     ensures near { IsNear result }
 {
-    lines[at] as i64
+    i64::from(lines.lines[at]) - i64::from(lines.base.line)
+}
+
+/// The first of these lines.
+pub(crate) fn first_of(lines: NamedLines) -> Option<i64>
+    ensures value { result ≡ slice_get (told lines.entry) 0 }
+    ensures near { IfSome result (λ line. IsNear line) }
+{
+    if count_of(lines) == 0 {
+        return None;
+    }
+    Some(line_at(lines, 0))
 }
 
 /// How many are left of a count.
@@ -39,41 +73,41 @@ fn left_of(count: u32, taken: usize) -> u32
 }
 
 /// The so-manyth of these lines; where there are fewer, each line after `last` counts as one.
-pub(crate) fn going_on(lines: &[i32], count: u32, last: i64) -> i64
+pub(crate) fn going_on(lines: NamedLines, count: u32, last: i64) -> i64
     requires { IsFar last }
-    ensures value { result ≡ going_on lines.now count last }
+    ensures value { result ≡ going_on (told lines.entry) count last }
     ensures far { IsNear last → IsFar result }
 {
     let place = count.saturating_sub(1) as usize;
-    if place < lines.len() {
+    if place < count_of(lines) {
         return line_at(lines, place);
     }
-    after(last, left_of(count, lines.len()))
+    after(last, left_of(count, count_of(lines)))
 }
 
 /// The so-manyth of these lines from the last one back; where there are fewer, each line before `first` counts as one.
-pub(crate) fn going_back(lines: &[i32], count: u32, first: i64) -> i64
+pub(crate) fn going_back(lines: NamedLines, count: u32, first: i64) -> i64
     requires { IsFar first }
-    ensures value { result ≡ going_back lines.now count first }
+    ensures value { result ≡ going_back (told lines.entry) count first }
     ensures far { IsNear first → IsFar result }
 {
     let place = count.saturating_sub(1) as usize;
-    if place < lines.len() {
-        return line_at(lines, lines.len() - 1 - place);
+    if place < count_of(lines) {
+        return line_at(lines, count_of(lines) - 1 - place);
     }
-    before(first, left_of(count, lines.len()))
+    before(first, left_of(count, count_of(lines)))
 }
 
 /// How many of these lines, which ascend, do not come after this one.
-pub(crate) fn count_up_to(lines: &[i32], limit: i64) -> usize
-    requires { AreAscending lines.now }
-    ensures within { result ≤ length lines.now }
-    ensures before { (i : ℕ) → i < result → get_or lines.now i (pos 0) ≤ℤ limit }
-    ensures after { (i : ℕ) → result ≤ i → i < length lines.now →
-        limit <ℤ get_or lines.now i (pos 0) }
+pub(crate) fn count_up_to(lines: NamedLines, limit: i64) -> usize
+    requires { AreAscending (told lines) }
+    ensures within { result ≤ length (told lines.entry) }
+    ensures before { (i : ℕ) → i < result → get_or (told lines.entry) i (pos 0) ≤ℤ limit }
+    ensures after { (i : ℕ) → result ≤ i → i < length (told lines.entry) →
+        limit <ℤ get_or (told lines.entry) i (pos 0) }
 {
     let mut low = 0;
-    let mut high = lines.len();
+    let mut high = count_of(lines);
     while low < high {
         let middle = low + (high - low) / 2;
         if line_at(lines, middle) <= limit {
@@ -83,4 +117,65 @@ pub(crate) fn count_up_to(lines: &[i32], limit: i64) -> usize
         }
     }
     low
+}
+
+/// These lines without so many at their start.
+fn without(lines: NamedLines<'_>, count: usize) -> NamedLines<'_>
+    requires { count ≤ length (told lines) }
+    ensures value { told result ≡ drop count (told lines.entry) }
+    ensures base { result.base ≡ lines.entry.base }
+{
+    NamedLines {
+        lines: &lines.lines[count..],
+        base: lines.base,
+    }
+}
+
+/// So many of these lines at their start.
+fn first_so_many(lines: NamedLines<'_>, count: usize) -> NamedLines<'_>
+    requires { count ≤ length (told lines) }
+    ensures value { told result ≡ take count (told lines.entry) }
+    ensures base { result.base ≡ lines.entry.base }
+{
+    NamedLines {
+        lines: &lines.lines[..count],
+        base: lines.base,
+    }
+}
+
+/// Those of these lines, which ascend, that come after a line.
+pub(crate) fn lines_after(lines: NamedLines<'_>, line: i64) -> NamedLines<'_>
+    requires { AreAscending (told lines) }
+    ensures { told result ≡ filter (λ l. int_lt line l) (told lines.entry) }
+{
+    without(lines, count_up_to(lines, line))
+}
+
+/// Those of these lines, which ascend, that come before a line.
+pub(crate) fn lines_before(lines: NamedLines<'_>, line: i64) -> NamedLines<'_>
+    requires far { IsFar line }
+    requires ascending { AreAscending (told lines) }
+    ensures { told result ≡ filter (λ l. int_lt l line) (told lines.entry) }
+{
+    first_so_many(lines, count_up_to(lines, before(line, 1)))
+}
+
+/// Those of these lines, which ascend, that do not come before a line.
+pub(crate) fn lines_from(lines: NamedLines<'_>, line: i64) -> NamedLines<'_>
+    requires far { IsFar line }
+    requires ascending { AreAscending (told lines) }
+    ensures value { told result ≡ filter (λ l. int_le line l) (told lines.entry) }
+    ensures ascending { AreAscending (told result) }
+    ensures base { result.base ≡ lines.entry.base }
+{
+    without(lines, count_up_to(lines, before(line, 1)))
+}
+
+/// Those of these lines, which ascend, that do not come after a line.
+pub(crate) fn lines_up_to(lines: NamedLines<'_>, line: i64) -> NamedLines<'_>
+    requires { AreAscending (told lines) }
+    ensures value { told result ≡ filter (λ l. int_le l line) (told lines.entry) }
+    ensures base { result.base ≡ lines.entry.base }
+{
+    first_so_many(lines, count_up_to(lines, line))
 }

@@ -4,6 +4,7 @@ ghost use Rattle.std.specs.Prelude.{◌≡◌, ◌++◌, pos, ◌+ℤ◌, ◌-�
 ghost use Rattle.std.specs.Int.{int_max, int_min};
 ghost use Rattle.lunit.specs.Areas.{spans_overlap};
 ghost use Rattle.part_rules.specs.LineNames.{cut_area, cut_areas};
+ghost use Rattle.line_names.specs.Parts.{cut_part, cut_parts, lies_in};
 ghost use Rattle.line_names.specs.Tables.{IsLimit, IsWithinLines};
 
 use lunit::{Name, NoMemory, Sequence, Span};
@@ -62,6 +63,43 @@ pub(crate) fn cut_all(
 {
     for area in areas {
         cut_into(out, span, area)?;
+    }
+    Ok(())
+}
+
+/// Whether a span has all tracks of another one.
+fn lies_in(span: Span, other: Span) -> bool
+    ensures { result ≡ lies_in span other }
+{
+    span.start <= other.start && other.end <= span.end
+}
+
+/// Adds what a span has in common with an area, if some track lies in both and another one does not.
+fn part_into(
+    out: &mut Sequence<(Name, Span)>,
+    span: Span,
+    area: &(Name, Span),
+) -> Result<(), NoMemory>
+    requires { IsWithinLines span }
+    ensures { OnOk result (out.new ≡ out.old ++ cut_part span area.now) }
+{
+    if lies_in(span, area.1) {
+        return Ok(());
+    }
+    cut_into(out, span, area)
+}
+
+/// Adds what a span has in common with each of these areas that does not lie in it whole.
+pub(crate) fn cut_parts(
+    out: &mut Sequence<(Name, Span)>,
+    span: Span,
+    areas: &[(Name, Span)],
+) -> Result<(), NoMemory>
+    requires { IsWithinLines span }
+    ensures { OnOk result (out.new ≡ out.old ++ cut_parts span areas.now) }
+{
+    for area in areas {
+        part_into(out, span, area)?;
     }
     Ok(())
 }

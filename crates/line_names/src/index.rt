@@ -1,9 +1,9 @@
 //! The lines of each name.
 
-ghost use Rattle.std.specs.Prelude.{◌≡◌, ◌<◌, ◌^◌, [], length, pos, false, List, ℕ, OnOk, IfOk, if◌then◌else◌};
+ghost use Rattle.std.specs.Prelude.{◌≡◌, ◌<◌, ◌≤◌, ◌+◌, ◌^◌, [], get_or, length, pos, false, List, ℕ, IsTrue, OnOk, IfOk, if◌then◌else◌};
 ghost use Rattle.std.specs.Str.{bytes_eq};
 ghost use Rattle.part_rules.specs.LineNames.{holds_name};
-ghost use Rattle.line_names.specs.Indexes.{ends_before, lines_in, marked, noted, IsIndexOf};
+ghost use Rattle.line_names.specs.Indexes.{ends_before, lines_in, marked_all, noted, noted_all, IsIndexOf};
 
 use lunit::{Name, NameSet, NoMemory, Sequence};
 use std::alloc::Global;
@@ -37,8 +37,47 @@ fn note(lines: &mut Sequence<i32>, line: u32) -> Result<(), NoMemory>
     Ok(())
 }
 
+/// Adds so many lines, from one on, after those before them.
+fn note_all(lines: &mut Sequence<i32>, first: u32, count: u32) -> Result<(), NoMemory>
+    requires { first + count ≤ 2 ^ 31 }
+    ensures { OnOk result (lines.new ≡ noted_all lines.old first count) }
+{
+    for more in 0..count {
+        note(lines, first + more)?;
+    }
+    Ok(())
+}
+
+#[tactic(auto, using(crate::proofs::Names::same_names))]
+/// Whether two lines have the same names in the same order.
+fn have_same_names(a: &NameSet, b: &NameSet) -> bool
+    ensures { IsTrue result → a.now ≡ b.now }
+{
+    a == b
+}
+
+/// How many lines, from one on, have the names that it has.
+fn alike(lines: &[NameSet], first: usize) -> usize
+    requires { first < length lines.now }
+    ensures some { 0 < result }
+    ensures within { first + result ≤ length lines.now }
+    ensures same { (k : ℕ) (d : List (List ℕ)) → k < result →
+        get_or lines.now (first + k) d ≡ get_or lines.now first d }
+{
+    let mut count = 1;
+    while first + count < lines.len() {
+        let next = first + count;
+        if !have_same_names(&lines[next], &lines[first]) {
+            return count;
+        }
+        count += 1;
+    }
+    count
+}
+
 impl NameIndex {
-    fn new(alloc: Global) -> NameIndex
+    /// The index of no lines.
+    pub(crate) fn new(alloc: Global) -> NameIndex
         ensures { (name : List ℕ) → lines_in result.lines name ≡ [] }
     {
         NameIndex {
@@ -58,7 +97,7 @@ impl NameIndex {
 
     #[tactic(auto, using(crate::proofs::Names::found))]
     /// Takes the lines of a name out.
-    fn take(&mut self, alloc: Global, name: &Name) -> Sequence<i32>
+    pub(crate) fn take(&mut self, alloc: Global, name: &Name) -> Sequence<i32>
         ensures taken { result ≡ lines_in self.old.lines name.now }
         ensures others { (other : List ℕ) → bytes_eq name.now other ≡ false →
             lines_in self.new.lines other ≡ lines_in self.old.lines other }
@@ -71,7 +110,7 @@ impl NameIndex {
 
     #[tactic(auto, using(crate::proofs::Names::found))]
     /// Puts lines under a name.
-    fn put(&mut self, name: &Name, lines: Sequence<i32>) -> Result<(), NoMemory>
+    pub(crate) fn put(&mut self, name: &Name, lines: Sequence<i32>) -> Result<(), NoMemory>
         ensures { OnOk result
             ((other : List ℕ) →
             lines_in self.new.lines other ≡
@@ -81,41 +120,50 @@ impl NameIndex {
         Ok(())
     }
 
-    /// Adds a line to those of a name.
-    fn add(&mut self, alloc: Global, name: &Name, line: u32) -> Result<(), NoMemory>
-        requires { line < 2 ^ 31 }
+    /// Adds so many lines, from one on, to those of a name.
+    fn add(&mut self, alloc: Global, name: &Name, first: u32, count: u32) -> Result<(), NoMemory>
+        requires { first + count ≤ 2 ^ 31 }
         ensures { OnOk result
             ((other : List ℕ) →
             lines_in self.new.lines other ≡
-            marked (bytes_eq name.now other) (lines_in self.old.lines other) (pos line)) }
+            marked_all (bytes_eq name.now other) (lines_in self.old.lines other) first count) }
     {
         let mut lines = self.take(alloc, name);
-        note(&mut lines, line)?;
+        note_all(&mut lines, first, count)?;
         self.put(name, lines)
     }
 
-    /// Adds a line to those of each of these names.
-    fn add_all(&mut self, alloc: Global, names: &[Name], line: u32) -> Result<(), NoMemory>
-        requires { line < 2 ^ 31 }
+    /// Adds so many lines, from one on, to those of each of these names.
+    fn add_all(
+        &mut self,
+        alloc: Global,
+        names: &[Name],
+        first: u32,
+        count: u32,
+    ) -> Result<(), NoMemory>
+        requires { first + count ≤ 2 ^ 31 }
         ensures { OnOk result
             ((other : List ℕ) →
             lines_in self.new.lines other ≡
-            marked (holds_name other names.now) (lines_in self.old.lines other) (pos line)) }
+            marked_all (holds_name other names.now) (lines_in self.old.lines other) first count) }
     {
         for name in names {
-            self.add(alloc, name, line)?;
+            self.add(alloc, name, first, count)?;
         }
         Ok(())
     }
 
-    /// The index of these lines.
+    /// The index of these lines. Lines one after another that have the same names are added at once.
     pub(crate) fn of(alloc: Global, lines: &[NameSet]) -> Result<NameIndex, NoMemory>
         requires { length lines.now < 2 ^ 31 }
         ensures { IfOk result (λ index. IsIndexOf index.lines lines.now) }
     {
         let mut index = NameIndex::new(alloc);
-        for at in 0..lines.len() {
-            index.add_all(alloc, lines[at].as_slice(), at as u32)?;
+        let mut at = 0;
+        while at < lines.len() {
+            let count = alike(lines, at);
+            index.add_all(alloc, lines[at].as_slice(), at as u32, count as u32)?;
+            at += count;
         }
         Ok(index)
     }

@@ -5,6 +5,7 @@
 mod counting;
 mod cutting;
 mod index;
+mod levels;
 mod naming;
 mod places;
 mod repetition;

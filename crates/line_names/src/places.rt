@@ -1,38 +1,20 @@
 //! The places that two line values stand for (CSS Grid 2, 8.3 and 8.3.1), cut to the limit.
 
-ghost use Rattle.std.specs.Prelude.{◌≡◌, pos, Some, filter, int_lt, ◌+ℤ◌, ◌-ℤ◌, ◌≤ℤ◌, ◌<ℤ◌, neg_ℤ};
+ghost use Rattle.std.specs.Prelude.{◌≡◌, pos, Some, ◌+ℤ◌, ◌-ℤ◌, ◌≤ℤ◌, ◌<ℤ◌, neg_ℤ};
 ghost use Rattle.std.specs.Int.{int_max, int_min};
 ghost use Rattle.std.specs.Option.{option_copied};
 ghost use Rattle.lunit.specs.declared.geometry.Spot.TheVariants.{Free};
-ghost use Rattle.part_rules.specs.LineNames.{both_sides, cut_span, cut_spot, definite, free_span, going_back, line, named_lines, open_side, span_back, span_on, spanning, two_lines};
+ghost use Rattle.part_rules.specs.LineNames.{both_sides, cut_span, cut_spot, definite, free_span, going_back, line, open_side, span_back, span_on, spanning, two_lines};
 ghost use Rattle.line_names.specs.Counting.{IsFar};
+ghost use Rattle.line_names.specs.Levels.{told};
 ghost use Rattle.line_names.specs.Sides.{seen, IsReachable};
 ghost use Rattle.line_names.specs.Tables.{IsLimit};
 
 use crate::LineTable;
-use crate::counting::{after, before, count_up_to, going_back, going_on};
+use crate::counting::{NamedLines, after, before, going_back, going_on, lines_after, lines_before};
 use crate::cutting::tracks_within;
 use crate::side::Side;
 use lunit::{Name, Span, Spot};
-
-#[tactic(auto, using(crate::proofs::Counted::lines_after_all))]
-/// The lines of a name that come after this one.
-fn lines_after<'a>(table: &'a LineTable, name: &Name, line: i64) -> &'a [i32]
-    ensures { result.now ≡ filter (λ l. int_lt line l) (named_lines table.now name.now) }
-{
-    let lines = table.lines_of(name);
-    &lines[count_up_to(lines, line)..]
-}
-
-#[tactic(auto, using(crate::proofs::Counted::lines_before_all))]
-/// The lines of a name that come before this one.
-fn lines_before<'a>(table: &'a LineTable, name: &Name, line: i64) -> &'a [i32]
-    requires { IsFar line }
-    ensures { result.now ≡ filter (λ l. int_lt l line) (named_lines table.now name.now) }
-{
-    let lines = table.lines_of(name);
-    &lines[..count_up_to(lines, before(line, 1))]
-}
 
 /// The last explicit line, or this one if it comes later.
 fn last_line(table: &LineTable, line: i64) -> i64
@@ -58,14 +40,14 @@ fn named_on(table: &LineTable, start: i64, count: u32, name: &Name) -> i64
     requires { IsFar start }
     ensures { result ≡ span_on table.now start count (Some name.now) }
 {
-    let lines = lines_after(table, name, start);
+    let lines = lines_after(table.lines_of(name), start);
     going_on(lines, count, last_line(table, start))
 }
 
 /// The so-manyth of these lines back; where there are fewer, each line before the first one or this one counts as one.
-fn back_in(lines: &[i32], count: u32, end: i64) -> i64
+fn back_in(lines: NamedLines, count: u32, end: i64) -> i64
     requires { IsFar end }
-    ensures { result ≡ going_back lines.now count (int_min (pos 0) end) }
+    ensures { result ≡ going_back (told lines.entry) count (int_min (pos 0) end) }
 {
     going_back(lines, count, first_line(end))
 }
@@ -75,7 +57,7 @@ fn named_back(table: &LineTable, end: i64, count: u32, name: &Name) -> i64
     requires { IsFar end }
     ensures { result ≡ span_back table.now end count (Some name.now) }
 {
-    back_in(lines_before(table, name, end), count, end)
+    back_in(lines_before(table.lines_of(name), end), count, end)
 }
 
 /// The line where a span from a line on ends.

@@ -6,7 +6,7 @@ ghost use Rattle.line_names.specs.Counting.{IsFar};
 ghost use Rattle.line_names.specs.Sides.{has_edges, seen, IsReachable};
 
 use crate::LineTable;
-use crate::counting::{after, before, going_back, going_on};
+use crate::counting::{after, before, first_of, going_back, going_on};
 use lunit::{LineValue, Name};
 
 /// What a line value stands for: a line, a span with or without a name, or nothing.
@@ -50,8 +50,8 @@ fn named(table: &LineTable, end: bool, name: &Name) -> i64
     ensures value { result ≡ named table.now end name.now }
     ensures far { IsFar result }
 {
-    match table.lines_of(&name.edge(end)).first() {
-        Some(line) => i64::from(*line),
+    match first_of(table.lines_of(&name.edge(end))) {
+        Some(line) => line,
         None => going_on(table.lines_of(name), 1, table.tracks() as i64),
     }
 }

@@ -1,12 +1,17 @@
-ghost use Rattle.std.specs.Prelude.{◌≡◌, ◌+◌, ◌-◌, ◌≤◌, ◌<◌, ◌++◌, [], length, get_or, pos, neg_ℤ, ◌+ℤ◌, ◌≤ℤ◌, ◌<ℤ◌, IsTrue, IfOk, OnOk};
+ghost use Rattle.std.specs.Prelude.{◌≡◌, ◌+◌, ◌≤◌, ◌++◌, [], get_or, ℕ, pos, neg_ℤ, ◌+ℤ◌, ◌≤ℤ◌, ◌<ℤ◌, IsTrue, IfOk};
 ghost use Rattle.lunit.specs.declared.geometry.Span.{Span};
 ghost use Rattle.lunit.specs.declared.geometry.Spot.TheVariants.{Free};
-ghost use Rattle.part_rules.specs.LineNames.{cut_areas, cut_spot, named_lines, names_at, names_by_areas, own_table, resolved, subgrid_table};
+ghost use Rattle.part_rules.specs.LineNames.{cut_areas, cut_spot, lines_by, named_lines, names_by_areas, own_table, resolved, subgrid_table};
+ghost use Rattle.line_names.specs.Levels.{told, AreOrdered, HoldsLines, IsSortedAbove};
+ghost use Rattle.line_names.specs.Parts.{cut_parts};
 ghost use Rattle.line_names.specs.Sides.{has_edges};
+ghost use Rattle.line_names.specs.Tables.{are_areas};
 
-use crate::cutting::{cut_all, tracks_within};
+use crate::counting::{Base, NamedLines};
+use crate::cutting::{cut_all, cut_parts, tracks_within};
 use crate::index::NameIndex;
-use crate::naming::{add_areas, add_names, own_lines};
+use crate::levels::{Level, SharedLevel, all_lines, base_of, index_below, seen, with_level};
+use crate::naming::{add_areas, own_lines};
 use crate::places::{free, place};
 use crate::side::side_of;
 use lunit::{LineValue, Name, NameSet, NoMemory, Sequence, Span, Spot};
@@ -14,14 +19,15 @@ use std::alloc::Global;
 use std::marker::Model;
 
 /// The explicit lines of an axis with their names, the areas that give names to subgrids too, and the limit in which all items
-/// lie. Contracts see the table of the definitions.
+/// lie. Contracts see the table of the definitions. A subgrid's table shares the names of the tables above it.
 #[derive(Drop)]
 pub struct LineTable {
-    tracks: u32,
-    lines: Sequence<NameSet>,
-    areas: Sequence<(Name, Span)>,
     limit: Span,
-    index: NameIndex,
+    /// Line 0 as a line of the topmost grid.
+    base: Base,
+    level: SharedLevel,
+    /// The levels above, the nearest first.
+    above: Sequence<SharedLevel>,
 }
 
 impl Model for LineTable {
@@ -36,39 +42,59 @@ impl Model for LineTable {
     ghost invariant = { IsTable };
 }
 
-impl LineTable {
-    ghost use Rattle.line_names.specs.Tables.{are_areas, AreLines, IsWithinLines, IsLimit};
+/// The sets of the lines of a subgrid; spare ones are left out.
+fn kept_sets(alloc: Global, sets: &[NameSet], tracks: u32) -> Result<Sequence<NameSet>, NoMemory>
+    ensures { IfOk result
+        (λ kept. (line : ℕ) → line ≤ tracks → get_or kept line [] ≡ get_or sets.now line []) }
+{
+    own_lines(alloc, sets, sets.len().min(tracks as usize + 1))
+}
 
-    /// The table of these lines, areas and limit.
+/// The index of a subgrid with these sets and areas.
+fn index_with(
+    alloc: Global,
+    above: &[SharedLevel],
+    base: Base,
+    tracks: u32,
+    sets: &[NameSet],
+    areas: &[(Name, Span)],
+) -> Result<NameIndex, NoMemory>
+    requires few { tracks ≤ 20000 }
+    requires low { neg_ℤ (pos 10000) ≤ℤ base.line }
+    requires high { base.line ≤ℤ pos 10000 }
+    requires areas { IsTrue (are_areas tracks areas.now) }
+    requires ordered { AreOrdered above.now }
+    requires sorted { IsSortedAbove above.now base.line tracks }
+    ensures { IfOk result
+        (λ index. HoldsLines index above.now base.line tracks
+        (lines_by (λ line. get_or sets.now line [] ++ names_by_areas (pos line) areas.now)
+        (tracks + 1) 0)) }
+{
+    let mut lines = own_lines(alloc, sets, tracks as usize + 1)?;
+    add_areas(&mut lines, areas)?;
+    index_below(alloc, above, base, tracks, lines.as_slice())
+}
+
+impl LineTable {
+    ghost use Rattle.line_names.specs.Tables.{table_by, IsLimit, IsTableBy, IsWithinLines};
+
+    /// The table of these levels.
     fn of(
         alloc: Global,
-        tracks: u32,
-        lines: Sequence<NameSet>,
-        areas: Sequence<(Name, Span)>,
         limit: Span,
+        base: Base,
+        level: Level,
+        above: Sequence<SharedLevel>,
     ) -> Result<LineTable, NoMemory>
-        requires tracks { tracks ≤ 65536 }
-        requires lines { length lines ≡ tracks + 1 }
-        requires areas { IsTrue (are_areas tracks areas) }
-        requires limit { IsLimit limit }
-        ensures { IfOk result
-            (λ table. table ≡
-            record {
-              tracks = tracks;
-              lines = lines;
-              areas = areas;
-              low = limit.start;
-              high =
-                  limit.end;
-            }) }
+        requires { IsTableBy limit base.line level above }
+        ensures { IfOk result (λ table. table ≡ table_by limit level above) }
     {
-        let index = NameIndex::of(alloc, lines.as_slice())?;
+        let level = SharedLevel::new(alloc, level)?;
         Ok(LineTable {
-            tracks,
-            lines,
-            areas,
             limit,
-            index,
+            base,
+            level,
+            above,
         })
     }
 
@@ -88,16 +114,25 @@ impl LineTable {
         let mut lines = own_lines(alloc, sets, tracks as usize + 1)?;
         add_areas(&mut lines, areas)?;
         let areas = Sequence::from_slice(alloc, areas)?;
+        let index = NameIndex::of(alloc, lines.as_slice())?;
         let limit = Span {
             start: -10_000,
             end: 10_000,
         };
-        LineTable::of(alloc, tracks, lines, areas, limit)
+        let level = Level {
+            sets: lines,
+            areas,
+            over: Span { start: 0, end: 0 },
+            tracks,
+            index,
+        };
+        LineTable::of(alloc, limit, Base { line: 0 }, level, Sequence::new(alloc))
     }
 
     /// The lines of a subgrid over a span of its parent's lines (CSS Grid 2, section 9): its own sets, the names by its own
     /// areas, and all names of the parent's lines. Areas of the parent that have a track in common with the span are taken over,
-    /// cut to it (own rule: only this axis counts). The limit is the subgrid's own lines. `NoMemory` where memory is wanting.
+    /// cut to it (own rule: only this axis counts). The limit is the subgrid's own lines. The names of the parent's lines are
+    /// shared with it, not copied. `NoMemory` where memory is wanting.
     pub fn inherit(
         alloc: Global,
         parent: &LineTable,
@@ -112,13 +147,27 @@ impl LineTable {
         ensures { IfOk result (λ table. table ≡ subgrid_table parent.now span sets.now areas.now) }
     {
         let tracks = tracks_within(parent.limit, span);
-        let all = parent.taken_over(alloc, span, tracks, areas)?;
-        let lines = parent.lines_below(alloc, span, tracks, sets, all.as_slice())?;
-        let limit = Span {
-            start: 0,
-            end: tracks as i32,
+        let added = parent.added(alloc, span, tracks, areas)?;
+        let areas = parent.taken_over(alloc, span, tracks, areas)?;
+        let above = with_level(alloc, &parent.level, parent.above.as_slice())?;
+        let base = base_of(parent.base, span);
+        let index = index_with(
+            alloc,
+            above.as_slice(),
+            base,
+            tracks,
+            sets,
+            added.as_slice(),
+        )?;
+        let own = kept_sets(alloc, sets, tracks)?;
+        let level = Level {
+            sets: own,
+            areas,
+            over: span,
+            tracks,
+            index,
         };
-        LineTable::of(alloc, tracks, lines, all, limit)
+        LineTable::of(alloc, all_lines(tracks), base, level, above)
     }
 
     /// The areas that a subgrid over this span has.
@@ -137,75 +186,31 @@ impl LineTable {
             cut_areas span self.now.areas) }
     {
         let mut all = Sequence::new(alloc);
-        let whole = Span {
-            start: 0,
-            end: tracks as i32,
-        };
-        cut_all(&mut all, whole, areas)?;
-        cut_all(&mut all, span, self.areas.as_slice())?;
+        cut_all(&mut all, all_lines(tracks), areas)?;
+        cut_all(&mut all, span, self.level.level().areas.as_slice())?;
         Ok(all)
     }
 
-    /// The lines that a subgrid over this span has.
-    fn lines_below(
+    /// Those areas of a subgrid over this span whose names the lines of this table may not have: its own, and those of which it has
+    /// a part.
+    fn added(
         &self,
         alloc: Global,
         span: Span,
         tracks: u32,
-        sets: &[NameSet],
         areas: &[(Name, Span)],
-    ) -> Result<Sequence<NameSet>, NoMemory>
+    ) -> Result<Sequence<(Name, Span)>, NoMemory>
         requires few { tracks ≤ 20000 }
-        requires low { neg_ℤ (pos 10000) ≤ℤ span.start }
-        requires high { span.start ≤ℤ pos 65536 }
-        requires areas { IsTrue (are_areas tracks areas.now) }
+        requires lines { IsWithinLines span }
         ensures { IfOk result
-            (AreLines
-            (λ line. get_or sets.now line [] ++ names_by_areas (pos line) areas.now ++
-            names_at self.now (span.start +ℤ pos line)) (tracks + 1)) }
+            (λ all. all ≡
+            cut_areas (record { start = pos 0; end = pos tracks }) areas.now ++
+            cut_parts span self.now.areas) }
     {
-        let mut lines = own_lines(alloc, sets, tracks as usize + 1)?;
-        add_areas(&mut lines, areas)?;
-        self.add_inherited(&mut lines, span.start)?;
-        Ok(lines)
-    }
-
-    /// Gives lines the names of this table's lines, from one on.
-    fn add_inherited(&self, lines: &mut Sequence<NameSet>, start: i32) -> Result<(), NoMemory>
-        requires few { length lines.old ≤ 20001 }
-        requires low { neg_ℤ (pos 10000) ≤ℤ start }
-        requires high { start ≤ℤ pos 65536 }
-        ensures { OnOk result
-            (AreLines (λ line. get_or lines.old line [] ++ names_at self.now (start +ℤ pos line))
-            (length lines.old) lines.new) }
-    {
-        for line in 0..lines.len() {
-            add_names(lines, line, self.names_after(start, line))?;
-        }
-        Ok(())
-    }
-
-    /// The names of the line that comes so many lines after this one.
-    fn names_after(&self, start: i32, line: usize) -> &[Name]
-        requires few { line ≤ 20001 }
-        requires low { neg_ℤ (pos 10000) ≤ℤ start }
-        requires high { start ≤ℤ pos 65536 }
-        ensures { result.now ≡ names_at self.now (start +ℤ pos line) }
-    {
-        self.names_at(start + line as i32)
-    }
-
-    /// The names of a line.
-    fn names_at(&self, line: i32) -> &[Name]
-        ensures { result.now ≡ names_at self.now line }
-    {
-        if line < 0 {
-            return &[];
-        }
-        match self.lines.get(line as usize) {
-            Some(names) => names.as_slice(),
-            None => &[],
-        }
+        let mut all = Sequence::new(alloc);
+        cut_all(&mut all, all_lines(tracks), areas)?;
+        cut_parts(&mut all, span, self.level.level().areas.as_slice())?;
+        Ok(all)
     }
 
     /// How many explicit tracks there are, at most 65,536.
@@ -213,7 +218,7 @@ impl LineTable {
         ensures value { result ≡ self.now.tracks }
         ensures few { result ≤ 65536 }
     {
-        self.tracks
+        self.level.level().tracks
     }
 
     /// The lines between which all items lie: some at least, not after line 0 at their start, and at most 20,000 tracks.
@@ -225,10 +230,16 @@ impl LineTable {
     }
 
     /// The lines of a name, in order.
-    pub(crate) fn lines_of(&self, name: &Name) -> &[i32]
-        ensures { result.now ≡ named_lines self.now name.now }
+    pub(crate) fn lines_of<'a>(&'a self, name: &Name) -> NamedLines<'a>
+        ensures { told result ≡ named_lines self.now name.now }
     {
-        self.index.lines_of(name)
+        seen(
+            &self.level.level().index,
+            self.above.as_slice(),
+            self.base,
+            self.limit,
+            name,
+        )
     }
 
     /// The place of an item in this axis of which no line is told, for the tracks that it spans (CSS Grid 2, 8.3), cut to the limit.
