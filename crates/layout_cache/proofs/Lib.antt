@@ -3,4 +3,5 @@ pub mod Sets
 pub mod Reaches
 pub mod Forgets
 pub mod Once
+pub mod OneWay
 pub mod Distinct

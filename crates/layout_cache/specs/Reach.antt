@@ -23,6 +23,11 @@ module _ {A : Type 0} (subgrid : A → Bool) (touched above : NodeId → Bool) (
 abbrev pub reached_by : {A : Type 0} → (A → Bool) → Trees (NodeId × A) → List NodeId → Bool → List NodeId
 reached_by subgrid t touched grid = reached subgrid (λ n. is_among n touched) (is_above t touched) grid false t
 
+-- only this node is touched, and subgrids do not feel the edit
+pub record IsLone (touched : List NodeId) (grid : Bool) (id : NodeId) : Type 0 where
+  pub only : touched ≡ id ∷ []
+  pub calm : grid ≡ false
+
 -- the trees of a list from an index on
 abbrev pub from_tree : {A : Type 0} → ℕ → Trees A → Trees A
 from_tree zero t = t

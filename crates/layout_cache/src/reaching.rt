@@ -1,8 +1,9 @@
-ghost use Rattle.std.specs.Prelude.{◌≡◌, ◌≤◌, ◌++◌, ◌||◌, ◌&&◌, IfOk, IfSome, IfNone, OnOk, OnErr};
+ghost use Rattle.std.specs.Prelude.{◌≡◌, ◌≤◌, ◌++◌, ◌||◌, ◌&&◌, reverse, IfOk, IfSome, IfNone, IsTrue, OnOk, OnErr};
 ghost use Rattle.plain_tree.specs.Trees.{leafless};
-ghost use Rattle.node_arena.specs.Numbers.{is_among, way_up, below_at, count_at, value_at};
+ghost use Rattle.node_arena.specs.Numbers.{is_among, way_of, way_up, below_at, count_at, value_at};
+ghost use Rattle.node_arena.specs.Plain.{is_live};
 ghost use Rattle.node_arena.specs.declared.number.NodeId.{NodeId};
-ghost use Rattle.layout_cache.specs.Reach.{is_above, reached, reached_by, from_tree, JoinedChild, subgrid_by, all_forgot, occurs};
+ghost use Rattle.layout_cache.specs.Reach.{is_above, reached, reached_by, from_tree, IsLone, JoinedChild, subgrid_by, all_forgot, occurs};
 
 use crate::linked::Linked;
 use crate::numbers::NumberSet;
@@ -24,14 +25,60 @@ pub fn reach<T: Linked + Drop>(
         (λ list. list.items ≡ reached_by T.Linked.subgrid tree.now.tree touched.now grid) }
     ensures once { IfOk result (λ list. (n : NodeId) → occurs n list.items ≤ 1) }
 {
+    let root = tree.root();
+    if let Some(id) = lone(touched, grid) {
+        let list = way_down(alloc, tree, id)?;
+        return Ok(list);
+    }
     let marks = Marks::new(alloc, tree, touched, grid)?;
     let mut found = Vec::new(alloc);
-    let root = tree.root();
     if !marks.above.has(root) {
         return Ok(found);
     }
     found.push(root)?;
     visit(tree, root, marks.feels(root, false), &marks, &mut found)?;
+    Ok(found)
+}
+
+#[tactic(auto, using(crate::proofs::OneWay::lone_laws))]
+/// The touched node, where it is the only one and subgrids do not feel the edit.
+fn lone(touched: &[NodeId], grid: bool) -> Option<NodeId>
+    ensures { IfSome result (IsLone touched.now grid) }
+{
+    if grid || touched.len() != 1 {
+        return None;
+    }
+    Some(touched[0])
+}
+
+#[tactic(auto, using(crate::proofs::OneWay::way_down_laws))]
+/// Adds a node, if there is one, after all above it, the root first: no other child of these is looked at.
+fn add_way_down<T: Drop>(
+    tree: &Arena<T>,
+    next: Option<NodeId>,
+    found: &mut Vec<NodeId>,
+) -> Result<(), NoMemory>
+    requires { IfSome next (λ id. IsTrue (is_live tree.now id)) }
+    ensures { OnOk result
+        (found.new.items ≡ found.old.items ++ reverse (way_of tree.now.tree next)) }
+{
+    let Some(id) = next else {
+        return Ok(());
+    };
+    add_way_down(tree, tree.parent(id), found)?;
+    found.push(id)?;
+    Ok(())
+}
+
+/// A node and all above it, the root first; none where the number names no node.
+fn way_down<T: Drop>(alloc: Global, tree: &Arena<T>, id: NodeId) -> Result<Vec<NodeId>, NoMemory>
+    ensures { IfOk result (λ list. list.items ≡ reverse (way_up tree.now.tree id)) }
+{
+    let mut found = Vec::new(alloc);
+    if !tree.is_live(id) {
+        return Ok(found);
+    }
+    add_way_down(tree, Some(id), &mut found)?;
     Ok(found)
 }
 

@@ -1,6 +1,7 @@
 use Rattle.std.proofs.Common.{◌++◌, ◌∷◌, [], sym, ap, ◌∙◌}
 use Rattle.layout_cache.proofs.Reaches.{none_by, found_by}
 use Rattle.layout_cache.proofs.Once.{once_in}
+use Rattle.layout_cache.proofs.OneWay.{one_way}
 use Rattle.layout_cache.proofs.reaching.reach.Goals as goal
 
 pub returns-then-not-has-clause-list : goal.returns-then-not-has-clause-list
@@ -19,3 +20,10 @@ returns-then-not-has-clause-once g c = once_in g.T.Linked.subgrid c.args.tree.no
 
 pub returns-clause-once : goal.returns-clause-once
 returns-clause-once g c = once_in g.T.Linked.subgrid c.args.tree.now.tree c.args.touched.now c.args.grid _ c.root-root.ensures.sound.distinct (returns-clause-list g c)
+
+pub returns-in-Some-clause-list : goal.returns-in-Some-clause-list
+returns-in-Some-clause-list g c =
+    c.in_ok-list.ensures ∙ sym (one_way g.T.Linked.subgrid c.args.tree.now.tree c.args.touched.now c.args.grid c.in-Some.id c.root-root.ensures.sound.distinct c.in-Some.ensures)
+
+pub returns-in-Some-clause-once : goal.returns-in-Some-clause-once
+returns-in-Some-clause-once g c = once_in g.T.Linked.subgrid c.args.tree.now.tree c.args.touched.now c.args.grid _ c.root-root.ensures.sound.distinct (returns-in-Some-clause-list g c)
