@@ -260,15 +260,19 @@ fn keeps_areas(page: &Page) -> Result<bool, Fail>
     Ok(find_base(page.tree(), id, &[(1, 1)]).is_some())
 }
 
-/// Contents, sizes and the viewport say nothing of lines and areas; values that place items, and
-/// children that come or go, do.
+/// Contents, sizes, edges and the viewport say nothing of lines and areas; values that place items,
+/// and children that come or go, do. A grid with other values is placed anew.
 #[test]
 fn areas_stay_where_no_subgrid_feels_an_edit(rt: HostRuntime) -> Result<(), Fail> {
     static CASES: &[(&[u8], bool)] = &[
         (b"content a leaf 50 30", true),
         (b"content c words 10 2 30 30 30", true),
         (b"set a width: 30px", true),
-        (b"set b padding: 3px", false),
+        (b"set a margin: 3px", true),
+        (b"set b padding: 3px", true),
+        (b"set b row-gap: 3px", true),
+        (b"set main row-gap: 3px", false),
+        (b"set a order: 1", false),
         (b"viewport 100 100", true),
         (b"set a grid-column: 2", false),
         (b"unset main grid-template-columns", false),
@@ -319,7 +323,14 @@ fn keeps_told(page: &Page) -> Result<bool, Fail> {
 
 #[test]
 fn what_children_told_stays_where_one_of_them_is_edited(rt: HostRuntime) -> Result<(), Fail> {
-    let page = edited(rt.alloc(), CARDS, b"content c07 leaf 90 50")?;
-    assert!(rt; keeps_told(&page)?);
+    static CASES: &[(&[u8], bool)] = &[
+        (b"content c07 leaf 90 50", true),
+        (b"set c07 padding: 3px", true),
+        (b"set c07 grid-row: 1", false),
+    ];
+    for (edit, stay) in CASES {
+        let page = edited(rt.alloc(), CARDS, edit)?;
+        assert_eq!(rt; keeps_told(&page)?, *stay, "{edit:?}");
+    }
     Ok(())
 }

@@ -33,13 +33,13 @@ use Rattle.page_tree.specs.Forgotten.{Forgets, is_brought}
 use Rattle.page_tree.specs.Left.{all_left, left_in}
 use Rattle.page_tree.specs.Marking.{AreMarked, IsReach, MarksChange}
 use Rattle.page_tree.specs.Pages.{Held, Stands, document_of, trees_in}
-use Rattle.page_tree.specs.Reach.{KeepsOn, LeavesOthers, is_felt, is_marked, reaches, touches}
+use Rattle.page_tree.specs.Reach.{KeepsOn, LeavesOthers, is_felt, is_marked, is_placing, reaches, touches}
 use Rattle.page_tree.specs.Restyled.{Styles, restyled, styled_from}
 use Rattle.page_tree.specs.Shapes.{IsChanged, Relabels}
 use Rattle.page_tree.proofs.Bares.{same_count, same_plain}
 use Rattle.page_tree.proofs.Locals.{among_times, bring_change, numbers_of, own_nodes, take_change}
-use Rattle.page_tree.proofs.Properties.{kind_change, style_change}
-use Rattle.page_tree.proofs.Reaching.{IsChange, IsFrom, IsWhole, bare_left, kept_after, right_left}
+use Rattle.page_tree.proofs.Properties.{kind_change, style_change, style_settled}
+use Rattle.page_tree.proofs.Reaching.{AreSettled, IsChange, IsFrom, IsWhole, bare_left, kept_after, right_left}
 use Rattle.page_tree.proofs.Refusals.{whole}
 use Rattle.page_tree.proofs.Shifted.{shift_change}
 use Rattle.page_tree.proofs.StillFound.{FindsOn, finds_on, stood_before}
@@ -111,9 +111,9 @@ still_local touched b =
 -- where the numbers that a change marks reach these
 abbrev pub IsLeft : Change → NodeTrees → NodeTrees → List NodeId → Type 0
 IsLeft e t u list =
-    EachNode (λ x. KeepsOn (reaches e (plain_trees t) (plain_trees t) x.1.name || reaches e (plain_trees t) (plain_trees u) x.1.name) t x) (left_in (is_felt e (plain_trees t)) list u)
-    × (IsRight t → IsRight (left_in (is_felt e (plain_trees t)) list u))
-    × FindsOn t (left_in (is_felt e (plain_trees t)) list u) list
+    EachNode (λ x. KeepsOn (reaches e (plain_trees t) (plain_trees t) x.1.name || reaches e (plain_trees t) (plain_trees u) x.1.name) t x) (left_in (is_felt e (plain_trees t)) (is_placing e) list u)
+    × (IsRight t → IsRight (left_in (is_felt e (plain_trees t)) (is_placing e) list u))
+    × FindsOn t (left_in (is_felt e (plain_trees t)) (is_placing e) list u) list
 
 module _ (t u : NodeTrees) (st : Stands t) (su : Stands u) where
   root_of : (root : NodeId) × (top_numbers t ≡ root ∷ [])
@@ -124,28 +124,34 @@ module _ (t u : NodeTrees) (st : Stands t) (su : Stands u) where
       at (tree x below (tree y under later)) one = absurd (omega (arith, one))
       at (tree x below leafless) one = (x.0, refl)
 
-  by_change : (e : Change) (list ts : List NodeId) → top_numbers u ≡ top_numbers t → IsChange ts (is_felt e (plain_trees t)) (is_marked e (plain_trees t)) t u → list ≡ reached_by node_sub t ts (is_felt e (plain_trees t)) → IsLeft e t u list
-  by_change e list ts tops c is =
+  by_change : (e : Change) (list ts : List NodeId) → top_numbers u ≡ top_numbers t → IsChange ts (is_felt e (plain_trees t)) (is_marked e (plain_trees t)) t u → (is_placing e ≡ false → AreSettled t u) →
+      list ≡ reached_by node_sub t ts (is_felt e (plain_trees t)) → IsLeft e t u list
+  by_change e list ts tops c settled is =
       let root = root_of in
       let wt : IsWhole root.0 t = record { distinct = st.distinct; tops = root.1; low = st.low; named = st.named; subgrids = subgrids t st.rooted st.styled } in
       let wu : IsWhole root.0 u = record { distinct = su.distinct; tops = tops ∙ root.1; low = su.low; named = su.named; subgrids = subgrids u su.rooted su.styled } in
       let grid = is_felt e (plain_trees t) in
       let marks = is_marked e (plain_trees t) in
-      subst (IsLeft e t u) (sym is) (kept_after ts grid marks root.0 t u wt wu c, right_left ts grid marks root.0 t u wt wu c, finds_on ts grid marks root.0 t u wt wu c)
+      subst (IsLeft e t u) (sym is) (kept_after ts grid (is_placing e) marks root.0 t u wt wu c, right_left ts grid (is_placing e) marks root.0 t u wt wu c settled, finds_on ts grid (is_placing e) marks root.0 t u wt wu c)
+
+  -- a change that may change areas settles nothing
+  placed : true ≡ false → AreSettled t u
+  placed e = absurd cc
 
   pub left_by : (e : Change) (list : List NodeId) → IsChanged e t u → IsReach e (plain_trees t) t list → IsLeft e t u list
   left_by (change.Style name values) list h r =
-      by_change (change.Style name values) list r.numbers (tops_changed (change.Style name values) t u st.rooted h) (style_change t u st.distinct st.rooted st.styled su.styled name values r.numbers h r.marked) r.is
+      by_change (change.Style name values) list r.numbers (tops_changed (change.Style name values) t u st.rooted h) (style_change t u st.distinct st.rooted st.styled su.styled name values r.numbers h r.marked)
+      (style_settled t u st.distinct st.rooted st.styled su.styled name values r.numbers h r.marked) r.is
   left_by (change.Take name) list h r =
-      by_change (change.Take name) list r.numbers (tops_changed (change.Take name) t u st.rooted h) (take_change t u st.distinct name r.numbers h r.marked) r.is
+      by_change (change.Take name) list r.numbers (tops_changed (change.Take name) t u st.rooted h) (take_change t u st.distinct name r.numbers h r.marked) placed r.is
   left_by (change.Bring parent index node) list h r =
       by_change (change.Bring parent index node) list (numbers_of h.new ++ r.numbers) (tops_changed (change.Bring parent index node) t u st.rooted h)
-      (bring_change t u st.distinct parent index (tree_of_node node) r.numbers h r.marked)
+      (bring_change t u st.distinct parent index (tree_of_node node) r.numbers h r.marked) placed
       (r.is ∙ sym (more_reached (numbers_of h.new) r.numbers true t (λ n m. h.begun.fresh n (among_times n h.new m))))
   left_by (change.Shift name parent index) list h r =
-      by_change (change.Shift name parent index) list r.numbers (tops_changed (change.Shift name parent index) t u st.rooted h) (shift_change t u st.distinct st.rooted st.styled name parent index r.numbers h r.marked) r.is
+      by_change (change.Shift name parent index) list r.numbers (tops_changed (change.Shift name parent index) t u st.rooted h) (shift_change t u st.distinct st.rooted st.styled name parent index r.numbers h r.marked) placed r.is
   left_by (change.Kind name kind) list h r =
-      by_change (change.Kind name kind) list r.numbers (tops_changed (change.Kind name kind) t u st.rooted h) (kind_change t u st.distinct st.rooted st.styled su.styled name kind r.numbers h r.marked) r.is
+      by_change (change.Kind name kind) list r.numbers (tops_changed (change.Kind name kind) t u st.rooted h) (kind_change t u st.distinct st.rooted st.styled su.styled name kind r.numbers h r.marked) placed r.is
   left_by (change.View width height) list h r =
       by_change (change.View width height) list r.numbers (ap top_numbers h)
       (record {
@@ -153,21 +159,21 @@ module _ (t u : NodeTrees) (st : Stands t) (su : Stands u) where
         before = r.marked;
         after = subst (EachNode (λ x. is_among x.0 r.numbers ≡ false)) (sym h) r.marked;
         nodes = subst (EachNode (IsFrom r.numbers false t)) (sym h) (own_nodes r.numbers false t st.distinct);
-      }) r.is
+      }) placed r.is
 
 -- of a page
 pub page_left : (e : Change) (old between new : Held) (list : List NodeId) → Stands old.nodes.tree → Stands between.nodes.tree → IsChanged e old.nodes.tree between.nodes.tree → IsReach e (trees_in old) old.nodes.tree list →
-    new.nodes ≡ all_left (is_felt e (trees_in old)) list between.nodes → LeavesOthers e old new × (IsRight old.nodes.tree → IsRight new.nodes.tree)
+    new.nodes ≡ all_left (is_felt e (trees_in old)) (is_placing e) list between.nodes → LeavesOthers e old new × (IsRight old.nodes.tree → IsRight new.nodes.tree)
 page_left e old between new list so sb h r is =
     let t = old.nodes.tree in
     let u = between.nodes.tree in
     let felt = is_felt e (plain_trees t) in
-    let w = left_in felt list u in
+    let w = left_in felt (is_placing e) list u in
     let tree_is : new.nodes.tree ≡ w = ap (λ (n : Nodes Node). n.tree) is in
     let left = left_by t u so sb e list h r in
-    let one : count_of new.nodes.tree ≡ 1 = ap count_of tree_is ∙ same_count w u (bare_left felt list u) ∙ sb.rooted in
+    let one : count_of new.nodes.tree ≡ 1 = ap count_of tree_is ∙ same_count w u (bare_left felt (is_placing e) list u) ∙ sb.rooted in
     let before : tree_of (document_of old) ≡ plain_trees t = whole old so.rooted in
-    let after : tree_of (document_of new) ≡ plain_trees u = whole new one ∙ ap plain_trees tree_is ∙ same_plain w u (bare_left felt list u) in (
+    let after : tree_of (document_of new) ≡ plain_trees u = whole new one ∙ ap plain_trees tree_is ∙ same_plain w u (bare_left felt (is_placing e) list u) in (
       subst (EachNode (λ x. KeepsOn (touches e (document_of old) (document_of new) x.1.name) t x)) (sym tree_is)
           (each_weaker (λ x. KeepsOn (reaches e (plain_trees t) (plain_trees t) x.1.name || reaches e (plain_trees t) (plain_trees u) x.1.name) t x) (λ x. KeepsOn (touches e (document_of old) (document_of new) x.1.name) t x) w
           (λ x k. subst (λ b. KeepsOn b t x) (λ i. reaches e (sym before i) (sym before i) x.1.name || reaches e (sym before i) (sym after i) x.1.name) k) left.0),
@@ -176,17 +182,17 @@ page_left e old between new list so sb h r is =
 
 -- what was found last of the containers that are left when the reached ones are forgotten, and those that the change brought, still holds
 pub page_found : (e : Change) (old between new : Held) (list : List NodeId) → Stands old.nodes.tree → Stands between.nodes.tree → IsChanged e old.nodes.tree between.nodes.tree → IsReach e (trees_in old) old.nodes.tree list →
-    new.nodes ≡ all_left (is_felt e (trees_in old)) list between.nodes → (all some rest : List Found) → AreFound (bare old.nodes.tree) (kept_at old.nodes.tree) all →
+    new.nodes ≡ all_left (is_felt e (trees_in old)) (is_placing e) list between.nodes → (all some rest : List Found) → AreFound (bare old.nodes.tree) (kept_at old.nodes.tree) all →
     Forgets (is_brought e new.nodes.tree) all some → Forgets (λ n. is_among n list) some rest → AreFound (bare new.nodes.tree) (kept_at new.nodes.tree) rest
 page_found e old between new list so sb h r is all some rest right made reached f here live =
     let t = old.nodes.tree in
     let u = between.nodes.tree in
     let felt = is_felt e (plain_trees t) in
-    let w = left_in felt list u in
+    let w = left_in felt (is_placing e) list u in
     let tree_is : new.nodes.tree ≡ w = ap (λ (n : Nodes Node). n.tree) is in
     let second = reached f here in
     let first = made f second.0 in
     let new_live : IsSome (part_at new.nodes.tree f.id) = sym (live_bare new.nodes.tree f.id) ∙ live in
-    let old_live = stood_before e t u new.nodes.tree so.distinct h (ap bare tree_is ∙ bare_left felt list u) f.id new_live first.1 in
+    let old_live = stood_before e t u new.nodes.tree so.distinct h (ap bare tree_is ∙ bare_left felt (is_placing e) list u) f.id new_live first.1 in
     subst (λ (s : NodeTrees). IsFound (bare s) (kept_at s) f) (sym tree_is)
     ((left_by t u so sb e list h r).2 f (right f first.0 (live_bare t f.id ∙ old_live)) old_live (subst (λ (s : NodeTrees). IsSome (part_at s f.id)) tree_is new_live) second.1)

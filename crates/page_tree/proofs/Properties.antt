@@ -23,7 +23,7 @@ use Rattle.style_types.specs.declared.prop.Class.TheVariants as class
 use Rattle.style_types.specs.declared.prop.Prop.{Prop}
 use Rattle.style_types.specs.declared.prop.Prop.TheVariants as prop
 use Rattle.tree_rules.specs.Chains.{is_grid_kind, sibling_of}
-use Rattle.tree_rules.specs.Labels.{areas_in, flow_in, grid_of, length_in, line_in, margin_in, order_in, size_in, sizes_in, template_in}
+use Rattle.tree_rules.specs.Labels.{areas_in, flow_in, grid_of, length_in, line_in, margin_in, order_in, plain_axis, plain_grid, size_in, sizes_in, template_in}
 use Rattle.doc_text.specs.declared.kind.Kind.{Kind}
 use Rattle.doc_text.specs.declared.kind.Kind.TheVariants as kind
 use Rattle.doc_text.specs.Documents.{is_leaf}
@@ -35,18 +35,19 @@ use Rattle.edit_journal.specs.Changes.{Values, with_style, with_value, with_valu
 use Rattle.doc_text.specs.Texts.{Word}
 use Rattle.doc_text.proofs.Grown.{own_name}
 use Rattle.placing.specs.declared.node.Node.{Node}
+use Rattle.placing.specs.Keeping.{standing_by, standing_of}
 use Rattle.placing.specs.Nodes.{NodeTrees, label_of_bare}
 use Rattle.reach_frame.proofs.Forests.{AreParts, below_parts}
 use Rattle.reach_frame.proofs.Frame.{not_both}
 use Rattle.reach_frame.proofs.Values.{label_at}
 use Rattle.page_tree.specs.Documents.{kind_of, label_of, plain_trees}
 use Rattle.page_tree.specs.Fonts.{IsStyled}
-use Rattle.page_tree.specs.Reach.{are_felt, have_font, is_container, is_content_class, is_felt_property, is_font_class, is_font_property, is_grid, is_marked_by, is_parent}
+use Rattle.page_tree.specs.Reach.{are_felt, are_placing, have_font, is_container, is_content_class, is_felt_property, is_font_class, is_font_property, is_grid, is_marked_by, is_parent, is_placing_property}
 use Rattle.page_tree.specs.Shapes.{Relabels}
 use Rattle.page_tree.proofs.Locals.{both, touched_parent}
 use Rattle.page_tree.proofs.Lookups.{found_leaf, found_tree}
-use Rattle.page_tree.proofs.Reaching.{IsChange, each_at}
-use Rattle.page_tree.proofs.Relabels.{AllBelow, SameFace, SameFonts, relabel_change}
+use Rattle.page_tree.proofs.Reaching.{AreSettled, IsChange, each_at}
+use Rattle.page_tree.proofs.Relabels.{AllBelow, SameFace, SameFonts, SameStanding, relabel_change, relabel_settled}
 use Rattle.page_tree.proofs.Subgrids.{kind_grid}
 
 -- ---- properties that are left
@@ -104,6 +105,23 @@ grid_by a b h =
       order = order_in (h prop.Order refl i);
     }
 
+-- where what areas depend on is the same
+pub lines_by : (a b : StyleMap) → ((p : Prop) → is_placing_property p ≡ true → value_in a p ≡ value_in b p) → standing_by (grid_of a) ≡ standing_by (grid_of b)
+lines_by a b h =
+    λ i. record plain_grid {
+      columns = record plain_axis {
+        template = template_in (h prop.GridTemplateColumns refl i);
+        start_line = line_in (h prop.GridColumnStart refl i);
+        end_line = line_in (h prop.GridColumnEnd refl i);
+      };
+      rows = record plain_axis {
+        template = template_in (h prop.GridTemplateRows refl i);
+        start_line = line_in (h prop.GridRowStart refl i);
+        end_line = line_in (h prop.GridRowEnd refl i);
+      };
+      order = order_in (h prop.Order refl i);
+    }
+
 -- computed values are the same where declared ones are
 computed_left : (f r : ℤ) (a b : DeclaredMap) (p : Prop) → finmap.get a p ≡ finmap.get b p → value_in (computed_style f r a) p ≡ value_in (computed_style f r b) p
 computed_left f r a b p e =
@@ -113,6 +131,11 @@ computed_left f r a b p e =
 face_of : (a b : Node) → a.name ≡ b.name → is_grid_kind a.kind ≡ is_grid_kind b.kind → grid_of a.style ≡ grid_of b.style → sibling_of (label_at a) ≡ sibling_of (label_at b)
 unfolding label_of_bare
 face_of a b n k g = λ i. record { name = n i; is_grid = k i; grid = g i }
+
+-- what areas depend on of a node
+standing_is : (a b : Node) → is_grid_kind a.kind ≡ is_grid_kind b.kind → standing_by (grid_of a.style) ≡ standing_by (grid_of b.style) → standing_of (sibling_of (label_at a)) ≡ standing_of (sibling_of (label_at b))
+unfolding label_of_bare
+standing_is a b k g = λ i. record { name = []; is_grid = k i; grid = g i }
 
 -- ---- names of nodes that stand below
 holds_at : (s : NodeTrees) (k : NodeId) (v : Node) → value_at s k ≡ Some v → holds (plain_trees s) v.name ≡ true
@@ -198,6 +221,19 @@ module _ (t u : NodeTrees) (d : IsDistinct t) (one : count_of t ≡ 1) (old : Is
       at : (b : Bool) → have_font props ≡ b → SameFonts touched (are_felt props) h.id h.value h.styles t d ⊎ AllBelow touched (are_felt props) h.id h.value h.styles t d
       at true e = inr (all_below e)
       at false e = inl (fonts_by is_font_property refl e)
+
+  -- what areas depend on is the same
+  standing_left : are_placing props ≡ false → SameStanding touched (are_felt props) h.id h.value h.styles t d
+  standing_left none f r v style e was is =
+      standing_is (record h.value { style = style }) v (kind_grid h.value.kind ∙ ap (λ (l : Label). is_grid l.kind) (sym (labels v e)) ∙ sym (kind_grid v.kind))
+      (ap (λ s. standing_by (grid_of s)) is
+      ∙ lines_by (computed_style f r h.value.declared) (computed_style f r v.declared)
+      (λ p placing. computed_left f r h.value.declared v.declared p (ap (λ (m : DeclaredMap). finmap.get m p) (sym (declared_is v e)) ∙ values_left is_placing_property p placing values v.declared none))
+      ∙ sym (ap (λ s. standing_by (grid_of s)) was))
+
+  pub style_settled : are_placing props ≡ false → AreSettled t u
+  style_settled none =
+      relabel_settled t u d one old new name (with_style values) (are_felt props) ts marks h (λ l. refl) before (or_left (bytes_eq name name) _ (own_name name)) (fonts_by is_placing_property refl none) (standing_left none)
 
 -- ---- another kind
 leaf_no_grid : (k : Kind) → is_leaf k ≡ true → is_grid k ≡ false

@@ -1,5 +1,6 @@
 -- What an edit leaves in the kept lists of a page: the lists of the nodes of the reached names are empty, and all others are as they were. So is what nodes
--- keep longer than their answers where subgrids feel the edit; where they do not, all of it is as it was. The turns of the reached nodes went.
+-- keep longer than their answers where subgrids feel the edit and areas may change; where areas stay, that of those that may be subgrids. The turns of the reached nodes
+-- went.
 use Rattle.std.proofs.Common.{◌≡◌, ◌≤◌, ℕ, Bool, true, false, ◌&&◌, List, [], ◌∷◌, Option, Some, None, IsSome, is_some, cond, refl, sym, ap, subst, ◌∙◌, arith, inl, inr}
 use Rattle.std.specs.Prelude.{◌||◌, ◌⊎◌, if◌then◌else◌}
 use Rattle.std.specs.Str.{bytes_eq}
@@ -18,19 +19,20 @@ use Rattle.tree_rules.specs.declared.query.Query.{Query}
 use Rattle.placing.specs.declared.node.Answer.{Answer}
 use Rattle.placing.specs.declared.node.Node.{Node}
 use Rattle.placing.specs.declared.told.Past.{Past}
-use Rattle.placing.specs.Keeping.{HasGone, HasTurn, without_answers, without_past}
+use Rattle.placing.specs.Keeping.{HasGone, HasTurn, goes_at, goes_from, without_answers, without_past, without_past_of}
 use Rattle.placing.specs.Kept.{IsRight, kept_at, kept_of, past_at, past_of, turn_at, turn_of}
 use Rattle.placing.specs.Nodes.{BareTrees, IsLive, NodeTrees, bare, bare_of, sight_at}
 use Rattle.placing.specs.Told.{no_past}
 use Rattle.placing.proofs.Bares.{bare_there, height_bare, live_from, tops_bare}
 use Rattle.placing.proofs.KeptTrees.{drops_bare, drops_kept, drops_past, drops_turn, forgets_bare, forgets_kept, forgets_past, forgets_turn, turn_twice}
+use Rattle.placing.proofs.Mapped.{value_by, value_mapped}
 use Rattle.placing.proofs.Sights.{sight_label}
-use Rattle.reach_frame.specs.Local.{IsLocal}
+use Rattle.reach_frame.specs.Local.{IsLocal, PlacesSame, is_sub}
 use Rattle.reach_frame.specs.Marks.{has_mark, is_reached}
 use Rattle.reach_frame.proofs.Calm.{not_later}
 use Rattle.reach_frame.proofs.Frame.{not_both}
 use Rattle.reach_frame.proofs.Marked.{all_found}
-use Rattle.reach_frame.proofs.Unreached.{node_sub, not_found, right_after}
+use Rattle.reach_frame.proofs.Unreached.{node_sub, not_found, right_after, value_sub}
 use Rattle.reach_frame.proofs.Values.{label_at}
 use Rattle.page_tree.specs.Documents.{label_of, plain_trees}
 use Rattle.page_tree.specs.Left.{left_in}
@@ -115,45 +117,71 @@ module _ (f : Node → Node) (rest : (v : Node) (ks : List (Query × Answer)) (p
   each_forgets [] t h = h
   each_forgets (n ∷ ns) t h = each_forgets ns (forgot f n t) (each_forgot n t h)
 
-each_left : (P : NodeId × Node → Type 0) (felt : Bool) (ns : List NodeId) (t : NodeTrees) → EachNode (Whatever P) t → EachNode P (left_in felt ns t)
-each_left P felt ns t h = each_weaker (Whatever P) P (left_in felt ns t) (λ x f. f x.1.kept x.1.past x.1.turn) (at felt)
+-- letting go what is kept longer changes nothing else
+rest_without : (all : Bool) (v : Node) (ks : List (Query × Answer)) (p : Past) (n : ℕ) → ◌≡◌ {A = Node} (record (without_past_of all v) { kept = ks; past = p; turn = n }) (record v { kept = ks; past = p; turn = n })
+rest_without all v ks p n = at (all || node_sub v)
+  where
+    at : (c : Bool) → ◌≡◌ {A = Node} (record (if c then without_past v else v) { kept = ks; past = p; turn = n }) (record v { kept = ks; past = p; turn = n })
+    at true = refl
+    at false = refl
+
+each_left : (P : NodeId × Node → Type 0) (felt placing : Bool) (ns : List NodeId) (t : NodeTrees) → EachNode (Whatever P) t → EachNode P (left_in felt placing ns t)
+each_left P felt placing ns t h = each_weaker (Whatever P) P (left_in felt placing ns t) (λ x f. f x.1.kept x.1.past x.1.turn) (at felt)
   where
     answers : EachNode (Whatever P) (forgets without_answers ns t)
     answers = each_forgets without_answers (λ v ks p n. refl) P ns t h
 
-    at : (c : Bool) → EachNode (Whatever P) (left_in c ns t)
-    at true = each_forgets without_past (λ v ks p n. refl) P ns (forgets without_answers ns t) answers
+    at : (c : Bool) → EachNode (Whatever P) (left_in c placing ns t)
+    at true = each_forgets (without_past_of placing) (rest_without placing) P ns (forgets without_answers ns t) answers
     at false = answers
 
 -- ---- what is left
-pub bare_left : (felt : Bool) (ns : List NodeId) (t : NodeTrees) → bare (left_in felt ns t) ≡ bare t
-bare_left true ns t = drops_bare ns (forgets without_answers ns t) ∙ forgets_bare ns t
-bare_left false ns t = forgets_bare ns t
+pub bare_left : (felt placing : Bool) (ns : List NodeId) (t : NodeTrees) → bare (left_in felt placing ns t) ≡ bare t
+bare_left true placing ns t = drops_bare placing ns (forgets without_answers ns t) ∙ forgets_bare ns t
+bare_left false placing ns t = forgets_bare ns t
 
-answers_left : (felt : Bool) (ns : List NodeId) (t : NodeTrees) (n : NodeId) → kept_at (left_in felt ns t) n ≡ (if is_among n ns then [] else kept_at t n)
-answers_left true ns t n = drops_kept ns (forgets without_answers ns t) n ∙ forgets_kept ns t n
-answers_left false ns t n = forgets_kept ns t n
+answers_left : (felt placing : Bool) (ns : List NodeId) (t : NodeTrees) (n : NodeId) → kept_at (left_in felt placing ns t) n ≡ (if is_among n ns then [] else kept_at t n)
+answers_left true placing ns t n = drops_kept placing ns (forgets without_answers ns t) n ∙ forgets_kept ns t n
+answers_left false placing ns t n = forgets_kept ns t n
 
-past_left : (felt : Bool) (ns : List NodeId) (t : NodeTrees) (n : NodeId) → past_at (left_in felt ns t) n ≡ (if felt && is_among n ns then no_past else past_at t n)
-past_left true ns t n = drops_past ns (forgets without_answers ns t) n ∙ ap (λ p. cond (is_among n ns) no_past p) (forgets_past ns t n)
-past_left false ns t n = forgets_past ns t n
+-- letting answers go leaves what a node is
+forgot_goes : (all : Bool) (n m : NodeId) (t : NodeTrees) → goes_at all (forgot without_answers n t) m ≡ goes_at all t m
+unfolding goes_at
+forgot_goes all n m t = ap (goes_from all) (value_mapped (λ k v. cond (same k n) (without_answers v) v) t m) ∙ at (same m n) (value_at t m)
+  where
+    at : (c : Bool) (o : Option Node) → goes_from all (value_by (λ k v. cond c (without_answers v) v) m o) ≡ goes_from all o
+    at true None = refl
+    at true (Some v) = refl
+    at false None = refl
+    at false (Some v) = refl
 
-turns_left : (felt : Bool) (ns : List NodeId) (t : NodeTrees) (n : NodeId) → IsLive (bare t) n → HasTurn (is_among n ns) (turn_at t n) (turn_at (left_in felt ns t) n)
-turns_left true ns t n l = subst (HasTurn (is_among n ns) (turn_at t n)) (sym (drops_turn ns (forgets without_answers ns t) n)) (forgets_turn ns t n l)
-turns_left false ns t n l = forgets_turn ns t n l
+forgets_goes : (all : Bool) (ns : List NodeId) (t : NodeTrees) (n : NodeId) → goes_at all (forgets without_answers ns t) n ≡ goes_at all t n
+forgets_goes all [] t n = refl
+forgets_goes all (m ∷ ns) t n = forgets_goes all ns (forgot without_answers m t) n ∙ forgot_goes all m n t
+
+past_left : (felt placing : Bool) (ns : List NodeId) (t : NodeTrees) (n : NodeId) → past_at (left_in felt placing ns t) n ≡ (if felt && (is_among n ns && goes_at placing t n) then no_past else past_at t n)
+past_left true placing ns t n =
+    drops_past placing ns (forgets without_answers ns t) n
+    ∙ ap (λ g. cond (is_among n ns && g) no_past (past_at (forgets without_answers ns t) n)) (forgets_goes placing ns t n)
+    ∙ ap (λ p. cond (is_among n ns && goes_at placing t n) no_past p) (forgets_past ns t n)
+past_left false placing ns t n = forgets_past ns t n
+
+turns_left : (felt placing : Bool) (ns : List NodeId) (t : NodeTrees) (n : NodeId) → IsLive (bare t) n → HasTurn (is_among n ns) (turn_at t n) (turn_at (left_in felt placing ns t) n)
+turns_left true placing ns t n l = subst (HasTurn (is_among n ns) (turn_at t n)) (sym (drops_turn placing ns (forgets without_answers ns t) n)) (forgets_turn ns t n l)
+turns_left false placing ns t n l = forgets_turn ns t n l
 
 times_bare : (t : NodeTrees) (n : NodeId) → times n (bare t) ≡ times n t
 unfolding bare
 times_bare t n = times_mapped (λ k v. bare_of v) n t
 
-pub times_left : (felt : Bool) (ns : List NodeId) (t : NodeTrees) (n : NodeId) → times n (left_in felt ns t) ≡ times n t
-times_left felt ns t n = sym (times_bare (left_in felt ns t) n) ∙ ap (times n) (bare_left felt ns t) ∙ times_bare t n
+pub times_left : (felt placing : Bool) (ns : List NodeId) (t : NodeTrees) (n : NodeId) → times n (left_in felt placing ns t) ≡ times n t
+times_left felt placing ns t n = sym (times_bare (left_in felt placing ns t) n) ∙ ap (times n) (bare_left felt placing ns t) ∙ times_bare t n
 
-pub tops_left : (felt : Bool) (ns : List NodeId) (t : NodeTrees) → top_numbers (left_in felt ns t) ≡ top_numbers t
-tops_left felt ns t = sym (tops_bare (left_in felt ns t)) ∙ ap top_numbers (bare_left felt ns t) ∙ tops_bare t
+pub tops_left : (felt placing : Bool) (ns : List NodeId) (t : NodeTrees) → top_numbers (left_in felt placing ns t) ≡ top_numbers t
+tops_left felt placing ns t = sym (tops_bare (left_in felt placing ns t)) ∙ ap top_numbers (bare_left felt placing ns t) ∙ tops_bare t
 
-pub height_left : (felt : Bool) (ns : List NodeId) (t : NodeTrees) → height_of (left_in felt ns t) ≡ height_of t
-height_left felt ns t = sym (height_bare (left_in felt ns t)) ∙ ap height_of (bare_left felt ns t) ∙ height_bare t
+pub height_left : (felt placing : Bool) (ns : List NodeId) (t : NodeTrees) → height_of (left_in felt placing ns t) ≡ height_of t
+height_left felt placing ns t = sym (height_bare (left_in felt placing ns t)) ∙ ap height_of (bare_left felt placing ns t) ∙ height_bare t
 
 own_kept : (t : NodeTrees) → IsDistinct t → EachNode (λ x. x.1.kept ≡ kept_at t x.0) t
 unfolding kept_at
@@ -173,6 +201,10 @@ pub record IsChange (ts : List NodeId) (grid : Bool) (marks : Word → Bool) (t 
   pub after : EachNode (λ x. is_among x.0 ts ≡ marks x.1.name) u
   pub nodes : EachNode (IsFrom ts grid t) u
 
+-- Where areas stay: each node keeps nothing longer than its answers, or has its values and its children still, and its areas depend on the same of these.
+abbrev pub AreSettled : NodeTrees → NodeTrees → Type 0
+AreSettled t u = (n : NodeId) → IsSome (part_at u n) → (past_at u n ≡ no_past) ⊎ PlacesSame (bare t) (bare u) n
+
 -- what is needed of both trees
 pub record IsWhole (root : NodeId) (t : NodeTrees) : Type 0 where
   pub distinct : IsDistinct t
@@ -181,12 +213,12 @@ pub record IsWhole (root : NodeId) (t : NodeTrees) : Type 0 where
   pub named : AreNamed t
   pub subgrids : AreSubgrids t
 
-module _ (ts : List NodeId) (grid : Bool) (marks : Word → Bool) (root : NodeId) (t u : NodeTrees) (wt : IsWhole root t) (wu : IsWhole root u) (c : IsChange ts grid marks t u) where
+module _ (ts : List NodeId) (grid placing : Bool) (marks : Word → Bool) (root : NodeId) (t u : NodeTrees) (wt : IsWhole root t) (wu : IsWhole root u) (c : IsChange ts grid marks t u) where
   abbrev found : List NodeId
   found = reached_by node_sub t ts grid
 
   abbrev left : NodeTrees
-  left = left_in grid found u
+  left = left_in grid placing found u
 
   -- the node of a name is reached
   abbrev pub reaches_in : NodeTrees → Word → Bool
@@ -219,7 +251,7 @@ module _ (ts : List NodeId) (grid : Bool) (marks : Word → Bool) (root : NodeId
       ∙ not_later t u wt.distinct wu.distinct root wt.tops wu.tops wt.low wu.low ts grid c.local x.0 (there_in t x.0 v old) (there_in u x.0 x.1 new) e) i
 
   kept_left : (k : NodeId) (b : Bool) → is_among k found ≡ b → kept_at left k ≡ (if b then [] else kept_at u k)
-  kept_left k b e = answers_left grid found u k ∙ ap (λ z. cond z [] (kept_at u k)) e
+  kept_left k b e = answers_left grid placing found u k ∙ ap (λ z. cond z [] (kept_at u k)) e
 
   own_at : (s : NodeTrees) (k : NodeId) (v : Node) → value_at s k ≡ Some v → kept_at s k ≡ v.kept
   unfolding kept_at
@@ -269,8 +301,8 @@ module _ (ts : List NodeId) (grid : Bool) (marks : Word → Bool) (root : NodeId
   pub kept_after : EachNode (λ x. KeepsOn (touches x.1.name) t x) left
   kept_after =
       each_with (λ x. x.1.kept ≡ kept_at left x.0) (λ x. x.1.kept ≡ kept_at left x.0 → KeepsOn (touches x.1.name) t x) (λ x. KeepsOn (touches x.1.name) t x) left (λ x p f. f p)
-      (own_kept left (λ n. omega (arith, times_left grid found u n, wu.distinct n)))
-      (each_left (λ x. x.1.kept ≡ kept_at left x.0 → KeepsOn (touches x.1.name) t x) grid found u
+      (own_kept left (λ n. omega (arith, times_left grid placing found u n, wu.distinct n)))
+      (each_left (λ x. x.1.kept ≡ kept_at left x.0 → KeepsOn (touches x.1.name) t x) grid placing found u
       (each_with (λ x. (value_at u x.0 ≡ Some x.1) × (is_among x.0 ts ≡ marks x.1.name)) (IsFrom ts grid t) (Whatever (λ x. x.1.kept ≡ kept_at left x.0 → KeepsOn (touches x.1.name) t x)) u (λ x q f. keeps x q.0 q.1 f)
       (each_with (λ x. value_at u x.0 ≡ Some x.1) (λ x. is_among x.0 ts ≡ marks x.1.name) (λ x. (value_at u x.0 ≡ Some x.1) × (is_among x.0 ts ≡ marks x.1.name)) u (λ x p q. (p, q)) (numbered u wu.distinct).each c.after) c.nodes))
 
@@ -299,18 +331,33 @@ module _ (ts : List NodeId) (grid : Bool) (marks : Word → Bool) (root : NodeId
   SameValues k = (sight_at (bare left) k).label ≡ (sight_at (bare t) k).label
 
   same_values : (k : NodeId) (v w : Node) → value_at t k ≡ Some v → value_at u k ≡ Some w → label_at w ≡ label_at v → SameValues k
-  same_values k v w old new same = ap (λ (b : BareTrees). (sight_at b k).label) (bare_left grid found u) ∙ sym (value_label u k w new) ∙ same ∙ value_label t k v old
+  same_values k v w old new same = ap (λ (b : BareTrees). (sight_at b k).label) (bare_left grid placing found u) ∙ sym (value_label u k w new) ∙ same ∙ value_label t k v old
 
-  pub right_left : IsRight t → IsRight left
-  right_left r =
-      right_after t left wt.distinct (λ n. omega (arith, times_left grid found u n, wu.distinct n)) root wt.tops (tops_left grid found u ∙ wu.tops) wt.low (omega (arith, height_left grid found u, wu.low)) ts grid
-      (subst (λ b. IsLocal (λ n. is_among n ts) grid (bare t) b) (sym (bare_left grid found u)) c.local) r (λ n l. at n (value_at u n) refl (value_there n l)) (λ n l. held n (value_at u n) refl (value_there n l)) (λ n l. turned n (value_at u n) refl (value_there n l))
+  -- whether what a node keeps longer than its answers goes
+  abbrev goes : NodeId → Bool
+  goes k = grid && (is_among k found && goes_at placing u k)
+
+  goes_is : (x : NodeId × Node) → value_at u x.0 ≡ Some x.1 → goes_at placing u x.0 ≡ (placing || node_sub x.1)
+  unfolding goes_at
+  goes_is x e = ap (goes_from placing) e
+
+  -- what it is of is the same
+  abbrev Reads : NodeId → Type 0
+  Reads k = ((grid ≡ false) × SameValues k) ⊎ ((PlacesSame (bare t) (bare left) k × (is_sub (sight_at (bare left) k).label ≡ false)) ⊎ (is_among k found ≡ false))
+
+  abbrev Holds : NodeId → Type 0
+  Holds k = (past_at left k ≡ no_past) ⊎ ((IsSome (part_at t k) × Reads k) × (past_at left k ≡ past_at t k))
+
+  pub right_left : (placing ≡ false → AreSettled t u) → IsRight t → IsRight left
+  right_left settled r =
+      right_after t left wt.distinct (λ n. omega (arith, times_left grid placing found u n, wu.distinct n)) root wt.tops (tops_left grid placing found u ∙ wu.tops) wt.low (omega (arith, height_left grid placing found u, wu.low)) ts grid
+      (subst (λ b. IsLocal (λ n. is_among n ts) grid (bare t) b) (sym (bare_left grid placing found u)) c.local) r (λ n l. at n (value_at u n) refl (value_there n l)) (λ n l. held n (value_at u n) refl (value_there n l)) (λ n l. turned n (value_at u n) refl (value_there n l))
     where
       value_there : (n : NodeId) → IsSome (part_at left n) → IsSome (value_at u n)
       value_there n l = by (part_at u n) refl
         where
           by : (o : Option (Part Node)) → part_at u n ≡ o → IsSome (value_of (part_at u n))
-          by None f = let none : 1 ≤ times n u = omega (arith, part_there left n l, times_left grid found u n) in let some = part_some u n none in absurd cc
+          by None f = let none : 1 ≤ times n u = omega (arith, part_there left n l, times_left grid placing found u n) in let some = part_some u n none in absurd cc
           by (Some q) f = ap (λ o. is_some (value_of o)) f
 
       or_not : (x : NodeId × Node) → value_at u x.0 ≡ Some x.1 → IsFrom ts grid t x → (b : Bool) → is_among x.0 found ≡ b →
@@ -323,23 +370,51 @@ module _ (ts : List NodeId) (grid : Bool) (marks : Word → Bool) (root : NodeId
       at n None e l = absurd cc
       at n (Some v) e l = or_not (n, v) e (each_at (IsFrom ts grid t) u n v c.nodes e) (is_among n found) refl
 
-      calm_past : (k : NodeId) (b : Bool) → (grid && is_among k found) ≡ b → past_at left k ≡ (if b then no_past else past_at u k)
-      calm_past k b e = past_left grid found u k ∙ ap (λ z. cond z no_past (past_at u k)) e
+      calm_past : (k : NodeId) (b : Bool) → goes k ≡ b → past_at left k ≡ (if b then no_past else past_at u k)
+      calm_past k b e = past_left grid placing found u k ∙ ap (λ z. cond z no_past (past_at u k)) e
 
-      one_not : {P : Type 0} (b c : Bool) → (b ≡ false → P) → (b && c) ≡ false → ((b ≡ false) × P) ⊎ (c ≡ false)
-      one_not true c f e = inr e
-      one_not false c f e = inl (refl, f refl)
-
-      holds_or : (x : NodeId × Node) → value_at u x.0 ≡ Some x.1 → IsFrom ts grid t x → (b : Bool) → (grid && is_among x.0 found) ≡ b →
-          (past_at left x.0 ≡ no_past) ⊎ ((IsSome (part_at t x.0) × (((grid ≡ false) × SameValues x.0) ⊎ (is_among x.0 found ≡ false))) × (past_at left x.0 ≡ past_at t x.0))
+      holds_or : (x : NodeId × Node) → value_at u x.0 ≡ Some x.1 → IsFrom ts grid t x → (b : Bool) → goes x.0 ≡ b → Holds x.0
       holds_or x e f true g = inl (calm_past x.0 true g)
       holds_or x e (inl new) false g = inl (calm_past x.0 false g ∙ own_past u x.0 x.1 e ∙ new.1.1.0)
-      holds_or x e (inr old) false g =
-          inr ((there_in t x.0 old.0 old.1.0, one_not {P = SameValues x.0} grid (is_among x.0 found) (λ h. same_values x.0 old.0 x.1 old.1.0 e (old.1.1.1.1.1.1.1 h)) g), calm_past x.0 false g ∙ own_past u x.0 x.1 e ∙ old.1.1.1.1.1.0 ∙ sym (own_past t x.0 old.0 old.1.0))
+      holds_or x e (inr old) false g = by grid refl (is_among x.0 found) refl placing refl (node_sub x.1) refl
+        where
+          own : past_at left x.0 ≡ past_at u x.0
+          own = calm_past x.0 false g
 
-      held : (n : NodeId) (o : Option Node) → value_at u n ≡ o → IsSome o → (past_at left n ≡ no_past) ⊎ ((IsSome (part_at t n) × (((grid ≡ false) × SameValues n) ⊎ (is_among n found ≡ false))) × (past_at left n ≡ past_at t n))
+          before : past_at left x.0 ≡ past_at t x.0
+          before = own ∙ own_past u x.0 x.1 e ∙ old.1.1.1.1.1.0 ∙ sym (own_past t x.0 old.0 old.1.0)
+
+          there : IsSome (part_at t x.0)
+          there = there_in t x.0 old.0 old.1.0
+
+          -- where areas stay and it is no subgrid
+          stands : node_sub x.1 ≡ false → (past_at u x.0 ≡ no_past) ⊎ PlacesSame (bare t) (bare u) x.0 → Holds x.0
+          stands none (inl q) = inl (own ∙ q)
+          stands none (inr p) =
+              inr (
+                (
+                  there,
+                  inr (inl (
+                    subst (λ b. PlacesSame (bare t) b x.0) (sym (bare_left grid placing found u)) p,
+                    ap (λ (b : BareTrees). is_sub (sight_at b x.0).label) (bare_left grid placing found u) ∙ value_sub u x.0 x.1 (sym e) ∙ none,
+                  )),
+                ),
+                before,
+              )
+
+          went : (d : Bool) → grid ≡ true → is_among x.0 found ≡ true → (placing || node_sub x.1) ≡ d → d ≡ true → Holds x.0
+          went d f h k m = absurd (not_both (goes x.0) ((λ i. f i && (h i && (goes_is x e ∙ k ∙ m) i))) g)
+
+          by : (a : Bool) → grid ≡ a → (b : Bool) → is_among x.0 found ≡ b → (c : Bool) → placing ≡ c → (d : Bool) → node_sub x.1 ≡ d → Holds x.0
+          by false f b h c k d m = inr ((there, inl (f, same_values x.0 old.0 x.1 old.1.0 e (old.1.1.1.1.1.1.1 f))), before)
+          by true f false h c k d m = inr ((there, inr (inr h)), before)
+          by true f true h true k d m = went true f h (ap (λ z. z || node_sub x.1) k) refl
+          by true f true h false k true m = went true f h ((λ i. k i || m i)) refl
+          by true f true h false k false m = stands m (settled k x.0 (there_in u x.0 x.1 e))
+
+      held : (n : NodeId) (o : Option Node) → value_at u n ≡ o → IsSome o → Holds n
       held n None e l = absurd cc
-      held n (Some v) e l = holds_or (n, v) e (each_at (IsFrom ts grid t) u n v c.nodes e) (grid && is_among n found) refl
+      held n (Some v) e l = holds_or (n, v) e (each_at (IsFrom ts grid t) u n v c.nodes e) (goes n) refl
 
       stayed : (n : NodeId) → IsSome (part_at t n) → turn_at u n ≡ turn_at t n → (b : Bool) → is_among n found ≡ b → HasTurn b (turn_at u n) (turn_at left n) → TurnsOn n
       stayed n old same true e h = inl (subst (λ k. HasGone k (turn_at left n)) same h)
@@ -355,4 +430,4 @@ module _ (ts : List NodeId) (grid : Bool) (marks : Word → Bool) (root : NodeId
 
       turned : (n : NodeId) (o : Option Node) → value_at u n ≡ o → IsSome o → TurnsOn n
       turned n None e l = absurd cc
-      turned n (Some v) e l = turns_or (n, v) e (each_at (IsFrom ts grid t) u n v c.nodes e) (turns_left grid found u n (live_from u n (there_in u n v e)))
+      turned n (Some v) e l = turns_or (n, v) e (each_at (IsFrom ts grid t) u n v c.nodes e) (turns_left grid placing found u n (live_from u n (there_in u n v e)))

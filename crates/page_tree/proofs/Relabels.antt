@@ -1,9 +1,10 @@
 -- Another value of one node, and the computed styles that follow, as a change of the numbered tree.
-use Rattle.std.proofs.Common.{◌≡◌, ℕ, ℤ, suc, ◌≤◌, Bool, true, false, ◌&&◌, List, ◌∷◌, Option, Some, None, cond, refl, sym, ap, subst, ◌∙◌, arith, inl, inr}
+use Rattle.std.proofs.Common.{◌≡◌, ℕ, ℤ, suc, ◌≤◌, Bool, true, false, ◌&&◌, List, ◌∷◌, Option, Some, None, IsSome, cond, map, refl, sym, ap, subst, ◌∙◌, arith, inl, inr}
 use Rattle.std.specs.Prelude.{◌⊎◌, slice_get}
 use Rattle.plain_tree.specs.Trees.{leafless, tree, count_of}
 use Rattle.node_arena.specs.declared.number.NodeId.{NodeId}
 use Rattle.node_arena.specs.Numbers.{EachNode, IsDistinct, Part, below_at, below_of, child_at, is_among, mapped, number_of, part_at, same, times, tops, value_at, value_of}
+use Rattle.node_arena.proofs.Changed.{tops_mapped}
 use Rattle.node_arena.proofs.Parts.{each_weaker, numbered}
 use Rattle.node_arena.proofs.Same.{cond_no, cond_yes, one_yes, same_is, same_refl}
 use Rattle.style_types.specs.Computed.{computed_style, font_of}
@@ -13,18 +14,20 @@ use Rattle.tree_rules.specs.Documents.{first_font}
 use Rattle.doc_text.specs.Label.{Label}
 use Rattle.doc_text.specs.Texts.{Word}
 use Rattle.placing.specs.declared.node.Node.{Node}
-use Rattle.placing.specs.Kept.{turn_at}
+use Rattle.placing.specs.Keeping.{standing_of}
+use Rattle.placing.specs.Kept.{past_at, past_of, turn_at}
 use Rattle.placing.specs.Nodes.{NodeTrees, bare, label_of_bare}
-use Rattle.placing.proofs.Mapped.{mapped_twice}
-use Rattle.reach_frame.specs.Local.{IsLocal}
-use Rattle.reach_frame.proofs.Forests.{AreParts, own_parts}
+use Rattle.placing.specs.Told.{no_past}
+use Rattle.placing.proofs.Mapped.{mapped_twice, part_by, part_mapped}
+use Rattle.reach_frame.specs.Local.{IsLocal, PlacesSame}
+use Rattle.reach_frame.proofs.Forests.{AreParts, below_parts, own_parts}
 use Rattle.reach_frame.proofs.Frame.{not_both}
-use Rattle.reach_frame.proofs.Values.{StaysApart, at_node, faces, label_at, values_local}
+use Rattle.reach_frame.proofs.Values.{StaysApart, at_node, faces, label_at, sight_children, sight_faces, sight_labels, values_local}
 use Rattle.page_tree.specs.Documents.{label_of}
 use Rattle.page_tree.specs.Fonts.{AreStyled, HasStyle, IsStyled, root_font}
 use Rattle.page_tree.specs.Restyled.{Styles, styled_from}
 use Rattle.page_tree.specs.Shapes.{Relabels}
-use Rattle.page_tree.proofs.Reaching.{IsChange, IsFrom, each_with, there_in}
+use Rattle.page_tree.proofs.Reaching.{AreSettled, IsChange, IsFrom, each_at, each_with, there_in}
 use Rattle.page_tree.proofs.Locals.{touched_number}
 
 -- all nodes of these trees are touched, where subgrids feel it
@@ -54,15 +57,70 @@ module _ (touched : NodeId → Bool) (grid : Bool) (id : NodeId) (value : Node) 
   abbrev pub AllBelow : Type 0
   AllBelow = (grid ≡ true) × ((k : NodeId) → 1 ≤ times k (below_at t id) → touched k ≡ true)
 
-  module _ (own : touched id ≡ true) (parent : grid ≡ true → (k : NodeId) (j : ℕ) → child_at t k j ≡ Some id → touched k ≡ true) (face : grid ≡ false → SameFace) (fonts : SameFonts ⊎ AllBelow) where
-    label_by : (f r : ℤ) (x : NodeId × Node) → same x.0 id ≡ false → HasStyle f r x.1 → HasStyle f r (given x.0 x.1) → label_at (given x.0 x.1) ≡ label_at x.1
-    label_by f r x e old new = at (cond (same x.0 id) value x.1) (cond_no (same x.0 id) value x.1 e) new
-      where
-        at : (w : Node) → w ≡ x.1 → HasStyle f r (record w { style = styled_from styles x.0 w.style }) → label_at (record w { style = styled_from styles x.0 w.style }) ≡ label_at x.1
-        at w q h =
-            let style : styled_from styles x.0 w.style ≡ x.1.style = h ∙ ap (λ (n : Node). computed_style f r n.declared) q ∙ sym old in
-            λ i. label_of_bare (record { name = (q i).name; kind = (q i).kind; declared = (q i).declared; style = style i })
+  label_by : (f r : ℤ) (x : NodeId × Node) → same x.0 id ≡ false → HasStyle f r x.1 → HasStyle f r (given x.0 x.1) → label_at (given x.0 x.1) ≡ label_at x.1
+  label_by f r x e old new = at (cond (same x.0 id) value x.1) (cond_no (same x.0 id) value x.1 e) new
+    where
+      at : (w : Node) → w ≡ x.1 → HasStyle f r (record w { style = styled_from styles x.0 w.style }) → label_at (record w { style = styled_from styles x.0 w.style }) ≡ label_at x.1
+      at w q h =
+          let style : styled_from styles x.0 w.style ≡ x.1.style = h ∙ ap (λ (n : Node). computed_style f r n.declared) q ∙ sym old in
+          λ i. label_of_bare (record { name = (q i).name; kind = (q i).kind; declared = (q i).declared; style = style i })
 
+  -- the font size that a node gives
+  font_given : SameFonts → (em rem : ℤ) (x : NodeId × Node) → value_at t x.0 ≡ Some x.1 → font_of em rem (given x.0 x.1).declared ≡ font_of em rem x.1.declared
+  font_given fonts em rem x there = at (same x.0 id) refl
+    where
+      at : (c : Bool) → same x.0 id ≡ c → font_of em rem (cond (same x.0 id) value x.1).declared ≡ font_of em rem x.1.declared
+      at true e = ap (λ (w : Node). font_of em rem w.declared) (cond_yes (same x.0 id) value x.1 e) ∙ fonts em rem x.1 (ap (value_at t) (sym (same_is x.0 id e)) ∙ there)
+      at false e = ap (λ (w : Node). font_of em rem w.declared) (cond_no (same x.0 id) value x.1 e)
+
+  font_other : (em rem : ℤ) (x : NodeId × Node) → same x.0 id ≡ false → font_of em rem (given x.0 x.1).declared ≡ font_of em rem x.1.declared
+  font_other em rem x e = ap (λ (w : Node). font_of em rem w.declared) (cond_no (same x.0 id) value x.1 e)
+
+  -- ---- where areas stay
+  abbrev pub SameStanding : Type 0
+  SameStanding = (f r : ℤ) (v : Node) (style : StyleMap) → value_at t id ≡ Some v → HasStyle f r v → style ≡ computed_style f r value.declared → standing_of (sibling_of (label_at (record value { style = style }))) ≡ standing_of (sibling_of (label_at v))
+
+  -- only the edited node has other values, and areas depend on none of them
+  abbrev pub Settles : NodeId × Node → Type 0
+  Settles x = (same x.0 id ≡ false → label_at (given x.0 x.1) ≡ label_at x.1) × (standing_of (sibling_of (label_at (given x.0 x.1))) ≡ standing_of (sibling_of (label_at x.1)))
+
+  module _ (fonts : SameFonts) (stand : SameStanding) where
+    settle : (f r : ℤ) (x : NodeId × Node) → value_at t x.0 ≡ Some x.1 → HasStyle f r x.1 → HasStyle f r (given x.0 x.1) → Settles x
+    settle f r x there old new = (λ e. label_by f r x e old new, at (same x.0 id) refl)
+      where
+        edited : same x.0 id ≡ true → (w : Node) → w ≡ value → HasStyle f r (record w { style = styled_from styles x.0 w.style }) →
+            standing_of (sibling_of (label_at (record w { style = styled_from styles x.0 w.style }))) ≡ standing_of (sibling_of (label_at x.1))
+        edited e w q h =
+            (λ i. standing_of (sibling_of (label_at (record (q i) { style = styled_from styles x.0 w.style }))))
+            ∙ stand f r x.1 (styled_from styles x.0 w.style) (ap (value_at t) (sym (same_is x.0 id e)) ∙ there) old (h ∙ ap (λ (n : Node). computed_style f r n.declared) q)
+
+        at : (c : Bool) → same x.0 id ≡ c → standing_of (sibling_of (label_at (given x.0 x.1))) ≡ standing_of (sibling_of (label_at x.1))
+        at true e = edited e (cond (same x.0 id) value x.1) (cond_yes (same x.0 id) value x.1 e) new
+        at false e = ap (λ l. standing_of (sibling_of l)) (label_by f r x e old new)
+
+    settles_in : (em rem : ℤ) (s : NodeTrees) → AreParts t s → AreStyled em rem s → AreStyled em rem (mapped given s) → EachNode Settles s
+    settles_in em rem leafless p a b = tt
+    settles_in em rem (tree x below after) p a b =
+        let font = font_of em rem x.1.declared in
+        let same_font : font_of em rem (given x.0 x.1).declared ≡ font = font_given fonts em rem x (ap value_of p.0) in (
+          settle font rem x (ap value_of p.0) a.0 (subst (λ z. HasStyle z rem (given x.0 x.1)) same_font b.0),
+          (settles_in font rem below p.1.0 a.1.0 (subst (λ z. AreStyled z rem (mapped given below)) same_font b.1.0), settles_in em rem after p.1.1 a.1.1 b.1.1),
+        )
+
+    pub settles_root : count_of t ≡ 1 → IsStyled t → IsStyled (mapped given t) → EachNode Settles t
+    settles_root one a b = at t one a b (own_parts t d)
+      where
+        at : (s : NodeTrees) → count_of s ≡ 1 → IsStyled s → IsStyled (mapped given s) → AreParts t s → EachNode Settles s
+        at leafless c a b p = absurd (omega (arith, c))
+        at (tree x below (tree y under later)) c a b p = absurd (omega (arith, c))
+        at (tree x below leafless) c a b p =
+            let font = root_font x.1.declared in
+            let same_font : root_font (given x.0 x.1).declared ≡ font = font_given fonts first_font first_font x (ap value_of p.0) in (
+              settle font font x (ap value_of p.0) a.0 (subst (λ z. HasStyle z z (given x.0 x.1)) same_font b.0),
+              (settles_in font font below p.1.0 a.1 (subst (λ z. AreStyled z z (mapped given below)) same_font b.1), tt),
+            )
+
+  module _ (own : touched id ≡ true) (parent : grid ≡ true → (k : NodeId) (j : ℕ) → child_at t k j ≡ Some id → touched k ≡ true) (face : grid ≡ false → SameFace) (fonts : SameFonts ⊎ AllBelow) where
     face_by : grid ≡ false → (f r : ℤ) (x : NodeId × Node) → value_at t x.0 ≡ Some x.1 → same x.0 id ≡ true → HasStyle f r x.1 → HasStyle f r (given x.0 x.1) → sibling_of (label_at (given x.0 x.1)) ≡ sibling_of (label_at x.1)
     face_by g f r x there e old new = at (cond (same x.0 id) value x.1) (cond_yes (same x.0 id) value x.1 e) new
       where
@@ -70,17 +128,6 @@ module _ (touched : NodeId → Bool) (grid : Bool) (id : NodeId) (value : Node) 
         at w q h =
             (λ i. sibling_of (label_at (record (q i) { style = styled_from styles x.0 w.style })))
             ∙ face g f r x.1 (styled_from styles x.0 w.style) (ap (value_at t) (sym (same_is x.0 id e)) ∙ there) old (h ∙ ap (λ (n : Node). computed_style f r n.declared) q)
-
-    -- the font size that a node gives
-    font_given : SameFonts → (em rem : ℤ) (x : NodeId × Node) → value_at t x.0 ≡ Some x.1 → font_of em rem (given x.0 x.1).declared ≡ font_of em rem x.1.declared
-    font_given fonts em rem x there = at (same x.0 id) refl
-      where
-        at : (c : Bool) → same x.0 id ≡ c → font_of em rem (cond (same x.0 id) value x.1).declared ≡ font_of em rem x.1.declared
-        at true e = ap (λ (w : Node). font_of em rem w.declared) (cond_yes (same x.0 id) value x.1 e) ∙ fonts em rem x.1 (ap (value_at t) (sym (same_is x.0 id e)) ∙ there)
-        at false e = ap (λ (w : Node). font_of em rem w.declared) (cond_no (same x.0 id) value x.1 e)
-
-    font_other : (em rem : ℤ) (x : NodeId × Node) → same x.0 id ≡ false → font_of em rem (given x.0 x.1).declared ≡ font_of em rem x.1.declared
-    font_other em rem x e = ap (λ (w : Node). font_of em rem w.declared) (cond_no (same x.0 id) value x.1 e)
 
     -- what a parent sees of these trees below it; they stand below a node of the font size f, which has not changed
     faces_same : (f r : ℤ) (s : NodeTrees) → AreParts t s → AreStyled f r s → AreStyled f r (mapped given s) → ((j : ℕ) → number_of (slice_get (tops s) j) ≡ Some id → (grid ≡ false) × SameFonts) → faces (mapped given s) ≡ faces s
@@ -247,3 +294,36 @@ module _ (t u : NodeTrees) (d : IsDistinct t) (one : count_of t ≡ 1) (old : Is
       alone g =
           apart_root (λ k. same k h.id) grid h.id h.value h.styles t d (same_refl h.id) (λ f. absurd (not_both grid f g)) face
           (inl (kept_fonts touched grid h.id h.value h.styles t d own_touched parent face fonts g)) one old (subst IsStyled is_made new)
+
+  -- of each node and its children the areas depend on the same as before
+  pub relabel_settled : SameFonts touched grid h.id h.value h.styles t d → SameStanding touched grid h.id h.value h.styles t d → AreSettled t u
+  unfolding past_at
+  relabel_settled fonts stand n live = at (part_at t n) refl (subst (λ s. IsSome (part_at s n)) is_made live)
+    where
+      each : EachNode (Settles touched grid h.id h.value h.styles t d) t
+      each = settles_root touched grid h.id h.value h.styles t d fonts stand one old (subst IsStyled is_made new)
+
+      stands : (s : NodeTrees) → AreParts t s → map standing_of (faces (mapped made s)) ≡ map standing_of (faces s)
+      stands leafless p = refl
+      stands (tree x below after) p = λ i. (each_at (Settles touched grid h.id h.value h.styles t d) t x.0 x.1 each (ap value_of p.0)).1 i ∷ stands after p.1.1 i
+
+      by : (q : Part Node) → part_at t n ≡ Some q → (past_at u n ≡ no_past) ⊎ PlacesSame (bare t) (bare u) n
+      by q e = of (same n h.id) refl
+        where
+          there : part_at u n ≡ Some (made n q.0, mapped made q.1)
+          there = ap (λ s. part_at s n) is_made ∙ part_mapped made t n ∙ ap (part_by made n) e
+
+          of : (c : Bool) → same n h.id ≡ c → (past_at u n ≡ no_past) ⊎ PlacesSame (bare t) (bare u) n
+          of true f = inl (ap (λ o. past_of (value_of o)) there ∙ ap (λ (w : Node). w.past) (cond_yes (same n h.id) h.value q.0 f) ∙ h.past)
+          of false f =
+              inr (record {
+                label = sight_labels u n (made n q.0, mapped made q.1) there ∙ (each_at (Settles touched grid h.id h.value h.styles t d) t n q.0 each (ap value_of e)).0 f ∙ sym (sight_labels t n q e);
+                children = sight_children u n (made n q.0, mapped made q.1) there ∙ tops_mapped made q.1 ∙ sym (sight_children t n q e);
+                siblings = ap (map standing_of) (sight_faces u n (made n q.0, mapped made q.1) there)
+                    ∙ stands q.1 (subst (AreParts t) (ap below_of e) (below_parts t n d))
+                    ∙ sym (ap (map standing_of) (sight_faces t n q e));
+              })
+
+      at : (o : Option (Part Node)) → part_at t n ≡ o → IsSome (part_at (mapped made t) n) → (past_at u n ≡ no_past) ⊎ PlacesSame (bare t) (bare u) n
+      at None e l = let none : part_at (mapped made t) n ≡ None = part_mapped made t n ∙ ap (part_by made n) e in let some = subst (λ (o : Option (Part Node)). IsSome o) none l in absurd cc
+      at (Some q) e l = by q e

@@ -51,42 +51,42 @@ use Rattle.page_tree.proofs.Shifted.{each_moved, each_styled}
 abbrev pub FindsOn : NodeTrees → NodeTrees → List NodeId → Type 0
 FindsOn t u list = (f : Found) → IsFound (bare t) (kept_at t) f → IsSome (part_at t f.id) → IsSome (part_at u f.id) → is_among f.id list ≡ false → IsFound (bare u) (kept_at u) f
 
-module _ (ts : List NodeId) (grid : Bool) (marks : Word → Bool) (root : NodeId) (t u : NodeTrees) (wt : IsWhole root t) (wu : IsWhole root u) (c : IsChange ts grid marks t u) where
+module _ (ts : List NodeId) (grid placing : Bool) (marks : Word → Bool) (root : NodeId) (t u : NodeTrees) (wt : IsWhole root t) (wu : IsWhole root u) (c : IsChange ts grid marks t u) where
   abbrev found : List NodeId
   found = reached_by node_sub t ts grid
 
   abbrev left : NodeTrees
-  left = left_in grid found u
+  left = left_in grid placing found u
 
   -- a node of both trees that is not reached
   abbrev Stays : NodeId → Type 0
   Stays n = (IsSome (part_at t n) × IsSome (part_at left n)) × (is_among n found ≡ false)
 
   distinct_left : IsDistinct left
-  distinct_left n = let one = wu.distinct n in omega (arith, times_left grid found u n, one)
+  distinct_left n = let one = wu.distinct n in omega (arith, times_left grid placing found u n, one)
 
   local_left : IsLocal (λ n. is_among n ts) grid (bare t) (bare left)
-  local_left = subst (λ b. IsLocal (λ n. is_among n ts) grid (bare t) b) (sym (bare_left grid found u)) c.local
+  local_left = subst (λ b. IsLocal (λ n. is_among n ts) grid (bare t) b) (sym (bare_left grid placing found u)) c.local
 
   rooted_old : IsRooted root (bare t)
   rooted_old = rooted root (bare t) (distinct_bare t wt.distinct) (omega (arith, wt.low, height_bare t)) (tops_bare t ∙ wt.tops)
 
   rooted_left : IsRooted root (bare left)
-  rooted_left = rooted root (bare left) (distinct_bare left distinct_left) (omega (arith, wu.low, height_left grid found u, height_bare left)) (tops_bare left ∙ tops_left grid found u ∙ wu.tops)
+  rooted_left = rooted root (bare left) (distinct_bare left distinct_left) (omega (arith, wu.low, height_left grid placing found u, height_bare left)) (tops_bare left ∙ tops_left grid placing found u ∙ wu.tops)
 
   seen_same : (n : NodeId) → Stays n → (sight_at (bare left) n ≡ sight_at (bare t) n) × (children_at (bare left) n ≡ children_at (bare t) n)
   seen_same n s =
-      same_sight t left wt.distinct distinct_left root wt.tops (tops_left grid found u ∙ wu.tops) wt.low (omega (arith, height_left grid found u, wu.low)) ts grid local_left n s.0.0 s.0.1 s.1
+      same_sight t left wt.distinct distinct_left root wt.tops (tops_left grid placing found u ∙ wu.tops) wt.low (omega (arith, height_left grid placing found u, wu.low)) ts grid local_left n s.0.0 s.0.1 s.1
 
   value_there : (n : NodeId) → IsSome (part_at left n) → IsSome (value_at u n)
   value_there n l = by (part_at u n) refl
     where
       by : (o : Option (Part Node)) → part_at u n ≡ o → IsSome (value_of (part_at u n))
-      by None f = let none : 1 ≤ times n u = omega (arith, part_there left n l, times_left grid found u n) in let some = part_some u n none in absurd cc
+      by None f = let none : 1 ≤ times n u = omega (arith, part_there left n l, times_left grid placing found u n) in let some = part_some u n none in absurd cc
       by (Some q) f = ap (λ o. is_some (value_of o)) f
 
   kept_same : (n : NodeId) → Stays n → kept_at left n ≡ kept_at t n
-  kept_same n s = kept_calm ts grid marks root t u wt wu c n s.0.0 (value_there n s.0.1) s.1
+  kept_same n s = kept_calm ts grid placing marks root t u wt wu c n s.0.0 (value_there n s.0.1) s.1
 
   -- it passes the same questions on, and its children are such nodes
   passes_same : (n : NodeId) (q : Query) → Stays n → passes_at (bare left) n q ≡ passes_at (bare t) n q

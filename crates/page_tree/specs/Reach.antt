@@ -111,6 +111,22 @@ are_felt props = list_any is_felt_property props
 abbrev pub have_font : List Prop → Bool
 have_font props = list_any is_font_property props
 
+-- A property on which the areas of the grid depend in which a node stands, or whether the node is a subgrid (CSS Grid 2, 6.3, 8.3 and section 9); or
+-- `font-size`, on which others may depend.
+abbrev pub is_placing_property : Prop → Bool
+is_placing_property prop.GridTemplateColumns = true
+is_placing_property prop.GridTemplateRows = true
+is_placing_property prop.GridColumnStart = true
+is_placing_property prop.GridColumnEnd = true
+is_placing_property prop.GridRowStart = true
+is_placing_property prop.GridRowEnd = true
+is_placing_property prop.Order = true
+is_placing_property prop.FontSize = true
+is_placing_property p = false
+
+abbrev pub are_placing : List Prop → Bool
+are_placing props = list_any is_placing_property props
+
 -- the node was a container, or becomes one
 abbrev pub is_container : Kind → Word → Trees Label → Bool
 is_container new name t = not (is_leaf new && is_leaf_top (tree_at name t))
@@ -123,6 +139,15 @@ is_felt (change.Bring parent index node) t = true
 is_felt (change.Shift name parent index) t = true
 is_felt (change.Kind name new) t = is_container new name t
 is_felt (change.View width height) t = false
+
+-- the areas of the grid in which a node stands may change, or whether one is a subgrid
+abbrev pub is_placing : Change → Bool
+is_placing (change.Style name values) = are_placing (map (λ v. v.0) values)
+is_placing (change.Take name) = true
+is_placing (change.Bring parent index node) = true
+is_placing (change.Shift name parent index) = true
+is_placing (change.Kind name new) = true
+is_placing (change.View width height) = true
 
 -- a node whose properties are set or no longer set; its parent, where subgrids feel it; and all below it, where `font-size` is one of them
 abbrev pub is_marked_by : List Prop → Word → Trees Label → Word → Bool
@@ -156,6 +181,13 @@ abbrev pub is_touched : Edit → Doc → Doc → Word → Bool
 is_touched e = touches (forward_of e)
 
 -- ---- what is kept
+
+-- a padding, a margin and a gap leave all areas where they are, and lines do not
+keeps_places : are_placing (prop.PaddingTop ∷ prop.MarginLeft ∷ prop.RowGap ∷ []) ≡ false
+keeps_places = refl
+
+moves_places : are_placing (prop.PaddingTop ∷ prop.GridRowStart ∷ []) ≡ true
+moves_places = refl
 
 -- A node after a change keeps nothing where its name is touched; and else it stood in the old tree under this name and number, was of this kind, and keeps what
 -- it kept

@@ -17,7 +17,7 @@ ghost use Rattle.box_layout.specs.Paths.{IsAllKept, IsAsked, IsCutShort, IsPathK
 ghost use Rattle.doc_text.specs.Valid.{IsValid};
 ghost use Rattle.placing.specs.Walks.{state, Walk};
 ghost use Rattle.layout_cache.specs.Reach.{all_forgot};
-ghost use Rattle.placing.specs.Keeping.{without_answers, without_past, KeepsNone};
+ghost use Rattle.placing.specs.Keeping.{without_answers, without_past_of, KeepsNone};
 ghost use Rattle.placing.specs.Nodes.{bare};
 ghost use Rattle.page_tree.specs.Answered.{HasSize};
 ghost use Rattle.page_tree.specs.Boxes.{boxes_of};
@@ -351,12 +351,14 @@ impl Page {
         self.nodes.let_go(reached);
     }
 
-    /// Lets go what these nodes keep longer than their answers. Takes no memory.
-    pub(crate) fn let_past_go(&mut self, reached: &[NodeId])
+    /// Lets go what these nodes keep longer than their answers: of `all` of them, or of those alone
+    /// that may be subgrids. Takes no memory.
+    pub(crate) fn let_past_go(&mut self, reached: &[NodeId], all: bool)
         ensures document { document_of self.new ≡ document_of self.old }
-        ensures nodes { self.new.nodes ≡ all_forgot without_past reached.now self.old.nodes }
+        ensures nodes { self.new.nodes ≡
+            all_forgot (without_past_of all) reached.now self.old.nodes }
     {
-        self.nodes.let_past_go(reached);
+        self.nodes.let_past_go(reached, all);
     }
 
     /// Where memory is taken.

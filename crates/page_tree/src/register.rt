@@ -7,7 +7,7 @@ ghost use Rattle.node_arena.specs.Faults.{is_top};
 ghost use Rattle.node_arena.specs.Plain.{first_node, with_node, with_move, with_value, without_node};
 ghost use Rattle.node_arena.specs.Edits.{removed};
 ghost use Rattle.doc_text.specs.Growth.{holds};
-ghost use Rattle.placing.specs.Keeping.{without_answers, without_past};
+ghost use Rattle.placing.specs.Keeping.{without_answers, without_past_of};
 ghost use Rattle.box_layout.specs.BoxesSeen.{bare_boxes, AreNear};
 ghost use Rattle.box_layout.specs.FoundRoots.{IsRootFrame};
 ghost use Rattle.box_layout.specs.LastBoxes.{AreFound};
@@ -256,12 +256,12 @@ impl Register {
         drop_reached(&mut self.tree, reached);
     }
 
-    /// Lets go what these nodes keep longer than their answers, and passes over a number that names
-    /// no node. Takes no memory.
-    pub(crate) fn let_past_go(&mut self, reached: &[NodeId])
-        ensures { self.new ≡ all_forgot without_past reached.now self.old }
+    /// Lets go what these nodes keep longer than their answers, of `all` of them or of those alone
+    /// that may be subgrids, and passes over a number that names no node. Takes no memory.
+    pub(crate) fn let_past_go(&mut self, reached: &[NodeId], all: bool)
+        ensures { self.new ≡ all_forgot (without_past_of all) reached.now self.old }
     {
-        drop_past(&mut self.tree, reached);
+        drop_past(&mut self.tree, reached, all);
     }
 
     /// The arena. Each node is the one of its number and of its name.

@@ -19,7 +19,7 @@ ghost use Rattle.doc_text.specs.Documents.{is_leaf};
 ghost use Rattle.page_tree.specs.Fits.{Fits};
 ghost use Rattle.page_tree.specs.Marking.{numbers_below, AddsMarked, IsMarking, IsNextBelow, MarksChange, MarksKind, MarksShift};
 ghost use Rattle.page_tree.specs.Pages.{document_of, trees_in};
-ghost use Rattle.page_tree.specs.Reach.{are_felt, font_in, gets_other_font, is_container, is_content_class, is_felt, is_felt_property, is_font_class, is_font_property, is_marked_by, is_parent, root_font_in};
+ghost use Rattle.page_tree.specs.Reach.{are_felt, are_placing, font_in, gets_other_font, is_container, is_content_class, is_felt, is_felt_property, is_font_class, is_font_property, is_marked_by, is_parent, is_placing, is_placing_property, root_font_in};
 
 use crate::font::{first_font, font_at, root_font};
 use crate::lookup::is_leaf_at;
@@ -82,6 +82,52 @@ fn any_is_font(values: &[(Prop, Option<DeclaredValue>)]) -> bool
         list_any (λ (v : Prop × Option DeclaredValue). is_font_property v.0) values.now }
 {
     values.iter().any(|value| is_font_property(value.0))
+}
+
+/// Whether areas depend on a property, or whether a node is a subgrid, or other values do.
+fn is_placing_property(property: Prop) -> bool
+    ensures { result ≡ is_placing_property property }
+{
+    match property {
+        Prop::GridTemplateColumns
+        | Prop::GridTemplateRows
+        | Prop::GridColumnStart
+        | Prop::GridColumnEnd
+        | Prop::GridRowStart
+        | Prop::GridRowEnd
+        | Prop::Order
+        | Prop::FontSize => true,
+        _ => false,
+    }
+}
+
+/// Whether areas depend on one of these properties, or whether a node is a subgrid.
+fn any_is_placing(values: &[(Prop, Option<DeclaredValue>)]) -> bool
+    ensures { result ≡
+        list_any (λ (v : Prop × Option DeclaredValue). is_placing_property v.0) values.now }
+{
+    values.iter().any(|value| is_placing_property(value.0))
+}
+
+/// Whether a change of these properties may change areas.
+fn values_place(values: &Sequence<(Prop, Option<DeclaredValue>)>) -> bool
+    ensures { result ≡ are_placing (map (λ (v : Prop × Option DeclaredValue). v.0) values.now) }
+{
+    any_is_placing(values.as_slice())
+}
+
+/// Whether the areas of the grid in which a node stands may change, or whether one is a subgrid.
+pub(crate) fn is_placing(change: &Change) -> bool
+    ensures { result ≡ is_placing change.now }
+{
+    match change {
+        Change::Style(_, values) => values_place(values),
+        Change::Take(_)
+        | Change::Bring(_, _, _)
+        | Change::Shift(_, _, _)
+        | Change::Kind(_, _)
+        | Change::View(_, _) => true,
+    }
 }
 
 /// Adds the number of the node of a name, if there is one.

@@ -20,7 +20,7 @@ ghost use Rattle.page_tree.specs.Shapes.{Brings, IsChanged, Relabels, Removes, S
 use crate::forget::{forget_all, forget_brought};
 use crate::node::{node_kind, node_of};
 use crate::page::{Page, fill};
-use crate::touched::marks_of;
+use crate::touched::{is_placing, marks_of};
 use box_layout::LastBoxes;
 use doc_text::{Kind, Plain};
 use edit_journal::{Change, with_values};
@@ -40,7 +40,8 @@ impl Page {
     #[tactic(auto, using(crate::proofs::Turned::undoing))]
     /// The document after a change. The kept answers of the nodes that the change reaches go, and
     /// no others; where all were right all are right after it. What these nodes keep longer than
-    /// their answers goes only where subgrids can feel the change, but for that of a node with new
+    /// their answers goes only where subgrids can feel the change: of all of them where areas may
+    /// change, and else of those alone that may be subgrids; but for that of a node with new
     /// values, which is made anew. Nodes that are brought keep nothing.
     ///
     /// What the change names is in the document, and the names that it brings are not. `NoMemory`
@@ -62,7 +63,7 @@ impl Page {
         let reached = self.reached(change)?;
         self.change(change)?;
         let _ = self.stands();
-        self.let_reached_go(&reached);
+        self.let_reached_go(&reached, is_placing(change));
         self.forget_new(change, last);
         forget_all(reached.nodes.as_slice(), last);
         Ok(())
@@ -79,16 +80,17 @@ impl Page {
     }
 
     /// Lets go what may no longer be right: the answers of the reached nodes, and, where subgrids
-    /// feel the change, what they keep longer. Takes no memory.
-    fn let_reached_go(&mut self, reached: &Reached)
+    /// feel the change, what they keep longer: all of them where areas may change (`placing`), and
+    /// else those alone that may be subgrids. Takes no memory.
+    fn let_reached_go(&mut self, reached: &Reached, placing: bool)
         ensures document { document_of self.new ≡ document_of self.old }
         ensures nodes { self.new.nodes ≡
-            all_left reached.now.felt reached.now.nodes self.old.nodes }
+            all_left reached.now.felt placing reached.now.nodes self.old.nodes }
     {
         let nodes = reached.nodes.as_slice();
         self.let_go(nodes);
         if reached.felt {
-            self.let_past_go(nodes);
+            self.let_past_go(nodes, placing);
         }
     }
 

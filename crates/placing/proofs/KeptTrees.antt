@@ -1,6 +1,6 @@
 -- Trees that keep answers.
 use Rattle.std.proofs.Common.{◌≡◌, Bool, true, false, List, [], ◌∷◌, Option, Some, None, IsSome, cond, refl, sym, ap, ◌∙◌, subst, arith, inl, inr}
-use Rattle.std.specs.Prelude.{◌||◌, ◌⊎◌, if◌then◌else◌, ℕ, ◌+◌, nat_lt}
+use Rattle.std.specs.Prelude.{◌||◌, ◌&&◌, ◌⊎◌, if◌then◌else◌, ℕ, ◌+◌, map, nat_lt}
 use Rattle.std.proofs.lemmas.Bool.{cases_Bool, ltb-false}
 use Rattle.plain_tree.specs.Trees.{leafless, tree}
 use Rattle.layout_cache.specs.Kept.{answer_to}
@@ -15,9 +15,10 @@ use Rattle.tree_rules.specs.declared.query.Query.{Query}
 use Rattle.tree_rules.proofs.KeptLists.{none_right as empty_right}
 use Rattle.placing.specs.declared.node.Answer.{Answer}
 use Rattle.placing.specs.declared.node.Node.{Node}
-use Rattle.placing.specs.Keeping.{HasGone, HasTurn, HoldsNone, HoldsOn, HoldsSame, IsTurned, KeepsNone, KeepsOn, KeepsSame, without_answers, without_past}
+use Rattle.placing.specs.Keeping.{HasGone, HasTurn, HoldsNone, HoldsOn, HoldsSame, IsTurned, KeepsNone, KeepsOn, KeepsSame, goes_at, goes_from, is_subgrid_node, standing_of, without_answers, without_past, without_past_of}
 use Rattle.placing.specs.Kept.{IsRight, IsOfNode, kept_at, kept_of, past_at, past_of, plain_answer, turn_at, turn_of}
 use Rattle.placing.specs.Told.{HoldsPast, last_turn, next_turn, no_past}
+use Rattle.placing.specs.declared.told.Past.{Past}
 use Rattle.placing.specs.Nodes.{IsLive, NodeTrees, bare, bare_of, children_at, sight_at}
 use Rattle.placing.proofs.Bares.{value_some}
 use Rattle.placing.proofs.Mapped.{mapped_same, mapped_twice, value_by, value_mapped}
@@ -187,7 +188,7 @@ forgets_right ns t r = still_right t (forgets without_answers ns t) r (λ n. at 
           past = forgets_past ns t n;
           label = ap (λ b. (sight_at b n).label) (forgets_bare ns t);
           chain = ap (λ b. (sight_at b n).chain) (forgets_bare ns t);
-          siblings = ap (λ b. siblings_of (sight_at b n).below) (forgets_bare ns t);
+          siblings = ap (λ b. map standing_of (siblings_of (sight_at b n).below)) (forgets_bare ns t);
           children = ap (λ b. children_at b n) (forgets_bare ns t);
         }
 
@@ -201,86 +202,152 @@ forgets_right ns t r = still_right t (forgets without_answers ns t) r (λ n. at 
     turned : (n : NodeId) → IsLive (bare t) n → IsTurned t (forgets without_answers ns t) n
     turned n l = by n (is_among n ns) (forgets_turn ns t n l)
 
--- ---- contexts and areas let go
-abbrev dropping : NodeId → NodeId → Node → Node
-dropping n k v = cond (same k n) (without_past v) v
+-- ---- what is kept longer goes from one node, or stays
+pub past_goes : (all : Bool) (v : Node) (p : Past) → (all || is_subgrid_node v) ≡ true → p ≡ no_past → ◌≡◌ {A = Node} (record v { past = p }) (without_past_of all v)
+past_goes all v p e none = ap (λ q. record v { past = q }) none ∙ sym (ap (λ b. if b then without_past v else v) e)
 
-bare_dropping : (n k : NodeId) (v : Node) → bare_of (dropping n k v) ≡ bare_of v
-bare_dropping n k v = at (same k n)
-  where
-    at : (c : Bool) → bare_of (cond c (without_past v) v) ≡ bare_of v
-    at true = refl
-    at false = refl
+pub past_remains : (all : Bool) (v : Node) → (all || is_subgrid_node v) ≡ false → v ≡ without_past_of all v
+past_remains all v e = sym (ap (λ b. if b then without_past v else v) e)
 
-dropped_bare : (n : NodeId) (t : NodeTrees) → bare (forgot without_past n t) ≡ bare t
-unfolding bare
-dropped_bare n t = mapped_twice (dropping n) (λ k v. bare_of v) t ∙ mapped_same (λ k v. bare_of (dropping n k v)) (λ k v. bare_of v) t (bare_dropping n)
+pub ruleset goes_or_stays = (past_goes, past_remains)
 
-pub drops_bare : (ns : List NodeId) (t : NodeTrees) → bare (forgets without_past ns t) ≡ bare t
-drops_bare [] t = refl
-drops_bare (n ∷ ns) t = drops_bare ns (forgot without_past n t) ∙ dropped_bare n t
+-- ---- contexts and areas let go, of all nodes or of those alone that may be subgrids
+module _ (all : Bool) where
+  abbrev dropping : NodeId → NodeId → Node → Node
+  dropping n k v = cond (same k n) (without_past_of all v) v
 
-dropped_kept : (n m : NodeId) (t : NodeTrees) → kept_at (forgot without_past n t) m ≡ kept_at t m
-unfolding kept_at
-dropped_kept n m t = ap kept_of (value_mapped (dropping n) t m) ∙ at (same m n) (value_at t m)
-  where
-    at : (c : Bool) (o : Option Node) → kept_of (value_by (λ k v. cond c (without_past v) v) m o) ≡ kept_of o
-    at true None = refl
-    at true (Some v) = refl
-    at false None = refl
-    at false (Some v) = refl
+  bare_without : (v : Node) → bare_of (without_past_of all v) ≡ bare_of v
+  bare_without v = at (all || is_subgrid_node v)
+    where
+      at : (c : Bool) → bare_of (if c then without_past v else v) ≡ bare_of v
+      at true = refl
+      at false = refl
 
-pub drops_kept : (ns : List NodeId) (t : NodeTrees) (n : NodeId) → kept_at (forgets without_past ns t) n ≡ kept_at t n
-drops_kept [] t n = refl
-drops_kept (m ∷ ns) t n = drops_kept ns (forgot without_past m t) n ∙ dropped_kept m n t
+  bare_dropping : (n k : NodeId) (v : Node) → bare_of (dropping n k v) ≡ bare_of v
+  bare_dropping n k v = at (same k n)
+    where
+      at : (c : Bool) → bare_of (cond c (without_past_of all v) v) ≡ bare_of v
+      at true = bare_without v
+      at false = refl
 
-dropped_past : (n m : NodeId) (t : NodeTrees) → past_at (forgot without_past n t) m ≡ (if same m n then no_past else past_at t m)
-unfolding past_at
-dropped_past n m t = ap past_of (value_mapped (dropping n) t m) ∙ at (same m n) (value_at t m)
-  where
-    at : (c : Bool) (o : Option Node) → past_of (value_by (λ k v. cond c (without_past v) v) m o) ≡ cond c no_past (past_of o)
-    at true None = refl
-    at true (Some v) = refl
-    at false None = refl
-    at false (Some v) = refl
+  dropped_bare : (n : NodeId) (t : NodeTrees) → bare (forgot (without_past_of all) n t) ≡ bare t
+  unfolding bare
+  dropped_bare n t = mapped_twice (dropping n) (λ k v. bare_of v) t ∙ mapped_same (λ k v. bare_of (dropping n k v)) (λ k v. bare_of v) t (bare_dropping n)
 
-pub drops_past : (ns : List NodeId) (t : NodeTrees) (n : NodeId) → past_at (forgets without_past ns t) n ≡ (if is_among n ns then no_past else past_at t n)
-drops_past [] t n = refl
-drops_past (m ∷ ns) t n = drops_past ns (forgot without_past m t) n ∙ ap (λ l. cond (is_among n ns) no_past l) (dropped_past m n t ∙ ap (λ b. cond b no_past (past_at t n)) (same_turn n m)) ∙ at (is_among n ns) (same m n)
-  where
-    at : (b c : Bool) → cond b no_past (cond c no_past (past_at t n)) ≡ cond (c || b) no_past (past_at t n)
-    at true true = refl
-    at true false = refl
-    at false true = refl
-    at false false = refl
+  pub drops_bare : (ns : List NodeId) (t : NodeTrees) → bare (forgets (without_past_of all) ns t) ≡ bare t
+  drops_bare [] t = refl
+  drops_bare (n ∷ ns) t = drops_bare ns (forgot (without_past_of all) n t) ∙ dropped_bare n t
 
-dropped_turn : (n m : NodeId) (t : NodeTrees) → turn_at (forgot without_past n t) m ≡ turn_at t m
-unfolding turn_at
-dropped_turn n m t = ap turn_of (value_mapped (dropping n) t m) ∙ at (same m n) (value_at t m)
-  where
-    at : (c : Bool) (o : Option Node) → turn_of (value_by (λ k v. cond c (without_past v) v) m o) ≡ turn_of o
-    at true None = refl
-    at true (Some v) = refl
-    at false None = refl
-    at false (Some v) = refl
+  kept_without : (v : Node) → (without_past_of all v).kept ≡ v.kept
+  kept_without v = at (all || is_subgrid_node v)
+    where
+      at : (c : Bool) → (if c then without_past v else v).kept ≡ v.kept
+      at true = refl
+      at false = refl
 
-pub drops_turn : (ns : List NodeId) (t : NodeTrees) (n : NodeId) → turn_at (forgets without_past ns t) n ≡ turn_at t n
-drops_turn [] t n = refl
-drops_turn (m ∷ ns) t n = drops_turn ns (forgot without_past m t) n ∙ dropped_turn m n t
+  dropped_kept : (n m : NodeId) (t : NodeTrees) → kept_at (forgot (without_past_of all) n t) m ≡ kept_at t m
+  unfolding kept_at
+  dropped_kept n m t = ap kept_of (value_mapped (dropping n) t m) ∙ at (same m n) (value_at t m)
+    where
+      at : (c : Bool) (o : Option Node) → kept_of (value_by (λ k v. cond c (without_past_of all v) v) m o) ≡ kept_of o
+      at true None = refl
+      at true (Some v) = kept_without v
+      at false None = refl
+      at false (Some v) = refl
 
-pub drops_right : (ns : List NodeId) (t : NodeTrees) → IsRight t → IsRight (forgets without_past ns t)
-drops_right ns t r = still_right t (forgets without_past ns t) r (λ n. inr (kept n)) (λ n. at n (is_among n ns) (drops_past ns t n)) (λ n l. record { later = omega (arith, drops_turn ns t n); same = λ e m. ap (λ b. sight_at b n) (drops_bare ns t) })
-  where
-    kept : (n : NodeId) → KeepsSame t (forgets without_past ns t) n
-    kept n = record { kept = drops_kept ns t n; sight = ap (λ b. sight_at b n) (drops_bare ns t); children = ap (λ b. children_at b n) (drops_bare ns t) }
+  pub drops_kept : (ns : List NodeId) (t : NodeTrees) (n : NodeId) → kept_at (forgets (without_past_of all) ns t) n ≡ kept_at t n
+  drops_kept [] t n = refl
+  drops_kept (m ∷ ns) t n = drops_kept ns (forgot (without_past_of all) m t) n ∙ dropped_kept m n t
 
-    at : (n : NodeId) (b : Bool) → past_at (forgets without_past ns t) n ≡ cond b no_past (past_at t n) → HoldsOn t (forgets without_past ns t) n
-    at n true e = inl e
-    at n false e =
-        inr (record {
-          past = e;
-          label = ap (λ b. (sight_at b n).label) (drops_bare ns t);
-          chain = ap (λ b. (sight_at b n).chain) (drops_bare ns t);
-          siblings = ap (λ b. siblings_of (sight_at b n).below) (drops_bare ns t);
-          children = ap (λ b. children_at b n) (drops_bare ns t);
-        })
+  goes_without : (v : Node) → (all || is_subgrid_node (without_past_of all v)) ≡ (all || is_subgrid_node v)
+  goes_without v = at (all || is_subgrid_node v)
+    where
+      at : (c : Bool) → (all || is_subgrid_node (if c then without_past v else v)) ≡ (all || is_subgrid_node v)
+      at true = refl
+      at false = refl
+
+  dropped_goes : (n m : NodeId) (t : NodeTrees) → goes_at all (forgot (without_past_of all) n t) m ≡ goes_at all t m
+  unfolding goes_at
+  dropped_goes n m t = ap (goes_from all) (value_mapped (dropping n) t m) ∙ at (same m n) (value_at t m)
+    where
+      at : (c : Bool) (o : Option Node) → goes_from all (value_by (λ k v. cond c (without_past_of all v) v) m o) ≡ goes_from all o
+      at true None = refl
+      at true (Some v) = goes_without v
+      at false None = refl
+      at false (Some v) = refl
+
+  dropped_past : (n m : NodeId) (t : NodeTrees) → past_at (forgot (without_past_of all) n t) m ≡ (if same m n && goes_at all t m then no_past else past_at t m)
+  unfolding past_at goes_at
+  dropped_past n m t = ap past_of (value_mapped (dropping n) t m) ∙ at (same m n) (value_at t m)
+    where
+      none : (b : Bool) → no_past ≡ cond b no_past no_past
+      none true = refl
+      none false = refl
+
+      one : (v : Node) (b : Bool) → (if b then without_past v else v).past ≡ cond b no_past v.past
+      one v true = refl
+      one v false = refl
+
+      at : (c : Bool) (o : Option Node) → past_of (value_by (λ k v. cond c (without_past_of all v) v) m o) ≡ cond (c && goes_from all o) no_past (past_of o)
+      at true None = none all
+      at true (Some v) = one v (all || is_subgrid_node v)
+      at false None = refl
+      at false (Some v) = refl
+
+  pub drops_past : (ns : List NodeId) (t : NodeTrees) (n : NodeId) → past_at (forgets (without_past_of all) ns t) n ≡ (if is_among n ns && goes_at all t n then no_past else past_at t n)
+  drops_past [] t n = refl
+  drops_past (m ∷ ns) t n =
+      drops_past ns (forgot (without_past_of all) m t) n
+      ∙ ap (λ g. cond (is_among n ns && g) no_past (past_at (forgot (without_past_of all) m t) n)) (dropped_goes m n t)
+      ∙ ap (λ l. cond (is_among n ns && goes_at all t n) no_past l) (dropped_past m n t ∙ ap (λ b. cond (b && goes_at all t n) no_past (past_at t n)) (same_turn n m))
+      ∙ at (is_among n ns) (same m n) (goes_at all t n)
+    where
+      at : (b c g : Bool) → cond (b && g) no_past (cond (c && g) no_past (past_at t n)) ≡ cond ((c || b) && g) no_past (past_at t n)
+      at true true true = refl
+      at true true false = refl
+      at true false true = refl
+      at true false false = refl
+      at false true true = refl
+      at false true false = refl
+      at false false true = refl
+      at false false false = refl
+
+  turn_without : (v : Node) → (without_past_of all v).turn ≡ v.turn
+  turn_without v = at (all || is_subgrid_node v)
+    where
+      at : (c : Bool) → (if c then without_past v else v).turn ≡ v.turn
+      at true = refl
+      at false = refl
+
+  dropped_turn : (n m : NodeId) (t : NodeTrees) → turn_at (forgot (without_past_of all) n t) m ≡ turn_at t m
+  unfolding turn_at
+  dropped_turn n m t = ap turn_of (value_mapped (dropping n) t m) ∙ at (same m n) (value_at t m)
+    where
+      at : (c : Bool) (o : Option Node) → turn_of (value_by (λ k v. cond c (without_past_of all v) v) m o) ≡ turn_of o
+      at true None = refl
+      at true (Some v) = turn_without v
+      at false None = refl
+      at false (Some v) = refl
+
+  pub drops_turn : (ns : List NodeId) (t : NodeTrees) (n : NodeId) → turn_at (forgets (without_past_of all) ns t) n ≡ turn_at t n
+  drops_turn [] t n = refl
+  drops_turn (m ∷ ns) t n = drops_turn ns (forgot (without_past_of all) m t) n ∙ dropped_turn m n t
+
+  pub drops_right : (ns : List NodeId) (t : NodeTrees) → IsRight t → IsRight (forgets (without_past_of all) ns t)
+  drops_right ns t r =
+      still_right t (forgets (without_past_of all) ns t) r (λ n. inr (kept n)) (λ n. at n (is_among n ns && goes_at all t n) (drops_past ns t n))
+      (λ n l. record { later = omega (arith, drops_turn ns t n); same = λ e m. ap (λ b. sight_at b n) (drops_bare ns t) })
+    where
+      kept : (n : NodeId) → KeepsSame t (forgets (without_past_of all) ns t) n
+      kept n = record { kept = drops_kept ns t n; sight = ap (λ b. sight_at b n) (drops_bare ns t); children = ap (λ b. children_at b n) (drops_bare ns t) }
+
+      at : (n : NodeId) (b : Bool) → past_at (forgets (without_past_of all) ns t) n ≡ cond b no_past (past_at t n) → HoldsOn t (forgets (without_past_of all) ns t) n
+      at n true e = inl e
+      at n false e =
+          inr (record {
+            past = e;
+            label = ap (λ b. (sight_at b n).label) (drops_bare ns t);
+            chain = ap (λ b. (sight_at b n).chain) (drops_bare ns t);
+            siblings = ap (λ b. map standing_of (siblings_of (sight_at b n).below)) (drops_bare ns t);
+            children = ap (λ b. children_at b n) (drops_bare ns t);
+          })

@@ -41,7 +41,7 @@ module _ {A B : Type 0} (f : A → B) (key : A → ℤ) (other : B → ℤ) (sam
 
 -- ---- numbered items
 
-numbered_map : {A B : Type 0} (f : A → B) (n : ℕ) (xs : List A) → numbered_from n (map f xs) ≡ map (λ (e : ℕ × A). (e.0, f e.1)) (numbered_from n xs)
+pub numbered_map : {A B : Type 0} (f : A → B) (n : ℕ) (xs : List A) → numbered_from n (map f xs) ≡ map (λ (e : ℕ × A). (e.0, f e.1)) (numbered_from n xs)
 numbered_map f n [] = refl
 numbered_map f n (x ∷ rest) = ap (λ l. (n, f x) ∷ l) (numbered_map f (n + 1) rest)
 

@@ -13,14 +13,19 @@ use Rattle.tree_rules.specs.Answers as plain
 use Rattle.tree_rules.specs.Answers.{Kid, Pair}
 use Rattle.tree_rules.specs.Chains.{Above, Sibling, sibling_of, siblings_of}
 use Rattle.tree_rules.specs.Contexts as rules
+use Rattle.part_rules.specs.Lists.{zipped}
+use Rattle.part_rules.specs.Placement.{placed, range_of}
 use Rattle.part_rules.specs.declared.track.Space.TheVariants.{MaxContent}
 use Rattle.part_rules.specs.declared.view.View.{View}
+use Rattle.part_rules.specs.declared.wish.Wish.{Wish}
 use Rattle.tree_rules.specs.GridSizes.{TrackAxis, Wide, column_items_of, inline_of_entry, row_items_of, total_for}
-use Rattle.tree_rules.specs.Labels.{Label}
+use Rattle.tree_rules.specs.Labels.{GridStyle, Label}
+use Rattle.tree_rules.specs.Orders.{in_order, numbered_from, sorted_by}
 use Rattle.tree_rules.specs.Places.{Seen, answers_of}
 use Rattle.tree_rules.specs.Whole.{kids_of}
 use Rattle.placing.specs.Areas.{child_in}
 use Rattle.placing.specs.Bases.{AreOf, HoldsPlaces}
+use Rattle.placing.specs.Keeping.{standing_of}
 use Rattle.placing.specs.Nodes.{BareTrees, IsLive, children_at, kid_at, sight_at}
 use Rattle.placing.specs.Order.{numbers_in_order}
 use Rattle.placing.specs.Seats.{context_at}
@@ -37,6 +42,7 @@ use Rattle.placing.specs.declared.told.ToldRows.{ToldRows}
 use Rattle.placing.specs.declared.wide.GridBase.{GridBase}
 use Rattle.placing.specs.declared.wide.RowsAt.{RowsAt}
 use Rattle.placing.specs.declared.wide.WideChild.{WideChild}
+use Rattle.placing.proofs.Numbers.{map_sorted, numbered_map}
 use Rattle.placing.proofs.Seated.{siblings_below}
 use Rattle.placing.proofs.Tellings.{told_fewer}
 
@@ -45,15 +51,81 @@ orders_below : (above : Above) (n : ℕ) (below : Trees Label) → map (λ (k : 
 orders_below above n leafless = refl
 orders_below above n (tree x below after) = ap (λ l. x.grid.order ∷ l) (orders_below above (n + 1) after)
 
-module _ (s z : Seen) (grid : z.label.grid ≡ s.label.grid) (chain : z.chain ≡ s.chain) (siblings : siblings_of z.below ≡ siblings_of s.below) where
-  kids_same : map (λ (k : Kid). sibling_of k.label) (kids_in z) ≡ map (λ (k : Kid). sibling_of k.label) (kids_in s)
-  kids_same = siblings_below _ 0 z.below ∙ siblings ∙ sym (siblings_below _ 0 s.below)
+-- a numbered child, of which areas see this
+abbrev standing : ℕ × Sibling → ℕ × Sibling
+standing e = (e.0, standing_of e.1)
+
+-- the order of children depends on what areas depend on
+order_stands : (xs : List Sibling) → in_order (λ (s : Sibling). s.grid.order) (map standing_of xs) ≡ map standing (in_order (λ (s : Sibling). s.grid.order) xs)
+order_stands xs =
+    ap (sorted_by (λ (e : ℕ × Sibling). e.1.grid.order)) (numbered_map standing_of 0 xs)
+    ∙ map_sorted standing (λ (e : ℕ × Sibling). e.1.grid.order) (λ (e : ℕ × Sibling). e.1.grid.order) (λ e. refl) (numbered_from 0 xs)
+
+wishes_stand : (c : rules.Context) (es : List (ℕ × Sibling)) → map (λ (e : ℕ × Sibling). rules.wish_of c e.1) (map standing es) ≡ map (λ (e : ℕ × Sibling). rules.wish_of c e.1) es
+wishes_stand c [] = refl
+wishes_stand c (e ∷ es) = ap (λ l. rules.wish_of c e.1 ∷ l) (wishes_stand c es)
+
+zipped_stand : (es : List (ℕ × Sibling)) (areas : List Area) → zipped rules.with_area (map standing es) areas ≡ zipped rules.with_area es areas
+zipped_stand [] areas = refl
+zipped_stand (e ∷ es) [] = refl
+zipped_stand (e ∷ es) (a ∷ areas) = ap (λ l. (e.0, a) ∷ l) (zipped_stand es areas)
+
+-- the areas of children in this order, with these wishes
+abbrev placed_in : rules.Context → GridStyle → List (ℕ × Sibling) → List Wish → rules.Placed
+placed_in c g ordered wishes =
+    let areas = map (rules.cut_area c) (placed wishes (rules.shape_of c g)) in
+    record {
+      areas = zipped rules.with_area ordered areas;
+      columns = range_of c.columns.table.tracks (map (λ (a : Area). a.columns) areas);
+      rows = range_of c.rows.table.tracks (map (λ (a : Area). a.rows) areas);
+    }
+
+ordered_stand : (c : rules.Context) (g : GridStyle) (es : List (ℕ × Sibling)) (wishes : List Wish) → placed_in c g (map standing es) wishes ≡ placed_in c g es wishes
+ordered_stand c g es wishes =
+    let areas = map (rules.cut_area c) (placed wishes (rules.shape_of c g)) in
+    λ i. record {
+      areas = zipped_stand es areas i;
+      columns = range_of c.columns.table.tracks (map (λ (a : Area). a.columns) areas);
+      rows = range_of c.rows.table.tracks (map (λ (a : Area). a.rows) areas);
+    }
+
+placed_standing : (c : rules.Context) (g : GridStyle) (xs : List Sibling) → rules.placed_children c g (map standing_of xs) ≡ rules.placed_children c g xs
+placed_standing c g xs =
+    let ordered = in_order (λ (s : Sibling). s.grid.order) xs in
+    ap (λ (l : List (ℕ × Sibling)). placed_in c g l (map (λ (e : ℕ × Sibling). rules.wish_of c e.1) l)) (order_stands xs)
+    ∙ ap (placed_in c g (map standing ordered)) (wishes_stand c ordered)
+    ∙ ordered_stand c g ordered (map (λ (e : ℕ × Sibling). rules.wish_of c e.1) ordered)
+
+-- children of which areas see the same have the same areas
+pub standing_placed : (c : rules.Context) (g : GridStyle) (xs ys : List Sibling) → map standing_of xs ≡ map standing_of ys → rules.placed_children c g xs ≡ rules.placed_children c g ys
+standing_placed c g xs ys e = sym (placed_standing c g xs) ∙ ap (rules.placed_children c g) e ∙ placed_standing c g ys
+
+orders_stand : (xs : List Sibling) → map (λ (s : Sibling). s.grid.order) (map standing_of xs) ≡ map (λ (s : Sibling). s.grid.order) xs
+orders_stand [] = refl
+orders_stand (x ∷ xs) = ap (λ l. x.grid.order ∷ l) (orders_stand xs)
+
+module _ (s z : Seen) (grid : z.label.grid ≡ s.label.grid) (chain : z.chain ≡ s.chain) (siblings : map standing_of (siblings_of z.below) ≡ map standing_of (siblings_of s.below)) where
+  kids_stand : map standing_of (map (λ (k : Kid). sibling_of k.label) (kids_in s)) ≡ map standing_of (map (λ (k : Kid). sibling_of k.label) (kids_in z))
+  kids_stand = ap (map standing_of) (siblings_below _ 0 s.below) ∙ sym siblings ∙ sym (ap (map standing_of) (siblings_below _ 0 z.below))
 
   orders_same : map (λ (k : Kid). k.label.grid.order) (kids_in z) ≡ map (λ (k : Kid). k.label.grid.order) (kids_in s)
-  orders_same = orders_below _ 0 z.below ∙ ap (map (λ (x : Sibling). x.grid.order)) siblings ∙ sym (orders_below _ 0 s.below)
+  orders_same =
+      orders_below _ 0 z.below
+      ∙ sym (orders_stand (siblings_of z.below))
+      ∙ ap (map (λ (x : Sibling). x.grid.order)) siblings
+      ∙ orders_stand (siblings_of s.below)
+      ∙ sym (orders_below _ 0 s.below)
 
   areas_same : (kids : List NodeId) (c : rules.Context) (p : Placed) → HoldsAreas s kids c p → HoldsAreas z kids c p
-  areas_same kids c p h = record { placed = h.placed ∙ (λ i. rules.placed_children c (sym grid i) (sym kids_same i)); numbers = h.numbers ∙ ap numbers_in_order (sym orders_same); children = h.children; inside = h.inside }
+  areas_same kids c p h =
+      record {
+        placed = h.placed
+            ∙ standing_placed c s.label.grid (map (λ (k : Kid). sibling_of k.label) (kids_in s)) (map (λ (k : Kid). sibling_of k.label) (kids_in z)) kids_stand
+            ∙ ap (λ g. rules.placed_children c g (map (λ (k : Kid). sibling_of k.label) (kids_in z))) (sym grid);
+        numbers = h.numbers ∙ ap numbers_in_order (sym orders_same);
+        children = h.children;
+        inside = h.inside;
+      }
 
   context_same : (pairs : List Pair) → context_at z pairs ≡ context_at s pairs
   context_same pairs = (λ i. rules.context_by (grid i) (chain i) (reverse pairs))
@@ -156,7 +228,7 @@ kid_same b d c e = ap (λ (s : Seen). record { label = s.label; chain = s.chain;
 
 module _ (b d : BareTrees) (turn late : NodeId → ℕ) (n : NodeId)
     (label : (sight_at d n).label ≡ (sight_at b n).label) (chain : (sight_at d n).chain ≡ (sight_at b n).chain)
-    (siblings : siblings_of (sight_at d n).below ≡ siblings_of (sight_at b n).below) (kids : children_at d n ≡ children_at b n)
+    (siblings : map standing_of (siblings_of (sight_at d n).below) ≡ map standing_of (siblings_of (sight_at b n).below)) (kids : children_at d n ≡ children_at b n)
     (later : (c : NodeId) → IsLive d c → turn c ≤ late c)
     (stands : (c : NodeId) → IsLive d c → late c ≡ turn c → late c < last_turn → sight_at d c ≡ sight_at b c) where
   grid : (sight_at d n).label.grid ≡ (sight_at b n).label.grid

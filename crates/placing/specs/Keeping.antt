@@ -1,5 +1,5 @@
 -- What a call that keeps one answer does, and one that measures a leaf (own rule).
-use Rattle.std.specs.Prelude.{◌≡◌, ◌≤◌, ◌<◌, ℕ, Bool, true, false, List, [], ◌∷◌, ◌++◌, ◌⊎◌, Option, Some, length, take}
+use Rattle.std.specs.Prelude.{◌≡◌, ◌≤◌, ◌<◌, ◌&&◌, ◌||◌, ℕ, Bool, true, false, List, [], ◌∷◌, ◌++◌, ◌⊎◌, Option, Some, None, length, map, take, if◌then◌else◌}
 use Rattle.node_arena.specs.declared.number.NodeId.{NodeId}
 use Rattle.node_arena.specs.Numbers.{EachNode, IsNumbered, value_at}
 use Rattle.node_arena.specs.Plain.{Nodes, with_value}
@@ -17,7 +17,8 @@ use Rattle.placing.specs.Told.{last_turn, next_turn, no_past}
 use Rattle.placing.specs.declared.told.Past.{Past}
 use Rattle.placing.specs.Nodes.{NodeTrees, bare, children_at, sight_at}
 use Rattle.placing.specs.Walks.{kept_with, rising}
-use Rattle.tree_rules.specs.Chains.{siblings_of}
+use Rattle.tree_rules.specs.Chains.{Sibling, has_subgrid, is_grid_kind, siblings_of}
+use Rattle.tree_rules.specs.Labels.{GridAxis, GridStyle, grid_of, plain_axis, plain_grid}
 
 -- a leaf
 abbrev pub is_leaf : NodeKind → Bool
@@ -75,6 +76,23 @@ without_answers v = record v { kept = []; turn = next_turn v.turn }
 abbrev pub without_past : Node → Node
 without_past v = record v { past = no_past }
 
+-- a grid container with `subgrid` as a template, whatever its parent is
+abbrev pub is_subgrid_node : Node → Bool
+is_subgrid_node v = is_grid_kind v.kind && has_subgrid (grid_of v.style)
+
+-- a node that keeps nothing longer than its answers: any node, or only one that may be a subgrid
+abbrev pub without_past_of : Bool → Node → Node
+without_past_of all v = if all || is_subgrid_node v then without_past v else v
+
+-- whether that goes from a node
+abbrev pub goes_from : Bool → Option Node → Bool
+goes_from all None = all
+goes_from all (Some v) = all || is_subgrid_node v
+
+-- whether it goes from the node of a number
+unfoldable pub goes_at : Bool → NodeTrees → NodeId → Bool
+goes_at all t n = goes_from all (value_at t n)
+
 -- no node keeps anything longer than its answers
 abbrev pub HoldsNone : NodeTrees → Type 0
 HoldsNone t = EachNode (λ x. x.1.past ≡ no_past) t
@@ -93,13 +111,25 @@ pub record KeepsSame (old new : NodeTrees) (n : NodeId) : Type 0 where
 abbrev pub KeepsOn : NodeTrees → NodeTrees → NodeId → Type 0
 KeepsOn old new n = (kept_at new n ≡ []) ⊎ KeepsSame old new n
 
+-- What areas depend on of a child along an axis: its lines, and its template, by which a subgrid spans so many tracks (CSS Grid 2, 8.3 and section 9).
+abbrev pub lines_of : GridAxis → GridAxis
+lines_of g = record plain_axis { template = g.template; start_line = g.start_line; end_line = g.end_line }
+
+-- what areas depend on of the grid-class values of a child
+abbrev pub standing_by : GridStyle → GridStyle
+standing_by g = record plain_grid { columns = lines_of g.columns; rows = lines_of g.rows; order = g.order }
+
+-- What the areas of a grid depend on of a child: whether it is a grid, its lines, its templates and its place in the order; all else is left out.
+abbrev pub standing_of : Sibling → Sibling
+standing_of s = record { name = []; is_grid = s.is_grid; grid = standing_by s.grid }
+
 -- A node of the new tree keeps longer than its answers what it so kept in the old one, in which its values, its chain and its children were the same, and what
 -- areas depend on of these.
 pub record HoldsSame (old new : NodeTrees) (n : NodeId) : Type 0 where
   pub past : past_at new n ≡ past_at old n
   pub label : (sight_at (bare new) n).label ≡ (sight_at (bare old) n).label
   pub chain : (sight_at (bare new) n).chain ≡ (sight_at (bare old) n).chain
-  pub siblings : siblings_of (sight_at (bare new) n).below ≡ siblings_of (sight_at (bare old) n).below
+  pub siblings : map standing_of (siblings_of (sight_at (bare new) n).below) ≡ map standing_of (siblings_of (sight_at (bare old) n).below)
   pub children : children_at (bare new) n ≡ children_at (bare old) n
 
 -- it does, or it so keeps nothing

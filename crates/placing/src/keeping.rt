@@ -1,6 +1,6 @@
 //! Kept answers: one is looked up before anything else is computed, and what is computed is put last.
 
-ghost use Rattle.std.specs.Prelude.{◌≡◌, ◌∷◌, ◌++◌, ◌≤◌, [], ℕ, false, true, take, IfOk, IfSome, IfNone, OnOk, OnErr, List, Option};
+ghost use Rattle.std.specs.Prelude.{◌≡◌, ◌∷◌, ◌++◌, ◌≤◌, ◌||◌, [], ℕ, false, true, take, IfOk, IfSome, IfNone, OnOk, OnErr, List, Option};
 ghost use Rattle.std.specs.Option.{option_copied};
 ghost use Rattle.layout_cache.specs.Kept.{answer_to};
 ghost use Rattle.outside.specs.declared.event.Event.{Event};
@@ -18,7 +18,7 @@ ghost use Rattle.outside.specs.declared.tally.Tally.{Tally as Told};
 ghost use Rattle.placing.specs.Bases.{base_with, HoldsPlaces};
 ghost use Rattle.placing.specs.Kept.{bases_at, kept_at, plain_answer, IsRight, IsOfNode};
 ghost use Rattle.placing.specs.declared.node.Answer.TheVariants as answer;
-ghost use Rattle.placing.specs.Keeping.{without_past, Counts, CountsSome, is_leaf, Keeps};
+ghost use Rattle.placing.specs.Keeping.{is_subgrid_node, without_past_of, Counts, CountsSome, is_leaf, Keeps};
 ghost use Rattle.placing.specs.Nodes.{bare, children_at, sight_at, IsLive};
 ghost use Rattle.placing.specs.Ranges.{IsKind};
 ghost use Rattle.placing.specs.Walks.{events_at, kept_with, state, State, Stopped, Walked, WalkedBelow};
@@ -26,7 +26,7 @@ ghost use Rattle.placing.specs.Walks.{events_at, kept_with, state, State, Stoppe
 use crate::node::{Answer, Node};
 use crate::shared::SharedBase;
 use crate::sight::node_at;
-use layout_cache::{Ask, Given, Query};
+use layout_cache::{Ask, Given, Linked, Query};
 use lunit::{Lu, Name, NoMemory};
 use node_arena::{Arena, NodeId};
 use outside::{Ruler, Tally, Width};
@@ -175,24 +175,35 @@ pub fn keep_base(tree: &mut Arena<Node>, id: NodeId, base: SharedBase)
     node.past.bases.put(base);
 }
 
-/// Lets go what a node keeps longer than its answers.
-fn forget_past(node: &mut Node)
-    ensures { node.new ≡ without_past node.old }
+/// Whether what a node keeps longer than its answers is to go: that of any node, or only that of one that may be a subgrid.
+fn goes(node: &Node, all: bool) -> bool
+    ensures { result ≡ (all || is_subgrid_node node.now) }
 {
+    all || node.is_subgrid()
+}
+
+#[tactic(auto, using(crate::proofs::KeptTrees::goes_or_stays))]
+/// Lets go what a node keeps longer than its answers, where it is to go.
+fn forget_past(node: &mut Node, all: bool)
+    ensures { node.new ≡ without_past_of all node.old }
+{
+    if !goes(node, all) {
+        return;
+    }
     node.past.clear();
 }
 
 #[tactic(auto, using(layout_cache::proofs::Forgets::forget_laws))]
-/// Lets go what these nodes keep longer than their answers, and of no others. It passes over a number that names no node. Takes no
-/// memory.
-pub fn drop_past(tree: &mut Arena<Node>, ids: &[NodeId])
-    ensures { tree.new ≡ all_forgot without_past ids.now tree.old }
+/// Lets go what these nodes keep longer than their answers, of `all` of them or of those alone that may be subgrids, and of no
+/// others. It passes over a number that names no node. Takes no memory.
+pub fn drop_past(tree: &mut Arena<Node>, ids: &[NodeId], all: bool)
+    ensures { tree.new ≡ all_forgot (without_past_of all) ids.now tree.old }
 {
     for id in ids {
         let Some(node) = tree.get_mut(*id) else {
             continue;
         };
-        forget_past(node);
+        forget_past(node, all);
     }
 }
 

@@ -1,6 +1,6 @@
 //! What holds of trees that keep answers. Each law is the contract of a function that does nothing.
 
-ghost use Rattle.std.specs.Prelude.{◌≡◌, [], Some, List, if◌then◌else◌};
+ghost use Rattle.std.specs.Prelude.{◌≡◌, ◌&&◌, [], Bool, Some, List, if◌then◌else◌};
 ghost use Rattle.layout_cache.specs.Kept.{answer_to};
 ghost use Rattle.layout_cache.specs.Reach.{forgets};
 ghost use Rattle.node_arena.specs.declared.number.NodeId.{NodeId};
@@ -9,7 +9,7 @@ ghost use Rattle.tree_rules.specs.Queries.{answer_of};
 ghost use Rattle.tree_rules.specs.declared.query.Query.{Query};
 ghost use Rattle.placing.specs.declared.node.Answer.{Answer};
 ghost use Rattle.placing.specs.Kept.{kept_at, past_at, plain_answer, turn_at, IsRight, IsOfNode};
-ghost use Rattle.placing.specs.Keeping.{without_answers, without_past, HasTurn, HoldsNone, HoldsOn, IsTurned, KeepsOn, KeepsNone};
+ghost use Rattle.placing.specs.Keeping.{goes_at, without_answers, without_past_of, HasTurn, HoldsNone, HoldsOn, IsTurned, KeepsOn, KeepsNone};
 ghost use Rattle.placing.specs.Nodes.{bare, children_at, label_of_bare, sight_at, BareTrees, IsLive, NodeTrees};
 ghost use Rattle.placing.specs.Ranges.{AreReadable, IsReadable};
 ghost use Rattle.placing.specs.Told.{no_past};
@@ -51,17 +51,19 @@ pub fn forgetting_keeps_the_rest()
 {}
 
 #[tactic(auto, using(crate::proofs::KeptTrees::drops_bare, crate::proofs::KeptTrees::drops_kept, crate::proofs::KeptTrees::drops_past, crate::proofs::KeptTrees::drops_turn, crate::proofs::KeptTrees::drops_right))]
-/// Letting go what nodes keep longer than their answers changes nothing else, and what is right stays right.
+/// Letting go what nodes keep longer than their answers, of all or of those alone that may be subgrids, changes nothing else, and what is right stays right.
 pub fn dropping_keeps_the_rest()
-    ensures same { (ns : List NodeId) (t : NodeTrees) → bare (forgets without_past ns t) ≡ bare t }
-    ensures kept { (ns : List NodeId) (t : NodeTrees) (n : NodeId) →
-        kept_at (forgets without_past ns t) n ≡ kept_at t n }
-    ensures past { (ns : List NodeId) (t : NodeTrees) (n : NodeId) →
-        past_at (forgets without_past ns t) n ≡ (if is_among n ns then no_past else past_at t n) }
-    ensures turn { (ns : List NodeId) (t : NodeTrees) (n : NodeId) →
-        turn_at (forgets without_past ns t) n ≡ turn_at t n }
-    ensures right { (ns : List NodeId) (t : NodeTrees) → IsRight t →
-        IsRight (forgets without_past ns t) }
+    ensures same { (all : Bool) (ns : List NodeId) (t : NodeTrees) →
+        bare (forgets (without_past_of all) ns t) ≡ bare t }
+    ensures kept { (all : Bool) (ns : List NodeId) (t : NodeTrees) (n : NodeId) →
+        kept_at (forgets (without_past_of all) ns t) n ≡ kept_at t n }
+    ensures past { (all : Bool) (ns : List NodeId) (t : NodeTrees) (n : NodeId) →
+        past_at (forgets (without_past_of all) ns t) n ≡
+        (if is_among n ns && goes_at all t n then no_past else past_at t n) }
+    ensures turn { (all : Bool) (ns : List NodeId) (t : NodeTrees) (n : NodeId) →
+        turn_at (forgets (without_past_of all) ns t) n ≡ turn_at t n }
+    ensures right { (all : Bool) (ns : List NodeId) (t : NodeTrees) → IsRight t →
+        IsRight (forgets (without_past_of all) ns t) }
 {}
 
 #[tactic(auto, using(crate::proofs::Readable::by_nodes))]

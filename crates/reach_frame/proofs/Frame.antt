@@ -30,6 +30,14 @@ no_chain a i x e = ap (λ t. if a.is_grid && t then link_to a i ∷ a.chain else
     none true = refl
     none false = refl
 
+-- the same of a node of a whole tree
+pub lone : (root : NodeId) (b : BareTrees) → IsRooted root b → (n : NodeId) → IsLive b n → is_sub (sight_at b n).label ≡ false → (sight_at b n).chain ≡ []
+lone root b rb n live e = at (rb.upper n live)
+  where
+    at : HasUpper root b n → (sight_at b n).chain ≡ []
+    at (inl r) = ap (λ m. (sight_at b m).chain) r ∙ rb.chain
+    at (inr p) = p.1.next.chain ∙ no_chain (above_at b p.0) p.1.index (sight_at b n).label e
+
 -- ---- children by their numbers
 number_get : {A : Type 0} (u : Trees (NodeId × A)) (i : ℕ) → number_of (slice_get (tops u) i) ≡ slice_get (top_numbers u) i
 number_get leafless i = refl
@@ -63,14 +71,6 @@ module _ (root : NodeId) (b u : BareTrees) (rb : IsRooted root b) (ru : IsRooted
   abbrev mark : NodeId → Bool
   mark n = grid && touched n
 
-  -- what is no subgrid has no chain
-  alone : (n : NodeId) → IsLive b n → is_sub (sight_at b n).label ≡ false → (sight_at b n).chain ≡ []
-  alone n live e = at (rb.upper n live)
-    where
-      at : HasUpper root b n → (sight_at b n).chain ≡ []
-      at (inl r) = ap (λ m. (sight_at b m).chain) r ∙ rb.chain
-      at (inr p) = p.1.next.chain ∙ no_chain (above_at b p.0) p.1.index (sight_at b n).label e
-
   same_sub : (n : NodeId) → ShowsSame b u n → is_sub (sight_at u n).label ≡ is_sub (sight_at b n).label
   same_sub n s = ap sub_by s.own
 
@@ -93,7 +93,7 @@ module _ (root : NodeId) (b u : BareTrees) (rb : IsRooted root b) (ru : IsRooted
           number = p.1.next.number
 
           by : (s : Bool) → is_sub (sight_at u n).label ≡ s → (c : Bool) → mark p.0 ≡ c → (sight_at u n).chain ≡ (sight_at b n).chain
-          by false e c d = p.1.next.chain ∙ no_chain (above_at u p.0) p.1.index (sight_at u n).label e ∙ sym (alone n shows.live (sym (same_sub n shows) ∙ e))
+          by false e c d = p.1.next.chain ∙ no_chain (above_at u p.0) p.1.index (sight_at u n).label e ∙ sym (lone root b rb n shows.live (sym (same_sub n shows) ∙ e))
           by true e true d = absurd (f 1 (p.0, (p.1.index, (number, (e, inl d)))))
           by true e false d =
               let above = local.shows p.0 p.1.live d in

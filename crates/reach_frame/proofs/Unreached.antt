@@ -1,6 +1,6 @@
 -- What is not reached is seen as before, so that its kept answers stay right.
 use Rattle.std.proofs.Common.{◌≡◌, ℕ, zero, suc, ◌<◌, ◌≤◌, Bool, true, false, ◌&&◌, List, [], ◌∷◌, Option, Some, None, IsSome, is_some, refl, sym, ap, ◌∙◌, arith, inl, inr}
-use Rattle.std.specs.Prelude.{◌⊎◌, slice_get}
+use Rattle.std.specs.Prelude.{◌⊎◌, map, slice_get}
 use Rattle.std.proofs.lemmas.Bool.{and_parts}
 use Rattle.plain_tree.specs.Trees.{height_of}
 use Rattle.node_arena.specs.declared.number.NodeId.{NodeId}
@@ -16,7 +16,7 @@ use Rattle.tree_rules.specs.Chains.{has_subgrid, is_grid_kind, siblings_of}
 use Rattle.tree_rules.specs.Labels.{grid_of}
 use Rattle.tree_rules.specs.Places.{Seen}
 use Rattle.placing.specs.declared.node.Node.{Node}
-use Rattle.placing.specs.Keeping.{HasGone, HoldsOn, HoldsSame, IsTurned, KeepsOn}
+use Rattle.placing.specs.Keeping.{HasGone, HoldsOn, HoldsSame, IsTurned, KeepsOn, standing_of}
 use Rattle.placing.specs.Kept.{IsRight, kept_at, kept_of, past_at, past_of, turn_at}
 use Rattle.placing.specs.Told.{last_turn, no_past}
 use Rattle.placing.specs.Nodes.{BareTrees, NodeTrees, bare, bare_of, children_at, label_of_bare, level_at, sight_at}
@@ -24,9 +24,9 @@ use Rattle.placing.proofs.Bares.{bare_there, child_bare, distinct_bare, height_b
 use Rattle.placing.proofs.KeptTrees.{still_right}
 use Rattle.placing.proofs.Mapped.{below_mapped}
 use Rattle.placing.proofs.Sights.{sight_label}
-use Rattle.reach_frame.specs.Local.{IsFelt, IsLocal, is_sub}
+use Rattle.reach_frame.specs.Local.{IsFelt, IsLocal, PlacesSame, is_sub}
 use Rattle.reach_frame.proofs.Above.{above_from, above_upwards}
-use Rattle.reach_frame.proofs.Frame.{none_felt, not_both, same_chain}
+use Rattle.reach_frame.proofs.Frame.{lone, none_felt, not_both, same_chain}
 use Rattle.reach_frame.proofs.Frames.{children_stay, seen_same}
 use Rattle.reach_frame.proofs.Reached.{above_reached, felt_top, felt_visits, marked_visits}
 use Rattle.reach_frame.proofs.Rooted.{rooted}
@@ -158,7 +158,7 @@ module _ (t u : NodeTrees) (dt : IsDistinct t) (du : IsDistinct u) (root : NodeI
         past = same;
         label = values;
         chain = same_chain root (bare t) (bare u) rb ru (λ m. is_among m ts) grid local (level_at (bare u) n) n (omega arith) live (marked n) (λ k. none_felt (λ m. grid && is_among m ts) (bare u) marked k n);
-        siblings = shows.siblings;
+        siblings = ap (map standing_of) shows.siblings;
         children = shows.children;
       }
     where
@@ -173,17 +173,33 @@ module _ (t u : NodeTrees) (dt : IsDistinct t) (du : IsDistinct u) (root : NodeI
         past = same;
         label = ap (λ (v : Seen). v.label) s.0;
         chain = ap (λ (v : Seen). v.chain) s.0;
-        siblings = ap (λ (v : Seen). siblings_of v.below) s.0;
+        siblings = ap (λ (v : Seen). map standing_of (siblings_of v.below)) s.0;
         children = s.1;
+      }
+
+  -- a node that is no subgrid has no chain in either tree
+  same_places : (n : NodeId) → IsSome (part_at t n) → IsSome (part_at u n) → PlacesSame (bare t) (bare u) n → is_sub (sight_at (bare u) n).label ≡ false → past_at u n ≡ past_at t n → HoldsSame t u n
+  same_places n old new places sub same =
+      let rb = rooted root (bare t) (distinct_bare t dt) (omega (arith, low_t, height_bare t)) (tops_bare t ∙ tops_t) in
+      let ru = rooted root (bare u) (distinct_bare u du) (omega (arith, low_u, height_bare u)) (tops_bare u ∙ tops_u) in
+      record {
+        past = same;
+        label = places.label;
+        chain = lone root (bare u) ru n (live_bare u n ∙ new) sub ∙ sym (lone root (bare t) rb n (live_bare t n ∙ old) (ap is_sub (sym places.label) ∙ sub));
+        siblings = places.siblings;
+        children = places.children;
       }
 
   -- a node of the new tree keeps no answer, or it is not reached and keeps what it kept
   abbrev pub KeepsOrNot : NodeId → Type 0
   KeepsOrNot n = (kept_at u n ≡ []) ⊎ ((IsSome (part_at t n) × (is_among n (reached_by node_sub t ts grid) ≡ false)) × (kept_at u n ≡ kept_at t n))
 
-  -- subgrids do not feel the change and the values of a node are the same, or it is not reached
+  -- what a node keeps longer than its answers holds on: subgrids do not feel the change and its values are the same; or it is no subgrid, and what its areas depend on
+  -- is the same; or it is not reached
   abbrev pub ReadsSame : NodeId → Type 0
-  ReadsSame n = ((grid ≡ false) × ((sight_at (bare u) n).label ≡ (sight_at (bare t) n).label)) ⊎ (is_among n (reached_by node_sub t ts grid) ≡ false)
+  ReadsSame n =
+      ((grid ≡ false) × ((sight_at (bare u) n).label ≡ (sight_at (bare t) n).label))
+      ⊎ ((PlacesSame (bare t) (bare u) n × (is_sub (sight_at (bare u) n).label ≡ false)) ⊎ (is_among n (reached_by node_sub t ts grid) ≡ false))
 
   -- it keeps nothing longer than its answers, or it reads the same and so keeps what it kept
   abbrev pub HoldsOrNot : NodeId → Type 0
@@ -213,7 +229,8 @@ module _ (t u : NodeTrees) (dt : IsDistinct t) (du : IsDistinct u) (root : NodeI
         where
           kept : IsSome (part_at u n) → IsSome (part_at t n) → ReadsSame n → past_at u n ≡ past_at t n → HoldsOn t u n
           kept new old (inl calm) same = inr (same_lines calm.0 n new calm.1 same)
-          kept new old (inr e) same = inr (same_seen n old new e same)
+          kept new old (inr (inl p)) same = inr (same_places n old new p.0 p.1 same)
+          kept new old (inr (inr e)) same = inr (same_seen n old new e same)
 
           by : IsSome (part_at u n) → HoldsOrNot n → HoldsOn t u n
           by new (inl e) = inl e

@@ -1,10 +1,11 @@
 -- A change of a tree of nodes, as each node sees it (own rule). The nodes that it touches are told by a test; `grid` says whether it is felt by subgrids.
-use Rattle.std.specs.Prelude.{◌≡◌, ◌⊎◌, ℕ, zero, suc, Bool, true, false, ◌&&◌, [], Some}
+use Rattle.std.specs.Prelude.{◌≡◌, ◌⊎◌, ℕ, zero, suc, Bool, true, false, ◌&&◌, [], map, Some}
 use Rattle.node_arena.specs.declared.number.NodeId.{NodeId}
 use Rattle.node_arena.specs.Numbers.{child_at}
 use Rattle.tree_rules.specs.Chains.{has_subgrid, is_grid_kind, sibling_of, siblings_of}
 use Rattle.tree_rules.specs.Labels.{Label}
 use Rattle.placing.specs.Children.{IsParent, IsTree}
+use Rattle.placing.specs.Keeping.{standing_of}
 use Rattle.placing.specs.Nodes.{BareTrees, IsLive, children_at, sight_at}
 
 -- a grid with `subgrid` as a template, whatever its parent is
@@ -29,6 +30,12 @@ pub record ShowsSame (b u : BareTrees) (n : NodeId) : Type 0 where
   pub own : sibling_of (sight_at u n).label ≡ sibling_of (sight_at b n).label
   pub children : children_at u n ≡ children_at b n
   pub siblings : siblings_of (sight_at u n).below ≡ siblings_of (sight_at b n).below
+
+-- the values of a node are the same, and so are its children and what its areas depend on of these
+pub record PlacesSame (b u : BareTrees) (n : NodeId) : Type 0 where
+  pub label : (sight_at u n).label ≡ (sight_at b n).label
+  pub children : children_at u n ≡ children_at b n
+  pub siblings : map standing_of (siblings_of (sight_at u n).below) ≡ map standing_of (siblings_of (sight_at b n).below)
 
 -- From the tree b comes u: a node that is not touched has the same label; one that is not touched, or any where no chain is concerned, shows the same. Such a
 -- node
