@@ -124,10 +124,9 @@ fn ask_block<R: Ruler, L: Ledger>(
         let size = block_in(walk, entry.child, &seat, width)?;
         return Ok(size);
     }
-    let above = Above::Nothing;
     let seat = Seat {
         reps: &[],
-        above: &above,
+        above: &Above::Nothing,
         area: entry.area,
     };
     let alone = block_in(walk, entry.child, &seat, width)?;

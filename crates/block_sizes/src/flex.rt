@@ -158,7 +158,7 @@ fn items_in_column(
 }
 
 /// The block size of the content of a row. `NoMemory` where memory is wanting.
-pub(crate) fn row_size(
+fn row_size(
     alloc: Global,
     tree: &Arena<Node>,
     id: NodeId,
@@ -180,8 +180,29 @@ pub(crate) fn row_size(
     row_block(alloc, &node_at(tree, id).style, &outers, ranges)
 }
 
+/// The block size of the content of a row, as `row_size` finds it. The row is let go here, in one place.
+pub(crate) fn size_of_row(
+    alloc: Global,
+    tree: &Arena<Node>,
+    id: NodeId,
+    width: Lu,
+    parts: RowParts,
+) -> Result<Lu, NoMemory>
+    requires live { IsLive (bare tree.now.tree) id }
+    requires readable { AreReadable (bare tree.now.tree) }
+    requires row { IsRow (bare tree.now.tree) id width parts }
+    ensures { IfOk result
+        (λ size. size ≡
+        rules.row_block (flex_seen (bare tree.now.tree) id)
+        (rules.row_lines (flex_seen (bare tree.now.tree) id) width)
+        (rules.row_settled (flex_seen (bare tree.now.tree) id)
+        (rules.row_lines (flex_seen (bare tree.now.tree) id) width))) }
+{
+    row_size(alloc, tree, id, width, &parts)
+}
+
 /// The block size of the content of a column. `NoMemory` where memory is wanting.
-pub(crate) fn column_size(
+fn column_size(
     alloc: Global,
     tree: &Arena<Node>,
     id: NodeId,
@@ -198,6 +219,25 @@ pub(crate) fn column_size(
 {
     let items = items_in_column(alloc, tree, id, parts)?;
     Ok(column_block(&node_at(tree, id).style, &items))
+}
+
+/// The block size of the content of a column, as `column_size` finds it. The column is let go here, in one place.
+pub(crate) fn size_of_column(
+    alloc: Global,
+    tree: &Arena<Node>,
+    id: NodeId,
+    width: Lu,
+    parts: ColumnParts,
+) -> Result<Lu, NoMemory>
+    requires live { IsLive (bare tree.now.tree) id }
+    requires readable { AreReadable (bare tree.now.tree) }
+    requires column { IsColumn (bare tree.now.tree) id width parts }
+    ensures { IfOk result
+        (λ size. size ≡
+        rules.column_block (flex_seen (bare tree.now.tree) id)
+        (rules.column_settled (flex_seen (bare tree.now.tree) id) width)) }
+{
+    column_size(alloc, tree, id, width, &parts)
 }
 
 /// The child at an index.

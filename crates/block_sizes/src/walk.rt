@@ -26,13 +26,13 @@ use crate::again::{ToldWide, keep_told};
 use crate::asking::{told_wide_at, wide_at};
 use crate::children::given_box;
 use crate::flex::{
-    ColumnParts, RowParts, box_at, boxes_in_column, column_size, items_in_row, member_at, row_size,
-    size_of,
+    ColumnParts, RowParts, box_at, boxes_in_column, items_in_row, member_at, size_of,
+    size_of_column, size_of_row,
 };
 use crate::flexes::row_lines;
 use crate::queries::{block_query, kept_block, kept_rows};
 use crate::row_sizes::laid_rows;
-use crate::wide::lent_rows;
+use crate::wide::lent_of;
 use inline_sizes::{Member, flex_in};
 use layout_cache::{Given, Query};
 use lunit::{Area, Item, Lu, NoMemory, Sequence, Span};
@@ -112,10 +112,9 @@ fn ask_members<R: Ruler, L: Ledger>(
             &node_at(walk.tree, member.child).style,
             box_at(boxes, index),
         );
-        let above = Above::Nothing;
         let seat = Seat {
             reps: &[],
-            above: &above,
+            above: &Above::Nothing,
             area: NO_AREA,
         };
         let block = block_in(walk, member.child, &seat, &width)?;
@@ -277,7 +276,7 @@ fn column_anew<R: Ruler, L: Ledger>(
 {
     let width = size_of(&query.inline);
     let parts = column_in(walk, id, width)?;
-    let size = column_size(walk.alloc, walk.tree, id, width, &parts)?;
+    let size = size_of_column(walk.alloc, walk.tree, id, width, parts)?;
     walk.put(id, query, Answer::Block(size))?;
     Ok(size)
 }
@@ -311,7 +310,7 @@ fn row_anew<R: Ruler, L: Ledger>(
 {
     let width = size_of(&query.inline);
     let parts = row_in(walk, id, width)?;
-    let size = row_size(walk.alloc, walk.tree, id, width, &parts)?;
+    let size = size_of_row(walk.alloc, walk.tree, id, width, parts)?;
     walk.put(id, query, Answer::Block(size))?;
     Ok(size)
 }
@@ -427,7 +426,7 @@ pub(crate) fn rows_anew<R: Ruler, L: Ledger>(
     subgrids_are_grids(walk.tree, id);
     let width = &query.inline;
     let wide = wide_at(walk, id, seat, width)?;
-    let items = lent_rows(walk.alloc, walk.tree, id, seat.reps, width, &wide)?;
+    let items = lent_of(walk.alloc, walk.tree, id, seat.reps, width, wide)?;
     let lent = Sequence::from_slice(walk.alloc, items.as_slice())?;
     walk.put(id, query, Answer::Lent(items))?;
     Ok(lent)

@@ -311,7 +311,7 @@ fn with_standing_item(
 
 /// The items that a subgrid in the rows lends: one that stands for itself, and those of its children (CSS Grid 2, section 9).
 /// `NoMemory` where memory is wanting.
-pub(crate) fn lent_rows(
+fn lent_rows(
     alloc: Global,
     tree: &Arena<Node>,
     id: NodeId,
@@ -333,4 +333,25 @@ pub(crate) fn lent_rows(
     let levels = row_levels(&base.above);
     let items = with_standing_item(alloc, levels, wide.items.as_slice())?;
     Ok(items)
+}
+
+/// The items that a subgrid in the rows lends, as `lent_rows` finds them. The grid in its columns is let go here, in one place.
+pub(crate) fn lent_of(
+    alloc: Global,
+    tree: &Arena<Node>,
+    id: NodeId,
+    reps: &[(u32, u32)],
+    width: &Given,
+    wide: GridWide,
+) -> Result<Sequence<Item>, NoMemory>
+    requires live { IsLive (bare tree.now.tree) id }
+    requires readable { AreReadable (bare tree.now.tree) }
+    requires kind { (sight_at (bare tree.now.tree) id).label.kind ≡ kind.Grid }
+    requires wide { IsWide (bare tree.now.tree) id reps.now width.now wide }
+    ensures { IfOk result
+        (λ items. items ≡
+        grid_lends_rows (grid_seen (bare tree.now.tree) id reps.now width.now)
+        (rows_seen (bare tree.now.tree) id reps.now width.now)) }
+{
+    lent_rows(alloc, tree, id, reps, width, &wide)
 }

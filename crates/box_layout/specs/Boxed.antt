@@ -62,7 +62,8 @@ IsNearSpot level spot = IsNearAt level spot.x spot.y (frame_of spot.frame.now)
 
 -- ---- what the boxes are handed to
 
--- the same is handed to, and the same list of boxes that were found last is used: what is written there is seen by those who lent it
+-- the receiver of the boxes and the list of those that were found last stay the ones of before: what is written there is seen by
+-- those who lent it
 pub record SameSinks {T : Type 0} (old new : Boxes T) : Type 0 where
   pub told : new.told.ghost_name ≡ old.told.ghost_name
   pub last : new.last.ghost_name ≡ old.last.ghost_name
@@ -89,6 +90,6 @@ pub record IsChildBoxed (b : BareTrees) (c : NodeId) (q : Query) (old new : Stat
 abbrev pub IsQuietBelow : BareTrees → NodeId → Query → State → State → Type 0
 IsQuietBelow b n q old new = AreKeptBelow b n q old → new ≡ old
 
--- the same of a node that may be a leaf
+-- where all questions on the way are kept, nothing changes, for a node that may be a leaf
 abbrev pub IsQuietChild : BareTrees → NodeId → Query → State → State → Type 0
 IsQuietChild b c q old new = (is_container (sight_at b c).label.kind ≡ true → AreKeptBelow b c q old) → new ≡ old

@@ -63,6 +63,24 @@ fn frames_in_row(
     frames_in_lines(alloc, tree, id, false, width, height, &lined)
 }
 
+/// The frames of the children of a row, as `frames_in_row` finds them. The row is let go here, in one place.
+fn frames_of_row(
+    alloc: Global,
+    tree: &Arena<Node>,
+    id: NodeId,
+    width: Lu,
+    height: Lu,
+    row: RowParts,
+) -> Result<Sequence<Frame>, NoMemory>
+    requires live { IsLive (bare tree.now.tree) id }
+    requires readable { AreReadable (bare tree.now.tree) }
+    requires row { IsRow (bare tree.now.tree) id width row }
+    ensures { IfOk result
+        (AreFrames (bare tree.now.tree) id (row_seen (bare tree.now.tree) id width height)) }
+{
+    frames_in_row(alloc, tree, id, width, height, &row)
+}
+
 /// The frames of the children of a column whose content box has these sizes, once its lines are known.
 fn frames_in_column(
     alloc: Global,
@@ -99,6 +117,29 @@ fn frames_in_column(
     frames_in_lines(alloc, tree, id, true, height, width, &lined)
 }
 
+/// The frames of the children of a column, as `frames_in_column` finds them. The column and its lines are let go here, in one place.
+fn frames_of_column(
+    alloc: Global,
+    tree: &Arena<Node>,
+    id: NodeId,
+    width: Lu,
+    height: Lu,
+    column: ColumnParts,
+    lines: Lines,
+) -> Result<Sequence<Frame>, NoMemory>
+    requires live { IsLive (bare tree.now.tree) id }
+    requires readable { AreReadable (bare tree.now.tree) }
+    requires column { IsColumn (bare tree.now.tree) id width column }
+    requires lines { lines_of lines ≡
+        column_lines_seen (bare tree.now.tree) id height
+        (settled_by (bare tree.now.tree) column.members column.boxes) }
+    requires ranges { AreRanges (length column.members) lines.ranges }
+    ensures { IfOk result
+        (AreFrames (bare tree.now.tree) id (column_seen (bare tree.now.tree) id width height)) }
+{
+    frames_in_column(alloc, tree, id, width, height, &column, &lines)
+}
+
 /// The frames of the children of a row of this inline size that is given this block size. Nothing is kept for the row itself. It
 /// makes one step. `NoMemory` where memory is wanting.
 pub fn row_frames<R: Ruler, L: Ledger>(
@@ -123,7 +164,7 @@ pub fn row_frames<R: Ruler, L: Ledger>(
         Stopped id q (seen R.log walk.old) (seen R.log walk.new)) }
 {
     let row = row_in(walk, id, width)?;
-    let frames = frames_in_row(walk.alloc, walk.tree, id, width, height, &row)?;
+    let frames = frames_of_row(walk.alloc, walk.tree, id, width, height, row)?;
     Ok(frames)
 }
 
@@ -194,7 +235,7 @@ pub fn column_frames<R: Ruler, L: Ledger>(
         blocks,
         walk.passes,
     )?;
-    let frames = frames_in_column(walk.alloc, walk.tree, id, width, height, &column, &lines)?;
+    let frames = frames_of_column(walk.alloc, walk.tree, id, width, height, column, lines)?;
     let told = frames.as_slice();
     ask_widths(walk, id, width, height, told)?;
     Ok(frames)

@@ -272,7 +272,7 @@ fn frames_under<R: Ruler, L: Ledger>(
     id: NodeId,
     query: Query,
     reps: &[(u32, u32)],
-    above: &Above,
+    above: Above,
     area: Area,
 ) -> Result<SharedFrames, NoMemory>
     requires stands { Stands walk.old }
@@ -280,7 +280,7 @@ fn frames_under<R: Ruler, L: Ledger>(
     requires query { query ≡ frames_asked reps.now query.inline query.block }
     requires fits { Fits (sight_at (nodes walk.old) id) query }
     requires absent { IsAbsent query (kept walk.old id) }
-    requires seat { IsSeat (sight_at (nodes walk.old) id) reps.now above.now area }
+    requires seat { IsSeat (sight_at (nodes walk.old) id) reps.now above area }
     requires columns { IsSpread (farthest (level_at (nodes walk.old) id)) query.inline }
     requires rows { IsSpread (farthest (level_at (nodes walk.old) id)) query.block }
     ensures value { IfOk result (λ frames. AnswerFrames (nodes walk.old) id query frames) }
@@ -299,7 +299,11 @@ fn frames_under<R: Ruler, L: Ledger>(
         AreLeavesKept (nodes walk.old) id query
         (seen R.log walk.new)) }
 {
-    let seat = Seat { reps, above, area };
+    let seat = Seat {
+        reps,
+        above: &above,
+        area,
+    };
     frames_anew(walk, id, query, &seat)
 }
 
@@ -350,5 +354,5 @@ pub fn frames_of<R: Ruler, L: Ledger>(
     }
     let query = frames_query(walk.alloc, reps, inline, block)?;
     let (above, area) = seat(walk.alloc, walk.tree, id, reps)?;
-    frames_under(walk, id, query, reps, &above, area)
+    frames_under(walk, id, query, reps, above, area)
 }

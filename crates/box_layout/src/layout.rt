@@ -177,11 +177,11 @@ fn boxes_of_tree<T: BoxSink, R: Ruler, L: Ledger>(
     let frame = root_frame(walk, id, width, height)?;
     let x = Along::of(0);
     let y = Along::of(0);
-    let nothing = Above::Nothing;
+    let nothing = &Above::Nothing;
     out.told.make_room(walk.tree.len());
     let seat = Seat {
         reps: &[],
-        above: &nothing,
+        above: nothing,
         area: NO_AREA,
     };
     let spot = Spot {
@@ -189,7 +189,7 @@ fn boxes_of_tree<T: BoxSink, R: Ruler, L: Ledger>(
         x,
         y,
     };
-    boxes_of(walk, id, &seat, &nothing, &spot, out)?;
+    boxes_of(walk, id, &seat, nothing, &spot, out)?;
     Ok(RootFrame {
         width,
         height,
@@ -225,11 +225,11 @@ fn boxes_again<T: BoxSink, R: Ruler, L: Ledger>(
     let id = root(walk.tree);
     let x = Along::of(0);
     let y = Along::of(0);
-    let nothing = Above::Nothing;
+    let nothing = &Above::Nothing;
     out.told.make_room(walk.tree.len());
     let seat = Seat {
         reps: &[],
-        above: &nothing,
+        above: nothing,
         area: NO_AREA,
     };
     let spot = Spot {
@@ -237,7 +237,7 @@ fn boxes_again<T: BoxSink, R: Ruler, L: Ledger>(
         x,
         y,
     };
-    boxes_of(walk, id, &seat, &nothing, &spot, out)
+    boxes_of(walk, id, &seat, nothing, &spot, out)
 }
 
 /// Hands over the boxes of a tree as [`walk_boxes`] does, by the frame that it found for the root, where the containers still keep what

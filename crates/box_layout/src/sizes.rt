@@ -115,10 +115,9 @@ pub(crate) fn height_in<R: Ruler, L: Ledger>(
     ensures stopped { OnErr result
         (Stopped id (block_query false [] width.now) (seen R.log walk.old) (seen R.log walk.new)) }
 {
-    let nothing = Above::Nothing;
     let seat = Seat {
         reps: &[],
-        above: &nothing,
+        above: &Above::Nothing,
         area,
     };
     block_in(walk, id, &seat, width)

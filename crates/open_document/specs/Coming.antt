@@ -65,5 +65,6 @@ module _ {before : List Box} {count : ℕ} {changes : List Change} {apart : Bool
   pub no_more : (done : List Box) → HaveCome before count changes apart boxes done → HaveCome before count changes apart boxes (done ++ [])
   no_more done came = subst (HaveCome before count changes apart boxes) (sym (append-nil done)) came
 
-  pub both_came : (done x y : List Box) → HaveCome before count changes apart boxes ((done ++ x) ++ y) → HaveCome before count changes apart boxes (done ++ (x ++ y))
+  pub both_came : (done x y : List Box) → HaveCome before count changes apart boxes ((done ++ x) ++ y) →
+      HaveCome before count changes apart boxes (done ++ (x ++ y))
   both_came done x y came = subst (HaveCome before count changes apart boxes) (append_assoc done x y) came

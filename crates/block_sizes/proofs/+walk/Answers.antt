@@ -670,16 +670,16 @@ walk::rows_anew-wide_at-requires g t c =
     let small : 16 * size_at (nodes c.args.walk.now) c.args.id + 4 < 16 * size_at (nodes c.args.walk.now) c.args.id + 5 = omega arith in
     search rules
 
-pub walk::rows_anew-lent_rows-requires-clause-live : goal.walk::rows_anew-lent_rows-requires-clause-live
-walk::rows_anew-lent_rows-requires-clause-live g t c = subst (λ (z : BareTrees). IsLive z c.args.id) (sym (c.in_ok-wide.ensures.below c.args.query (ap (λ (q : Query). q.reps) c.requires.query) refl (ap (λ (q : Query). needs_inline q.ask) c.requires.query)).walk.bare_same) c.requires.live
+pub walk::rows_anew-lent_of-requires-clause-live : goal.walk::rows_anew-lent_of-requires-clause-live
+walk::rows_anew-lent_of-requires-clause-live g t c = subst (λ (z : BareTrees). IsLive z c.args.id) (sym (c.in_ok-wide.ensures.below c.args.query (ap (λ (q : Query). q.reps) c.requires.query) refl (ap (λ (q : Query). needs_inline q.ask) c.requires.query)).walk.bare_same) c.requires.live
 
-pub walk::rows_anew-lent_rows-requires-clause-kind : goal.walk::rows_anew-lent_rows-requires-clause-kind
-walk::rows_anew-lent_rows-requires-clause-kind g t c =
+pub walk::rows_anew-lent_of-requires-clause-kind : goal.walk::rows_anew-lent_of-requires-clause-kind
+walk::rows_anew-lent_of-requires-clause-kind g t c =
     subst (λ (z : BareTrees). (sight_at z c.args.id).label.kind ≡ kind.Grid) (sym (c.in_ok-wide.ensures.below c.args.query (ap (λ (q : Query). q.reps) c.requires.query) refl (ap (λ (q : Query). needs_inline q.ask) c.requires.query)).walk.bare_same)
     (c.subgrids_are_grids.ensures (lent_fit (sight_at (nodes c.args.walk.now) c.args.id) c.args.query (ap (λ (q : Query). q.ask) c.requires.query) c.requires.fits))
 
-pub walk::rows_anew-lent_rows-requires-clause-wide : goal.walk::rows_anew-lent_rows-requires-clause-wide
-walk::rows_anew-lent_rows-requires-clause-wide g t c =
+pub walk::rows_anew-lent_of-requires-clause-wide : goal.walk::rows_anew-lent_of-requires-clause-wide
+walk::rows_anew-lent_of-requires-clause-wide g t c =
     subst (λ (z : BareTrees). IsWide z c.args.id c.args.seat.now.reps.now c.args.query.inline c.in_ok-wide.wide) (sym (c.in_ok-wide.ensures.below c.args.query (ap (λ (q : Query). q.reps) c.requires.query) refl (ap (λ (q : Query). needs_inline q.ask) c.requires.query)).walk.bare_same)
     c.in_ok-wide.ensures.value
 
@@ -734,11 +734,11 @@ pub walk::rows_anew-returns-clause-own : goal.walk::rows_anew-returns-clause-own
 walk::rows_anew-returns-clause-own g t c =
     c.in_ok-put.ensures.own ∙ (λ i. kept_with ((c.in_ok-wide.ensures.below c.args.query (ap (λ (q : Query). q.reps) c.requires.query) refl (ap (λ (q : Query). needs_inline q.ask) c.requires.query)).own i) ((c.args.query, answer.Lent (sym (c.in_ok-lent.ensures ∙ c.as_slice.ensures) i)) ∷ []))
 
-pub walk::row_anew-row_size-requires-clause-live : goal.walk::row_anew-row_size-requires-clause-live
-walk::row_anew-row_size-requires-clause-live g t c = subst (λ (z : BareTrees). IsLive z c.args.id) (sym (c.in_ok-parts.ensures.below c.args.query (sym c.size_of-width.ensures) (ap needs_inline c.requires.ask)).walk.bare_same) c.requires.live
+pub walk::row_anew-size_of_row-requires-clause-live : goal.walk::row_anew-size_of_row-requires-clause-live
+walk::row_anew-size_of_row-requires-clause-live g t c = subst (λ (z : BareTrees). IsLive z c.args.id) (sym (c.in_ok-parts.ensures.below c.args.query (sym c.size_of-width.ensures) (ap needs_inline c.requires.ask)).walk.bare_same) c.requires.live
 
-pub walk::row_anew-row_size-requires-clause-row : goal.walk::row_anew-row_size-requires-clause-row
-walk::row_anew-row_size-requires-clause-row g t c =
+pub walk::row_anew-size_of_row-requires-clause-row : goal.walk::row_anew-size_of_row-requires-clause-row
+walk::row_anew-size_of_row-requires-clause-row g t c =
     subst (λ (z : BareTrees). IsRow z c.args.id c.size_of-width.result c.in_ok-parts.parts) (sym (c.in_ok-parts.ensures.below c.args.query (sym c.size_of-width.ensures) (ap needs_inline c.requires.ask)).walk.bare_same) c.in_ok-parts.ensures.value
 
 pub walk::row_anew-put-requires-clause-value : goal.walk::row_anew-put-requires-clause-value
@@ -795,11 +795,11 @@ walk::row_anew-returns-in_err-put-clause-stopped g t c = on_err _ _ (c.in_err-pu
 pub walk::row_anew-returns-clause-own : goal.walk::row_anew-returns-clause-own
 walk::row_anew-returns-clause-own g t c = c.in_ok-put.ensures.own ∙ ap (λ l. kept_with l ((c.args.query, answer.Block c.in_ok-size.size) ∷ [])) (c.in_ok-parts.ensures.below c.args.query (sym c.size_of-width.ensures) (ap needs_inline c.requires.ask)).own
 
-pub walk::column_anew-column_size-requires-clause-live : goal.walk::column_anew-column_size-requires-clause-live
-walk::column_anew-column_size-requires-clause-live g t c = subst (λ (z : BareTrees). IsLive z c.args.id) (sym (c.in_ok-parts.ensures.below c.args.query (sym c.size_of-width.ensures) (ap needs_inline c.requires.ask)).walk.bare_same) c.requires.live
+pub walk::column_anew-size_of_column-requires-clause-live : goal.walk::column_anew-size_of_column-requires-clause-live
+walk::column_anew-size_of_column-requires-clause-live g t c = subst (λ (z : BareTrees). IsLive z c.args.id) (sym (c.in_ok-parts.ensures.below c.args.query (sym c.size_of-width.ensures) (ap needs_inline c.requires.ask)).walk.bare_same) c.requires.live
 
-pub walk::column_anew-column_size-requires-clause-column : goal.walk::column_anew-column_size-requires-clause-column
-walk::column_anew-column_size-requires-clause-column g t c =
+pub walk::column_anew-size_of_column-requires-clause-column : goal.walk::column_anew-size_of_column-requires-clause-column
+walk::column_anew-size_of_column-requires-clause-column g t c =
     subst (λ (z : BareTrees). IsColumn z c.args.id c.size_of-width.result c.in_ok-parts.parts) (sym (c.in_ok-parts.ensures.below c.args.query (sym c.size_of-width.ensures) (ap needs_inline c.requires.ask)).walk.bare_same) c.in_ok-parts.ensures.value
 
 pub walk::column_anew-put-requires-clause-value : goal.walk::column_anew-put-requires-clause-value
@@ -1105,3 +1105,339 @@ walk::ask_members-returns-clause-below g t c = c.loop-index.invariant.walked
 
 pub walk::row_in-node_at-requires : goal.walk::row_in-node_at-requires
 walk::row_in-node_at-requires g t c = subst (λ (z : BareTrees). IsLive z c.args.id) (sym (c.in_ok-parts.ensures.below (inline_query false [])).walk.bare_same) c.requires.live
+
+pub asking::ask_children-returns-in_err-child-clause-parts : goal.asking::ask_children-returns-in_err-child-clause-parts
+asking::ask_children-returns-in_err-child-clause-parts g t c = parts_then _ _ _ c.loop-index.invariant.parts c.ask_child.ensures.parts
+
+pub asking::ask_children-returns-in_err-child-clause-stands : goal.asking::ask_children-returns-in_err-child-clause-stands
+asking::ask_children-returns-in_err-child-clause-stands g t c = c.ask_child.ensures.stands
+
+pub asking::ask_children-returns-in_err-push-clause-parts : goal.asking::ask_children-returns-in_err-push-clause-parts
+asking::ask_children-returns-in_err-push-clause-parts g t c = parts_then _ _ _ c.loop-index.invariant.parts c.ask_child.ensures.parts
+
+pub asking::ask_children-returns-in_err-push-clause-stands : goal.asking::ask_children-returns-in_err-push-clause-stands
+asking::ask_children-returns-in_err-push-clause-stands g t c = c.ask_child.ensures.stands
+
+pub asking::ask_children-returns-in_err-push-2-clause-parts : goal.asking::ask_children-returns-in_err-push-2-clause-parts
+asking::ask_children-returns-in_err-push-2-clause-parts g t c = parts_then _ _ _ c.loop-index.invariant.parts c.ask_child.ensures.parts
+
+pub asking::ask_children-returns-in_err-push-2-clause-stands : goal.asking::ask_children-returns-in_err-push-2-clause-stands
+asking::ask_children-returns-in_err-push-2-clause-stands g t c = c.ask_child.ensures.stands
+
+pub asking::ask_children-returns-clause-parts : goal.asking::ask_children-returns-clause-parts
+asking::ask_children-returns-clause-parts g t c = c.loop-index.invariant.parts
+
+pub asking::ask_children-returns-clause-stands : goal.asking::ask_children-returns-clause-stands
+asking::ask_children-returns-clause-stands g t c = c.loop-index.invariant.stands
+
+pub asking::ask_stale-returns-in_err-child-clause-parts : goal.asking::ask_stale-returns-in_err-child-clause-parts
+asking::ask_stale-returns-in_err-child-clause-parts g t c = parts_then _ _ _ c.loop-index.invariant.parts c.ask_child.ensures.parts
+
+pub asking::ask_stale-returns-in_err-child-clause-stands : goal.asking::ask_stale-returns-in_err-child-clause-stands
+asking::ask_stale-returns-in_err-child-clause-stands g t c = c.ask_child.ensures.stands
+
+pub asking::ask_stale-returns-in_err-put_items-clause-parts : goal.asking::ask_stale-returns-in_err-put_items-clause-parts
+asking::ask_stale-returns-in_err-put_items-clause-parts g t c = parts_then _ _ _ c.loop-index.invariant.parts c.ask_child.ensures.parts
+
+pub asking::ask_stale-returns-in_err-put_items-clause-stands : goal.asking::ask_stale-returns-in_err-put_items-clause-stands
+asking::ask_stale-returns-in_err-put_items-clause-stands g t c = c.ask_child.ensures.stands
+
+pub asking::ask_stale-returns-clause-parts : goal.asking::ask_stale-returns-clause-parts
+asking::ask_stale-returns-clause-parts g t c = c.loop-index.invariant.parts
+
+pub asking::ask_stale-returns-clause-stands : goal.asking::ask_stale-returns-clause-stands
+asking::ask_stale-returns-clause-stands g t c = c.loop-index.invariant.stands
+
+pub asking::told_wide_by-returns-in_err-told-clause-parts : goal.asking::told_wide_by-returns-in_err-told-clause-parts
+asking::told_wide_by-returns-in_err-told-clause-parts g t c = c.grid_in.ensures.parts
+
+pub asking::told_wide_by-returns-in_err-told-clause-stands : goal.asking::told_wide_by-returns-in_err-told-clause-stands
+asking::told_wide_by-returns-in_err-told-clause-stands g t c = c.grid_in.ensures.stands
+
+pub asking::told_wide_by-returns-in_err-columns-clause-parts : goal.asking::told_wide_by-returns-in_err-columns-clause-parts
+asking::told_wide_by-returns-in_err-columns-clause-parts g t c =
+    record {
+      tree = c.grid_in.ensures.parts.tree;
+      ruler = c.grid_in.ensures.parts.ruler;
+      tally = c.grid_in.ensures.parts.tally;
+      passes = c.grid_in.ensures.parts.passes;
+    }
+
+pub asking::told_wide_by-returns-in_err-columns-clause-stands : goal.asking::told_wide_by-returns-in_err-columns-clause-stands
+asking::told_wide_by-returns-in_err-columns-clause-stands g t c = c.grid_in.ensures.stands
+
+pub asking::told_wide_by-returns-in_err-asked-clause-parts : goal.asking::told_wide_by-returns-in_err-asked-clause-parts
+asking::told_wide_by-returns-in_err-asked-clause-parts g t c =
+    record {
+      tree = c.told_rows.ensures.parts.tree ∙ c.grid_in.ensures.parts.tree;
+      ruler = c.told_rows.ensures.parts.ruler ∙ c.grid_in.ensures.parts.ruler;
+      tally = c.told_rows.ensures.parts.tally ∙ c.grid_in.ensures.parts.tally;
+      passes = c.told_rows.ensures.parts.passes ∙ c.grid_in.ensures.parts.passes;
+    }
+
+pub asking::told_wide_by-returns-in_err-asked-clause-stands : goal.asking::told_wide_by-returns-in_err-asked-clause-stands
+asking::told_wide_by-returns-in_err-asked-clause-stands g t c = c.told_rows.ensures.stands
+
+pub asking::told_wide_by-returns-clause-parts : goal.asking::told_wide_by-returns-clause-parts
+asking::told_wide_by-returns-clause-parts g t c =
+    record {
+      tree = c.told_rows.ensures.parts.tree ∙ c.grid_in.ensures.parts.tree;
+      ruler = c.told_rows.ensures.parts.ruler ∙ c.grid_in.ensures.parts.ruler;
+      tally = c.told_rows.ensures.parts.tally ∙ c.grid_in.ensures.parts.tally;
+      passes = c.told_rows.ensures.parts.passes ∙ c.grid_in.ensures.parts.passes;
+    }
+
+pub asking::told_wide_by-returns-clause-stands : goal.asking::told_wide_by-returns-clause-stands
+asking::told_wide_by-returns-clause-stands g t c = c.told_rows.ensures.stands
+
+pub asking::told_wide_at-returns-in_err-past-clause-parts : goal.asking::told_wide_at-returns-in_err-past-clause-parts
+asking::told_wide_at-returns-in_err-past-clause-parts g t c = c.take_past.ensures.parts
+
+pub asking::told_wide_at-returns-in_err-past-clause-stands : goal.asking::told_wide_at-returns-in_err-past-clause-stands
+asking::told_wide_at-returns-in_err-past-clause-stands g t c = c.take_past.ensures.stands
+
+pub asking::told_wide_at-returns-in_err-told-clause-parts : goal.asking::told_wide_at-returns-in_err-told-clause-parts
+asking::told_wide_at-returns-in_err-told-clause-parts g t c = parts_then _ _ _ c.take_past.ensures.parts c.told_wide_by.ensures.parts
+
+pub asking::told_wide_at-returns-in_err-told-clause-stands : goal.asking::told_wide_at-returns-in_err-told-clause-stands
+asking::told_wide_at-returns-in_err-told-clause-stands g t c = c.told_wide_by.ensures.stands
+
+pub asking::told_wide_at-returns-clause-parts : goal.asking::told_wide_at-returns-clause-parts
+asking::told_wide_at-returns-clause-parts g t c = parts_then _ _ _ c.take_past.ensures.parts c.told_wide_by.ensures.parts
+
+pub asking::told_wide_at-returns-clause-stands : goal.asking::told_wide_at-returns-clause-stands
+asking::told_wide_at-returns-clause-stands g t c = c.told_wide_by.ensures.stands
+
+pub walk::ask_members-returns-in_err-block-clause-parts : goal.walk::ask_members-returns-in_err-block-clause-parts
+walk::ask_members-returns-in_err-block-clause-parts g t c = parts_then _ _ _ c.loop-index.invariant.parts c.block_in.ensures.parts
+
+pub walk::ask_members-returns-in_err-block-clause-stands : goal.walk::ask_members-returns-in_err-block-clause-stands
+walk::ask_members-returns-in_err-block-clause-stands g t c = c.block_in.ensures.stands
+
+pub walk::ask_members-returns-in_err-push-clause-parts : goal.walk::ask_members-returns-in_err-push-clause-parts
+walk::ask_members-returns-in_err-push-clause-parts g t c = parts_then _ _ _ c.loop-index.invariant.parts c.block_in.ensures.parts
+
+pub walk::ask_members-returns-in_err-push-clause-stands : goal.walk::ask_members-returns-in_err-push-clause-stands
+walk::ask_members-returns-in_err-push-clause-stands g t c = c.block_in.ensures.stands
+
+pub walk::ask_members-returns-clause-parts : goal.walk::ask_members-returns-clause-parts
+walk::ask_members-returns-clause-parts g t c = c.loop-index.invariant.parts
+
+pub walk::ask_members-returns-clause-stands : goal.walk::ask_members-returns-clause-stands
+walk::ask_members-returns-clause-stands g t c = c.loop-index.invariant.stands
+
+pub walk::row_in-returns-in_err-parts-clause-parts : goal.walk::row_in-returns-in_err-parts-clause-parts
+walk::row_in-returns-in_err-parts-clause-parts g t c = c.flex_in.ensures.parts
+
+pub walk::row_in-returns-in_err-parts-clause-stands : goal.walk::row_in-returns-in_err-parts-clause-stands
+walk::row_in-returns-in_err-parts-clause-stands g t c = c.flex_in.ensures.stands
+
+pub walk::row_in-returns-in_err-items-clause-parts : goal.walk::row_in-returns-in_err-items-clause-parts
+walk::row_in-returns-in_err-items-clause-parts g t c = c.flex_in.ensures.parts
+
+pub walk::row_in-returns-in_err-items-clause-stands : goal.walk::row_in-returns-in_err-items-clause-stands
+walk::row_in-returns-in_err-items-clause-stands g t c = c.flex_in.ensures.stands
+
+pub walk::row_in-returns-in_err-lines-clause-parts : goal.walk::row_in-returns-in_err-lines-clause-parts
+walk::row_in-returns-in_err-lines-clause-parts g t c =
+    record {
+      tree = c.flex_in.ensures.parts.tree;
+      ruler = c.flex_in.ensures.parts.ruler;
+      tally = c.flex_in.ensures.parts.tally;
+      passes = c.flex_in.ensures.parts.passes;
+    }
+
+pub walk::row_in-returns-in_err-lines-clause-stands : goal.walk::row_in-returns-in_err-lines-clause-stands
+walk::row_in-returns-in_err-lines-clause-stands g t c = c.flex_in.ensures.stands
+
+pub walk::row_in-returns-in_err-blocks-clause-parts : goal.walk::row_in-returns-in_err-blocks-clause-parts
+walk::row_in-returns-in_err-blocks-clause-parts g t c =
+    record {
+      tree = c.ask_members.ensures.parts.tree ∙ c.flex_in.ensures.parts.tree;
+      ruler = c.ask_members.ensures.parts.ruler ∙ c.flex_in.ensures.parts.ruler;
+      tally = c.ask_members.ensures.parts.tally ∙ c.flex_in.ensures.parts.tally;
+      passes = c.ask_members.ensures.parts.passes ∙ c.flex_in.ensures.parts.passes;
+    }
+
+pub walk::row_in-returns-in_err-blocks-clause-stands : goal.walk::row_in-returns-in_err-blocks-clause-stands
+walk::row_in-returns-in_err-blocks-clause-stands g t c = c.ask_members.ensures.stands
+
+pub walk::row_in-returns-clause-parts : goal.walk::row_in-returns-clause-parts
+walk::row_in-returns-clause-parts g t c =
+    record {
+      tree = c.ask_members.ensures.parts.tree ∙ c.flex_in.ensures.parts.tree;
+      ruler = c.ask_members.ensures.parts.ruler ∙ c.flex_in.ensures.parts.ruler;
+      tally = c.ask_members.ensures.parts.tally ∙ c.flex_in.ensures.parts.tally;
+      passes = c.ask_members.ensures.parts.passes ∙ c.flex_in.ensures.parts.passes;
+    }
+
+pub walk::row_in-returns-clause-stands : goal.walk::row_in-returns-clause-stands
+walk::row_in-returns-clause-stands g t c = c.ask_members.ensures.stands
+
+pub walk::column_in-returns-in_err-parts-clause-parts : goal.walk::column_in-returns-in_err-parts-clause-parts
+walk::column_in-returns-in_err-parts-clause-parts g t c = c.flex_in.ensures.parts
+
+pub walk::column_in-returns-in_err-parts-clause-stands : goal.walk::column_in-returns-in_err-parts-clause-stands
+walk::column_in-returns-in_err-parts-clause-stands g t c = c.flex_in.ensures.stands
+
+pub walk::column_in-returns-in_err-boxes-clause-parts : goal.walk::column_in-returns-in_err-boxes-clause-parts
+walk::column_in-returns-in_err-boxes-clause-parts g t c = c.flex_in.ensures.parts
+
+pub walk::column_in-returns-in_err-boxes-clause-stands : goal.walk::column_in-returns-in_err-boxes-clause-stands
+walk::column_in-returns-in_err-boxes-clause-stands g t c = c.flex_in.ensures.stands
+
+pub walk::column_in-returns-in_err-blocks-clause-parts : goal.walk::column_in-returns-in_err-blocks-clause-parts
+walk::column_in-returns-in_err-blocks-clause-parts g t c = parts_then _ _ _ c.flex_in.ensures.parts c.ask_members.ensures.parts
+
+pub walk::column_in-returns-in_err-blocks-clause-stands : goal.walk::column_in-returns-in_err-blocks-clause-stands
+walk::column_in-returns-in_err-blocks-clause-stands g t c = c.ask_members.ensures.stands
+
+pub walk::column_in-returns-clause-parts : goal.walk::column_in-returns-clause-parts
+walk::column_in-returns-clause-parts g t c = parts_then _ _ _ c.flex_in.ensures.parts c.ask_members.ensures.parts
+
+pub walk::column_in-returns-clause-stands : goal.walk::column_in-returns-clause-stands
+walk::column_in-returns-clause-stands g t c = c.ask_members.ensures.stands
+
+pub walk::grid_anew-returns-in_err-told-clause-parts : goal.walk::grid_anew-returns-in_err-told-clause-parts
+walk::grid_anew-returns-in_err-told-clause-parts g t c = c.told_wide_at.ensures.parts
+
+pub walk::grid_anew-returns-in_err-told-clause-stands : goal.walk::grid_anew-returns-in_err-told-clause-stands
+walk::grid_anew-returns-in_err-told-clause-stands g t c = c.told_wide_at.ensures.stands
+
+pub walk::grid_anew-returns-in_err-size-clause-parts : goal.walk::grid_anew-returns-in_err-size-clause-parts
+walk::grid_anew-returns-in_err-size-clause-parts g t c =
+    record {
+      tree = c.told_wide_at.ensures.parts.tree;
+      ruler = c.told_wide_at.ensures.parts.ruler;
+      tally = c.told_wide_at.ensures.parts.tally;
+      passes = c.told_wide_at.ensures.parts.passes;
+    }
+
+pub walk::grid_anew-returns-in_err-size-clause-stands : goal.walk::grid_anew-returns-in_err-size-clause-stands
+walk::grid_anew-returns-in_err-size-clause-stands g t c = c.told_wide_at.ensures.stands
+
+pub walk::grid_anew-returns-in_err-held-clause-parts : goal.walk::grid_anew-returns-in_err-held-clause-parts
+walk::grid_anew-returns-in_err-held-clause-parts g t c =
+    record {
+      tree = c.told_wide_at.ensures.parts.tree;
+      ruler = c.told_wide_at.ensures.parts.ruler;
+      tally = c.told_wide_at.ensures.parts.tally;
+      passes = c.told_wide_at.ensures.parts.passes;
+    }
+
+pub walk::grid_anew-returns-in_err-held-clause-stands : goal.walk::grid_anew-returns-in_err-held-clause-stands
+walk::grid_anew-returns-in_err-held-clause-stands g t c = c.told_wide_at.ensures.stands
+
+pub walk::grid_anew-returns-in_err-keep_told-clause-parts : goal.walk::grid_anew-returns-in_err-keep_told-clause-parts
+walk::grid_anew-returns-in_err-keep_told-clause-parts g t c =
+    record {
+      tree = c.keep_told.ensures.parts.tree ∙ c.told_wide_at.ensures.parts.tree;
+      ruler = c.keep_told.ensures.parts.ruler ∙ c.told_wide_at.ensures.parts.ruler;
+      tally = c.keep_told.ensures.parts.tally ∙ c.told_wide_at.ensures.parts.tally;
+      passes = c.keep_told.ensures.parts.passes ∙ c.told_wide_at.ensures.parts.passes;
+    }
+
+pub walk::grid_anew-returns-in_err-keep_told-clause-stands : goal.walk::grid_anew-returns-in_err-keep_told-clause-stands
+walk::grid_anew-returns-in_err-keep_told-clause-stands g t c = c.keep_told.ensures.stands
+
+pub walk::grid_anew-returns-in_err-put-clause-parts : goal.walk::grid_anew-returns-in_err-put-clause-parts
+walk::grid_anew-returns-in_err-put-clause-parts g t c =
+    record {
+      tree = c.put.ensures.parts.tree ∙ c.keep_told.ensures.parts.tree ∙ c.told_wide_at.ensures.parts.tree;
+      ruler = c.put.ensures.parts.ruler ∙ c.keep_told.ensures.parts.ruler ∙ c.told_wide_at.ensures.parts.ruler;
+      tally = c.put.ensures.parts.tally ∙ c.keep_told.ensures.parts.tally ∙ c.told_wide_at.ensures.parts.tally;
+      passes = c.put.ensures.parts.passes ∙ c.keep_told.ensures.parts.passes ∙ c.told_wide_at.ensures.parts.passes;
+    }
+
+pub walk::grid_anew-returns-in_err-put-clause-stands : goal.walk::grid_anew-returns-in_err-put-clause-stands
+walk::grid_anew-returns-in_err-put-clause-stands g t c = c.put.ensures.stands
+
+pub walk::grid_anew-returns-clause-parts : goal.walk::grid_anew-returns-clause-parts
+walk::grid_anew-returns-clause-parts g t c =
+    record {
+      tree = c.put.ensures.parts.tree ∙ c.keep_told.ensures.parts.tree ∙ c.told_wide_at.ensures.parts.tree;
+      ruler = c.put.ensures.parts.ruler ∙ c.keep_told.ensures.parts.ruler ∙ c.told_wide_at.ensures.parts.ruler;
+      tally = c.put.ensures.parts.tally ∙ c.keep_told.ensures.parts.tally ∙ c.told_wide_at.ensures.parts.tally;
+      passes = c.put.ensures.parts.passes ∙ c.keep_told.ensures.parts.passes ∙ c.told_wide_at.ensures.parts.passes;
+    }
+
+pub walk::grid_anew-returns-clause-stands : goal.walk::grid_anew-returns-clause-stands
+walk::grid_anew-returns-clause-stands g t c = c.put.ensures.stands
+
+pub walk::column_anew-returns-in_err-parts-clause-parts : goal.walk::column_anew-returns-in_err-parts-clause-parts
+walk::column_anew-returns-in_err-parts-clause-parts g t c = c.column_in.ensures.parts
+
+pub walk::column_anew-returns-in_err-parts-clause-stands : goal.walk::column_anew-returns-in_err-parts-clause-stands
+walk::column_anew-returns-in_err-parts-clause-stands g t c = c.column_in.ensures.stands
+
+pub walk::column_anew-returns-in_err-size-clause-parts : goal.walk::column_anew-returns-in_err-size-clause-parts
+walk::column_anew-returns-in_err-size-clause-parts g t c = c.column_in.ensures.parts
+
+pub walk::column_anew-returns-in_err-size-clause-stands : goal.walk::column_anew-returns-in_err-size-clause-stands
+walk::column_anew-returns-in_err-size-clause-stands g t c = c.column_in.ensures.stands
+
+pub walk::column_anew-returns-in_err-put-clause-parts : goal.walk::column_anew-returns-in_err-put-clause-parts
+walk::column_anew-returns-in_err-put-clause-parts g t c = parts_then _ _ _ c.column_in.ensures.parts c.put.ensures.parts
+
+pub walk::column_anew-returns-in_err-put-clause-stands : goal.walk::column_anew-returns-in_err-put-clause-stands
+walk::column_anew-returns-in_err-put-clause-stands g t c = c.put.ensures.stands
+
+pub walk::column_anew-returns-clause-parts : goal.walk::column_anew-returns-clause-parts
+walk::column_anew-returns-clause-parts g t c = parts_then _ _ _ c.column_in.ensures.parts c.put.ensures.parts
+
+pub walk::column_anew-returns-clause-stands : goal.walk::column_anew-returns-clause-stands
+walk::column_anew-returns-clause-stands g t c = c.put.ensures.stands
+
+pub walk::row_anew-returns-in_err-parts-clause-parts : goal.walk::row_anew-returns-in_err-parts-clause-parts
+walk::row_anew-returns-in_err-parts-clause-parts g t c = c.row_in.ensures.parts
+
+pub walk::row_anew-returns-in_err-parts-clause-stands : goal.walk::row_anew-returns-in_err-parts-clause-stands
+walk::row_anew-returns-in_err-parts-clause-stands g t c = c.row_in.ensures.stands
+
+pub walk::row_anew-returns-in_err-size-clause-parts : goal.walk::row_anew-returns-in_err-size-clause-parts
+walk::row_anew-returns-in_err-size-clause-parts g t c = c.row_in.ensures.parts
+
+pub walk::row_anew-returns-in_err-size-clause-stands : goal.walk::row_anew-returns-in_err-size-clause-stands
+walk::row_anew-returns-in_err-size-clause-stands g t c = c.row_in.ensures.stands
+
+pub walk::row_anew-returns-in_err-put-clause-parts : goal.walk::row_anew-returns-in_err-put-clause-parts
+walk::row_anew-returns-in_err-put-clause-parts g t c = parts_then _ _ _ c.row_in.ensures.parts c.put.ensures.parts
+
+pub walk::row_anew-returns-in_err-put-clause-stands : goal.walk::row_anew-returns-in_err-put-clause-stands
+walk::row_anew-returns-in_err-put-clause-stands g t c = c.put.ensures.stands
+
+pub walk::row_anew-returns-clause-parts : goal.walk::row_anew-returns-clause-parts
+walk::row_anew-returns-clause-parts g t c = parts_then _ _ _ c.row_in.ensures.parts c.put.ensures.parts
+
+pub walk::row_anew-returns-clause-stands : goal.walk::row_anew-returns-clause-stands
+walk::row_anew-returns-clause-stands g t c = c.put.ensures.stands
+
+pub walk::rows_anew-returns-in_err-wide-clause-parts : goal.walk::rows_anew-returns-in_err-wide-clause-parts
+walk::rows_anew-returns-in_err-wide-clause-parts g t c = c.wide_at.ensures.parts
+
+pub walk::rows_anew-returns-in_err-wide-clause-stands : goal.walk::rows_anew-returns-in_err-wide-clause-stands
+walk::rows_anew-returns-in_err-wide-clause-stands g t c = c.wide_at.ensures.stands
+
+pub walk::rows_anew-returns-in_err-items-clause-parts : goal.walk::rows_anew-returns-in_err-items-clause-parts
+walk::rows_anew-returns-in_err-items-clause-parts g t c = c.wide_at.ensures.parts
+
+pub walk::rows_anew-returns-in_err-items-clause-stands : goal.walk::rows_anew-returns-in_err-items-clause-stands
+walk::rows_anew-returns-in_err-items-clause-stands g t c = c.wide_at.ensures.stands
+
+pub walk::rows_anew-returns-in_err-lent-clause-parts : goal.walk::rows_anew-returns-in_err-lent-clause-parts
+walk::rows_anew-returns-in_err-lent-clause-parts g t c = c.wide_at.ensures.parts
+
+pub walk::rows_anew-returns-in_err-lent-clause-stands : goal.walk::rows_anew-returns-in_err-lent-clause-stands
+walk::rows_anew-returns-in_err-lent-clause-stands g t c = c.wide_at.ensures.stands
+
+pub walk::rows_anew-returns-in_err-put-clause-parts : goal.walk::rows_anew-returns-in_err-put-clause-parts
+walk::rows_anew-returns-in_err-put-clause-parts g t c = parts_then _ _ _ c.wide_at.ensures.parts c.put.ensures.parts
+
+pub walk::rows_anew-returns-in_err-put-clause-stands : goal.walk::rows_anew-returns-in_err-put-clause-stands
+walk::rows_anew-returns-in_err-put-clause-stands g t c = c.put.ensures.stands
+
+pub walk::rows_anew-returns-clause-parts : goal.walk::rows_anew-returns-clause-parts
+walk::rows_anew-returns-clause-parts g t c = parts_then _ _ _ c.wide_at.ensures.parts c.put.ensures.parts
+
+pub walk::rows_anew-returns-clause-stands : goal.walk::rows_anew-returns-clause-stands
+walk::rows_anew-returns-clause-stands g t c = c.put.ensures.stands

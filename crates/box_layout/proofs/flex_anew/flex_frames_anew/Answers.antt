@@ -11,6 +11,7 @@ use Rattle.tree_rules.specs.Queries.{Fits, answer_of, child_frames}
 use Rattle.tree_rules.specs.declared.kind.NodeKind.TheVariants as kind
 use Rattle.box_layout.proofs.FlexAnswered.{flex_quiet}
 use Rattle.walker.specs.Walkers.{nodes}
+use Rattle.walker.proofs.Parts.{parts_then}
 use Rattle.box_layout.proofs.flex_anew.flex_frames_anew.Goals as goal
 
 pub flex_found-requires-clause-ask : goal.flex_found-requires-clause-ask
@@ -56,3 +57,33 @@ returns-in_err-shared-clause-stopped g c = on_err _ _ (stopped c.args.id c.args.
 
 pub returns-in_err-told-clause-stopped : goal.returns-in_err-told-clause-stopped
 returns-in_err-told-clause-stopped g c = on_err _ _ (stopped c.args.id c.args.query 1 _ _ c.in_ok-frames.ensures.below)
+
+pub returns-in_err-frames-clause-parts : goal.returns-in_err-frames-clause-parts
+returns-in_err-frames-clause-parts g c = c.flex_found.ensures.parts
+
+pub returns-in_err-frames-clause-stands : goal.returns-in_err-frames-clause-stands
+returns-in_err-frames-clause-stands g c = c.flex_found.ensures.stands
+
+pub returns-in_err-shared-clause-parts : goal.returns-in_err-shared-clause-parts
+returns-in_err-shared-clause-parts g c = c.flex_found.ensures.parts
+
+pub returns-in_err-shared-clause-stands : goal.returns-in_err-shared-clause-stands
+returns-in_err-shared-clause-stands g c = c.flex_found.ensures.stands
+
+pub returns-in_err-told-clause-parts : goal.returns-in_err-told-clause-parts
+returns-in_err-told-clause-parts g c = c.flex_found.ensures.parts
+
+pub returns-in_err-told-clause-stands : goal.returns-in_err-told-clause-stands
+returns-in_err-told-clause-stands g c = c.flex_found.ensures.stands
+
+pub returns-in_err-put-clause-parts : goal.returns-in_err-put-clause-parts
+returns-in_err-put-clause-parts g c = parts_then _ _ _ c.flex_found.ensures.parts c.put.ensures.parts
+
+pub returns-in_err-put-clause-stands : goal.returns-in_err-put-clause-stands
+returns-in_err-put-clause-stands g c = c.put.ensures.stands
+
+pub returns-clause-parts : goal.returns-clause-parts
+returns-clause-parts g c = parts_then _ _ _ c.flex_found.ensures.parts c.put.ensures.parts
+
+pub returns-clause-stands : goal.returns-clause-stands
+returns-clause-stands g c = c.put.ensures.stands

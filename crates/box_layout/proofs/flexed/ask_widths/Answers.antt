@@ -74,3 +74,15 @@ returns-in_err-height_in-clause-stopped g c =
 
 pub returns-clause-below : goal.returns-clause-below
 returns-clause-below g c = c.loop-index.invariant.walked
+
+pub returns-in_err-height_in-clause-parts : goal.returns-in_err-height_in-clause-parts
+returns-in_err-height_in-clause-parts g c = parts_then _ _ _ c.loop-index.invariant.parts c.height_in.ensures.parts
+
+pub returns-in_err-height_in-clause-stands : goal.returns-in_err-height_in-clause-stands
+returns-in_err-height_in-clause-stands g c = c.height_in.ensures.stands
+
+pub returns-clause-parts : goal.returns-clause-parts
+returns-clause-parts g c = c.loop-index.invariant.parts
+
+pub returns-clause-stands : goal.returns-clause-stands
+returns-clause-stands g c = c.loop-index.invariant.stands

@@ -38,25 +38,25 @@ column_lines-requires-clause-counted g c =
     let boxes : length column.boxes ≡ length column.members = ap length are.across ∙ column_boxed b c.args.id c.args.width ∙ sym (told_members b c.args.id column.members are.children.same) in
     ap length c.as_slice-blocks.ensures ∙ blocks_count b column.members column.boxes column.blocks boxes (are.along ∙ ap (map block_of) (settled_is b c.args.id column.members column.boxes are.children.same)) ∙ ap length (sym c.as_slice-members.ensures)
 
-pub frames_in_column-requires-clause-live : goal.frames_in_column-requires-clause-live
-frames_in_column-requires-clause-live g c = subst (λ (z : BareTrees). IsLive z c.args.id) (sym (c.in_ok-column.ensures.below (block_query false [] (given.Size c.args.width)) refl refl).walk.bare_same) c.requires.live
+pub frames_of_column-requires-clause-live : goal.frames_of_column-requires-clause-live
+frames_of_column-requires-clause-live g c = subst (λ (z : BareTrees). IsLive z c.args.id) (sym (c.in_ok-column.ensures.below (block_query false [] (given.Size c.args.width)) refl refl).walk.bare_same) c.requires.live
 
-pub frames_in_column-requires-clause-readable : goal.frames_in_column-requires-clause-readable
-frames_in_column-requires-clause-readable g c = subst AreReadable (sym (c.in_ok-column.ensures.below (block_query false [] (given.Size c.args.width)) refl refl).walk.bare_same) c.requires.stands.readable
+pub frames_of_column-requires-clause-readable : goal.frames_of_column-requires-clause-readable
+frames_of_column-requires-clause-readable g c = subst AreReadable (sym (c.in_ok-column.ensures.below (block_query false [] (given.Size c.args.width)) refl refl).walk.bare_same) c.requires.stands.readable
 
-pub frames_in_column-requires-clause-column : goal.frames_in_column-requires-clause-column
-frames_in_column-requires-clause-column g c = subst (λ (z : BareTrees). IsColumn z c.args.id c.args.width c.in_ok-column.column) (sym (c.in_ok-column.ensures.below (block_query false [] (given.Size c.args.width)) refl refl).walk.bare_same) c.in_ok-column.ensures.value
+pub frames_of_column-requires-clause-column : goal.frames_of_column-requires-clause-column
+frames_of_column-requires-clause-column g c = subst (λ (z : BareTrees). IsColumn z c.args.id c.args.width c.in_ok-column.column) (sym (c.in_ok-column.ensures.below (block_query false [] (given.Size c.args.width)) refl refl).walk.bare_same) c.in_ok-column.ensures.value
 
-pub frames_in_column-requires-clause-lines : goal.frames_in_column-requires-clause-lines
-frames_in_column-requires-clause-lines g c =
+pub frames_of_column-requires-clause-lines : goal.frames_of_column-requires-clause-lines
+frames_of_column-requires-clause-lines g c =
     let b = nodes c.column_in.new.walk in
     let column = c.in_ok-column.column in
     let are : IsColumn b c.args.id c.args.width column = subst (λ (z : BareTrees). IsColumn z c.args.id c.args.width column) (sym (c.in_ok-column.ensures.below (block_query false [] (given.Size c.args.width)) refl refl).walk.bare_same) c.in_ok-column.ensures.value in
     let found = c.in_ok-lines.ensures.value column.boxes (c.as_slice-blocks.ensures ∙ are.along ∙ ap (map block_of) (settled_is b c.args.id column.members column.boxes are.children.same) ∙ ap (λ ms. map block_of (settled_by b ms column.boxes)) (sym c.as_slice-members.ensures)) in
     found ∙ ap (λ ms. column_lines_seen b c.args.id c.args.height (settled_by b ms column.boxes)) c.as_slice-members.ensures
 
-pub frames_in_column-requires-clause-ranges : goal.frames_in_column-requires-clause-ranges
-frames_in_column-requires-clause-ranges g c = subst (λ (k : ℕ). AreRanges k c.in_ok-lines.lines.ranges) (ap length c.as_slice-members.ensures) c.in_ok-lines.ensures.ranges
+pub frames_of_column-requires-clause-ranges : goal.frames_of_column-requires-clause-ranges
+frames_of_column-requires-clause-ranges g c = subst (λ (k : ℕ). AreRanges k c.in_ok-lines.lines.ranges) (ap length c.as_slice-members.ensures) c.in_ok-lines.ensures.ranges
 
 pub ask_widths-requires-clause-live : goal.ask_widths-requires-clause-live
 ask_widths-requires-clause-live g c = subst (λ (z : BareTrees). IsLive z c.args.id) (sym (c.in_ok-column.ensures.below (block_query false [] (given.Size c.args.width)) refl refl).walk.bare_same) c.requires.live
@@ -121,3 +121,57 @@ returns-in_err-ask_widths-clause-stopped g c =
     (ticked c.args.id q 0 1 (seen g.R.Ruler.log c.args.walk.now) (seen g.R.Ruler.log c.column_in.new.walk) c.column_lines.new.passes
     c.column_lines.ensures.ticks (c.in_ok-column.ensures.below q asks.inline (ap needs_inline asks.asked))) (c.in_err-ask_widths.ensures.stopped q asks) in
     on_err _ _ all
+
+pub returns-in_err-column-clause-parts : goal.returns-in_err-column-clause-parts
+returns-in_err-column-clause-parts g c = c.column_in.ensures.parts
+
+pub returns-in_err-column-clause-stands : goal.returns-in_err-column-clause-stands
+returns-in_err-column-clause-stands g c = c.column_in.ensures.stands
+
+pub returns-in_err-lines-clause-parts : goal.returns-in_err-lines-clause-parts
+returns-in_err-lines-clause-parts g c =
+    record {
+      tree = c.column_in.ensures.parts.tree;
+      ruler = c.column_in.ensures.parts.ruler;
+      tally = c.column_in.ensures.parts.tally;
+      passes = c.column_in.ensures.parts.passes;
+    }
+
+pub returns-in_err-lines-clause-stands : goal.returns-in_err-lines-clause-stands
+returns-in_err-lines-clause-stands g c = c.column_in.ensures.stands
+
+pub returns-in_err-frames-clause-parts : goal.returns-in_err-frames-clause-parts
+returns-in_err-frames-clause-parts g c =
+    record {
+      tree = c.column_in.ensures.parts.tree;
+      ruler = c.column_in.ensures.parts.ruler;
+      tally = c.column_in.ensures.parts.tally;
+      passes = c.column_in.ensures.parts.passes;
+    }
+
+pub returns-in_err-frames-clause-stands : goal.returns-in_err-frames-clause-stands
+returns-in_err-frames-clause-stands g c = c.column_in.ensures.stands
+
+pub returns-in_err-ask_widths-clause-parts : goal.returns-in_err-ask_widths-clause-parts
+returns-in_err-ask_widths-clause-parts g c =
+    record {
+      tree = c.ask_widths.ensures.parts.tree ∙ c.column_in.ensures.parts.tree;
+      ruler = c.ask_widths.ensures.parts.ruler ∙ c.column_in.ensures.parts.ruler;
+      tally = c.ask_widths.ensures.parts.tally ∙ c.column_in.ensures.parts.tally;
+      passes = c.ask_widths.ensures.parts.passes ∙ c.column_in.ensures.parts.passes;
+    }
+
+pub returns-in_err-ask_widths-clause-stands : goal.returns-in_err-ask_widths-clause-stands
+returns-in_err-ask_widths-clause-stands g c = c.ask_widths.ensures.stands
+
+pub returns-clause-parts : goal.returns-clause-parts
+returns-clause-parts g c =
+    record {
+      tree = c.ask_widths.ensures.parts.tree ∙ c.column_in.ensures.parts.tree;
+      ruler = c.ask_widths.ensures.parts.ruler ∙ c.column_in.ensures.parts.ruler;
+      tally = c.ask_widths.ensures.parts.tally ∙ c.column_in.ensures.parts.tally;
+      passes = c.ask_widths.ensures.parts.passes ∙ c.column_in.ensures.parts.passes;
+    }
+
+pub returns-clause-stands : goal.returns-clause-stands
+returns-clause-stands g c = c.ask_widths.ensures.stands

@@ -14,14 +14,14 @@ use Rattle.box_layout.specs.FlexFrames.{AreFrames, row_seen}
 use Rattle.walker.specs.Walkers.{seen}
 use Rattle.box_layout.proofs.flexed.row_frames.Goals as goal
 
-pub frames_in_row-requires-clause-live : goal.frames_in_row-requires-clause-live
-frames_in_row-requires-clause-live g c = subst (λ (z : BareTrees). IsLive z c.args.id) (sym (c.in_ok-row.ensures.below (block_query false [] (given.Size c.args.width)) refl refl).walk.bare_same) c.requires.live
+pub frames_of_row-requires-clause-live : goal.frames_of_row-requires-clause-live
+frames_of_row-requires-clause-live g c = subst (λ (z : BareTrees). IsLive z c.args.id) (sym (c.in_ok-row.ensures.below (block_query false [] (given.Size c.args.width)) refl refl).walk.bare_same) c.requires.live
 
-pub frames_in_row-requires-clause-readable : goal.frames_in_row-requires-clause-readable
-frames_in_row-requires-clause-readable g c = subst AreReadable (sym (c.in_ok-row.ensures.below (block_query false [] (given.Size c.args.width)) refl refl).walk.bare_same) c.requires.stands.readable
+pub frames_of_row-requires-clause-readable : goal.frames_of_row-requires-clause-readable
+frames_of_row-requires-clause-readable g c = subst AreReadable (sym (c.in_ok-row.ensures.below (block_query false [] (given.Size c.args.width)) refl refl).walk.bare_same) c.requires.stands.readable
 
-pub frames_in_row-requires-clause-row : goal.frames_in_row-requires-clause-row
-frames_in_row-requires-clause-row g c = subst (λ (z : BareTrees). IsRow z c.args.id c.args.width c.in_ok-row.row) (sym (c.in_ok-row.ensures.below (block_query false [] (given.Size c.args.width)) refl refl).walk.bare_same) c.in_ok-row.ensures.value
+pub frames_of_row-requires-clause-row : goal.frames_of_row-requires-clause-row
+frames_of_row-requires-clause-row g c = subst (λ (z : BareTrees). IsRow z c.args.id c.args.width c.in_ok-row.row) (sym (c.in_ok-row.ensures.below (block_query false [] (given.Size c.args.width)) refl refl).walk.bare_same) c.in_ok-row.ensures.value
 
 pub returns-clause-value : goal.returns-clause-value
 returns-clause-value g c = subst (λ (z : BareTrees). AreFrames z c.args.id (row_seen z c.args.id c.args.width c.args.height) c.in_ok-frames.frames) (c.in_ok-row.ensures.below (block_query false [] (given.Size c.args.width)) refl refl).walk.bare_same c.in_ok-frames.ensures

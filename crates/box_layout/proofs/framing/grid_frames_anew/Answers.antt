@@ -213,3 +213,105 @@ returns-in_err-keep_last-clause-stopped g c =
     (c.keep_last.ensures.below c.args.query 2 (seen g.R.Ruler.log c.args.walk.now)
     (c.take_frames.ensures.below c.args.query 2 (seen g.R.Ruler.log c.args.walk.now)
     (ticked c.args.id c.args.query 1 1 _ _ c.rows_of.new.passes c.rows_of.ensures.ticks (c.in_ok-wide.ensures.below c.args.query (ap (λ (q : Query). q.reps) c.requires.query) refl (ap (λ (q : Query). needs_inline q.ask) c.requires.query))))))
+
+pub returns-in_err-wide-clause-parts : goal.returns-in_err-wide-clause-parts
+returns-in_err-wide-clause-parts g c = c.wide_for.ensures.parts
+
+pub returns-in_err-wide-clause-stands : goal.returns-in_err-wide-clause-stands
+returns-in_err-wide-clause-stands g c = c.wide_for.ensures.stands
+
+pub returns-in_err-rows-clause-parts : goal.returns-in_err-rows-clause-parts
+returns-in_err-rows-clause-parts g c =
+    record {
+      tree = c.wide_for.ensures.parts.tree;
+      ruler = c.wide_for.ensures.parts.ruler;
+      tally = c.wide_for.ensures.parts.tally;
+      passes = c.wide_for.ensures.parts.passes;
+    }
+
+pub returns-in_err-rows-clause-stands : goal.returns-in_err-rows-clause-stands
+returns-in_err-rows-clause-stands g c = c.wide_for.ensures.stands
+
+pub returns-in_err-past-clause-parts : goal.returns-in_err-past-clause-parts
+returns-in_err-past-clause-parts g c =
+    record {
+      tree = c.take_frames.ensures.parts.tree ∙ c.wide_for.ensures.parts.tree;
+      ruler = c.take_frames.ensures.parts.ruler ∙ c.wide_for.ensures.parts.ruler;
+      tally = c.take_frames.ensures.parts.tally ∙ c.wide_for.ensures.parts.tally;
+      passes = c.take_frames.ensures.parts.passes ∙ c.wide_for.ensures.parts.passes;
+    }
+
+pub returns-in_err-past-clause-stands : goal.returns-in_err-past-clause-stands
+returns-in_err-past-clause-stands g c = c.take_frames.ensures.stands
+
+pub returns-in_err-frames-clause-parts : goal.returns-in_err-frames-clause-parts
+returns-in_err-frames-clause-parts g c =
+    record {
+      tree = c.take_frames.ensures.parts.tree ∙ c.wide_for.ensures.parts.tree;
+      ruler = c.take_frames.ensures.parts.ruler ∙ c.wide_for.ensures.parts.ruler;
+      tally = c.take_frames.ensures.parts.tally ∙ c.wide_for.ensures.parts.tally;
+      passes = c.take_frames.ensures.parts.passes ∙ c.wide_for.ensures.parts.passes;
+    }
+
+pub returns-in_err-frames-clause-stands : goal.returns-in_err-frames-clause-stands
+returns-in_err-frames-clause-stands g c = c.take_frames.ensures.stands
+
+pub returns-in_err-shared-clause-parts : goal.returns-in_err-shared-clause-parts
+returns-in_err-shared-clause-parts g c =
+    record {
+      tree = c.take_frames.ensures.parts.tree ∙ c.wide_for.ensures.parts.tree;
+      ruler = c.take_frames.ensures.parts.ruler ∙ c.wide_for.ensures.parts.ruler;
+      tally = c.take_frames.ensures.parts.tally ∙ c.wide_for.ensures.parts.tally;
+      passes = c.take_frames.ensures.parts.passes ∙ c.wide_for.ensures.parts.passes;
+    }
+
+pub returns-in_err-shared-clause-stands : goal.returns-in_err-shared-clause-stands
+returns-in_err-shared-clause-stands g c = c.take_frames.ensures.stands
+
+pub returns-in_err-told-clause-parts : goal.returns-in_err-told-clause-parts
+returns-in_err-told-clause-parts g c =
+    record {
+      tree = c.take_frames.ensures.parts.tree ∙ c.wide_for.ensures.parts.tree;
+      ruler = c.take_frames.ensures.parts.ruler ∙ c.wide_for.ensures.parts.ruler;
+      tally = c.take_frames.ensures.parts.tally ∙ c.wide_for.ensures.parts.tally;
+      passes = c.take_frames.ensures.parts.passes ∙ c.wide_for.ensures.parts.passes;
+    }
+
+pub returns-in_err-told-clause-stands : goal.returns-in_err-told-clause-stands
+returns-in_err-told-clause-stands g c = c.take_frames.ensures.stands
+
+pub returns-in_err-keep_last-clause-parts : goal.returns-in_err-keep_last-clause-parts
+returns-in_err-keep_last-clause-parts g c =
+    record {
+      tree = c.keep_last.ensures.parts.tree ∙ c.take_frames.ensures.parts.tree ∙ c.wide_for.ensures.parts.tree;
+      ruler = c.keep_last.ensures.parts.ruler ∙ c.take_frames.ensures.parts.ruler ∙ c.wide_for.ensures.parts.ruler;
+      tally = c.keep_last.ensures.parts.tally ∙ c.take_frames.ensures.parts.tally ∙ c.wide_for.ensures.parts.tally;
+      passes = c.keep_last.ensures.parts.passes ∙ c.take_frames.ensures.parts.passes ∙ c.wide_for.ensures.parts.passes;
+    }
+
+pub returns-in_err-keep_last-clause-stands : goal.returns-in_err-keep_last-clause-stands
+returns-in_err-keep_last-clause-stands g c = c.keep_last.ensures.stands
+
+pub returns-in_err-put-clause-parts : goal.returns-in_err-put-clause-parts
+returns-in_err-put-clause-parts g c =
+    record {
+      tree = c.put.ensures.parts.tree ∙ c.keep_last.ensures.parts.tree ∙ c.take_frames.ensures.parts.tree ∙ c.wide_for.ensures.parts.tree;
+      ruler = c.put.ensures.parts.ruler ∙ c.keep_last.ensures.parts.ruler ∙ c.take_frames.ensures.parts.ruler ∙ c.wide_for.ensures.parts.ruler;
+      tally = c.put.ensures.parts.tally ∙ c.keep_last.ensures.parts.tally ∙ c.take_frames.ensures.parts.tally ∙ c.wide_for.ensures.parts.tally;
+      passes = c.put.ensures.parts.passes ∙ c.keep_last.ensures.parts.passes ∙ c.take_frames.ensures.parts.passes ∙ c.wide_for.ensures.parts.passes;
+    }
+
+pub returns-in_err-put-clause-stands : goal.returns-in_err-put-clause-stands
+returns-in_err-put-clause-stands g c = c.put.ensures.stands
+
+pub returns-clause-parts : goal.returns-clause-parts
+returns-clause-parts g c =
+    record {
+      tree = c.put.ensures.parts.tree ∙ c.keep_last.ensures.parts.tree ∙ c.take_frames.ensures.parts.tree ∙ c.wide_for.ensures.parts.tree;
+      ruler = c.put.ensures.parts.ruler ∙ c.keep_last.ensures.parts.ruler ∙ c.take_frames.ensures.parts.ruler ∙ c.wide_for.ensures.parts.ruler;
+      tally = c.put.ensures.parts.tally ∙ c.keep_last.ensures.parts.tally ∙ c.take_frames.ensures.parts.tally ∙ c.wide_for.ensures.parts.tally;
+      passes = c.put.ensures.parts.passes ∙ c.keep_last.ensures.parts.passes ∙ c.take_frames.ensures.parts.passes ∙ c.wide_for.ensures.parts.passes;
+    }
+
+pub returns-clause-stands : goal.returns-clause-stands
+returns-clause-stands g c = c.put.ensures.stands

@@ -8,6 +8,7 @@ use Rattle.walker.specs.Walkers.{nodes, seen}
 use Rattle.tree_rules.specs.Answers.{Pair}
 use Rattle.tree_rules.specs.declared.query.Query.{Query}
 use Rattle.box_layout.specs.Asking.{frames_asked}
+use Rattle.walker.proofs.Parts.{parts_then}
 use Rattle.box_layout.proofs.framing.grid_frames_kept.Goals as goal
 
 pub ask_leaves-requires : goal.ask_leaves-requires
@@ -48,3 +49,21 @@ returns-in_err-ask_leaves-clause-stopped g c =
     (leaf_uses c.args.walk.now.tree.now.tree c.args.id c.requires.stands.readable c.stands.ensures.numbered c.root.ensures.tree c.args.query c.requires.grid (c.requires.query ∙
     ap (λ (r : List Pair). frames_asked r c.args.query.inline c.args.query.block) (sym (ap (λ (q : Query). q.reps) c.requires.query))) c.requires.fits c.in_ok-frames.frames c.in_ok-frames.ensures.value c.in_ok-frames.ensures.children)))
     (sym c.in_ok-frames.ensures.walked.walk.bare_same) c.in_ok-frames.ensures.walked)
+
+pub returns-in_err-frames-clause-parts : goal.returns-in_err-frames-clause-parts
+returns-in_err-frames-clause-parts g c = c.grid_frames_anew.ensures.parts
+
+pub returns-in_err-frames-clause-stands : goal.returns-in_err-frames-clause-stands
+returns-in_err-frames-clause-stands g c = c.grid_frames_anew.ensures.stands
+
+pub returns-in_err-ask_leaves-clause-parts : goal.returns-in_err-ask_leaves-clause-parts
+returns-in_err-ask_leaves-clause-parts g c = parts_then _ _ _ c.grid_frames_anew.ensures.parts c.ask_leaves.ensures.parts
+
+pub returns-in_err-ask_leaves-clause-stands : goal.returns-in_err-ask_leaves-clause-stands
+returns-in_err-ask_leaves-clause-stands g c = c.ask_leaves.ensures.stands
+
+pub returns-clause-parts : goal.returns-clause-parts
+returns-clause-parts g c = parts_then _ _ _ c.grid_frames_anew.ensures.parts c.ask_leaves.ensures.parts
+
+pub returns-clause-stands : goal.returns-clause-stands
+returns-clause-stands g c = c.ask_leaves.ensures.stands

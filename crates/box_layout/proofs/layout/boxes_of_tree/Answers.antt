@@ -16,6 +16,7 @@ use Rattle.box_layout.proofs.LaidWalks.{cut_boxes, walk_boxes}
 use Rattle.box_layout.proofs.LeafSteps.{measured_root}
 use Rattle.box_layout.proofs.RootBoxes.{first_of_root, level_some, quiet_all, value_all}
 use Rattle.walker.specs.Walkers.{nodes, seen}
+use Rattle.walker.proofs.Parts.{parts_then}
 use Rattle.box_layout.proofs.layout.boxes_of_tree.Goals as goal
 
 pub returns-in_err-frame-clause-quiet : goal.returns-in_err-frame-clause-quiet
@@ -131,3 +132,21 @@ returns-clause-last g c =
 
 pub returns-clause-root : goal.returns-clause-root
 returns-clause-root g c = root_found (nodes c.args.walk.now) c.root-id.result c.args.width c.args.height c.in_ok-frame.frame c.root-id.ensures.root c.in_ok-frame.ensures.child c.in_ok-frame.ensures.value c.in_ok-frame.ensures.fits c.in_ok-frame.ensures.near
+
+pub returns-in_err-frame-clause-parts : goal.returns-in_err-frame-clause-parts
+returns-in_err-frame-clause-parts g c = c.root_frame.ensures.parts
+
+pub returns-in_err-frame-clause-stands : goal.returns-in_err-frame-clause-stands
+returns-in_err-frame-clause-stands g c = c.root_frame.ensures.stands
+
+pub returns-in_err-boxes_of-clause-parts : goal.returns-in_err-boxes_of-clause-parts
+returns-in_err-boxes_of-clause-parts g c = parts_then _ _ _ c.root_frame.ensures.parts c.boxes_of.ensures.parts
+
+pub returns-in_err-boxes_of-clause-stands : goal.returns-in_err-boxes_of-clause-stands
+returns-in_err-boxes_of-clause-stands g c = c.boxes_of.ensures.stands
+
+pub returns-clause-parts : goal.returns-clause-parts
+returns-clause-parts g c = parts_then _ _ _ c.root_frame.ensures.parts c.boxes_of.ensures.parts
+
+pub returns-clause-stands : goal.returns-clause-stands
+returns-clause-stands g c = c.boxes_of.ensures.stands

@@ -81,3 +81,15 @@ returns-clause-own g c = c.loop-index.invariant.own
 
 pub returns-clause-held : goal.returns-clause-held
 returns-clause-held g c = all_held (nodes c.args.walk.now) c.args.frames.now c.loop-index.index (seen g.R.Ruler.log c.loop-index.walk) (omega (arith, c.loop-index-test.false)) c.loop-index.invariant.held
+
+pub returns-in_err-ask_leaf-clause-parts : goal.returns-in_err-ask_leaf-clause-parts
+returns-in_err-ask_leaf-clause-parts g c = parts_then _ _ _ c.loop-index.invariant.parts c.ask_leaf.ensures.parts
+
+pub returns-in_err-ask_leaf-clause-stands : goal.returns-in_err-ask_leaf-clause-stands
+returns-in_err-ask_leaf-clause-stands g c = c.ask_leaf.ensures.stands
+
+pub returns-clause-parts : goal.returns-clause-parts
+returns-clause-parts g c = c.loop-index.invariant.parts
+
+pub returns-clause-stands : goal.returns-clause-stands
+returns-clause-stands g c = c.loop-index.invariant.stands

@@ -17,6 +17,7 @@ use Rattle.box_layout.proofs.RootNear.{near_root}
 use Rattle.box_layout.proofs.RootWalks.{both_quiet, both_walked, first_cut, second_cut}
 use Rattle.box_layout.proofs.Unframed.{sizes_only}
 use Rattle.walker.specs.Walkers.{nodes, seen}
+use Rattle.walker.proofs.Parts.{parts_then}
 use Rattle.box_layout.proofs.root_frame.root_frame.Goals as goal
 
 pub widths_alone-requires : goal.widths_alone-requires
@@ -132,3 +133,21 @@ returns-clause-frames g c =
     (seen g.R.Ruler.log c.height_alone.new.walk) c.in_ok-content.ensures.walked refl m p framed
     (sizes_only c.args.id (inline_query false []) (seen g.R.Ruler.log c.args.walk.now) (seen g.R.Ruler.log c.widths_alone.new.walk) c.in_ok-sizes.ensures.walked
     refl m p framed none)
+
+pub returns-in_err-sizes-clause-parts : goal.returns-in_err-sizes-clause-parts
+returns-in_err-sizes-clause-parts g c = c.widths_alone.ensures.parts
+
+pub returns-in_err-sizes-clause-stands : goal.returns-in_err-sizes-clause-stands
+returns-in_err-sizes-clause-stands g c = c.widths_alone.ensures.stands
+
+pub returns-in_err-content-clause-parts : goal.returns-in_err-content-clause-parts
+returns-in_err-content-clause-parts g c = parts_then _ _ _ c.widths_alone.ensures.parts c.height_alone.ensures.parts
+
+pub returns-in_err-content-clause-stands : goal.returns-in_err-content-clause-stands
+returns-in_err-content-clause-stands g c = c.height_alone.ensures.stands
+
+pub returns-clause-parts : goal.returns-clause-parts
+returns-clause-parts g c = parts_then _ _ _ c.widths_alone.ensures.parts c.height_alone.ensures.parts
+
+pub returns-clause-stands : goal.returns-clause-stands
+returns-clause-stands g c = c.height_alone.ensures.stands

@@ -582,3 +582,39 @@ boxes_below-returns-clause-boxed g t c =
 
 pub boxes_below-returns-clause-quiet : goal.boxes_below-returns-clause-quiet
 boxes_below-returns-clause-quiet g t c = c.loop-index.invariant.quiet
+
+pub child_boxes-returns-in_err-boxes_below-clause-parts : goal.child_boxes-returns-in_err-boxes_below-clause-parts
+child_boxes-returns-in_err-boxes_below-clause-parts g t c = c.boxes_below.ensures.parts
+
+pub child_boxes-returns-in_err-boxes_below-clause-stands : goal.child_boxes-returns-in_err-boxes_below-clause-stands
+child_boxes-returns-in_err-boxes_below-clause-stands g t c = c.boxes_below.ensures.stands
+
+pub child_boxes-returns-clause-parts : goal.child_boxes-returns-clause-parts
+child_boxes-returns-clause-parts g t c = c.boxes_below.ensures.parts
+
+pub child_boxes-returns-clause-stands : goal.child_boxes-returns-clause-stands
+child_boxes-returns-clause-stands g t c = c.boxes_below.ensures.stands
+
+pub boxes_below-returns-in_err-frames-clause-parts : goal.boxes_below-returns-in_err-frames-clause-parts
+boxes_below-returns-in_err-frames-clause-parts g t c = c.frames_at.ensures.parts
+
+pub boxes_below-returns-in_err-frames-clause-stands : goal.boxes_below-returns-in_err-frames-clause-stands
+boxes_below-returns-in_err-frames-clause-stands g t c = c.frames_at.ensures.stands
+
+pub boxes_below-returns-in_err-seats-clause-parts : goal.boxes_below-returns-in_err-seats-clause-parts
+boxes_below-returns-in_err-seats-clause-parts g t c = c.frames_at.ensures.parts
+
+pub boxes_below-returns-in_err-seats-clause-stands : goal.boxes_below-returns-in_err-seats-clause-stands
+boxes_below-returns-in_err-seats-clause-stands g t c = c.frames_at.ensures.stands
+
+pub boxes_below-returns-in_err-child_boxes-clause-parts : goal.boxes_below-returns-in_err-child_boxes-clause-parts
+boxes_below-returns-in_err-child_boxes-clause-parts g t c = parts_then _ _ _ c.loop-index.invariant.parts c.child_boxes.ensures.parts
+
+pub boxes_below-returns-in_err-child_boxes-clause-stands : goal.boxes_below-returns-in_err-child_boxes-clause-stands
+boxes_below-returns-in_err-child_boxes-clause-stands g t c = c.child_boxes.ensures.stands
+
+pub boxes_below-returns-clause-parts : goal.boxes_below-returns-clause-parts
+boxes_below-returns-clause-parts g t c = c.loop-index.invariant.parts
+
+pub boxes_below-returns-clause-stands : goal.boxes_below-returns-clause-stands
+boxes_below-returns-clause-stands g t c = c.loop-index.invariant.stands
