@@ -2,6 +2,7 @@ pub mod Units
 pub mod Areas
 pub mod Names
 pub mod Padded
+pub mod Fronts
 pub mod Lends
 pub mod Decimals
 pub mod Forms

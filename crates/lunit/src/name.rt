@@ -1,11 +1,12 @@
-ghost use Rattle.std.specs.Prelude.{◌≡◌, ℕ, ◌+◌, ◌≤◌, List, [], length, ◌++◌, take, drop};
+ghost use Rattle.std.specs.Prelude.{◌≡◌, ◌≢◌, ℕ, ◌+◌, ◌≤◌, List, [], length, ◌++◌, take, drop, IfSome};
 ghost use Rattle.std.specs.List.{list_all};
 ghost use Rattle.std.specs.Str.{bytes_eq};
 ghost use Rattle.std.specs.Ordering.{nat_cmp, as_partial_cmp};
 ghost use Rattle.std.specs.Cmp.Lexicographic.{slice_cmp};
 ghost use Rattle.std.specs.Cmp.{partial_order_from_own_ties};
 ghost use Rattle.std.specs.Cmp.Rules.{comparing};
-ghost use Rattle.std.proofs.Common.{rules};
+ghost use Rattle.lunit.specs.Fronts.{spelled_after};
+ghost use Rattle.std.proofs.Common.{rules, Equal};
 ghost use Rattle.lunit.specs.Names.{is_name, begins_name, continues_name, edge_of, read_name};
 
 use crate::BadName;
@@ -80,8 +81,31 @@ fn past(text: &[u8], index: usize) -> &[u8]
     &text[index..]
 }
 
+/// The first eight bytes as a number, the first byte counting most.
+fn front(bytes: &[u8]) -> u64
+    requires { 8 ≤ length bytes.now }
+    ensures { result ≡ spelled_after 0 (take 8 bytes.now) }
+{
+    u64::from_be_bytes([
+        bytes[0], bytes[1], bytes[2], bytes[3], bytes[4], bytes[5], bytes[6], bytes[7],
+    ])
+}
+
+/// The order of two rooms of bytes, where their first eight differ: as one number each, they are compared at once.
+fn order_of_fronts(a: &[u8], b: &[u8]) -> Option<Ordering>
+    requires { (8 ≤ length a.now) × (8 ≤ length b.now) }
+    ensures order { IfSome result (λ order. order ≡ slice_cmp nat_cmp a.now b.now) }
+    ensures unequal { IfSome result (λ order. order ≢ Equal) }
+{
+    let (x, y) = (front(a), front(b));
+    if x == y {
+        return None;
+    }
+    Some(x.cmp(&y))
+}
+
 #[tactic(auto, using(crate::proofs::Orders::orders))]
-/// The order of two texts. Their first bytes are compared one by one, since most names differ there.
+/// The order of two texts. Their first bytes are compared one by one, since names are short.
 fn order(a: &[u8], b: &[u8]) -> Ordering
     ensures { result ≡ slice_cmp nat_cmp a.now b.now }
 {
@@ -181,6 +205,9 @@ impl Ord for Name {
     ghost matches_eq = { Prim.search (comparing, rules) };
 
     fn cmp(&self, other: &Name) -> Ordering {
+        if let Some(order) = order_of_fronts(&self.bytes, &other.bytes) {
+            return order;
+        }
         order(self.bytes(), other.bytes())
     }
 }
