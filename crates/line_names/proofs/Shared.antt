@@ -1,5 +1,5 @@
 -- The lines of names that levels share.
-use Rattle.std.proofs.Common.{arith, rules, refl, sym, ap, subst, ◌∙◌, ◌≡◌, ◌≢◌, ℕ, zero, suc, ◌+◌, ◌-◌, ◌<◌, ◌≤◌, ℤ, pos, negsuc, neg_ℤ, ◌+ℤ◌, ◌-ℤ◌, ◌<ℤ◌, ◌≤ℤ◌, ◌⊎◌, inl, inr, Bool, true, false, true≢false, ◌==◌, ◌||◌, ◌&&◌, List, [], ◌∷◌, ◌++◌, length, take, drop, get_or}
+use Rattle.std.proofs.Common.{arith, rules, tests, refl, sym, ap, subst, ◌∙◌, ◌≡◌, ◌≢◌, ℕ, zero, suc, ◌+◌, ◌-◌, ◌<◌, ◌≤◌, ℤ, pos, negsuc, neg_ℤ, ◌+ℤ◌, ◌-ℤ◌, ◌<ℤ◌, ◌≤ℤ◌, ◌⊎◌, inl, inr, Bool, true, false, true≢false, ◌==◌, ◌||◌, ◌&&◌, List, [], ◌∷◌, ◌++◌, length, take, drop, get_or}
 use Rattle.std.specs.Prelude.{insert, IsTrue, if◌then◌else◌}
 use Rattle.std.specs.Ordering.{int_eq}
 use Rattle.std.specs.Str.{bytes_eq}
@@ -168,12 +168,43 @@ names_in_none : (l : ℤ) → names_in [] l ≡ []
 names_in_none (pos n) = refl
 names_in_none (negsuc n) = refl
 
-pub lines_none : (index : NameIndex) (above : List Level) (base : ℤ) (tracks : ℕ) → ((name : List ℕ) → lines_in index.lines name ≡ []) → HoldsLines index above base tracks []
-lines_none index above base tracks empty =
+-- an index of nothing holds lines without names
+lines_without : (index : NameIndex) (above : List Level) (base : ℤ) (tracks : ℕ) (lines : List (List (List ℕ))) → ((name : List ℕ) → lines_in index.lines name ≡ []) → ((l : ℤ) → names_in lines l ≡ []) → HoldsLines index above base tracks lines
+lines_without index above base tracks lines empty bare =
     λ test h name.
     ap (λ own. over (told_from base own) (within (pos 0) (pos tracks) (told_from base (found above name)))) (empty name)
     ∙ h name
-    ∙ passing_same (test name) (or_in test [] name) (pos 0) (tracks + 1) (λ l a b. sym (or_false (test name l) (holds_name name (names_in [] l)) (ap (λ ns. holds_name name ns) (names_in_none l))))
+    ∙ passing_same (test name) (or_in test lines name) (pos 0) (tracks + 1) (λ l a b. sym (or_false (test name l) (holds_name name (names_in lines l)) (ap (λ ns. holds_name name ns) (bare l))))
+
+pub lines_none : (index : NameIndex) (above : List Level) (base : ℤ) (tracks : ℕ) → ((name : List ℕ) → lines_in index.lines name ≡ []) → HoldsLines index above base tracks []
+lines_none index above base tracks empty = lines_without index above base tracks [] empty names_in_none
+
+bare_at : (n start i : ℕ) → get_or (lines_by (λ line. []) n start) i [] ≡ []
+bare_at zero start i = refl
+bare_at (suc n) start zero = refl
+bare_at (suc n) start (suc i) = bare_at n (start + 1) i
+
+bare_lines : (n : ℕ) (l : ℤ) → names_in (lines_by (λ line. []) n 0) l ≡ []
+bare_lines n (pos i) = bare_at n 0 i
+bare_lines n (negsuc i) = refl
+
+zero_from : (m : ℕ) → (m == 0) ≡ true → m ≡ 0
+zero_from m e = search (rules, tests)
+
+none_by : {a : Type 0} (xs : List a) (empty : Bool) → empty ≡ (length xs == 0) → empty ≡ true → xs ≡ []
+none_by [] empty e h = refl
+none_by (x ∷ xs) empty e h =
+    let none : length (x ∷ xs) ≡ 0 = zero_from (length (x ∷ xs)) (sym e ∙ h) in
+    absurd (omega (arith, none))
+
+-- an index of nothing holds the lines of a subgrid that has neither sets nor areas
+pub lines_bare : (index : NameIndex) (above : List Level) (base : ℤ) (tracks : ℕ) (sets : List (List (List ℕ))) (areas : List NamedSpan) (no_sets no_areas : Bool) →
+    ((name : List ℕ) → lines_in index.lines name ≡ []) → no_sets ≡ (length sets == 0) → no_sets ≡ true → no_areas ≡ (length areas == 0) → no_areas ≡ true →
+    HoldsLines index above base tracks (lines_by (λ line. get_or sets line [] ++ names_by_areas (pos line) areas) (tracks + 1) 0)
+lines_bare index above base tracks sets areas no_sets no_areas empty e h f k =
+    subst (λ s. HoldsLines index above base tracks (lines_by (λ line. get_or s line [] ++ names_by_areas (pos line) areas) (tracks + 1) 0)) (sym (none_by sets no_sets e h))
+    (subst (λ a. HoldsLines index above base tracks (lines_by (λ line. get_or [] line [] ++ names_by_areas (pos line) a) (tracks + 1) 0)) (sym (none_by areas no_areas f k))
+    (lines_without index above base tracks (lines_by (λ line. []) (tracks + 1) 0) empty (bare_lines (tracks + 1))))
 
 line_more : (name : List ℕ) (lines : List (List (List ℕ))) (at : ℕ) (t : Bool) (l : ℤ) → at < length lines → pos 0 ≤ℤ l → ((t || holds_name name (names_in (take at lines) l)) || (int_eq l (pos at) && holds_name name (get_or lines at []))) ≡ (t || holds_name name (names_in (take (at + 1) lines) l))
 line_more name lines at t (negsuc i) h low = absurd (omega (arith, ints, low))

@@ -70,6 +70,9 @@ fn index_with(
         (lines_by (λ line. get_or sets.now line [] ++ names_by_areas (pos line) areas.now)
         (tracks + 1) 0)) }
 {
+    if sets.is_empty() && areas.is_empty() {
+        return Ok(NameIndex::new(alloc));
+    }
     let mut lines = own_lines(alloc, sets, tracks as usize + 1)?;
     add_areas(&mut lines, areas)?;
     index_below(alloc, above, base, tracks, lines.as_slice())
