@@ -1,5 +1,5 @@
 -- The names that a grid and those above it give to lines, as the code shares them.
-use Rattle.std.specs.Prelude.{◌≡◌, ℕ, zero, suc, ◌+◌, ◌<◌, ◌≤◌, ℤ, pos, negsuc, ◌+ℤ◌, ◌-ℤ◌, ◌≤ℤ◌, ◌<ℤ◌, int_le, Bool, ◌||◌, ◌&&◌, List, [], ◌∷◌, ◌++◌, length, get_or, insert, map, filter, if◌then◌else◌}
+use Rattle.std.specs.Prelude.{◌≡◌, ℕ, zero, suc, ◌+◌, ◌<◌, ◌≤◌, ℤ, pos, negsuc, neg_ℤ, ◌+ℤ◌, ◌-ℤ◌, ◌≤ℤ◌, ◌<ℤ◌, int_le, Bool, ◌||◌, ◌&&◌, List, [], ◌∷◌, ◌++◌, length, get_or, insert, map, filter, if◌then◌else◌}
 use Rattle.std.specs.Ordering.{int_eq}
 use Rattle.part_rules.specs.LineNames.{holds_name, lines_by, names_by_areas}
 use Rattle.line_names.specs.Counting.{AreAscending}
@@ -113,3 +113,12 @@ pub record IsGrown (lines all : List ℤ) (line : ℤ) : Type 0 where
   pub before : (i : ℕ) → i < place → get_or lines i (pos 0) ≤ℤ line
   pub after : (i : ℕ) → place ≤ i → i < length lines → line <ℤ get_or lines i (pos 0)
   pub is : all ≡ insert lines place line
+
+-- a line of a subgrid of so many tracks below levels, whose line 0 is this one of the topmost grid, and an index of its names
+pub record IsLineBelow (index : NameIndex) (above : List Level) (base : ℤ) (tracks line : ℕ) : Type 0 where
+  pub few : tracks ≤ 20000
+  pub low : neg_ℤ (pos 10000) ≤ℤ base
+  pub high : base ≤ℤ pos 10000
+  pub within : line ≤ tracks
+  pub ordered : AreOrdered above
+  pub sorted : IsSorted index above base tracks

@@ -4,7 +4,7 @@ ghost use Rattle.std.specs.Prelude.{◌≡◌, ◌≢◌, ◌<◌, ◌≤◌, �
 ghost use Rattle.std.specs.Str.{bytes_eq};
 ghost use Rattle.part_rules.specs.LineNames.{holds_name};
 ghost use Rattle.line_names.specs.Indexes.{lines_in};
-ghost use Rattle.line_names.specs.Levels.{found, seen_in, told, told_from, within, AreOrdered, HoldsLines, HoldsMore, IsAmong, IsGrown, IsSorted, IsSortedAbove};
+ghost use Rattle.line_names.specs.Levels.{found, seen_in, told, told_from, within, AreOrdered, HoldsLines, HoldsMore, IsAmong, IsGrown, IsLineBelow, IsSorted, IsSortedAbove};
 ghost use Rattle.line_names.specs.Counting.{AreAscending};
 
 use crate::counting::{Base, NamedLines, count_up_to, line_at, lines_from, lines_up_to};
@@ -265,12 +265,7 @@ fn grow(
     name: &Name,
     line: u32,
 ) -> Result<(), NoMemory>
-    requires few { tracks ≤ 20000 }
-    requires low { neg_ℤ (pos 10000) ≤ℤ base.line }
-    requires high { base.line ≤ℤ pos 10000 }
-    requires line { line ≤ tracks }
-    requires ordered { AreOrdered above.now }
-    requires sorted { IsSorted index.old above.now base.line tracks }
+    requires here { IsLineBelow index.old above.now base.line tracks line }
     requires missing { (i : ℕ) →
         i < length (seen_in index.old above.now base.line (pos 0) (pos tracks) name.now) →
         get_or (seen_in index.old above.now base.line (pos 0) (pos tracks) name.now) i (pos 0) ≢
@@ -293,12 +288,7 @@ fn add(
     name: &Name,
     line: u32,
 ) -> Result<(), NoMemory>
-    requires few { tracks ≤ 20000 }
-    requires low { neg_ℤ (pos 10000) ≤ℤ base.line }
-    requires high { base.line ≤ℤ pos 10000 }
-    requires line { line ≤ tracks }
-    requires ordered { AreOrdered above.now }
-    requires sorted { IsSorted index.old above.now base.line tracks }
+    requires { IsLineBelow index.old above.now base.line tracks line }
     ensures { OnOk result
         (HoldsMore index.old index.new above.now base.line tracks (bytes_eq name.now) (pos line)) }
 {
@@ -319,12 +309,7 @@ fn add_all(
     names: &[Name],
     line: u32,
 ) -> Result<(), NoMemory>
-    requires few { tracks ≤ 20000 }
-    requires low { neg_ℤ (pos 10000) ≤ℤ base.line }
-    requires high { base.line ≤ℤ pos 10000 }
-    requires line { line ≤ tracks }
-    requires ordered { AreOrdered above.now }
-    requires sorted { IsSorted index.old above.now base.line tracks }
+    requires { IsLineBelow index.old above.now base.line tracks line }
     ensures { OnOk result
         (HoldsMore index.old index.new above.now base.line tracks (λ other. holds_name other names.now)
         (pos line)) }

@@ -1,4 +1,4 @@
-use Rattle.std.proofs.Common.{subst, ◌∙◌, [], take}
+use Rattle.std.proofs.Common.{arith, subst, ◌∙◌, [], take}
 use Rattle.std.proofs.lemmas.List.{get_or_default, take_all}
 use Rattle.line_names.specs.Levels.{HoldsLines}
 use Rattle.line_names.proofs.Shared.{lines_none, lines_step, sorted_lines}
@@ -7,8 +7,16 @@ use Rattle.line_names.proofs.levels.index_below.Goals as goal
 pub loop-at-init : goal.loop-at-init
 loop-at-init c = lines_none c.new-index.result c.args.above.now c.args.base.line c.args.tracks c.new-index.ensures
 
-pub add_all-requires-clause-sorted : goal.add_all-requires-clause-sorted
-add_all-requires-clause-sorted c = sorted_lines c.loop-at.index c.args.above.now c.args.base.line c.args.tracks (take c.loop-at.at c.args.lines.now) c.requires.sorted c.loop-at.invariant
+pub add_all-requires : goal.add_all-requires
+add_all-requires c =
+    record {
+      few = c.requires.few;
+      low = c.requires.low;
+      high = c.requires.high;
+      within = omega (arith, c.requires.lines, c.loop-at-test.true);
+      ordered = c.requires.ordered;
+      sorted = sorted_lines c.loop-at.index c.args.above.now c.args.base.line c.args.tracks (take c.loop-at.at c.args.lines.now) c.requires.sorted c.loop-at.invariant;
+    }
 
 pub loop-at-preserved : goal.loop-at-preserved
 loop-at-preserved c = lines_step c.loop-at.index c.add_all.new.index c.args.above.now c.args.base.line c.args.tracks c.args.lines.now c.loop-at.at c.as_slice.result.now c.loop-at-test.true
