@@ -62,24 +62,30 @@ fn initialise(alloc: Global, first: Wide, rules: &[Rule]) -> Result<Vec<Row>, No
 fn takers_for(alloc: Global, rows: &[Row]) -> Result<Vec<Share>, NoMemory>
     ensures { IfOk result (λ takers. length takers.items ≡ length rows.now) }
 {
-    let mut takers = Vec::with_capacity(alloc, rows.len())?;
-    for _place in 0..rows.len() {
-        takers.push(Share {
-            room: None,
-            got: Lu::of(0),
-        })?;
+    let none = Share {
+        room: None,
+        got: Lu::of(0),
+    };
+    Ok(vec![in alloc; none; rows.len()]?)
+}
+
+#[tactic(auto, using(crate::proofs::Loops::filling))]
+/// Writes the base sizes.
+fn write_bases(rows: &[Row], sizes: &mut [Lu])
+    requires { length sizes.old ≡ length rows.now }
+    ensures { sizes.new ≡ map (λ (t : Track). t.base) rows.now }
+{
+    for (place, size) in sizes.iter_mut().enumerate() {
+        *size = rows[place].base();
     }
-    Ok(takers)
 }
 
 /// The base sizes.
 fn base_sizes(alloc: Global, rows: &[Row]) -> Result<Vec<Lu>, NoMemory>
     ensures { IfOk result (λ sizes. sizes.items ≡ map (λ (t : Track). t.base) rows.now) }
 {
-    let mut sizes = Vec::with_capacity(alloc, rows.len())?;
-    for row in rows {
-        sizes.push(row.base())?;
-    }
+    let mut sizes = vec![in alloc; Lu::of(0); rows.len()]?;
+    write_bases(rows, &mut sizes);
     Ok(sizes)
 }
 
