@@ -1,5 +1,5 @@
 -- A group whose items span all tracks, of which none has another function than `auto` or a growth limit, as a whole.
-use Rattle.std.proofs.Common.{arith, ap, subst, ◌≡◌, ◌∙◌, sym, refl, ℕ, zero, suc, ◌+◌, ◌<◌, ◌≤◌, ℤ, pos, ◌+ℤ◌, ◌-ℤ◌, ◌≤ℤ◌, Bool, true, false, not, ◌&&◌, ◌||◌, List, [], ◌∷◌, map, take, length, cond, nat_lt, Option, Some, if◌then◌else◌, true≢false}
+use Rattle.std.proofs.Common.{arith, ap, subst, ◌≡◌, ◌∙◌, sym, refl, ℕ, zero, suc, ◌+◌, ◌-◌, ◌<◌, ◌≤◌, ℤ, pos, ◌+ℤ◌, ◌-ℤ◌, ◌*ℤ◌, ◌≤ℤ◌, Bool, true, false, not, ◌&&◌, ◌||◌, List, [], ◌∷◌, map, take, length, cond, nat_lt, Option, Some, None, if◌then◌else◌, true≢false}
 use Rattle.std.specs.Prelude.{is_none, option_map}
 use Rattle.std.specs.Int.{int_max}
 use Rattle.std.specs.List.{list_any}
@@ -12,18 +12,19 @@ use Rattle.part_rules.specs.declared.track.Least.TheVariants as least
 use Rattle.part_rules.specs.declared.track.Most.TheVariants as most
 use Rattle.part_rules.specs.declared.track.Space.{Space}
 use Rattle.part_rules.specs.Lists.{sum_of, zipped}
-use Rattle.part_rules.specs.Tracks.{Track, affected_by, base_distributed, base_of, close_limit, crosses_flexible, each_distributed, flexible, group_fitted, grow_base, has_intrinsic_least, high_limits, is_definite, is_max_content, limit_of, low_limits, mark_endless, of_span, raise_limit, raised_base, raised_limit, raised_limit_by, some_fitted, span_length, spans, spans_fitted}
+use Rattle.part_rules.specs.Sharing.{shares}
+use Rattle.part_rules.specs.Tracks.{Track, affected_by, base_distributed, base_of, close_limit, crosses_flexible, each_distributed, flexible, group_fitted, grow_base, has_intrinsic_least, high_limits, is_definite, is_max_content, limit_of, low_limits, mark_endless, of_span, raise_limit, raised_base, raised_limit, raised_limit_by, some_fitted, span_length, spans, spans_fitted, without_end}
 use Rattle.track_sizing.specs.declared.kinds.Kind.{Kind}
 use Rattle.track_sizing.specs.declared.kinds.Kind.TheVariants as kind
 use Rattle.track_sizing.specs.declared.item.Asks.{Asks}
 use Rattle.track_sizing.specs.declared.item.Asks.TheVariants as asks
-use Rattle.track_sizing.specs.Even.{AreOpen, all_bases, ended, even_asks, even_shares, greatest_of, greatest_space, gutters_in, lifted, space_for, with_bases, with_ends, with_limits}
+use Rattle.track_sizing.specs.Even.{AreOpen, IsOpen, all_bases, ended, even_asks, even_shares, greatest_of, greatest_space, gutters_in, lifted, space_for, with_bases, with_ends, with_limits, with_lows}
 use Rattle.track_sizing.specs.Groups.{affecting, base_steps_of, last_steps_of, passed, passed_closed}
 use Rattle.track_sizing.specs.Kinds.{affected_of}
 use Rattle.track_sizing.specs.Ordered.{AreOf}
 use Rattle.track_sizing.specs.Placed.{AreIn, AreSet, IsIn, base_step_of, limit_step_in}
 use Rattle.track_sizing.proofs.Around.{AllSpanned, around}
-use Rattle.track_sizing.proofs.Evenly.{open_grown}
+use Rattle.track_sizing.proofs.Evenly.{open_grown, open_limit}
 use Rattle.track_sizing.proofs.EvenShares.{AllSome, even_length, even_some, plan_share}
 use Rattle.track_sizing.proofs.EvenSteps.{Affects, AreEndless, ArePlain, HaveNoLimits, IsLike, affected_plain, auto_least, bases_planned, content_least, highs_planned, intrinsic_least, intrinsic_most, length_like, lows_planned, max_content_least, max_content_most, none_flexible, none_plain, plain_like, space_some}
 use Rattle.track_sizing.proofs.Groups.{placed_of}
@@ -99,9 +100,6 @@ greatest_some f best (i ∷ rest) p h = greatest_some f (int_max (f i) best) res
 needs_some : (definite : Bool) (a : Asks) (size : Track → ℤ) (gap : ℤ) (items : List Item) (ts : List Track) → pos 0 ≤ℤ greatest_space definite a size gap items ts
 needs_some definite a size gap items ts =
     greatest_some (space_for definite a (sum_of (map size ts)) (gutters_in gap ts)) (pos 0) items (λ i. space_some (even_asks definite a i -ℤ sum_of (map size ts) -ℤ gutters_in gap ts)) (omega (arith, ints))
-
-grow_like : IsLike grow_base
-grow_like = record { rule = λ t z. refl; at = λ t z. refl; incurred = λ t z. refl }
 
 ended_like : IsLike ended
 ended_like = record { rule = λ t z. refl; at = λ t z. refl; incurred = λ t z. refl }
@@ -282,29 +280,89 @@ group_of space gap first n i rest ts o h =
 over_of : (first : ℤ) (items : List Item) (ts : List Track) → AreSet first ts → 0 < length ts → AreIn first (length ts) items → AreOf (pos (length ts)) items → IsOver first (length ts) items ts
 over_of first items ts set some at e = record { set = set; count = refl; some = some; items_in = at; items_of = e }
 
-pub group_even : {axis : ℕ} (space : Space axis) (gap first : ℤ) (items : List Item) (ts : List Track) → AreSet first ts → 0 < length ts → 0 < length items → AreIn first (length ts) items → AreOf (pos (length ts)) items → AreOpen ts
+group_even : {axis : ℕ} (space : Space axis) (gap first : ℤ) (items : List Item) (ts : List Track) → AreSet first ts → 0 < length ts → 0 < length items → AreIn first (length ts) items → AreOf (pos (length ts)) items → AreOpen ts
     → sized_evenly space gap items ts ≡ group_fitted space gap false items ts
 group_even space gap first [] ts set some there at e h = absurd (omega arith)
 group_even space gap first (i ∷ rest) ts set some there at e h = sym (group_of space gap first (length ts) i rest ts (over_of first (i ∷ rest) ts set some at e) h)
 
-pub even_is : {axis : ℕ} (space : Space axis) (gap : ℤ) (items : List Item) (definite max : Bool) (ts bases ends now : List Track) → definite ≡ is_definite space → max ≡ is_max_content space →
-    bases ≡ all_bases definite max gap items ts → ends ≡ with_ends gap items bases → now ≡ with_limits gap items ends
-    → now ≡ sized_evenly space gap items ts
-even_is space gap items definite max ts bases ends now d m b e n =
+-- ---- without marks
+
+-- the tracks after all steps, where the first step on growth limits sets no mark
+abbrev pub closed_evenly : {axis : ℕ} → Space axis → ℤ → List Item → List Track → List Track
+closed_evenly space gap items ts = with_limits gap items (with_lows gap items (all_bases (is_definite space) (is_max_content space) gap items ts))
+
+closed_track : (t : Track) (s q : ℤ) → IsOpen t → pos 0 ≤ℤ s → pos 0 ≤ℤ q → passed_closed (lifted (ended t s) q) ≡ lifted (lifted t s) q
+unfolding clamp
+closed_track t s q h x y =
+    let limit : ℤ = clamp (clamp (limit_of t +ℤ s) +ℤ q) in
+    let base : clamp (t.base +ℤ pos 0) ≡ t.base = omega (arith, ints, clamps, h.units.0, h.units.1) in
+    let above : int_max t.base limit ≡ limit = omega (arith, ints, clamps, open_limit t h, h.units.0, h.units.1, x, y) in
+    ap (λ (z : ℤ). record (lifted (lifted t s) q) { base = z; limit = Some (int_max z limit); endless = false }) base
+    ∙ ap (λ (z : ℤ). record (lifted (lifted t s) q) { limit = Some z; endless = false }) above
+    ∙ ap (λ (b : Bool). record (lifted (lifted t s) q) { endless = b }) (sym h.unmarked)
+
+closed_tracks : (ts : List Track) (ss qs : List ℤ) → AreOpen ts → AllSome ss → AllSome qs → map passed_closed (zipped lifted (zipped ended ts ss) qs) ≡ zipped lifted (zipped lifted ts ss) qs
+closed_tracks [] ss qs h x y = refl
+closed_tracks (t ∷ ts) [] qs h x y = refl
+closed_tracks (t ∷ ts) (s ∷ ss) [] h x y = refl
+closed_tracks (t ∷ ts) (s ∷ ss) (q ∷ qs) h x y =
+    ap (λ (u : Track). u ∷ map passed_closed (zipped lifted (zipped ended ts ss) qs)) (closed_track t s q h.0 x.0 y.0)
+    ∙ ap (λ (us : List Track). lifted (lifted t s) q ∷ us) (closed_tracks ts ss qs h.1 x.1 y.1)
+
+-- marks change neither growth limits nor how many tracks there are
+unmarked_limits : (ts : List Track) (ss : List ℤ) → map limit_of (zipped ended ts ss) ≡ map limit_of (zipped lifted ts ss)
+unmarked_limits [] ss = refl
+unmarked_limits (t ∷ ts) [] = refl
+unmarked_limits (t ∷ ts) (s ∷ ss) = ap (λ (zs : List ℤ). limit_of (lifted t s) ∷ zs) (unmarked_limits ts ss)
+
+unmarked_rooms : (ts : List Track) (ss : List ℤ) → map without_end (zipped ended ts ss) ≡ map without_end (zipped lifted ts ss)
+unmarked_rooms [] ss = refl
+unmarked_rooms (t ∷ ts) [] = refl
+unmarked_rooms (t ∷ ts) (s ∷ ss) = ap (λ (rooms : List (Option ℤ)). None ∷ rooms) (unmarked_rooms ts ss)
+
+closed_even : (gap : ℤ) (items : List Item) (ts : List Track) → AreOpen ts → 0 < length ts → map passed_closed (with_limits gap items (with_ends gap items ts)) ≡ with_limits gap items (with_lows gap items ts)
+closed_even gap items ts h some =
+    let ss : List ℤ = even_shares (greatest_space true asks.Low limit_of gap items ts) ts in
+    let ends : List Track = zipped ended ts ss in
+    let lows : List Track = zipped lifted ts ss in
+    let one : length ends ≡ length ts = length_like ended ts ss (even_length (greatest_space true asks.Low limit_of gap items ts) ts) in
+    let other : length lows ≡ length ts = length_like lifted ts ss (even_length (greatest_space true asks.Low limit_of gap items ts) ts) in
+    let space : greatest_space true asks.High limit_of gap items ends ≡ greatest_space true asks.High limit_of gap items lows =
+    ap (λ (zs : List ℤ). greatest_of (space_for true asks.High (sum_of zs) (gutters_in gap ends)) (pos 0) items) (unmarked_limits ts ss)
+    ∙ ap (λ (n : ℕ). greatest_of (space_for true asks.High (sum_of (map limit_of lows)) (gap *ℤ pos (n - 1))) (pos 0) items) (one ∙ sym other) in
+    let qs : List ℤ = even_shares (greatest_space true asks.High limit_of gap items ends) ends in
+    let same : qs ≡ even_shares (greatest_space true asks.High limit_of gap items lows) lows =
+    ap (λ (rooms : List (Option ℤ)). shares (greatest_space true asks.High limit_of gap items ends) rooms) (unmarked_rooms ts ss)
+    ∙ ap (λ (z : ℤ). shares z (map without_end lows)) space in
+    closed_tracks ts ss qs h (even_some (greatest_space true asks.Low limit_of gap items ts) ts (needs_some true asks.Low limit_of gap items ts) some)
+    (even_some (greatest_space true asks.High limit_of gap items ends) ends (needs_some true asks.High limit_of gap items ends) (omega (arith, one, some)))
+    ∙ ap (zipped lifted lows) same
+
+all_closed : {axis : ℕ} (space : Space axis) (gap first : ℤ) (items : List Item) (ts : List Track) → AreSet first ts → 0 < length ts → AreIn first (length ts) items → AreOf (pos (length ts)) items → AreOpen ts
+    → closed_evenly space gap items ts ≡ map passed_closed (sized_evenly space gap items ts)
+all_closed space gap first items ts set some at e h =
+    let bases : List Track = all_bases (is_definite space) (is_max_content space) gap items ts in
+    let over : IsOver first (length ts) items bases = over_all (is_definite space) (is_max_content space) gap first (length ts) items ts (over_of first items ts set some at e) in
+    sym (closed_even gap items bases (open_all (is_definite space) (is_max_content space) gap items ts h) (omega (arith, over.count, over.some)))
+
+pub even_is : {axis : ℕ} (space : Space axis) (gap : ℤ) (items : List Item) (definite max : Bool) (ts bases lows now : List Track) → definite ≡ is_definite space → max ≡ is_max_content space →
+    bases ≡ all_bases definite max gap items ts → lows ≡ with_lows gap items bases → now ≡ with_limits gap items lows
+    → now ≡ closed_evenly space gap items ts
+even_is space gap items definite max ts bases lows now d m b e n =
     n
     ∙ ap (with_limits gap items) e
-    ∙ ap (λ (xs : List Track). with_limits gap items (with_ends gap items xs)) b
-    ∙ ap (λ (x : Bool). with_limits gap items (with_ends gap items (all_bases x max gap items ts))) d
-    ∙ ap (λ (x : Bool). with_limits gap items (with_ends gap items (all_bases (is_definite space) x gap items ts))) m
+    ∙ ap (λ (xs : List Track). with_limits gap items (with_lows gap items xs)) b
+    ∙ ap (λ (x : Bool). with_limits gap items (with_lows gap items (all_bases x max gap items ts))) d
+    ∙ ap (λ (x : Bool). with_limits gap items (with_lows gap items (all_bases (is_definite space) x gap items ts))) m
 
-pub even_set : {axis : ℕ} (space : Space axis) (gap first : ℤ) (items : List Item) (ts : List Track) → AreSet first ts → 0 < length ts → AreIn first (length ts) items → AreOf (pos (length ts)) items → AreSet first (sized_evenly space gap items ts)
+pub even_set : {axis : ℕ} (space : Space axis) (gap first : ℤ) (items : List Item) (ts : List Track) → AreSet first ts → 0 < length ts → AreIn first (length ts) items → AreOf (pos (length ts)) items → AreSet first (closed_evenly space gap items ts)
 even_set space gap first items ts set some at e =
     let bases : List Track = all_bases (is_definite space) (is_max_content space) gap items ts in
     let over : IsOver first (length ts) items bases = over_all (is_definite space) (is_max_content space) gap first (length ts) items ts (over_of first items ts set some at e) in
-    let ends : List Track = with_ends gap items bases in
-    set_lifted first ends (even_shares (greatest_space true asks.High limit_of gap items ends) ends) (over_ends gap first (length ts) items bases over).set
+    let lows : List Track = with_lows gap items bases in
+    set_lifted first lows (even_shares (greatest_space true asks.High limit_of gap items lows) lows) (set_lifted first bases (even_shares (greatest_space true asks.Low limit_of gap items bases) bases) over.set)
 
-pub even_plain : {axis : ℕ} (space : Space axis) (gap : ℤ) (items : List Item) (ts : List Track) → AreOpen ts → list_any flexible (sized_evenly space gap items ts) ≡ false
+even_plain : {axis : ℕ} (space : Space axis) (gap : ℤ) (items : List Item) (ts : List Track) → AreOpen ts → list_any flexible (sized_evenly space gap items ts) ≡ false
 even_plain space gap items ts h =
     let bases : List Track = all_bases (is_definite space) (is_max_content space) gap items ts in
     let fresh : AreOpen bases = open_all (is_definite space) (is_max_content space) gap items ts h in
@@ -312,7 +370,7 @@ even_plain space gap items ts h =
     let plain : ArePlain ends = plain_like ended bases (even_shares (greatest_space true asks.Low limit_of gap items bases) bases) ended_like (open_plain bases fresh) in
     none_flexible (sized_evenly space gap items ts) (plain_like lifted ends (even_shares (greatest_space true asks.High limit_of gap items ends) ends) lifted_like plain)
 
-pub open_fixed : (ts : List Track) → AreOpen ts → list_any flexible ts ≡ false
+open_fixed : (ts : List Track) → AreOpen ts → list_any flexible ts ≡ false
 open_fixed ts h = none_flexible ts (open_plain ts h)
 
 -- ---- all groups
@@ -364,12 +422,19 @@ closed_both [] = refl
 closed_both (t ∷ ts) = ap (λ (us : List Track). passed_closed t ∷ us) (closed_both ts)
 
 -- All groups, where all items span all tracks and none is flexible.
-pub groups_even : {axis : ℕ} (space : Space axis) (gap : ℤ) (items crossing : List Item) (ts fitted now : List Track) → 2 ≤ length ts → 0 < length items → AreOf (pos (length ts)) items → list_any flexible ts ≡ false → fitted ≡ group_fitted space gap false items ts
+groups_of : {axis : ℕ} (space : Space axis) (gap : ℤ) (items crossing : List Item) (ts fitted now : List Track) → 2 ≤ length ts → 0 < length items → AreOf (pos (length ts)) items → list_any flexible ts ≡ false → fitted ≡ group_fitted space gap false items ts
     → list_any flexible fitted ≡ false → now ≡ map passed_closed fitted → now ≡ map close_limit (group_fitted space gap true crossing (spans_fitted space gap items (length ts) 2 ts))
-groups_even space gap items crossing ts fitted now two some e f v p n =
+groups_of space gap items crossing ts fitted now two some e f v p n =
     let spanned : spans_fitted space gap items (length ts) 2 ts ≡ fitted =
     spans_at space gap items (length ts) 2 (length ts) ts e f two (omega (arith, two)) ∙ some_items space gap items ts some ∙ sym v in
     n
     ∙ closed_both fitted
     ∙ ap (map close_limit) (group_passed space gap crossing fitted (map passed fitted) refl (not_crossed fitted p))
     ∙ ap (λ (xs : List Track). map close_limit (group_fitted space gap true crossing xs)) (sym spanned)
+
+pub groups_even : {axis : ℕ} (space : Space axis) (gap first : ℤ) (items crossing : List Item) (ts now : List Track) → AreSet first ts → 2 ≤ length ts → 0 < length items → AreIn first (length ts) items → AreOf (pos (length ts)) items → AreOpen ts
+    → now ≡ closed_evenly space gap items ts → now ≡ map close_limit (group_fitted space gap true crossing (spans_fitted space gap items (length ts) 2 ts))
+groups_even space gap first items crossing ts now set two some at e h n =
+    let tracks : 0 < length ts = omega (arith, two) in
+    groups_of space gap items crossing ts (sized_evenly space gap items ts) now two some e (open_fixed ts h) (group_even space gap first items ts set tracks some at e h) (even_plain space gap items ts h)
+    (n ∙ all_closed space gap first items ts set tracks at e h)

@@ -5,7 +5,7 @@ use Rattle.std.proofs.lemmas.Bool.{ltb-true, ltb-false}
 use Rattle.std.proofs.lemmas.Int.{ints, clamps}
 use Rattle.std.proofs.lemmas.Nat.{div-add-mod', mod_below}
 use Rattle.part_rules.specs.declared.share.Share.{Share}
-use Rattle.part_rules.specs.Lists.{zipped}
+use Rattle.part_rules.specs.Lists.{sum_of, zipped}
 use Rattle.part_rules.specs.Sharing.{Handed, above, filled_to, handed, roomy, shares, unshared, used}
 use Rattle.part_rules.specs.Tracks.{Track, incur, in_turns, plan, without_end}
 use Rattle.part_rules.proofs.Rounds.{plain}
@@ -91,6 +91,19 @@ parts_some level (suc odd) (t ∷ ts) = (omega (arith, ints), parts_some level o
 pub even_some : (space : ℤ) (ts : List Track) → pos 0 ≤ℤ space → 0 < length ts → AllSome (even_shares space ts)
 even_some (pos n) ts h some = subst AllSome (sym (even_whole n ts some)) (parts_some (n / length ts) (n % length ts) ts)
 even_some (negsuc n) ts h some = absurd (omega (arith, ints))
+
+sum_parts : (level odd : ℕ) (ts : List Track) → odd ≤ length ts → sum_of (parts level odd ts) ≡ pos (level * length ts + odd)
+sum_parts level zero [] h = ap pos (let none : 0 ≡ level * 0 + 0 = omega (arith, times_none level) in none)
+sum_parts level (suc odd) [] h = absurd (omega arith)
+sum_parts level zero (t ∷ ts) h = omega (arith, ints, sum_parts level zero ts (omega arith), times_next level (length ts))
+sum_parts level (suc odd) (t ∷ ts) h = omega (arith, ints, sum_parts level odd ts (omega arith), times_next level (length ts))
+
+-- All of a space is given.
+pub even_sum : (space : ℤ) (ts : List Track) → pos 0 ≤ℤ space → 0 < length ts → sum_of (even_shares space ts) ≡ space
+even_sum (pos n) ts h some =
+    let below : n % length ts < length ts = mod_below n (length ts) some in
+    ap (λ (zs : List ℤ). sum_of zs) (even_whole n ts some) ∙ sum_parts (n / length ts) (n % length ts) ts (omega (arith, below)) ∙ ap pos (div-add-mod' n (length ts))
+even_sum (negsuc n) ts h some = absurd (omega (arith, ints))
 
 -- ---- of a greater space no part is less
 

@@ -19,7 +19,7 @@ use Rattle.part_rules.specs.declared.track.Most.TheVariants as most
 use Rattle.part_rules.specs.declared.track.Rule.{Rule}
 use Rattle.part_rules.specs.Lists.{at_most, sum_of, sum_of_known, zipped}
 use Rattle.part_rules.specs.Sharing.{shares}
-use Rattle.part_rules.specs.Tracks.{Track, BaseStep, LimitStep, base_of, base_planned_by, base_planned_by_all, base_so_far, base_to_limit, capped_most, fit_argument, fixed_most, flexible, in_turns, inner_gutters, is_auto_least, is_flexible, limit_of, limit_planned_by, limit_planned_by_all, limit_so_far, plan, span_length, spans, up_to, without_end, lesser}
+use Rattle.part_rules.specs.Tracks.{Track, BaseStep, LimitStep, base_of, base_planned_by, base_planned_by_all, base_so_far, base_to_limit, capped_most, fit_argument, fixed_most, flexible, in_turns, inner_gutters, is_auto_least, is_flexible, limit_of, limit_planned_by, limit_planned_by_all, limit_so_far, plan, span_length, up_to, without_end, lesser}
 use Rattle.track_sizing.specs.declared.kinds.Affected.{Affected}
 use Rattle.track_sizing.specs.declared.kinds.Kind.{Kind}
 use Rattle.track_sizing.specs.declared.kinds.Kind.TheVariants as kind

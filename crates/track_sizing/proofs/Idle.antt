@@ -24,7 +24,7 @@ use Rattle.track_sizing.proofs.Shares.{gots, nothings}
 
 -- ---- a space of 0
 
-none_got : (rooms : List (Option ℤ)) → gots (map with_nothing (map roomy rooms)) ≡ nothings rooms
+pub none_got : (rooms : List (Option ℤ)) → gots (map with_nothing (map roomy rooms)) ≡ nothings rooms
 none_got [] = refl
 none_got (room ∷ rest) = ap (λ (zs : List ℤ). pos 0 ∷ zs) (none_got rest)
 

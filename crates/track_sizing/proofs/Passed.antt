@@ -12,7 +12,7 @@ use Rattle.part_rules.specs.declared.track.Most.{Most}
 use Rattle.part_rules.specs.declared.track.Most.TheVariants as most
 use Rattle.part_rules.specs.declared.track.Space.{Space}
 use Rattle.part_rules.specs.Tracks.{Track, BaseStep, LimitStep, affected_by, auto_asks, base_distributed, base_step, base_steps, counts_as_max_content, each_distributed, fixed_least, flexible, group_fitted, has_auto_or_max_content_least, has_content_least, has_intrinsic_least, has_intrinsic_most, has_max_content_least, has_max_content_most, high, high_limit_step, high_limits, in_group, is_auto_least, is_flexible, is_max_content, is_max_content_least, is_min_content_most, limit_distributed, limited, low, low_limit_step, low_limits, mark_endless, raise_limit, raised_base, raised_limit, raised_limit_by, spans, unmarked}
-use Rattle.track_sizing.specs.Groups.{affecting, passed, passed_closed}
+use Rattle.track_sizing.specs.Groups.{affecting, passed}
 use Rattle.track_sizing.specs.Kinds.{affected_of}
 use Rattle.track_sizing.specs.declared.kinds.Kind.TheVariants as kind
 use Rattle.track_sizing.proofs.Groups.{Keeps}
@@ -21,9 +21,6 @@ use Rattle.track_sizing.proofs.Parted.{neither}
 
 pub passed_keeps : Keeps passed
 passed_keeps = record { at = λ t. refl; ready = λ t h. (h.0, omega (arith, ints)) }
-
-pub closed_keeps : Keeps passed_closed
-closed_keeps = record { at = λ t. refl; ready = λ t h. (h.0, omega (arith, ints)) }
 
 -- ---- which tracks the steps affect
 

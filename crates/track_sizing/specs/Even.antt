@@ -1,5 +1,5 @@
 -- A group whose items span all tracks, of which none has another function than `auto` or a growth limit: the tracks gain in equal parts.
-use Rattle.std.specs.Prelude.{◌≡◌, ◌-◌, ℤ, pos, ◌+ℤ◌, ◌-ℤ◌, ◌*ℤ◌, Bool, true, List, [], ◌∷◌, map, length, Some, None, if◌then◌else◌}
+use Rattle.std.specs.Prelude.{◌≡◌, ◌≤ℤ◌, ◌-◌, ℤ, pos, ◌+ℤ◌, ◌-ℤ◌, ◌*ℤ◌, Bool, true, false, List, [], ◌∷◌, map, length, Some, None, if◌then◌else◌}
 use Rattle.std.specs.Int.{int_max}
 use Rattle.lunit.specs.Units.{IsUnits, clamp}
 use Rattle.lunit.specs.declared.item.Item.{Item}
@@ -19,16 +19,39 @@ pub record IsPlain (t : Track) : Type 0 where
   pub min : t.rule.least ≡ least.Auto
   pub max : t.rule.most ≡ most.Auto
 
--- a track that has no other function than `auto`, no growth limit and no planned increase
+-- a track that has no other function than `auto`, no growth limit, no planned increase and no mark
 pub record IsOpen (t : Track) : Type 0 where
   pub plain : IsPlain t
   pub limit : t.limit ≡ None
   pub planned : t.planned ≡ pos 0
   pub units : IsUnits t.base
+  pub unmarked : t.endless ≡ false
 
 abbrev pub AreOpen : List Track → Type 0
 AreOpen [] = Unit {0}
 AreOpen (t ∷ ts) = IsOpen t × AreOpen ts
+
+-- a track that is so and has the base size 0
+pub record IsFresh (t : Track) : Type 0 where
+  pub opens : IsOpen t
+  pub none : t.base ≡ pos 0
+
+abbrev pub AreFresh : List Track → Type 0
+AreFresh [] = Unit {0}
+AreFresh (t ∷ ts) = IsFresh t × AreFresh ts
+
+-- ---- sums of sizes
+
+-- sizes that are not below 0
+abbrev pub AreSome : (Track → ℤ) → List Track → Type 0
+AreSome size [] = Unit {0}
+AreSome size (t ∷ ts) = (pos 0 ≤ℤ size t) × AreSome size ts
+
+-- the sum of such sizes, which is a length
+pub record HaveSum (size : Track → ℤ) (ts : List Track) (sum : ℤ) : Type 0 where
+  pub some : AreSome size ts
+  pub same : sum ≡ sum_of (map size ts)
+  pub units : IsUnits sum
 
 -- ---- what the items of the group need
 
@@ -66,6 +89,14 @@ even_shares space ts = shares space (map without_end ts)
 abbrev pub lifted : Track → ℤ → Track
 lifted t share = let limit = clamp (limit_of t +ℤ share) in record t { limit = Some limit; planned = pos 0 }
 
+-- a track that stays as it is where its growth limit gains nothing
+pub record IsEnded (t : Track) : Type 0 where
+  pub same : lifted t (pos 0) ≡ t
+
+abbrev pub AreEnded : List Track → Type 0
+AreEnded [] = Unit {0}
+AreEnded (t ∷ ts) = IsEnded t × AreEnded ts
+
 -- a track that is lifted so and is infinitely growable
 abbrev pub ended : Track → ℤ → Track
 ended t share = record (lifted t share) { endless = true }
@@ -73,7 +104,6 @@ ended t share = record (lifted t share) { endless = true }
 -- a track with its share
 abbrev pub gain_of : Gains → Track → ℤ → Track
 gain_of gains.Base = grow_base
-gain_of gains.End = ended
 gain_of gains.Limit = lifted
 
 abbrev pub gained : Gains → ℤ → Track → Track
@@ -93,7 +123,11 @@ all_bases definite max gap items ts =
     if max then with_bases definite asks.LimitedHigh gap items bases else bases
 
 abbrev pub with_ends : ℤ → List Item → List Track → List Track
-with_ends gap items ts = gained_evenly gains.End (greatest_space true asks.Low limit_of gap items ts) ts
+with_ends gap items ts = zipped ended ts (even_shares (greatest_space true asks.Low limit_of gap items ts) ts)
+
+-- the first of the steps on growth limits without its marks, which only the next step reads
+abbrev pub with_lows : ℤ → List Item → List Track → List Track
+with_lows gap items ts = gained_evenly gains.Limit (greatest_space true asks.Low limit_of gap items ts) ts
 
 abbrev pub with_limits : ℤ → List Item → List Track → List Track
 with_limits gap items ts = gained_evenly gains.Limit (greatest_space true asks.High limit_of gap items ts) ts

@@ -178,6 +178,15 @@ abbrev pub HaveUnits : List Track → Type 0
 HaveUnits [] = Unit {0}
 HaveUnits (t ∷ rest) = IsUnits t.base × HaveUnits rest
 
+-- a base size in the range that is the growth limit
+pub record IsFilled (t : Track) : Type 0 where
+  pub units : IsUnits t.base
+  pub limit : t.limit ≡ Some t.base
+
+abbrev pub AreFilled : List Track → Type 0
+AreFilled [] = Unit {0}
+AreFilled (t ∷ rest) = IsFilled t × AreFilled rest
+
 -- ---- what is kept
 
 -- a track to which the item at hand has given at most so much

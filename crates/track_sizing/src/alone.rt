@@ -213,7 +213,7 @@ pub fn is_special(row: &Row) -> bool
 }
 
 /// Whether some track has.
-fn some_special(rows: &[Row]) -> bool
+pub fn some_special(rows: &[Row]) -> bool
     ensures { result ≡ list_any is_special rows.now }
 {
     for row in rows {

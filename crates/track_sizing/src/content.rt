@@ -3,7 +3,6 @@
 ghost use Rattle.std.specs.Prelude.{◌≡◌, ◌<◌, ◌≤◌, ◌^◌, IfOk, OnOk, filter, length, map, pos, true};
 ghost use Rattle.part_rules.specs.Tracks.{close_limit, content_sized, crosses_flexible, fit_alone, group_fitted, of_span, some_fitted, spans_fitted};
 ghost use Rattle.track_sizing.specs.Calm.{AreQuietItems, AreUntouched};
-ghost use Rattle.track_sizing.specs.Even.{AreOpen};
 ghost use Rattle.track_sizing.specs.Ordered.{AreFrom, AreOf, AreRising, IsRun};
 ghost use Rattle.track_sizing.specs.Placed.{AreIn, AreSet, IsIn};
 ghost use Rattle.track_sizing.specs.Spans.{is_of_span};
@@ -12,7 +11,7 @@ use crate::alone::fit_alone;
 use crate::calm::{are_calm, are_steady};
 use crate::distribute::place_of;
 use crate::even::{fit_evenly, is_even};
-use crate::group::{fit_group, pass_and_close, pass_group};
+use crate::group::{fit_group, pass_group};
 use crate::item::{some_flexible, span_length};
 use crate::kinds::{Affected, Kind, some_affected};
 use crate::rest::close_set_limits;
@@ -234,32 +233,6 @@ fn fit_crossing<const AXIS: u8>(
     Ok(())
 }
 
-/// The groups where all items span all tracks and none has another function than `auto` or a growth limit: there is one group, and no
-/// item crosses a flexible track.
-fn size_evenly<const AXIS: u8>(
-    space: &Space<AXIS>,
-    gap: Lu,
-    first: Wide,
-    items: &[Item],
-    rows: &mut [Row],
-)
-    requires few { length rows.old < 2 ^ 32 }
-    requires tracks { 2 ≤ length rows.old }
-    requires set { AreSet first rows.old }
-    requires items { AreIn first (length rows.old) items.now }
-    requires some { 0 < length items.now }
-    requires over { AreOf (pos (length rows.old)) items.now }
-    requires fresh { AreOpen rows.old }
-    ensures rows { rows.new ≡
-        map close_limit
-        (group_fitted space.now gap true (filter (crosses_flexible rows.old) items.now)
-        (spans_fitted space.now gap items.now (length rows.old) 2 rows.old)) }
-    ensures set { AreSet first rows.new }
-{
-    fit_evenly(space, gap, first, items, rows);
-    pass_and_close(first, rows);
-}
-
 #[tactic(auto, using(crate::proofs::Unchanged::nothing_changed, crate::proofs::Steady::untouched))]
 /// Groups of items of two tracks and more, and last the items that cross a flexible track. Where such items ask for nothing and the
 /// tracks have growth limits, all stay as they are. Answers whether surely no size is changed.
@@ -290,8 +263,8 @@ fn size_groups<const AXIS: u8>(
     if quiet && are_calm(rows) {
         return Ok(true);
     }
-    if !quiet && is_even(items, rows) {
-        size_evenly(space, gap, first, items, rows);
+    if !quiet && is_even(gap, items, rows) {
+        fit_evenly(space, gap, first, items, rows);
         return Ok(false);
     }
     let untouched = quiet && are_steady(rows);

@@ -2,7 +2,7 @@
 
 ghost use Rattle.std.specs.Prelude.{◌≡◌, ◌<◌, ◌^◌, length, map};
 ghost use Rattle.part_rules.specs.Tracks.{each_distributed, group_fitted, is_definite, is_max_content};
-ghost use Rattle.track_sizing.specs.Groups.{AreAtBase, base_steps_of, last_steps_of, passed, passed_closed};
+ghost use Rattle.track_sizing.specs.Groups.{AreAtBase, base_steps_of, last_steps_of, passed};
 ghost use Rattle.track_sizing.specs.Placed.{AreIn, AreSet};
 
 use crate::distribute::{
@@ -171,30 +171,4 @@ pub fn pass_group(first: Wide, rows: &mut [Row])
     ensures set { AreSet first rows.new }
 {
     pass_each(rows);
-}
-
-/// The track after such steps, with a growth limit that has an end.
-fn passed_closed(row: &Row) -> Row
-    ensures { result ≡ passed_closed row.now }
-{
-    passed(row).close_limit()
-}
-
-#[tactic(auto, using(crate::proofs::Loops::changing))]
-/// The tracks after such steps, with growth limits that have an end.
-fn close_each(rows: &mut [Row])
-    ensures { rows.new ≡ map passed_closed rows.old }
-{
-    for row in rows.iter_mut() {
-        *row = passed_closed(row);
-    }
-}
-
-/// The tracks after the steps for a group whose items give them nothing, with growth limits that have an end.
-pub fn pass_and_close(first: Wide, rows: &mut [Row])
-    requires { AreSet first rows.old }
-    ensures rows { rows.new ≡ map passed_closed rows.old }
-    ensures set { AreSet first rows.new }
-{
-    close_each(rows);
 }

@@ -81,6 +81,14 @@ pub fn stays_with(length: Lu, more: Lu) -> bool
     (length.wide() + more.wide()).clamp() == length
 }
 
+#[tactic(auto, using(crate::proofs::Order::that_number))]
+/// Whether two lengths are the same.
+pub fn is_same(one: Lu, other: Lu) -> bool
+    ensures { result ≡ true → one ≡ other }
+{
+    one == other
+}
+
 /// Whether a length is not above 0.
 pub fn is_not_above(length: Lu) -> bool
     ensures { result ≡ true → length ≤ℤ pos 0 }

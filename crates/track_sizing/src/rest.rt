@@ -1,15 +1,17 @@
 //! The rest of the space (CSS Grid 2, 12.6 and 12.8).
 
-ghost use Rattle.std.specs.Prelude.{◌≡◌, ◌<◌, ◌^◌, ◌+◌, ◌≤◌, ◌≤ℤ◌, IfSome, filter, length, map, not, pos};
+ghost use Rattle.std.specs.Prelude.{◌≡◌, ◌<◌, ◌^◌, ◌+◌, ◌≤◌, ◌≤ℤ◌, IfSome, filter, length, map, not, pos, true};
 ghost use Rattle.lunit.specs.Units.{IsUnits};
 ghost use Rattle.part_rules.specs.Lists.{zipped};
-ghost use Rattle.part_rules.specs.Tracks.{Track, all_gutters, close_limit, free_of, full, grown, maximised, maximised_within, stretch_space, stretched, stretched_over, total};
-ghost use Rattle.track_sizing.specs.Here.{HaveShares, HaveUnits, IsSum, grow_share, room_of};
+ghost use Rattle.part_rules.specs.Tracks.{Track, all_gutters, auto_room, close_limit, free_of, full, grown, maximised, maximised_within, stretch_space, stretched, stretched_over, to_limit, total};
+ghost use Rattle.track_sizing.specs.Here.{AreFilled, HaveShares, HaveUnits, IsFilled, IsSum, grow_share, room_of};
 ghost use Rattle.track_sizing.specs.Fits.{IsKnownSpace};
 ghost use Rattle.track_sizing.specs.Placed.{AreSet};
 
+use crate::alone::some_special;
+use crate::even::{Gains, gain_evenly};
 use crate::item::{base_sum, limit_sum};
-use crate::numbers::{is_nothing, shared};
+use crate::numbers::{is_nothing, is_same, shared};
 use crate::rooms::Rooms;
 use crate::row::Row;
 use crate::turn::set_rooms;
@@ -94,6 +96,62 @@ fn grow(rooms: &Rooms, space: Lu, rows: &mut [Row], takers: &mut [Share])
     grow_by_shares(rows, takers);
 }
 
+#[tactic(auto, using(crate::proofs::Ungrown::filled_row))]
+/// Whether a base size is the growth limit.
+fn is_filled(row: &Row) -> bool
+    ensures { result ≡ true → IsFilled row.now }
+{
+    let base = row.base();
+    let _units = base.units();
+    match row.limit() {
+        Some(limit) => is_same(limit, base),
+        None => false,
+    }
+}
+
+#[tactic(auto, using(crate::proofs::Ungrown::rows_filled))]
+/// Whether all base sizes are so.
+fn are_filled(rows: &[Row]) -> bool
+    ensures { result ≡ true → AreFilled rows.now }
+{
+    for row in rows {
+        if !is_filled(row) {
+            return false;
+        }
+    }
+    true
+}
+
+#[tactic(auto, using(crate::proofs::Ungrown::filled_grown))]
+/// Grows the base sizes up to the growth limits by what a space leaves. Where they are the growth limits, they stay as they are.
+fn grow_to_limits(gap: Lu, space: Wide, rows: &mut [Row], takers: &mut [Share])
+    requires few { length rows.old < 2 ^ 32 }
+    requires length { length takers.old ≡ length rows.old }
+    requires space { IsUnits space }
+    ensures { rows.new ≡ grown to_limit (free_of gap space rows.old) rows.old }
+{
+    if are_filled(rows) {
+        return;
+    }
+    let free = free_of(gap, space, rows);
+    grow(&Rooms::Growth, free, rows, takers);
+}
+
+#[tactic(auto, using(crate::proofs::Evenly::stretch_even))]
+/// Grows the base sizes of tracks with the max function `auto` by a space in equal parts: by a quotient where all tracks are such.
+fn grow_autos(space: Lu, rows: &mut [Row], takers: &mut [Share])
+    requires few { length rows.old < 2 ^ 32 }
+    requires length { length takers.old ≡ length rows.old }
+    requires some { pos 0 ≤ℤ space }
+    ensures { rows.new ≡ grown auto_room space rows.old }
+{
+    if is_nothing(space) || rows.len() < 2 || some_special(rows) {
+        grow(&Rooms::Stretch, space, rows, takers);
+        return;
+    }
+    gain_evenly(&Gains::Base, space, rows);
+}
+
 #[tactic(auto, using(crate::proofs::Loops::changing))]
 /// Gives each track its growth limit as its base size.
 fn fill_to_limits(rows: &mut [Row])
@@ -142,8 +200,7 @@ fn maximise_within(most: Option<Lu>, gap: Lu, rows: &mut [Row], takers: &mut [Sh
     match most {
         Some(most) => {
             if most.wide() < full_total(gap, rows) {
-                let free = free_of(gap, most.wide(), rows);
-                grow(&Rooms::Growth, free, rows, takers);
+                grow_to_limits(gap, most.wide(), rows, takers);
             } else {
                 fill_to_limits(rows);
             }
@@ -167,8 +224,7 @@ pub fn maximise<const AXIS: u8>(
 {
     match space {
         Space::Definite(size) => {
-            let free = free_of(gap, Wide::of(size.units() as i128), rows);
-            grow(&Rooms::Growth, free, rows, takers);
+            grow_to_limits(gap, Wide::of(size.units() as i128), rows, takers);
         }
         Space::MinContent => {}
         Space::MaxContent => maximise_within(most, gap, rows, takers),
@@ -185,7 +241,7 @@ fn stretch_over(space: Option<Wide>, gap: Lu, rows: &mut [Row], takers: &mut [Sh
     match space {
         Some(space) => {
             let free = free_of(gap, space, rows);
-            grow(&Rooms::Stretch, free, rows, takers);
+            grow_autos(free, rows, takers);
         }
         None => {}
     }

@@ -218,16 +218,23 @@ impl Row {
     }
 
     #[tactic(auto, unfolding(lunit::specs::Units::clamp))]
-    /// The track with a growth limit that is greater by a share; one without end counts as the base size.
-    pub fn lifted(&self, share: Lu) -> Row
+    /// Makes the base size greater by a share, in place.
+    pub fn add_base(&mut self, share: Lu)
         requires { pos 0 ≤ℤ share }
-        ensures { result ≡ lifted self.now share }
+        ensures { self.new ≡ grow_base self.old share }
     {
-        Row {
-            limit: Some((self.limit_or_base().wide() + share.wide()).clamp()),
-            planned: Lu::of(0),
-            ..*self
-        }
+        self.base = (self.base.wide() + share.wide()).clamp();
+    }
+
+    #[tactic(auto, unfolding(lunit::specs::Units::clamp))]
+    /// Makes the growth limit greater by a share, in place; one without end counts as the base size.
+    pub fn lift(&mut self, share: Lu)
+        requires { pos 0 ≤ℤ share }
+        ensures { self.new ≡ lifted self.old share }
+    {
+        let limit = (self.limit_or_base().wide() + share.wide()).clamp();
+        self.limit = Some(limit);
+        self.planned = Lu::of(0);
     }
 
     /// Whether the track surely stays as it is where its growth limit is raised.
