@@ -244,24 +244,23 @@ fn plan_limits(
     }
 }
 
-/// The track with its growth limit raised, where it is noted.
-fn raised_where(row: &Row, note: &Share) -> Row
-    ensures { result ≡ raised_where row.now note.now }
+/// Raises the growth limit in place, where it is noted.
+fn raise_where(row: &mut Row, note: &Share)
+    ensures { row.new ≡ raised_where row.old note.now }
 {
     if is_noted(note) {
-        row.raised_limit()
-    } else {
-        *row
+        row.raise_planned();
     }
 }
 
-/// The track with its growth limit raised, where it is noted, and with the mark for the next step:
+/// Raises the growth limit in place, where it is noted, and sets the mark for the next step:
 /// infinitely growable where the growth limit had no end and has one now.
-fn marked_where(row: &Row, note: &Share) -> Row
-    ensures { result ≡ marked_where row.now note.now }
+fn mark_where(row: &mut Row, note: &Share)
+    ensures { row.new ≡ marked_where row.old note.now }
 {
-    let raised = raised_where(row, note);
-    raised.with_endless(row.limit().is_none() && raised.limit().is_some())
+    let had_none = row.limit().is_none();
+    raise_where(row, note);
+    row.mark(had_none && row.limit().is_some());
 }
 
 #[tactic(auto, using(crate::proofs::Loops::zipping))]
@@ -271,7 +270,7 @@ fn raise_noted(rows: &mut [Row], notes: &[Share])
     ensures { rows.new ≡ zipped raised_where rows.old notes.now }
 {
     for (place, row) in rows.iter_mut().enumerate() {
-        *row = raised_where(row, &notes[place]);
+        raise_where(row, &notes[place]);
     }
 }
 
@@ -282,7 +281,7 @@ fn raise_and_mark_noted(rows: &mut [Row], notes: &[Share])
     ensures { rows.new ≡ zipped marked_where rows.old notes.now }
 {
     for (place, row) in rows.iter_mut().enumerate() {
-        *row = marked_where(row, &notes[place]);
+        mark_where(row, &notes[place]);
     }
 }
 

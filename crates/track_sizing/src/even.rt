@@ -282,7 +282,7 @@ fn gain_all_bases(definite: bool, max: bool, gap: Lu, items: &[Item], rows: &mut
 
 #[tactic(auto, using(crate::proofs::Evenly::lows))]
 /// The first step on growth limits, which gives them an end, where the sum of the base sizes is known; answers the sum of the limits.
-/// The marks for the second step are left out: there all tracks have them.
+/// No marks are set for the second step, which lifts all tracks alike.
 fn lift_lows(gap: Lu, sum: Wide, items: &[Item], rows: &mut [Row]) -> Wide
     requires few { length rows.old < 2 ^ 32 }
     requires tracks { 2 ≤ length rows.old }

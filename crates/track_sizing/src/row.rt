@@ -168,6 +168,13 @@ impl Row {
         Row { endless, ..*self }
     }
 
+    /// Marks the track, in place: it is infinitely growable or not.
+    pub fn mark(&mut self, endless: bool)
+        ensures { self.new ≡ record self.old { endless = endless } }
+    {
+        self.endless = endless;
+    }
+
     #[tactic(auto, unfolding(lunit::specs::Units::clamp))]
     /// The track with this share more from the item at hand.
     pub fn incur(&self, share: Lu) -> Row
@@ -206,15 +213,13 @@ impl Row {
     }
 
     #[tactic(auto, unfolding(lunit::specs::Units::clamp))]
-    /// The track with its growth limit raised by its planned increase; one without end becomes the base size and the increase.
-    pub fn raised_limit(&self) -> Row
-        ensures { result ≡ raised_limit self.now }
+    /// Raises the growth limit by its planned increase, in place; one without end becomes the base size and the increase.
+    pub fn raise_planned(&mut self)
+        ensures { self.new ≡ raised_limit self.old }
     {
-        Row {
-            limit: Some((self.limit_or_base().wide() + self.planned.wide()).clamp()),
-            planned: Lu::of(0),
-            ..*self
-        }
+        let limit = (self.limit_or_base().wide() + self.planned.wide()).clamp();
+        self.limit = Some(limit);
+        self.planned = Lu::of(0);
     }
 
     #[tactic(auto, unfolding(lunit::specs::Units::clamp))]
