@@ -2,7 +2,7 @@ use crate::case::{Case, Due, read_case};
 use crate::counts::{with_counts, without_counts};
 use crate::difference::difference_of;
 use crate::names::names_of;
-use crate::runs::{Ran, Way, run_on};
+use crate::running::{Ran, Way, run_on};
 use crate::told::tell;
 use lunit::Steps;
 use std::io;

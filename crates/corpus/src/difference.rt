@@ -1,5 +1,5 @@
 use crate::case::{Due, Output};
-use crate::runs::Ran;
+use crate::running::Ran;
 
 /// What is first found to be otherwise than it is due.
 #[derive(Clone, Copy)]

@@ -13,7 +13,7 @@ mod check;
 mod counts;
 mod difference;
 mod names;
-mod runs;
+mod running;
 mod told;
 
 use crate::check::{check_all, count_readable};

@@ -1,5 +1,5 @@
 use crate::difference::Difference;
-use crate::runs::Way;
+use crate::running::Way;
 use std::{io, str};
 
 /// The line as a text.

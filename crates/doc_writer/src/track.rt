@@ -12,6 +12,7 @@ ghost use Rattle.doc_writer.specs.Tracks.{side_word, same_unit, same_side, same_
 use crate::line::LineText;
 use crate::units::Units;
 use lunit::{Lu, NameSet, NoMemory};
+use std::alloc::Global;
 use style_types::{Repeat, Template, TrackFn, TrackList, Unit};
 use track_text::{Side, Track};
 
@@ -362,6 +363,7 @@ fn cut<T>(list: &[T], at: usize) -> (&[T], &[T])
 /// Adds the tracks before an automatic repeat, the repeat, and the tracks after it.
 fn write_around(
     line: &mut LineText,
+    alloc: Global,
     list: &TrackList,
     repeat: &Repeat,
     units: &Units,
@@ -371,26 +373,47 @@ fn write_around(
         put line.old
         (list_words list.now.names (Some repeat.now) (tracks_with list.now.sizes units.now))) }
 {
-    let (names, names_after) = cut(list.names.as_slice(), repeat.before as usize + 1);
-    let (sizes, sizes_after) = cut(list.sizes.as_slice(), repeat.before as usize);
+    let lines = list.names.written(alloc)?;
+    let tracks = list.sizes.written(alloc)?;
+    let (names, names_after) = cut(lines.as_slice(), repeat.before as usize + 1);
+    let (sizes, sizes_after) = cut(tracks.as_slice(), repeat.before as usize);
     let left = write_tracks(line, names, sizes, units)?;
     write_automatic(line, repeat, &mut units_after(sizes_after, &left))?;
     let _ = write_tracks(line, names_after, sizes_after, &left)?;
     Ok(())
 }
 
-fn write_list(line: &mut LineText, list: &TrackList, units: &Units) -> Result<(), NoMemory>
+/// Adds a list without an automatic repeat.
+fn write_whole(
+    line: &mut LineText,
+    alloc: Global,
+    list: &TrackList,
+    units: &Units,
+) -> Result<(), NoMemory>
+    ensures { OnOk result
+        (line.new ≡
+        put line.old (tracks_words list.now.names (tracks_with list.now.sizes units.now).0)) }
+{
+    let names = list.names.written(alloc)?;
+    let sizes = list.sizes.written(alloc)?;
+    let _ = write_tracks(line, names.as_slice(), sizes.as_slice(), units)?;
+    Ok(())
+}
+
+fn write_list(
+    line: &mut LineText,
+    alloc: Global,
+    list: &TrackList,
+    units: &Units,
+) -> Result<(), NoMemory>
     ensures { OnOk result
         (line.new ≡
         put line.old
         (list_words list.now.names list.now.repeat (tracks_with list.now.sizes units.now))) }
 {
     match &list.repeat {
-        Some(repeat) => write_around(line, list, repeat, units),
-        None => {
-            let _ = write_tracks(line, list.names.as_slice(), list.sizes.as_slice(), units)?;
-            Ok(())
-        }
+        Some(repeat) => write_around(line, alloc, list, repeat, units),
+        None => write_whole(line, alloc, list, units),
     }
 }
 
@@ -437,6 +460,7 @@ fn write_subgrid(line: &mut LineText, lines: &[NameSet]) -> Result<(), NoMemory>
 /// Adds a template, whose lengths have these units.
 pub(crate) fn write_template(
     line: &mut LineText,
+    alloc: Global,
     template: &Template,
     units: &[Unit],
 ) -> Result<(), NoMemory>
@@ -444,7 +468,7 @@ pub(crate) fn write_template(
 {
     match template {
         Template::Absent => line.word(b"none"),
-        Template::Tracks(list) => write_list(line, list, &Units::new(units)),
+        Template::Tracks(list) => write_list(line, alloc, list, &Units::new(units)),
         Template::Subgrid(lines) => {
             line.word(b"subgrid")?;
             write_subgrid(line, lines.as_slice())

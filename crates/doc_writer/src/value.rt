@@ -144,9 +144,10 @@ pub(crate) fn write_value(
 ) -> Result<(), NoMemory>
     ensures { OnOk result (line.new ≡ put line.old (value_words declared.now)) }
 {
-    let units = declared.units.as_slice();
+    let units = declared.units.written(alloc)?;
+    let units = units.as_slice();
     match &declared.value {
-        Value::Template(template) => write_template(line, template, units),
+        Value::Template(template) => write_template(line, alloc, template, units),
         Value::Areas(areas) => write_areas(line, alloc, areas),
         Value::Sizes(sizes) => write_sizes(line, sizes.as_slice(), units),
         Value::Flow { column, dense } => write_flow(line, *column, *dense),

@@ -8,9 +8,11 @@ use crate::choice::Choice;
 use doc_text::Kind;
 use lunit::{LineValue, Lu, NameSet, NoMemory, Sequence};
 use part_rules::Content;
+use runs::Runs;
 use std::alloc::Global;
 use style_types::{
-    Breadth, Declared, DeclaredValue, Prop, Repeat, Size, Template, TrackFn, TrackList, Unit, Value,
+    Breadth, Declared, DeclaredValue, Prop, Repeat, Size, Template, TrackFn, TrackList, Unit,
+    UnitList, Value,
 };
 
 #[tactic(auto, unfolding(lunit::specs::Units::clamp))]
@@ -28,7 +30,7 @@ pub(crate) fn plain_value(alloc: Global, value: Value) -> DeclaredValue
 {
     DeclaredValue {
         value,
-        units: Sequence::new(alloc),
+        units: UnitList::new(alloc),
     }
 }
 
@@ -38,7 +40,7 @@ fn declare_px(style: &mut Declared, alloc: Global, p: Prop, number: u64) -> Resu
     ensures { OnOk result (style.new ≡ map.insert style.old p (length_of p number).1) }
 {
     let value = Value::Size(Size::Length(px(number)));
-    let units = Sequence::from_slice(alloc, &[Unit::Px])?;
+    let units = UnitList::one(alloc, Unit::Px)?;
     style.set(p, DeclaredValue { value, units })
 }
 
@@ -69,8 +71,8 @@ fn repeated_template(alloc: Global) -> Result<Template, NoMemory>
         names: bare_lines(alloc, 2)?,
     };
     Ok(Template::Tracks(TrackList {
-        sizes: Sequence::new(alloc),
-        names: bare_lines(alloc, 2)?,
+        sizes: Runs::new(alloc),
+        names: Runs::of(alloc, bare_lines(alloc, 2)?)?,
         repeat: Some(repeat),
     }))
 }
@@ -90,8 +92,8 @@ fn shared_template(alloc: Global) -> Result<Template, NoMemory>
         fit: None,
     };
     Ok(Template::Tracks(TrackList {
-        sizes: Sequence::from_slice(alloc, &[one, two])?,
-        names: bare_lines(alloc, 3)?,
+        sizes: Runs::of(alloc, Sequence::from_slice(alloc, &[one, two])?)?,
+        names: Runs::of(alloc, bare_lines(alloc, 3)?)?,
         repeat: None,
     }))
 }
@@ -103,7 +105,7 @@ fn root_style(alloc: Global) -> Result<Declared, NoMemory>
 {
     let mut style = Declared::new(alloc);
     let value = Value::Template(repeated_template(alloc)?);
-    let units = Sequence::from_slice(alloc, &[Unit::Px])?;
+    let units = UnitList::one(alloc, Unit::Px)?;
     style.set(Prop::GridTemplateColumns, DeclaredValue { value, units })?;
     declare_px(&mut style, alloc, Prop::RowGap, 4)?;
     declare_px(&mut style, alloc, Prop::ColumnGap, 4)?;

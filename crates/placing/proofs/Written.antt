@@ -1,9 +1,10 @@
 -- Tracks that are written out.
-use Rattle.std.proofs.Common.{arith, refl, sym, ap, subst, ◌∙◌, ◌≡◌, ◌⊎◌, inl, inr, ℕ, zero, suc, ◌+◌, ◌-◌, ◌*◌, ◌%◌, ◌<◌, ◌≤◌, min, List, [], ◌∷◌, ◌++◌, length, take, Option, Some, None, length-append, length-take, mod-eq_of_lt, suc-mul}
+use Rattle.std.proofs.Common.{arith, refl, sym, ap, subst, ◌∙◌, ◌≡◌, ◌⊎◌, inl, inr, ℕ, zero, suc, ◌+◌, ◌-◌, ◌*◌, ◌%◌, ◌<◌, ◌≤◌, min, List, [], ◌∷◌, ◌++◌, length, take, drop, take-append-drop, Option, Some, None, length-append, length-take, mod-eq_of_lt, suc-mul}
 use Rattle.std.specs.Prelude.{slice_get}
 use Rattle.std.proofs.Math.Nat.{add-mod_left}
 use Rattle.std.proofs.lemmas.Bool.{cases_lt}
 use Rattle.std.proofs.lemmas.Option.{slice_get_past}
+use Rattle.std.proofs.lemmas.List.{take_min, drop_min}
 use Rattle.style_types.specs.declared.track.Template.{Template}
 use Rattle.style_types.specs.declared.track.Template.TheVariants as template
 use Rattle.style_types.specs.declared.track.TrackFn.{TrackFn}
@@ -11,7 +12,7 @@ use Rattle.style_types.specs.declared.track.TrackList.{TrackList}
 use Rattle.tree_rules.specs.Templates.{Written, repeated_sizes, written}
 use Rattle.placing.specs.Axes.{listed}
 use Rattle.placing.specs.Ranges.{IsTemplate, IsTrackList}
-use Rattle.placing.specs.Written.{list_written, sizes_by}
+use Rattle.placing.specs.Written.{around, list_written, sizes_by}
 
 -- ---- templates
 
@@ -66,18 +67,18 @@ get_repeated (suc n) sizes i h = either (cases_lt i (length sizes)) (get_repeate
         ∙ rest within
         ∙ ap (slice_get sizes) (sym (ap (λ (k : ℕ). k % length sizes) sum ∙ add-mod_left (length sizes) (i - length sizes)))
 
-pub first_part : (before repeated after : List TrackFn) (count at : ℕ) → at < length before → slice_get (before ++ repeated_sizes count repeated ++ after) at ≡ slice_get before at
+first_part : (before repeated after : List TrackFn) (count at : ℕ) → at < length before → slice_get (before ++ repeated_sizes count repeated ++ after) at ≡ slice_get before at
 first_part before repeated after count at h =
     get_left (before ++ repeated_sizes count repeated) after at (omega (arith, length-append before (repeated_sizes count repeated)))
     ∙ get_left before (repeated_sizes count repeated) at h
 
-pub second_part : (before repeated after : List TrackFn) (count at : ℕ) → length before ≤ at → at - length before < count * length repeated → slice_get (before ++ repeated_sizes count repeated ++ after) at ≡ slice_get repeated ((at - length before) % length repeated)
+second_part : (before repeated after : List TrackFn) (count at : ℕ) → length before ≤ at → at - length before < count * length repeated → slice_get (before ++ repeated_sizes count repeated ++ after) at ≡ slice_get repeated ((at - length before) % length repeated)
 second_part before repeated after count at h f =
     get_left (before ++ repeated_sizes count repeated) after at (omega (arith, length-append before (repeated_sizes count repeated), length_repeated count repeated))
     ∙ get_right before (repeated_sizes count repeated) at h
     ∙ get_repeated count repeated (at - length before) f
 
-pub third_part : (before repeated after : List TrackFn) (count at : ℕ) → length before ≤ at → count * length repeated ≤ at - length before → slice_get (before ++ repeated_sizes count repeated ++ after) at ≡ slice_get after (at - length before - count * length repeated)
+third_part : (before repeated after : List TrackFn) (count at : ℕ) → length before ≤ at → count * length repeated ≤ at - length before → slice_get (before ++ repeated_sizes count repeated ++ after) at ≡ slice_get after (at - length before - count * length repeated)
 third_part before repeated after count at h f =
     let past : length (before ++ repeated_sizes count repeated) ≡ length before + count * length repeated = omega (arith, length-append before (repeated_sizes count repeated), length_repeated count repeated) in
     let left : at - length (before ++ repeated_sizes count repeated) ≡ at - length before - count * length repeated = omega (arith, past) in
@@ -92,9 +93,49 @@ kept_get (suc n) (x ∷ xs) (suc at) h = kept_get n xs at (omega arith)
 pub not_kept : {A : Type 0} → (n : ℕ) (xs : List A) (at : ℕ) → n ≤ at → slice_get (take n xs) at ≡ None
 not_kept n xs at h = slice_get_past (take n xs) at (omega (arith, length-take n xs))
 
-pub count_kept : (before repeated after : List TrackFn) (count : ℕ) → length (sizes_by before repeated count after) ≡ min (length before + count * length repeated + length after) 10000
-count_kept before repeated after count =
-    let all : length (before ++ repeated_sizes count repeated ++ after) ≡ length before + count * length repeated + length after = omega (arith, length-append (before ++ repeated_sizes count repeated) after, length-append before (repeated_sizes count repeated), length_repeated count repeated) in
-    omega (arith, length-take 10000 (before ++ repeated_sizes count repeated ++ after), all)
+-- ---- tracks put in among those of a list
 
-pub ruleset reading = (first_part, second_part, third_part)
+get_dropped : {A : Type 0} → (n : ℕ) (xs : List A) (at : ℕ) → slice_get (drop n xs) at ≡ slice_get xs (n + at)
+get_dropped zero xs at = let e : at ≡ 0 + at = omega arith in ap (slice_get xs) e
+get_dropped (suc n) [] at = refl
+get_dropped (suc n) (x ∷ xs) at = let e : suc (n + at) ≡ suc n + at = omega arith in get_dropped n xs at ∙ ap (slice_get (x ∷ xs)) e
+
+taken : (before : ℕ) (listed : List TrackFn) → before ≤ length listed → length (take before listed) ≡ before
+taken before listed h = omega (arith, length-take before listed, h)
+
+pub listed_first : (before : ℕ) (listed repeated : List TrackFn) (count at : ℕ) → before ≤ length listed → at < before → slice_get (around before listed (repeated_sizes count repeated)) at ≡ slice_get listed at
+listed_first before listed repeated count at h f =
+    first_part (take before listed) repeated (drop before listed) count at (omega (arith, taken before listed h, f))
+    ∙ kept_get before listed at f
+
+pub listed_second : (before : ℕ) (listed repeated : List TrackFn) (count at : ℕ) → before ≤ length listed → before ≤ at → at - before < count * length repeated → slice_get (around before listed (repeated_sizes count repeated)) at ≡ slice_get repeated ((at - before) % length repeated)
+listed_second before listed repeated count at h f g =
+    let e : at - length (take before listed) ≡ at - before = ap (λ (n : ℕ). at - n) (taken before listed h) in
+    second_part (take before listed) repeated (drop before listed) count at (omega (arith, taken before listed h, f)) (omega (arith, e, g))
+    ∙ ap (λ (n : ℕ). slice_get repeated (n % length repeated)) e
+
+pub listed_third : (before : ℕ) (listed repeated : List TrackFn) (count at : ℕ) → before ≤ length listed → before ≤ at → count * length repeated ≤ at - before → slice_get (around before listed (repeated_sizes count repeated)) at ≡ slice_get listed (at - count * length repeated)
+listed_third before listed repeated count at h f g =
+    let e : at - length (take before listed) ≡ at - before = ap (λ (n : ℕ). at - n) (taken before listed h) in
+    let left : before + (at - length (take before listed) - count * length repeated) ≡ at - count * length repeated = omega (arith, e, f, g) in
+    third_part (take before listed) repeated (drop before listed) count at (omega (arith, taken before listed h, f)) (omega (arith, e, g))
+    ∙ get_dropped before listed (at - length (take before listed) - count * length repeated)
+    ∙ ap (slice_get listed) left
+
+pub count_kept : (before : ℕ) (listed repeated : List TrackFn) (count : ℕ) → length (sizes_by before listed count repeated) ≡ min (length listed + count * length repeated) 10000
+count_kept before listed repeated count =
+    let front = take before listed in
+    let back = drop before listed in
+    let parts : length front + length back ≡ length listed = sym (length-append front back) ∙ ap length (take-append-drop before listed) in
+    let all : length (around before listed (repeated_sizes count repeated)) ≡ length listed + count * length repeated = omega (arith, length-append (front ++ repeated_sizes count repeated) back, length-append front (repeated_sizes count repeated), length_repeated count repeated, parts) in
+    omega (arith, length-take 10000 (around before listed (repeated_sizes count repeated)), all)
+
+-- so many tracks as there are stand before the repeat
+pub listed_around : (before : ℕ) (listed repeated : List TrackFn) → around (min before (length listed)) listed repeated ≡ around before listed repeated
+listed_around before listed repeated =
+    ap (λ (xs : List TrackFn). xs ++ repeated ++ drop (min before (length listed)) listed) (take_min before listed)
+    ∙ ap (λ (xs : List TrackFn). take before listed ++ repeated ++ xs) (drop_min before listed)
+
+pub ruleset reading = (listed_first, listed_second, listed_third)
+
+pub ruleset listing = (listed_around)

@@ -312,13 +312,16 @@ fn list_count<const AXIS: u8>(
         list_count (grid_axis AXIS (grid_of style.now)) list.now.sizes list.now.repeat space) }
 {
     match &list.repeat {
-        Some(repeat) => repeat_count(
-            alloc,
-            gap::<AXIS>(style),
-            list.sizes.as_slice(),
-            repeat.sizes.as_slice(),
-            space,
-        ),
+        Some(repeat) => {
+            let tracks = list.sizes.written(alloc)?;
+            repeat_count(
+                alloc,
+                gap::<AXIS>(style),
+                tracks.as_slice(),
+                repeat.sizes.as_slice(),
+                space,
+            )
+        }
         None => Ok(1),
     }
 }

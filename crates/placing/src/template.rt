@@ -6,10 +6,12 @@ ghost use Rattle.tree_rules.specs.Labels.{grid_of};
 ghost use Rattle.tree_rules.specs.Templates.{Names, repeated_names, repeated_sizes, seamed, written};
 ghost use Rattle.placing.specs.Axes.{grid_axis};
 ghost use Rattle.placing.specs.Ranges.{IsTemplate, IsTrackList};
-ghost use Rattle.placing.specs.Written.{list_written, names_by, sizes_by};
+ghost use Rattle.placing.specs.Written.{around, list_written, names_by, sizes_by};
+ghost use Rattle.std.specs.Option.{option_copied, unwrap_or};
 
 use crate::style::track_list;
 use lunit::{Copied, NameSet, NoMemory, Sequence};
+use runs::Runs;
 use std::alloc::Global;
 use std::marker::Model;
 use style_types::{Repeat, Style, TrackFn, TrackList};
@@ -134,20 +136,12 @@ fn listed_lines(alloc: Global, list: &TrackList, count: u32) -> Result<Sequence<
 {
     match &list.repeat {
         Some(repeat) => {
-            let (before, after) = split(list.names.as_slice(), repeat.before as usize + 1);
+            let names = list.names.written(alloc)?;
+            let (before, after) = split(names.as_slice(), repeat.before as usize + 1);
             lines_around(alloc, before, repeat.names.as_slice(), count, after)
         }
-        None => plain_lines(alloc, list.names.as_slice()),
+        None => Ok(kept_lines(list.names.written(alloc)?)),
     }
-}
-
-/// The lines of a list without an automatic repeat.
-fn plain_lines(alloc: Global, names: &[NameSet]) -> Result<Sequence<NameSet>, NoMemory>
-    ensures { IfOk result (λ lines. lines ≡ take 10001 names.now) }
-{
-    let mut lines = Sequence::new(alloc);
-    add_lines(alloc, &mut lines, split(names, MOST_TRACKS + 1).0)?;
-    Ok(lines)
 }
 
 #[tactic(auto, using(crate::proofs::Written::written_list, crate::proofs::Written::written_none))]
@@ -172,10 +166,12 @@ pub fn lines<const AXIS: u8>(
 /// The sizes of the tracks of a template in which the automatic repeat stands so often. Contracts see the list. It lends the values of a style, and takes no
 /// memory.
 pub struct TrackSizes<'a> {
-    before: &'a [TrackFn],
+    /// The tracks outside of the repeat, where the template is a list.
+    listed: Option<&'a Runs<TrackFn>>,
+    /// How many of these stand before the repeat.
+    before: usize,
     repeated: &'a [TrackFn],
     count: u32,
-    after: &'a [TrackFn],
 }
 
 impl<'a> Model for TrackSizes<'a> {
@@ -194,10 +190,10 @@ impl<'a> Model for TrackSizes<'a> {
 impl<'a> Drop for TrackSizes<'a> {
     fn drop(self) {
         let TrackSizes {
+            listed: _,
             before: _,
             repeated: _,
             count: _,
-            after: _,
         } = self;
     }
 }
@@ -221,43 +217,81 @@ pub(crate) fn place_in(length: usize, at: usize) -> usize
     at % length
 }
 
+/// The track of this place in a list.
+fn track_in(list: &Runs<TrackFn>, at: usize) -> Option<TrackFn>
+    ensures { result ≡ slice_get list.now at }
+{
+    match list.get(at) {
+        Some(track) => Some(*track),
+        None => None,
+    }
+}
+
+/// The track of this place in a list, if there is one with so many.
+fn listed_track(listed: Option<&Runs<TrackFn>>, at: usize) -> Option<TrackFn>
+    ensures { result ≡ slice_get (unwrap_or (option_copied listed.entry) []) at }
+{
+    match listed {
+        Some(list) => track_in(list, at),
+        None => None,
+    }
+}
+
+/// How many tracks a list has.
+fn listed_count(listed: Option<&Runs<TrackFn>>) -> usize
+    ensures value { result ≡ length (unwrap_or (option_copied listed.entry) []) }
+    ensures few { result ≤ 4294967296 }
+{
+    match listed {
+        Some(list) => list.len(),
+        None => 0,
+    }
+}
+
 #[tactic(auto, using(crate::proofs::Written::reading))]
-/// The track of this place, where one repetition after another stands between the tracks before and after.
+/// The track of this place, where one repetition after another stands after so many tracks of a list.
 fn written_track(
-    before: &[TrackFn],
+    listed: Option<&Runs<TrackFn>>,
+    before: usize,
     repeated: &[TrackFn],
     count: u32,
-    after: &[TrackFn],
     at: usize,
 ) -> Option<TrackFn>
-    requires { length repeated.now ≤ 10000 }
-    ensures { result ≡ slice_get (before.now ++ repeated_sizes count repeated.now ++ after.now) at }
+    requires before { before ≤ length (unwrap_or (option_copied listed) []) }
+    requires few { length repeated.now ≤ 10000 }
+    ensures { result ≡
+        slice_get
+        (around before (unwrap_or (option_copied listed.entry) [])
+        (repeated_sizes count repeated.now)) at }
 {
-    if at < before.len() {
-        return track(before, at);
+    if at < before {
+        return listed_track(listed, at);
     }
-    let left = at - before.len();
+    let left = at - before;
     let all = count as usize * repeated.len();
     if left < all {
         return track(repeated, place_in(repeated.len(), left));
     }
-    track(after, left - all)
+    listed_track(listed, at - all)
 }
 
-/// The track of this place, where one repetition after another stands between the tracks before and
-/// after, if it is among the tracks that are kept.
+/// The track of this place, where one repetition after another stands after so many tracks of a list, if it is among
+/// the tracks that are kept.
 fn kept_track(
-    before: &[TrackFn],
+    listed: Option<&Runs<TrackFn>>,
+    before: usize,
     repeated: &[TrackFn],
     count: u32,
-    after: &[TrackFn],
     at: usize,
 ) -> Option<TrackFn>
-    requires { length repeated.now ≤ 10000 }
-    ensures { result ≡ slice_get (sizes_by before.now repeated.now count after.now) at }
+    requires before { before ≤ length (unwrap_or (option_copied listed) []) }
+    requires few { length repeated.now ≤ 10000 }
+    ensures { result ≡
+        slice_get
+        (sizes_by before (unwrap_or (option_copied listed.entry) []) count repeated.now) at }
 {
     if at < MOST_TRACKS {
-        written_track(before, repeated, count, after, at)
+        written_track(listed, before, repeated, count, at)
     } else {
         None
     }
@@ -269,33 +303,31 @@ impl<'a> TrackSizes<'a> {
         ensures { result ≡ [] }
     {
         TrackSizes {
-            before: &[],
+            listed: None,
+            before: 0,
             repeated: &[],
             count: 0,
-            after: &[],
         }
     }
 
+    #[tactic(auto, using(crate::proofs::Written::listing))]
     /// The tracks of a list in which an automatic repeat stands so often.
     fn listed(list: &'a TrackList, count: u32) -> TrackSizes<'a>
         requires { IsTrackList list.now }
         ensures { result ≡ (list_written list.now count).sizes }
     {
         match &list.repeat {
-            Some(repeat) => {
-                let (before, after) = split(list.sizes.as_slice(), repeat.before as usize);
-                TrackSizes {
-                    before,
-                    repeated: repeat.sizes.as_slice(),
-                    count,
-                    after,
-                }
-            }
+            Some(repeat) => TrackSizes {
+                listed: Some(&list.sizes),
+                before: (repeat.before as usize).min(list.sizes.len()),
+                repeated: repeat.sizes.as_slice(),
+                count,
+            },
             None => TrackSizes {
-                before: list.sizes.as_slice(),
+                listed: Some(&list.sizes),
+                before: 0,
                 repeated: &[],
                 count: 0,
-                after: &[],
             },
         }
     }
@@ -318,15 +350,13 @@ impl<'a> TrackSizes<'a> {
         ensures value { result ≡ length self.now }
         ensures few { result ≤ 10000 }
     {
-        (self.before.len() + self.count as usize * self.repeated.len() + self.after.len()).min(
-            MOST_TRACKS,
-        )
+        (listed_count(self.listed) + self.count as usize * self.repeated.len()).min(MOST_TRACKS)
     }
 
     /// The size of the track of this place, from 0; `None` exactly where there are not so many.
     pub fn get(&self, at: usize) -> Option<TrackFn>
         ensures { result ≡ slice_get self.now at }
     {
-        kept_track(self.before, self.repeated, self.count, self.after, at)
+        kept_track(self.listed, self.before, self.repeated, self.count, at)
     }
 }

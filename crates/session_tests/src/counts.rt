@@ -1,7 +1,7 @@
 //! The counts that `layout --stats` writes.
 
 use crate::logs::measured_in;
-use crate::runs::line_length;
+use crate::running::line_length;
 use outside::Event;
 
 /// The number that a text begins with, up to 2^64 - 1.

@@ -1,6 +1,6 @@
 //! Runs whose source or sink fails at each of its calls in turn.
 
-use crate::runs::{Devices, check_run, run_text};
+use crate::running::{Devices, check_run, run_text};
 use lunit::NoMemory;
 use session::Status;
 use std::alloc::Global;

@@ -1,7 +1,7 @@
 //! What is measured again where the font size is edited.
 
 use crate::logs::{measured_in, times};
-use crate::runs::{WHOLE, run_logged};
+use crate::running::{WHOLE, run_logged};
 use outside::{Event, LogRuler};
 use std::process::Abort;
 use std::test::Fail;

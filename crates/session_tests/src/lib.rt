@@ -22,7 +22,7 @@ mod printed;
 #[cfg(test)]
 mod reach;
 #[cfg(test)]
-mod runs;
+mod running;
 #[cfg(test)]
 mod stats;
 #[cfg(test)]

@@ -1,6 +1,6 @@
 //! Runs at each limit of an input, and just past it.
 
-use crate::runs::{BYTEWISE, Devices, WHOLE, check_run, run_text};
+use crate::running::{BYTEWISE, Devices, WHOLE, check_run, run_text};
 use itoa::Buffer;
 use lunit::NoMemory;
 use session::Status;

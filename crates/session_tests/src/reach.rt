@@ -3,7 +3,7 @@
 
 use crate::counts::are_told;
 use crate::logs::{are_of, measured_in};
-use crate::runs::{WHOLE, has_lines, run_logged};
+use crate::running::{WHOLE, has_lines, run_logged};
 use lunit::NoMemory;
 use outside::{Event, LogRuler};
 use std::alloc::Global;

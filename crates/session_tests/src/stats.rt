@@ -1,6 +1,6 @@
 //! Runs under `layout --stats`: the counts follow each layout, and no refusal.
 
-use crate::runs::{BYTEWISE, Devices, WHOLE, run_text};
+use crate::running::{BYTEWISE, Devices, WHOLE, run_text};
 use lunit::NoMemory;
 use session::Status;
 use std::alloc::Global;

@@ -1,7 +1,7 @@
 //! Runs that read nothing: their source would fail.
 
 use crate::logs::{are_of, measured_in};
-use crate::runs::{Devices, WHOLE, run_logged, run_text};
+use crate::running::{Devices, WHOLE, run_logged, run_text};
 use lunit::NoMemory;
 use outside::{Event, LogRuler};
 use session::Status;

@@ -1,5 +1,5 @@
 -- Computed styles: a look-up in one, and one of px alone.
-use Rattle.std.proofs.Common.{◌≡◌, ℤ, Bool, true, false, ◌&&◌, cond, List, [], ◌∷◌, map, Option, Some, None, refl, ap, sym, ◌∙◌}
+use Rattle.std.proofs.Common.{◌≡◌, ◌≤◌, ℕ, suc, length, arith, ℤ, Bool, true, false, ◌&&◌, cond, List, [], ◌∷◌, map, Option, Some, None, refl, ap, sym, ◌∙◌}
 use Rattle.std.specs.List.{list_all}
 use Rattle.std.specs.Option.{option_map}
 use Rattle.std.specs.FinMap as map
@@ -49,6 +49,17 @@ pub style_of_entries : (em rem : ℤ) (es : List (Prop × DeclaredValue)) → ma
 style_of_entries em rem es = map.same_map prop_cmp_total prop_cmp-IsAntisymmetric (map_of (values_mapped (computed_value em rem) es)) (computed_style em rem (map_of es)) (λ q.
     map.get-from_entries prop_cmp_total (values_mapped (computed_value em rem) es) q ∙ find_mapped (computed_value em rem) q es
     ∙ ap (option_map (computed_value em rem)) (sym (map.get-from_entries prop_cmp_total es q)) ∙ sym (get_computed em rem (map_of es) q))
+
+-- ---- how many tracks
+
+tracks_stay : (em rem : ℤ) (tracks : List TrackFn) (units : List Unit) → length (computed_tracks em rem tracks units).0 ≡ length tracks
+tracks_stay em rem [] units = refl
+tracks_stay em rem (track ∷ tracks) units = ap suc (tracks_stay em rem tracks (computed_track em rem track units).1)
+
+pub few_made : (em rem : ℤ) (made tracks : List TrackFn) (left units : List Unit) (most : ℕ) → (made, left) ≡ computed_tracks em rem tracks units → length tracks ≤ most → length made ≤ most
+few_made em rem made tracks left units most e h =
+    let f : length made ≡ length tracks = ap (λ (r : List TrackFn × List Unit). length r.0) e ∙ tracks_stay em rem tracks units in
+    omega (arith, f, h)
 
 -- ---- px alone
 
@@ -114,7 +125,7 @@ px_size em rem size.Normal units h = refl
 px_size em rem size.Content units h = refl
 px_size em rem (size.Percent t) units h = refl
 
-px_value : (em rem : ℤ) (v : Value) (units : List Unit) → are_px units ≡ true → computed_with em rem v units ≡ v
+pub px_value : (em rem : ℤ) (v : Value) (units : List Unit) → are_px units ≡ true → computed_with em rem v units ≡ v
 px_value em rem (value.Template t) units h = ap value.Template (px_template em rem t units h)
 px_value em rem (value.Sizes tracks) units h = ap value.Sizes (px_tracks em rem tracks units h).0
 px_value em rem (value.Size s) units h = ap value.Size (px_size em rem s units h)

@@ -6,3 +6,4 @@ pub mod Table
 pub mod Units
 pub mod Computed
 pub mod Briefs
+pub mod UnitLists

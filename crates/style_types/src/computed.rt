@@ -1,57 +1,18 @@
 //! Declared values with their lengths in px.
 
 ghost use Rattle.std.specs.Prelude.{◌≡◌, IfOk};
-ghost use Rattle.style_types.specs.Computed.{next_length, computed_breadth, computed_fit, computed_track, computed_tracks, computed_repeat, computed_list, computed_template, computed_size, computed_with, computed_value, values_mapped};
+ghost use Rattle.style_types.specs.Computed.{computed_breadth, computed_fit, computed_track, computed_tracks, computed_repeat, computed_list, computed_template, computed_size, computed_with, computed_value, values_mapped};
 
 use crate::declared::DeclaredValue;
 use crate::prop::Prop;
 use crate::track::{Breadth, Repeat, Template, TrackFn, TrackList};
-use crate::unit::Unit;
+use crate::unit_list::Units;
 use crate::value::{Size, Value};
 use lunit::{Copied, Lu, NoMemory, Sequence};
+use runs::Runs;
 use std::alloc::Global;
-use std::marker::Model;
-
-/// The units of the lengths of a value that are left. Contracts see the list.
-pub(crate) struct Units<'a> {
-    left: &'a [Unit],
-}
-
-impl<'a> Model for Units<'a> {
-    ghost use Rattle.std.specs.Prelude.{List};
-    ghost use Rattle.style_types.specs.declared.unit.Unit.{Unit};
-
-    ghost Value = { List Unit };
-
-    ghost view = { λ a. a.left.now };
-}
-
-impl<'a> Drop for Units<'a> {
-    fn drop(self) {
-        let Units { left: _ } = self;
-    }
-}
 
 impl<'a> Units<'a> {
-    pub(crate) fn new(units: &'a [Unit]) -> Units<'a>
-        ensures { result ≡ units.now }
-    {
-        Units { left: units }
-    }
-
-    /// The length that stands as px with the next unit.
-    pub(crate) fn next_length(&mut self, em: Lu, rem: Lu, px: Lu) -> Lu
-        ensures { (result, self.new) ≡ next_length em rem px self.old }
-    {
-        match self.left.split_first() {
-            None => px,
-            Some((unit, left)) => {
-                self.left = left;
-                unit.length_of(em, rem, px)
-            }
-        }
-    }
-
     fn breadth(&mut self, em: Lu, rem: Lu, breadth: Breadth) -> Breadth
         ensures { (result, self.new) ≡ computed_breadth em rem breadth self.old }
     {
@@ -97,6 +58,23 @@ impl<'a> Units<'a> {
         Ok(made)
     }
 
+    /// The tracks of a list, which are written out for it.
+    fn listed_tracks(
+        &mut self,
+        alloc: Global,
+        em: Lu,
+        rem: Lu,
+        tracks: &Runs<TrackFn>,
+    ) -> Result<Runs<TrackFn>, NoMemory>
+        ensures { IfOk result
+            (λ made. (made, self.new) ≡ computed_tracks em rem tracks.now self.old) }
+    {
+        let _ = tracks.len();
+        let written = tracks.written(alloc)?;
+        let made = self.tracks(alloc, em, rem, written.as_slice())?;
+        Runs::of(alloc, made)
+    }
+
     fn repeat(
         &mut self,
         alloc: Global,
@@ -128,7 +106,7 @@ impl<'a> Units<'a> {
         ensures { IfOk result (λ made. made ≡ computed_list em rem list.now self.old) }
     {
         Ok(TrackList {
-            sizes: self.tracks(alloc, em, rem, list.sizes.as_slice())?,
+            sizes: self.listed_tracks(alloc, em, rem, &list.sizes)?,
             names: list.names.copy(alloc)?,
             repeat: self.repeat(alloc, em, rem, &list.repeat)?,
         })
@@ -174,7 +152,9 @@ impl<'a> Units<'a> {
     }
 }
 
-/// The computed value of a declared one, where the font size of the node is `em` and that of the root `rem`.
+#[tactic(auto, using(crate::proofs::Computing::px_value))]
+/// The computed value of a declared one, where the font size of the node is `em` and that of the root `rem`. A value
+/// whose lengths are all in px is computed to itself.
 fn computed_value(
     alloc: Global,
     em: Lu,
@@ -183,7 +163,10 @@ fn computed_value(
 ) -> Result<Value, NoMemory>
     ensures { IfOk result (λ value. value ≡ computed_value em rem declared.now) }
 {
-    Units::new(declared.units.as_slice()).value(alloc, em, rem, &declared.value)
+    if declared.units.are_px() {
+        return declared.value.copy(alloc);
+    }
+    Units::of(&declared.units).value(alloc, em, rem, &declared.value)
 }
 
 /// The entries with their computed values.

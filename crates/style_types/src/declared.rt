@@ -3,31 +3,30 @@ ghost use Rattle.std.specs.Option.{option_copied};
 ghost use Rattle.std.specs.FinMap as map;
 ghost use Rattle.style_types.specs.Computed.{computed_style, font_with, font_of};
 
-use crate::computed::Units;
 use crate::prop::Prop;
 use crate::prop_map::PropMap;
 use crate::style::Style;
-use crate::unit::Unit;
+use crate::unit_list::{UnitList, Units};
 use crate::value::{Size, Value};
-use lunit::{Copied, Lu, NoMemory, Sequence};
+use lunit::{Copied, Lu, NoMemory};
 use std::alloc::Global;
 use std::marker::Model;
 
 /// A value as it is declared: its lengths may be relative to a font size.
-#[derive(Drop, PartialEq, Eq)]
+#[derive(Drop)]
 pub struct DeclaredValue {
     /// The value, in which a length that is relative stands as 0.
     pub value: Value,
     /// The unit of each length of the value, in the order of its lists: of a track size the least side, the most side,
     /// then the argument of `fit-content`; the tracks of an automatic repeat after those outside of it.
-    pub units: Sequence<Unit>,
+    pub units: UnitList,
 }
 
 impl Copied for DeclaredValue {
     fn copy(&self, alloc: Global) -> Result<DeclaredValue, NoMemory> {
         Ok(DeclaredValue {
             value: self.value.copy(alloc)?,
-            units: Sequence::from_slice(alloc, self.units.as_slice())?,
+            units: self.units.copy(alloc)?,
         })
     }
 }
@@ -57,9 +56,7 @@ fn font_of(parent: Lu, root: Lu, declared: &DeclaredValue) -> Lu
     ensures { result ≡ font_with parent root declared.now.value declared.now.units }
 {
     match &declared.value {
-        Value::Size(Size::Length(px)) => {
-            Units::new(declared.units.as_slice()).next_length(parent, root, *px)
-        }
+        Value::Size(Size::Length(px)) => Units::of(&declared.units).next_length(parent, root, *px),
         _ => parent,
     }
 }

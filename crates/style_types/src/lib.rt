@@ -11,6 +11,7 @@ mod prop_map;
 mod style;
 mod track;
 mod unit;
+mod unit_list;
 mod value;
 
 pub use brief::Glance;
@@ -21,4 +22,5 @@ pub use prop::{Class, Prop, class_of};
 pub use style::Style;
 pub use track::{Breadth, Repeat, Template, TrackFn, TrackList};
 pub use unit::Unit;
+pub use unit_list::UnitList;
 pub use value::{Align, AlignMode, Areas, Scroll, Size, Value};

@@ -1,6 +1,7 @@
 ghost use Rattle.std.specs.Prelude.{◌≡◌, IfOk};
 
 use lunit::{Copied, Lu, NameSet, NoMemory, Sequence};
+use runs::Runs;
 use std::alloc::Global;
 
 /// One side of a track size (CSS Grid 2, section 7.2.1).
@@ -47,15 +48,16 @@ pub struct Repeat {
     pub names: Sequence<NameSet>,
 }
 
-/// A track list, in which repeats with a number are written out (CSS Grid 2, section 7.2).
+/// A track list, in which repeats with a number are written out (CSS Grid 2, section 7.2): contracts see each track. In
+/// memory the tracks of such a repeat, and the names of its lines, stand once.
 #[derive(Drop, PartialEq, Eq)]
 pub struct TrackList {
     /// The tracks outside the automatic repeat.
-    pub sizes: Sequence<TrackFn>,
+    pub sizes: Runs<TrackFn>,
     /// The name sets before, between and after these tracks (section 7.2.2): one more than `sizes`, and in a list
     /// with an automatic repeat two more, of which the sets number `before` and `before + 1`, from 0, stand at the
     /// two ends of the repeat.
-    pub names: Sequence<NameSet>,
+    pub names: Runs<NameSet>,
     /// The automatic repeat.
     pub repeat: Option<Repeat>,
 }
@@ -69,6 +71,12 @@ pub enum Template {
     Tracks(TrackList),
     /// `subgrid` with the name sets of its lines (section 9).
     Subgrid(Sequence<NameSet>),
+}
+
+impl Copied for TrackFn {
+    fn copy(&self, _alloc: Global) -> Result<TrackFn, NoMemory> {
+        Ok(*self)
+    }
 }
 
 impl Copied for Repeat {
@@ -85,7 +93,7 @@ impl Copied for Repeat {
 impl Copied for TrackList {
     fn copy(&self, alloc: Global) -> Result<TrackList, NoMemory> {
         Ok(TrackList {
-            sizes: Sequence::from_slice(alloc, self.sizes.as_slice())?,
+            sizes: self.sizes.copy(alloc)?,
             names: self.names.copy(alloc)?,
             repeat: self.repeat.copy(alloc)?,
         })

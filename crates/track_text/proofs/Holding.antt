@@ -157,11 +157,11 @@ abbrev pub seam : List Word → List (List Word) → List (List Word)
 seam line [] = line ∷ []
 seam line (first ∷ lines) = (line ++ first) ∷ lines
 
-seam_name : (line : List Word) (name : Word) (lines : List (List Word)) → seam (line ++ name ∷ []) lines ≡ seam line (onto_first_line name lines)
+pub seam_name : (line : List Word) (name : Word) (lines : List (List Word)) → seam (line ++ name ∷ []) lines ≡ seam line (onto_first_line name lines)
 seam_name line name [] = refl
 seam_name line name (first ∷ lines) = ap (λ (xs : List Word). xs ∷ lines) (append_assoc line (name ∷ []) first)
 
-seam_first : (es : List Entry) → seam [] (lines_of es) ≡ lines_of es
+pub seam_first : (es : List Entry) → seam [] (lines_of es) ≡ lines_of es
 seam_first [] = refl
 seam_first (entry.Track size ∷ es) = refl
 seam_first (entry.Named name ∷ es) = by_lines (lines_of es) where

@@ -12,3 +12,5 @@ pub mod Cuts
 pub mod Suffixes
 pub mod PlainLists
 pub mod Units
+pub mod Listing
+pub mod Listed

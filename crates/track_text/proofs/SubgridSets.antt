@@ -58,7 +58,7 @@ take-few zero (x ∷ xs) h = let wrong : ⊥ = omega arith in elim wrong [ ]
 take-few (suc n) [] h = refl
 take-few (suc n) (x ∷ xs) h = ap (λ (ys : List _). x ∷ ys) (take-few n xs (omega arith))
 
-take-behind : {A : Type 0} (n : ℕ) (xs ys : List A) → take n (take n xs ++ ys) ≡ take n (xs ++ ys)
+pub take-behind : {A : Type 0} (n : ℕ) (xs ys : List A) → take n (take n xs ++ ys) ≡ take n (xs ++ ys)
 take-behind zero xs ys = refl
 take-behind (suc n) [] ys = refl
 take-behind (suc n) (x ∷ xs) ys = ap (λ (zs : List _). x ∷ zs) (take-behind n xs ys)

@@ -46,6 +46,11 @@ track_behind held track =
 pub units_next : (track : Track) (tracks : List Track) → units_before (track ∷ tracks) [] ≡ track_units track [] ++ units_before tracks []
 units_next track tracks = track_before track [] (units_before tracks [])
 
+-- the units of some tracks after those of others
+pub units_append : (tracks more : List Track) → units_before (tracks ++ more) [] ≡ units_before tracks [] ++ units_before more []
+units_append [] more = refl
+units_append (track ∷ tracks) more = ap (track_units track) (units_append tracks more) ∙ track_before track (units_before tracks []) (units_before more [])
+
 -- the units of the list are those of its tracks, then those of the repeat
 pub list_behind : (list : ReadList) → ([] ++ units_before list.sizes []) ++ repeat_units list.repeat ≡ list_units list
 list_behind list = sym (all_before list.sizes [] (repeat_units list.repeat))

@@ -1,5 +1,5 @@
--- Entries as they are held while a list is read: so many tracks of them, and each name of a line once.
-use Rattle.std.specs.Prelude.{ℕ, zero, suc, Bool, false, true, nat_lt, ◌||◌, List, [], ◌∷◌, ◌++◌, length, if◌then◌else◌}
+-- Entries as they are read: so many tracks of them, and each name of a line once; and those of parts.
+use Rattle.std.specs.Prelude.{ℕ, zero, suc, Bool, false, true, ◌||◌, List, [], ◌∷◌, ◌++◌, if◌then◌else◌}
 use Rattle.track_text.specs.declared.entry.Entry.{Entry}
 use Rattle.track_text.specs.declared.entry.Entry.TheVariants as entry
 use Rattle.track_text.specs.declared.entry.Part.{Part}
@@ -7,14 +7,7 @@ use Rattle.track_text.specs.declared.entry.Part.TheVariants as part
 use Rattle.track_text.specs.Words.{Word}
 use Rattle.track_text.specs.NameSets.{is_among}
 use Rattle.track_text.specs.Repeats.{times}
-use Rattle.track_text.specs.Templates.{tracks_of, all_fixed}
-
--- the entries up to and with so many tracks
-abbrev pub cut : ℕ → List Entry → List Entry
-cut zero entries = []
-cut (suc count) [] = []
-cut (suc count) (entry.Track size ∷ entries) = entry.Track size ∷ cut count entries
-cut (suc count) (entry.Named name ∷ entries) = entry.Named name ∷ cut (suc count) entries
+use Rattle.track_text.specs.Templates.{all_fixed}
 
 -- the entries before the first track past so many
 abbrev pub trim : ℕ → List Entry → List Entry
@@ -28,14 +21,6 @@ abbrev pub thin : List Word → List Entry → List Entry
 thin seen [] = []
 thin seen (entry.Track size ∷ entries) = entry.Track size ∷ thin [] entries
 thin seen (entry.Named name ∷ entries) = if is_among seen name then thin seen entries else entry.Named name ∷ thin (seen ++ name ∷ []) entries
-
--- what decides of entries, whatever follows them: lists of entries that are alike in it have the same kept tracks and names
-unfoldable pub kept : List Entry → List Entry
-kept entries = thin [] (cut 10001 entries)
-
--- there is a track past those that are kept
-abbrev pub is_full : List Entry → Bool
-is_full entries = nat_lt 10000 (length (tracks_of entries))
 
 abbrev pub is_written : Part → Bool
 is_written (part.Written count body) = true

@@ -12,3 +12,4 @@ pub mod LimitExamples
 pub mod Gives
 pub mod Kept
 pub mod PlainText
+pub mod Lines

@@ -1,6 +1,6 @@
 //! Track lists: tracks and names, with one automatic repeat at most (CSS Grid 2, section 7.2).
 
-ghost use Rattle.std.specs.Prelude.{◌≡◌, ◌&&◌, ◌++◌, ◌∷◌, [], true, IfOk, MatchOption};
+ghost use Rattle.std.specs.Prelude.{◌≡◌, ◌&&◌, ◌++◌, ◌∷◌, [], true, MatchOption};
 ghost use Rattle.std.specs.List.{list_all};
 ghost use Rattle.track_text.specs.declared.entry.Part.TheVariants.{Automatic};
 ghost use Rattle.track_text.specs.Words.{bind};
@@ -16,7 +16,6 @@ use crate::parts::parts_of;
 use crate::side::{ReadList, ReadRepeat};
 use crate::track_sizes::is_fixed;
 use crate::words::Words;
-use lunit::{NoMemory, Sequence};
 use std::alloc::Global;
 
 /// An automatic repeat, between the parts before it and those after it.
@@ -127,16 +126,6 @@ fn is_fit(filling: Filling) -> bool
     matches!(filling, Filling::Fit)
 }
 
-/// One list after the other.
-fn joined<T: Drop>(front: Sequence<T>, back: Sequence<T>) -> Result<Sequence<T>, NoMemory>
-    ensures { IfOk result (λ all. all ≡ front ++ back) }
-{
-    let mut all = front.into_vec();
-    let mut more = back.into_vec();
-    all.append(&mut more)?;
-    Ok(Sequence::from_vec(all))
-}
-
 #[tactic(auto, using(crate::proofs::TrackLists::around))]
 /// The list of parts around an automatic repeat.
 fn automatic_list(alloc: Global, around: &Around) -> Result<ReadList, Stop>
@@ -152,8 +141,8 @@ fn automatic_list(alloc: Global, around: &Around) -> Result<ReadList, Stop>
     let back = kept_of_parts(alloc, around.back)?;
     let before = front.sizes.len() as u32;
     Ok(ReadList {
-        sizes: joined(front.sizes, back.sizes)?,
-        names: joined(front.names, back.names)?,
+        sizes: front.sizes.joined(back.sizes)?,
+        names: front.names.joined(back.names)?,
         repeat: Some(ReadRepeat {
             before,
             auto_fit: is_fit(around.filling),

@@ -95,7 +95,7 @@ fn entries_up_to<'a>(
 }
 
 /// Whether a track size is among the entries.
-fn has_track(entries: &[Entry]) -> bool
+pub(crate) fn has_track(entries: &[Entry]) -> bool
     ensures { result ≡ has_track entries.now }
 {
     entries.iter().any(|entry| is_track(*entry))

@@ -11,9 +11,8 @@ use crate::errors::{ReadError, Stop};
 use crate::templates::template_of;
 use crate::unsupported::is_unsupported_before;
 use crate::words::Words;
-use lunit::Sequence;
 use std::alloc::Global;
-use style_types::{Template, Unit};
+use style_types::{Template, UnitList};
 use text_scan::{Fault, Place, tokens_in};
 
 /// The number of the fault of a value that has none of the forms.
@@ -76,7 +75,7 @@ pub fn read_tracks(
     text: &[u8],
     at: Place,
     version: u8,
-) -> Result<(Template, Sequence<Unit>), ReadError>
+) -> Result<(Template, UnitList), ReadError>
     ensures { Reads result (reading_of version at (words_of text.now)) }
 {
     let tokens = tokens_in(alloc, text)?;

@@ -4,7 +4,8 @@ ghost use Rattle.std.specs.Prelude.{◌≡◌, ◌++◌, ◌∷◌, [], IfOk, On
 ghost use Rattle.std.specs.Option.{option_map};
 ghost use Rattle.track_text.specs.Sides.{breadth_of_side, track_of, sizes_of};
 
-use lunit::{Lu, NameSet, NoMemory, Sequence};
+use lunit::{Copied, Lu, NameSet, NoMemory, Sequence};
+use runs::Runs;
 use std::alloc::Global;
 use style_types::{Breadth, TrackFn, Unit};
 
@@ -53,11 +54,17 @@ pub struct ReadRepeat {
 #[derive(Drop)]
 pub struct ReadList {
     /// The tracks outside the automatic repeat.
-    pub sizes: Sequence<Track>,
+    pub sizes: Runs<Track>,
     /// The name sets before, between and after these tracks.
-    pub names: Sequence<NameSet>,
+    pub names: Runs<NameSet>,
     /// The automatic repeat.
     pub repeat: Option<ReadRepeat>,
+}
+
+impl Copied for Track {
+    fn copy(&self, _alloc: Global) -> Result<Track, NoMemory> {
+        Ok(*self)
+    }
 }
 
 impl Side {
@@ -108,6 +115,20 @@ pub(crate) fn sizes_of(alloc: Global, tracks: &[Track]) -> Result<Sequence<Track
         let most = track.most.breadth();
         let fit = fit_breadth(track.fit);
         push_size(&mut sizes, least, most, fit)?;
+    }
+    Ok(sizes)
+}
+
+#[tactic(auto, using(crate::proofs::Listed::sizes))]
+/// The sizes of a list without their units.
+pub(crate) fn listed_sizes(alloc: Global, tracks: &Runs<Track>) -> Result<Runs<TrackFn>, NoMemory>
+    ensures { IfOk result (λ sizes. sizes ≡ sizes_of tracks.now) }
+{
+    let _ = tracks.len();
+    let mut sizes = Runs::new(alloc);
+    for (count, body) in tracks.parts() {
+        let more = sizes_of(alloc, body.as_slice())?;
+        sizes = sizes.with(*count, more)?;
     }
     Ok(sizes)
 }

@@ -7,19 +7,21 @@ ghost use Rattle.track_text.specs.TrackSizes.{track_first};
 ghost use Rattle.track_text.specs.Sides.{side_units, fit_units, track_units, units_before, list_value, list_units, repeat_value, repeat_units};
 ghost use Rattle.track_text.specs.Templates.{template_of, auto_tracks, tracks_value, sizes_value};
 ghost use Rattle.track_text.specs.Gives.{Gives};
+ghost use Rattle.runs.specs.Times.{times};
 
 use crate::errors::Stop;
 use crate::lists::track_list;
-use crate::side::{ReadList, ReadRepeat, Side, Track, sizes_of};
+use crate::side::{ReadList, ReadRepeat, Side, Track, listed_sizes, sizes_of};
 use crate::subgrids::subgrid_of;
 use crate::track_sizes::track_from;
 use crate::words::Words;
 use lunit::{NoMemory, Sequence};
+use runs::Runs;
 use std::alloc::Global;
-use style_types::{Repeat, Template, TrackFn, TrackList, Unit};
+use style_types::{Repeat, Template, TrackFn, TrackList, UnitList};
 
 /// Puts the unit of the side, where it is a length, behind the others.
-fn push_side(units: &mut Sequence<Unit>, side: Side) -> Result<(), NoMemory>
+fn push_side(units: &mut UnitList, side: Side) -> Result<(), NoMemory>
     ensures { OnOk result (units.new ≡ units.old ++ side_units side []) }
 {
     if let Side::Length(_, unit) = side {
@@ -28,7 +30,7 @@ fn push_side(units: &mut Sequence<Unit>, side: Side) -> Result<(), NoMemory>
     Ok(())
 }
 
-fn push_fit(units: &mut Sequence<Unit>, fit: Option<Side>) -> Result<(), NoMemory>
+fn push_fit(units: &mut UnitList, fit: Option<Side>) -> Result<(), NoMemory>
     ensures { OnOk result (units.new ≡ units.old ++ fit_units fit []) }
 {
     if let Some(side) = fit {
@@ -39,7 +41,7 @@ fn push_fit(units: &mut Sequence<Unit>, fit: Option<Side>) -> Result<(), NoMemor
 
 #[tactic(auto, using(crate::proofs::Units::track_behind))]
 /// Puts the units of the size behind the others.
-fn push_track(units: &mut Sequence<Unit>, track: Track) -> Result<(), NoMemory>
+fn push_track(units: &mut UnitList, track: Track) -> Result<(), NoMemory>
     ensures { OnOk result (units.new ≡ units.old ++ track_units track []) }
 {
     push_side(units, track.least)?;
@@ -49,7 +51,7 @@ fn push_track(units: &mut Sequence<Unit>, track: Track) -> Result<(), NoMemory>
 
 #[tactic(auto, using(crate::proofs::Units::units_next))]
 /// Puts the units of the sizes behind the others.
-fn push_units(units: &mut Sequence<Unit>, tracks: &[Track]) -> Result<(), NoMemory>
+fn push_units(units: &mut UnitList, tracks: &[Track]) -> Result<(), NoMemory>
     ensures { OnOk result (units.new ≡ units.old ++ units_before tracks.now []) }
 {
     for track in tracks {
@@ -58,7 +60,29 @@ fn push_units(units: &mut Sequence<Unit>, tracks: &[Track]) -> Result<(), NoMemo
     Ok(())
 }
 
-fn push_repeat(units: &mut Sequence<Unit>, repeat: &Option<ReadRepeat>) -> Result<(), NoMemory>
+#[tactic(auto, using(crate::proofs::Listed::units))]
+/// Puts the units of sizes that stand so many times behind the others.
+fn push_times(units: &mut UnitList, count: u32, tracks: &[Track]) -> Result<(), NoMemory>
+    ensures { OnOk result (units.new ≡ units.old ++ units_before (times count tracks.now) []) }
+{
+    for _time in 0..count {
+        push_units(units, tracks)?;
+    }
+    Ok(())
+}
+
+#[tactic(auto, using(crate::proofs::Listed::units))]
+/// Puts the units of the sizes of a list behind the others.
+fn push_listed(units: &mut UnitList, tracks: &Runs<Track>) -> Result<(), NoMemory>
+    ensures { OnOk result (units.new ≡ units.old ++ units_before tracks.now []) }
+{
+    for (count, body) in tracks.parts() {
+        push_times(units, *count, body.as_slice())?;
+    }
+    Ok(())
+}
+
+fn push_repeat(units: &mut UnitList, repeat: &Option<ReadRepeat>) -> Result<(), NoMemory>
     ensures { OnOk result (units.new ≡ units.old ++ repeat_units repeat.now) }
 {
     match repeat {
@@ -69,11 +93,11 @@ fn push_repeat(units: &mut Sequence<Unit>, repeat: &Option<ReadRepeat>) -> Resul
 
 #[tactic(auto, using(crate::proofs::Units::list_behind))]
 /// The units of a list, in the order of its lengths.
-fn list_units(alloc: Global, list: &ReadList) -> Result<Sequence<Unit>, NoMemory>
+fn list_units(alloc: Global, list: &ReadList) -> Result<UnitList, NoMemory>
     ensures { IfOk result (λ units. units ≡ list_units list.now) }
 {
-    let mut units = Sequence::new(alloc);
-    push_units(&mut units, list.sizes.as_slice())?;
+    let mut units = UnitList::new(alloc);
+    push_listed(&mut units, &list.sizes)?;
     push_repeat(&mut units, &list.repeat)?;
     Ok(units)
 }
@@ -108,14 +132,14 @@ fn list_value(alloc: Global, list: ReadList) -> Result<TrackList, NoMemory>
         repeat,
     } = list;
     Ok(TrackList {
-        sizes: sizes_of(alloc, sizes.as_slice())?,
+        sizes: listed_sizes(alloc, &sizes)?,
         names,
         repeat: optional_repeat(alloc, repeat)?,
     })
 }
 
 /// The list as a template, and its units.
-fn tracks_value(alloc: Global, list: ReadList) -> Result<(Template, Sequence<Unit>), NoMemory>
+fn tracks_value(alloc: Global, list: ReadList) -> Result<(Template, UnitList), NoMemory>
     ensures { IfOk result (λ value. value ≡ tracks_value list) }
 {
     let units = list_units(alloc, &list)?;
@@ -128,16 +152,16 @@ pub fn template_of(
     alloc: Global,
     relative: bool,
     words: Words,
-) -> Result<(Template, Sequence<Unit>), Stop>
+) -> Result<(Template, UnitList), Stop>
     ensures { Gives result (template_of relative words.entry) }
 {
     if words.are(b"none") {
-        return Ok((Template::Absent, Sequence::new(alloc)));
+        return Ok((Template::Absent, UnitList::new(alloc)));
     }
     if words.begin_with(b"subgrid") {
         let (_, words) = words.first().ok_or(Stop::Bad)?;
         let names = subgrid_of(alloc, words)?;
-        return Ok((Template::Subgrid(names), Sequence::new(alloc)));
+        return Ok((Template::Subgrid(names), UnitList::new(alloc)));
     }
     let list = track_list(alloc, relative, words)?;
     Ok(tracks_value(alloc, list)?)
@@ -158,13 +182,10 @@ fn tracks_of(alloc: Global, relative: bool, words: Words) -> Result<Sequence<Tra
     Ok(tracks)
 }
 
-fn sizes_value(
-    alloc: Global,
-    tracks: &[Track],
-) -> Result<(Sequence<TrackFn>, Sequence<Unit>), NoMemory>
+fn sizes_value(alloc: Global, tracks: &[Track]) -> Result<(Sequence<TrackFn>, UnitList), NoMemory>
     ensures { IfOk result (λ value. value ≡ sizes_value tracks.now) }
 {
-    let mut units = Sequence::new(alloc);
+    let mut units = UnitList::new(alloc);
     push_units(&mut units, tracks)?;
     Ok((sizes_of(alloc, tracks)?, units))
 }
@@ -175,7 +196,7 @@ pub fn auto_tracks(
     alloc: Global,
     relative: bool,
     words: Words,
-) -> Result<(Sequence<TrackFn>, Sequence<Unit>), Stop>
+) -> Result<(Sequence<TrackFn>, UnitList), Stop>
     ensures { Gives result (auto_tracks relative words.entry) }
 {
     let tracks = tracks_of(alloc, relative, words)?;

@@ -4,9 +4,9 @@ ghost use Rattle.std.specs.Prelude.{◌≡◌, IfOk};
 ghost use Rattle.std.specs.Option.{option_map};
 ghost use Rattle.value_text.specs.Sizes.{keyword_size, plain_size, length_size, measured_size, size_of, units_of, size_value, size_first, size_or, one_size, second_after, two_sizes, left_after, bottom_after, right_after, side_sizes};
 
-use lunit::{Lu, NoMemory, Sequence};
+use lunit::{Lu, NoMemory};
 use std::alloc::Global;
-use style_types::{DeclaredValue, Size, Unit, Value};
+use style_types::{DeclaredValue, Size, Unit, UnitList, Value};
 use track_text::{Words, has_unit, length_in, percentage_of};
 
 /// A size, and the unit of its length where it is one.
@@ -95,10 +95,10 @@ pub(crate) fn size_of(relative: bool, form: SizeForm, word: &[u8]) -> Option<Mea
     }
 }
 
-fn units_of(alloc: Global, unit: Option<Unit>) -> Result<Sequence<Unit>, NoMemory>
+fn units_of(alloc: Global, unit: Option<Unit>) -> Result<UnitList, NoMemory>
     ensures { IfOk result (λ units. units ≡ units_of unit) }
 {
-    let mut units = Sequence::new(alloc);
+    let mut units = UnitList::new(alloc);
     if let Some(unit) = unit {
         units.push(unit)?;
     }

@@ -14,9 +14,8 @@ use crate::keyword::{
 };
 use crate::line::one_line;
 use crate::size::{SizeForm, one_size, size_value};
-use lunit::Sequence;
 use std::alloc::Global;
-use style_types::{DeclaredValue, Value};
+use style_types::{DeclaredValue, UnitList, Value};
 use track_text::{Stop, Words, auto_tracks, template_of};
 
 /// A value without lengths.
@@ -25,7 +24,7 @@ pub(crate) fn plain(alloc: Global, value: Value) -> DeclaredValue
 {
     DeclaredValue {
         value,
-        units: Sequence::new(alloc),
+        units: UnitList::new(alloc),
     }
 }
 

@@ -1,5 +1,0 @@
-use Rattle.std.proofs.Common.{length}
-use Rattle.session_tests.proofs.runs.has_lines.Given as goal
-
-abbrev pub decreases-loop-length : goal.decreases-loop-length
-decreases-loop-length l = length l.left
