@@ -172,7 +172,7 @@ impl Name {
     }
 }
 
-/// The empty text, with which unused places of a set of names are filled. No text reads as it.
+/// The empty text, which stands in for a name where there is none. No text reads as it.
 impl Default for Name {
     ghost is_default = { λ name. name ≡ [] };
 
