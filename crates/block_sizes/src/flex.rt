@@ -10,7 +10,7 @@ ghost use Rattle.block_sizes.specs.Flexes.{HaveInner};
 ghost use Rattle.block_sizes.specs.Settling.{AreRoomy, IsColumn, IsRow, block_of, column_boxes_seen, row_items_seen, settled_seen};
 
 use crate::flexes::{Lines, column_block, row_block};
-use inline_sizes::{Member, column_box, cross_box, flex_item, outer_cross};
+use inline_sizes::{Member, column_box, cross_box, flex_item, outer_cross, with_room};
 use layout_cache::Given;
 use lunit::{Lu, NoMemory, Sequence};
 use node_arena::{Arena, NodeId};
@@ -67,7 +67,7 @@ pub(crate) fn items_in_row(
 {
     root(tree);
     let main = Some(width);
-    let mut items = Vec::new(alloc);
+    let mut items = Vec::with_capacity(alloc, members.len())?;
     for member in members {
         let style = &node_at(tree, member.child).style;
         items.push(flex_item(false, &main, style, member.inline))?;
@@ -91,7 +91,7 @@ pub(crate) fn boxes_in_column(
 {
     root(tree);
     let container = &node_at(tree, id).style;
-    let mut boxes = Sequence::new(alloc);
+    let mut boxes = with_room(alloc, members.len())?;
     for member in members {
         let style = &node_at(tree, member.child).style;
         boxes.push(column_box(container, style, width, member.inline))?;
@@ -119,7 +119,7 @@ fn outers_in_row(
 {
     root(tree);
     let members = parts.members.as_slice();
-    let mut sizes = Vec::new(alloc);
+    let mut sizes = Vec::with_capacity(alloc, members.len())?;
     for index in 0..members.len() {
         let style = &node_at(tree, members[index].child).style;
         let block = parts.blocks.as_slice()[index];
@@ -148,7 +148,7 @@ fn items_in_column(
 {
     root(tree);
     let members = parts.members.as_slice();
-    let mut items = Vec::new(alloc);
+    let mut items = Vec::with_capacity(alloc, members.len())?;
     for index in 0..members.len() {
         let style = &node_at(tree, members[index].child).style;
         let block = parts.blocks.as_slice()[index];

@@ -47,7 +47,7 @@ fn items_at(
         (λ items. items.items ≡
         zipped (member_item (bare tree.now.tree) height) members.now blocks.now) }
 {
-    let mut items = Vec::new(alloc);
+    let mut items = Vec::with_capacity(alloc, members.len())?;
     for index in 0..members.len() {
         let item = member_item(tree, id, height, &members[index], blocks[index]);
         items.extend_from_slice(&[item])?;

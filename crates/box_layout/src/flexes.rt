@@ -105,7 +105,7 @@ fn own_crosses(
         zipped3 (member_cross (bare tree.now.tree) column cross) members.now boxes.now
         blocks.now) }
 {
-    let mut sizes = Vec::new(alloc);
+    let mut sizes = Vec::with_capacity(alloc, members.len())?;
     for index in 0..members.len() {
         let member = &members[index];
         let size = member_cross(tree, id, column, cross, member, boxes[index], blocks[index]);
@@ -130,7 +130,7 @@ fn own_outers(
         (λ sizes. sizes.items ≡
         zipped (member_outer (bare tree.now.tree) column) members.now crosses.now) }
 {
-    let mut sizes = Vec::new(alloc);
+    let mut sizes = Vec::with_capacity(alloc, members.len())?;
     for index in 0..members.len() {
         let size = member_outer(tree, id, column, &members[index], crosses[index]);
         sizes.push(size)?;
@@ -159,7 +159,7 @@ fn sittings(
         members.now mains.now crosses.now) }
     ensures units { IfOk result (λ children. AreUnits mains.now) }
 {
-    let mut children = Vec::new(alloc);
+    let mut children = Vec::with_capacity(alloc, members.len())?;
     for index in 0..members.len() {
         let member = &members[index];
         let child = member_sitting(tree, id, flex, member, mains[index], crosses[index]);

@@ -12,6 +12,7 @@ ghost use Rattle.box_layout.specs.Sittings.{AreGiven, container_by, flex_numbere
 use crate::line::{gaps, moved_by_rest, seat_line, total};
 use crate::seats::{Seat, frame_of_seat};
 use crate::sitting::{Container, Sitting};
+use inline_sizes::with_room;
 use lunit::{Lu, NoMemory, Sequence, Wide};
 use placing::Frame;
 use std::alloc::Global;
@@ -66,7 +67,7 @@ fn all_seats(
     ensures { IfOk result (λ seats. seats ≡ all_seats flex.now sizes.now ranges.now children.now) }
 {
     let free = cross_left(flex, sizes);
-    let mut seats = Sequence::new(alloc);
+    let mut seats = with_room(alloc, children.len())?;
     let mut at = Wide::of(0);
     for (k, size) in sizes.iter().enumerate() {
         let moved = moved_by_rest(&flex.across, free, k, sizes.len());
@@ -90,7 +91,7 @@ fn sort(seats: &mut Vec<Seat>) -> Result<(), NoMemory>
 fn frames_of_seats(alloc: Global, seats: &[Seat]) -> Result<Sequence<Frame>, NoMemory>
     ensures { IfOk result (λ frames. frames ≡ map frame_of_seat seats.now) }
 {
-    let mut frames = Sequence::new(alloc);
+    let mut frames = with_room(alloc, seats.len())?;
     for seat in seats {
         frames.push(frame_of_seat(seat))?;
     }

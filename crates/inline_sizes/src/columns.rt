@@ -23,7 +23,7 @@ use std::alloc::Global;
 use std::sync::ledger::Ledger;
 
 /// No items, with room for this many.
-pub(crate) fn with_room<T>(alloc: Global, count: usize) -> Result<Sequence<T>, NoMemory>
+pub fn with_room<T>(alloc: Global, count: usize) -> Result<Sequence<T>, NoMemory>
     ensures { IfOk result (λ items. items ≡ []) }
 {
     Ok(Sequence::from_vec(Vec::with_capacity(alloc, count)?))

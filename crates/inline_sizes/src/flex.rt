@@ -9,7 +9,7 @@ ghost use Rattle.inline_sizes.specs.Flexes.{AreMembers, flex_seen, member_of, si
 ghost use Rattle.tree_rules.specs.Labels.{content_of, grid_of};
 
 use crate::distribution::{gap_by, greatest_of, in_a_row};
-use crate::flex_items::inline_contribution;
+use crate::flex_items::inline_contributions;
 use lunit::{Lu, NoMemory, Sequence};
 use node_arena::{Arena, NodeId};
 use placing::style::{gap, is_column, wraps};
@@ -35,50 +35,34 @@ pub struct FlexParts {
     pub members: Sequence<Member>,
 }
 
-/// What each child contributes by the first of its two sizes.
-fn low_contributions(
+/// What each child contributes by the first of its two sizes, and by the second.
+fn contributions(
     alloc: Global,
     tree: &Arena<Node>,
     id: NodeId,
     members: &[Member],
-) -> Result<Vec<Lu>, NoMemory>
+) -> Result<(Vec<Lu>, Vec<Lu>), NoMemory>
     requires live { IsLive (bare tree.now.tree) id }
     requires readable { AreReadable (bare tree.now.tree) }
     requires members { AreMembers (bare tree.now.tree) id members.now }
-    ensures { IfOk result
-        (λ sizes. sizes.items ≡
+    ensures low { IfOk result
+        (λ sizes. sizes.0.items ≡
         map (λ (m : rules.Member). rules.inline_contribution m m.inline.0)
         (flex_seen (bare tree.now.tree) id).members) }
-{
-    let mut sizes = Vec::new(alloc);
-    for member in members {
-        let style = &node_at(tree, member.child).style;
-        sizes.push(inline_contribution(style, member.inline.0))?;
-    }
-    Ok(sizes)
-}
-
-/// What each child contributes by the second of its two sizes.
-fn high_contributions(
-    alloc: Global,
-    tree: &Arena<Node>,
-    id: NodeId,
-    members: &[Member],
-) -> Result<Vec<Lu>, NoMemory>
-    requires live { IsLive (bare tree.now.tree) id }
-    requires readable { AreReadable (bare tree.now.tree) }
-    requires members { AreMembers (bare tree.now.tree) id members.now }
-    ensures { IfOk result
-        (λ sizes. sizes.items ≡
+    ensures high { IfOk result
+        (λ sizes. sizes.1.items ≡
         map (λ (m : rules.Member). rules.inline_contribution m m.inline.1)
         (flex_seen (bare tree.now.tree) id).members) }
 {
-    let mut sizes = Vec::new(alloc);
+    let mut lows = Vec::with_capacity(alloc, members.len())?;
+    let mut highs = Vec::with_capacity(alloc, members.len())?;
     for member in members {
         let style = &node_at(tree, member.child).style;
-        sizes.push(inline_contribution(style, member.inline.1))?;
+        let (low, high) = inline_contributions(style, member.inline);
+        lows.push(low)?;
+        highs.push(high)?;
     }
-    Ok(sizes)
+    Ok((lows, highs))
 }
 
 /// The two sizes of a row or a column by what its children contribute.
@@ -110,7 +94,6 @@ pub(crate) fn flex_inline(
     requires members { AreMembers (bare tree.now.tree) id parts.now.members }
     ensures { IfOk result (λ sizes. sizes ≡ rules.flex_inline (flex_seen (bare tree.now.tree) id)) }
 {
-    let lows = low_contributions(alloc, tree, id, parts.members.as_slice())?;
-    let highs = high_contributions(alloc, tree, id, parts.members.as_slice())?;
+    let (lows, highs) = contributions(alloc, tree, id, parts.members.as_slice())?;
     Ok(sizes_by(&node_at(tree, id).style, &lows, &highs))
 }

@@ -135,17 +135,24 @@ pub fn flex_item(column: bool, main: &Option<Lu>, style: &Style, content: (Lu, L
     }
 }
 
-/// The inline contribution of a child of a flex container by this one of its content sizes (CSS Flexbox 1, 9.9; that the flex basis
-/// plays no part is an own rule).
-pub fn inline_contribution(style: &Style, content: Lu) -> Lu
+/// The inline contributions of a child of a flex container by its two content sizes (CSS Flexbox 1, 9.9; that the flex basis plays
+/// no part is an own rule).
+pub fn inline_contributions(style: &Style, content: (Lu, Lu)) -> (Lu, Lu)
     requires { IsGridStyle (grid_of style.now) }
-    ensures { result ≡
+    ensures low { result.0 ≡
         contribution
         (bounds_of None (content_of style.now).border_box (grid_of style.now).columns
-        (content_of style.now).inline) (margins (grid_of style.now).columns) content }
+        (content_of style.now).inline) (margins (grid_of style.now).columns) content.0 }
+    ensures high { result.1 ≡
+        contribution
+        (bounds_of None (content_of style.now).border_box (grid_of style.now).columns
+        (content_of style.now).inline) (margins (grid_of style.now).columns) content.1 }
 {
     let bounds = bounds_of::<0>(style, None);
-    contribution(&bounds, margins::<0>(style).wide(), content)
+    let outside = margins::<0>(style);
+    let low = contribution(&bounds, outside.wide(), content.0);
+    let high = contribution(&bounds, outside.wide(), content.1);
+    (low, high)
 }
 
 /// How a child of a flex container is aligned in its line: by `align-self`, whatever the axis (CSS Flexbox 1, 8.3).

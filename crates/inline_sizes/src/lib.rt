@@ -29,6 +29,7 @@ mod walk;
 
 pub use asking::grid_in;
 pub use bounds::{Bounds, border_size, resolved};
+pub use columns::with_room;
 pub use contributions::{contribution, floor_of};
 pub use distribution::{
     area_size, content_size, gap_by, greatest_of, in_a_row, is_safe, mode_of, open_tracks, sum_of,
@@ -36,7 +37,7 @@ pub use distribution::{
 };
 pub use flex::{FlexParts, Member};
 pub use flex_items::{
-    automatic_minimum, base_size, column_box, cross_box, flex_item, inline_contribution,
+    automatic_minimum, base_size, column_box, cross_box, flex_item, inline_contributions,
     is_stretched_across, line_align, outer_cross,
 };
 pub use grid::base_at;

@@ -8,7 +8,7 @@ use Rattle.inline_sizes.proofs.flex.flex_inline.Goals as goal
 pub returns : goal.returns
 returns c =
     c.sizes_by.ensures
-    ∙ (λ i. sizes_by (c.node_at.ensures.content i) (c.node_at.ensures.grid i) ((c.deref.ensures.value ∙ c.in_ok-lows.ensures) i) ((c.deref-2.ensures.value ∙ c.in_ok-highs.ensures) i))
+    ∙ (λ i. sizes_by (c.node_at.ensures.content i) (c.node_at.ensures.grid i) ((c.deref.ensures.value ∙ c.in_ok-lows.ensures.low) i) ((c.deref-2.ensures.value ∙ c.in_ok-lows.ensures.high) i))
     ∙ (λ i. sizes_by (flex_label (bare c.args.tree.now.tree) c.args.id i).content (flex_label (bare c.args.tree.now.tree) c.args.id i).grid
     (map (λ (m : rules.Member). rules.inline_contribution m m.inline.0) (flex_seen (bare c.args.tree.now.tree) c.args.id).members)
     (map (λ (m : rules.Member). rules.inline_contribution m m.inline.1) (flex_seen (bare c.args.tree.now.tree) c.args.id).members))
