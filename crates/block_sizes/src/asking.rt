@@ -22,9 +22,9 @@ use crate::again::{ToldWide, past_for, take_past};
 use crate::queries::kept_rows;
 use crate::walk::{block_in, lend_rows_at};
 use crate::wide::{
-    append, child_in, columns_of, items_room, row_item, shares, sizes_at, wide_child, with_room,
+    append, child_in, columns_of, items_room, row_item, shares, sizes_at, wide_child,
 };
-use inline_sizes::grid_in;
+use inline_sizes::{grid_in, with_room};
 use layout_cache::Given;
 use lunit::{Item, Lu, NoMemory, Sequence};
 use node_arena::NodeId;

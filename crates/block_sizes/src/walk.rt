@@ -33,7 +33,7 @@ use crate::flexes::row_lines;
 use crate::queries::{block_query, kept_block, kept_rows};
 use crate::row_sizes::laid_rows;
 use crate::wide::lent_of;
-use inline_sizes::{Member, flex_in};
+use inline_sizes::{Member, flex_in, with_room};
 use layout_cache::{Given, Query};
 use lunit::{Area, Item, Lu, NoMemory, Sequence, Span};
 use node_arena::{Arena, NodeId};
@@ -105,7 +105,7 @@ fn ask_members<R: Ruler, L: Ledger>(
         Stopped id q (seen R.log walk.old) (seen R.log walk.new)) }
 {
     root(walk.tree);
-    let mut blocks = Sequence::new(walk.alloc);
+    let mut blocks = with_room(walk.alloc, members.len())?;
     for index in 0..members.len() {
         let member = member_at(members, index);
         let width = given_box::<0>(

@@ -71,13 +71,6 @@ pub(crate) fn row_spans(alloc: Global, areas: &[(NodeId, Area)]) -> Result<Vec<S
     Ok(spans)
 }
 
-/// No items, with room for this many.
-pub(crate) fn with_room<T>(alloc: Global, count: usize) -> Result<Sequence<T>, NoMemory>
-    ensures { IfOk result (λ items. items ≡ []) }
-{
-    Ok(Sequence::from_vec(Vec::with_capacity(alloc, count)?))
-}
-
 /// Items put after others.
 pub(crate) fn append(
     alloc: Global,

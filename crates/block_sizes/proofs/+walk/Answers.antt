@@ -63,7 +63,7 @@ use Rattle.block_sizes.proofs.FlexLeading.{column_leads, row_leads}
 use Rattle.block_sizes.proofs.FlexMade.{items_few, lines_made}
 use Rattle.block_sizes.proofs.Settled.{covering_roomy, map_length, seen_length, settled_length}
 use Rattle.block_sizes.specs.Flexes.{AreCovering, HaveInner}
-use Rattle.block_sizes.specs.Settling.{AreRoomy, IsColumn, IsRow, block_of, column_boxes_seen, settled_seen}
+use Rattle.block_sizes.specs.Settling.{AreRoomy, IsColumn, IsRow, LeadsTo, block_of, column_boxes_seen, settled_seen}
 use Rattle.block_sizes.specs.Wides.{rows_seen}
 use Rattle.walker.proofs.Parts.{parts_then, same_parts}
 use Rattle.walker.specs.Walkers.{kept, nodes, seen}
@@ -1012,6 +1012,12 @@ walk::lend_rows_at-returns-in-Some-clause-walked g t c = on_ok _ _ (found_walked
 pub walk::lend_rows_at-returns-in-Some-clause-stopped : goal.walk::lend_rows_at-returns-in-Some-clause-stopped
 walk::lend_rows_at-returns-in-Some-clause-stopped g t c = on_err _ _ (stopped c.args.id _ 0 _ _ (walked_none c.args.id (block_query true c.args.seat.now.reps.now c.args.width.now) (seen g.R.Ruler.log c.args.walk.now) c.requires.stands.right))
 
+pub walk::ask_members-returns-in_err-blocks-clause-stopped : goal.walk::ask_members-returns-in_err-blocks-clause-stopped
+walk::ask_members-returns-in_err-blocks-clause-stopped g t c =
+    let all : (q : Query) → LeadsTo (nodes c.args.walk.now) c.args.id c.args.boxes.now q → Stopped c.args.id q (seen g.R.Ruler.log c.args.walk.now) (seen g.R.Ruler.log c.args.walk.now) =
+    λ q leads. stopped c.args.id q 0 _ _ (walked_none c.args.id q (seen g.R.Ruler.log c.args.walk.now) c.requires.stands.right) in
+    on_err _ _ all
+
 pub walk::ask_members-loop-index-init : goal.walk::ask_members-loop-index-init
 walk::ask_members-loop-index-init g t c =
     record {
@@ -1019,7 +1025,7 @@ walk::ask_members-loop-index-init g t c =
       parts = same_parts c.args.walk.now;
       same = refl;
       walked = λ q leads. walked_none c.args.id q (seen g.R.Ruler.log c.args.walk.now) c.requires.stands.right;
-      blocks = ap (λ (l : List ℤ). l ++ map block_of (settled_seen (nodes c.args.walk.now) c.args.id c.args.boxes.now)) c.new-blocks.ensures;
+      blocks = ap (λ (l : List ℤ). l ++ map block_of (settled_seen (nodes c.args.walk.now) c.args.id c.args.boxes.now)) c.in_ok-blocks.ensures;
     }
 
 pub walk::ask_members-member_at-member-requires : goal.walk::ask_members-member_at-member-requires
@@ -1207,6 +1213,12 @@ asking::told_wide_at-returns-clause-parts g t c = parts_then _ _ _ c.take_past.e
 
 pub asking::told_wide_at-returns-clause-stands : goal.asking::told_wide_at-returns-clause-stands
 asking::told_wide_at-returns-clause-stands g t c = c.told_wide_by.ensures.stands
+
+pub walk::ask_members-returns-in_err-blocks-clause-parts : goal.walk::ask_members-returns-in_err-blocks-clause-parts
+walk::ask_members-returns-in_err-blocks-clause-parts g t c = same_parts c.args.walk.now
+
+pub walk::ask_members-returns-in_err-blocks-clause-stands : goal.walk::ask_members-returns-in_err-blocks-clause-stands
+walk::ask_members-returns-in_err-blocks-clause-stands g t c = c.requires.stands
 
 pub walk::ask_members-returns-in_err-block-clause-parts : goal.walk::ask_members-returns-in_err-block-clause-parts
 walk::ask_members-returns-in_err-block-clause-parts g t c = parts_then _ _ _ c.loop-index.invariant.parts c.block_in.ensures.parts
