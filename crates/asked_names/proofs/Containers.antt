@@ -187,6 +187,8 @@ module _ (b : BareTrees) (d : IsDistinct b) (width height : ℤ) (root : NodeId)
       counted (answer.Lent items) e h = absurd cc
       counted (answer.Block size) e h = absurd cc
       counted (answer.Laid size wide) e h = absurd cc
+      counted (answer.Row size row) e h = absurd cc
+      counted (answer.Column size column) e h = absurd cc
       counted (answer.Frames frames) e h =
           let same_frames : map frame_of frames ≡ frames_seen b n q = ap (frames_in []) h in
           let named : map (λ (f : NodeFrame). f.child) frames ≡ children_at (bare s.arena.tree) n = read_children s.arena.tree n q (answer.Frames frames) right e in

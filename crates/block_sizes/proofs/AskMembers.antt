@@ -4,7 +4,7 @@ use Rattle.std.specs.Prelude.{get_or, not}
 use Rattle.std.proofs.lemmas.List.{get_or-map}
 use Rattle.inline_sizes.proofs.Asked.{chain_in_flex}
 use Rattle.inline_sizes.specs.Flexes.{AreMembers, IsChild, flex_seen, member_of}
-use Rattle.inline_sizes.specs.declared.flex.Member.{Member}
+use Rattle.placing.specs.declared.lined.Member.{Member}
 use Rattle.node_arena.specs.declared.number.NodeId.{NodeId}
 use Rattle.node_arena.specs.Numbers.{child_at}
 use Rattle.placing.specs.Children.{IsNext, IsTree}

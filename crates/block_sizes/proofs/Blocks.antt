@@ -1,7 +1,7 @@
 -- The block sizes of rows and columns, by their children.
 use Rattle.std.proofs.Common.{ap, ◌≡◌, ◌∙◌, sym, refl, ℕ, ℤ, pos, List, [], ◌∷◌, length, map, false, None, Some}
 use Rattle.inline_sizes.specs.Flexes.{flex_seen, member_of}
-use Rattle.inline_sizes.specs.declared.flex.Member.{Member}
+use Rattle.placing.specs.declared.lined.Member.{Member}
 use Rattle.node_arena.specs.declared.number.NodeId.{NodeId}
 use Rattle.part_rules.specs.declared.flex.FlexItem.{FlexItem}
 use Rattle.part_rules.specs.Lists.{zipped}
@@ -14,7 +14,7 @@ use Rattle.block_sizes.proofs.Same.{column_block_is_defined, row_block_is_define
 use Rattle.block_sizes.proofs.Settled.{flex_label, map_length, seen_length, values}
 use Rattle.block_sizes.specs.Flexes.{column_block_by, lines_of, row_block_by}
 use Rattle.block_sizes.specs.Settling.{column_boxes_seen, settled_seen}
-use Rattle.block_sizes.specs.declared.flexes.Lines.{Lines}
+use Rattle.placing.specs.declared.lined.Lines.{Lines}
 
 -- there is a main size for each child of a row
 pub row_counted : (b : BareTrees) (n : NodeId) (width : ℤ) (members : List Member) (lines : Lines) → map (member_of b) members ≡ (flex_seen b n).members → lines_of lines ≡ rules.row_lines (flex_seen b n) width → length lines.mains ≡ length members

@@ -16,7 +16,7 @@ use Rattle.inline_sizes.specs.Styled.{styled}
 use Rattle.block_sizes.proofs.Settled.{flex_label, map_length}
 use Rattle.block_sizes.specs.Flexes.{lines_of, row_lines_by}
 use Rattle.block_sizes.specs.Settling.{row_items_seen}
-use Rattle.block_sizes.specs.declared.flexes.Lines.{Lines}
+use Rattle.placing.specs.declared.lined.Lines.{Lines}
 
 abbrev with_values : GridStyle → ContentStyle → Label
 with_values g c = record { name = []; kind = kind.Flex; grid = g; content = c }

@@ -26,4 +26,5 @@ mod SharedTracks
 pub mod ToldRows
 mod Turns
 mod Widths
+mod HeldLines
 pub mod HeldWide

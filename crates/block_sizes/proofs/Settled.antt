@@ -3,7 +3,7 @@ use Rattle.std.proofs.Common.{arith, ap, subst, ◌≡◌, ◌∙◌, sym, refl,
 use Rattle.std.specs.Prelude.{get_or, not, ◌&&◌}
 use Rattle.std.proofs.lemmas.List.{drop_more, map-append, take_all, take_more}
 use Rattle.inline_sizes.specs.Flexes.{flex_seen, member_of}
-use Rattle.inline_sizes.specs.declared.flex.Member.{Member}
+use Rattle.placing.specs.declared.lined.Member.{Member}
 use Rattle.lunit.specs.Units.{IsUnits, clamp}
 use Rattle.node_arena.specs.declared.number.NodeId.{NodeId}
 use Rattle.part_rules.specs.declared.flex.FlexItem.{FlexItem}

@@ -21,7 +21,7 @@ use Rattle.tree_rules.specs.declared.query.Given.{Given}
 use Rattle.tree_rules.specs.declared.query.Query.{Query}
 use Rattle.inline_sizes.specs.Flexes.{member_of}
 use Rattle.inline_sizes.specs.Grids.{IsGrid}
-use Rattle.inline_sizes.specs.declared.flex.Member.{Member}
+use Rattle.placing.specs.declared.lined.Member.{Member}
 use Rattle.block_sizes.proofs.AskMembers.{width_is, IsAsked}
 use Rattle.block_sizes.proofs.Widths.{IsTurn, below_then, stops_then, turn_read}
 use Rattle.block_sizes.specs.Settling.{LeadsTo}

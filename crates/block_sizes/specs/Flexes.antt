@@ -7,7 +7,7 @@ use Rattle.tree_rules.specs.FlexSizes as rules
 use Rattle.tree_rules.specs.Labels.{Label}
 use Rattle.tree_rules.specs.NodeSizes.{stretches}
 use Rattle.tree_rules.specs.Repetitions.{gap_by}
-use Rattle.block_sizes.specs.declared.flexes.Lines.{Lines}
+use Rattle.placing.specs.declared.lined.Lines.{Lines}
 
 -- the lines of the definitions
 abbrev pub lines_of : Lines → rules.Lines

@@ -11,8 +11,8 @@ use Rattle.tree_rules.specs.NodeSizes.{inner}
 use Rattle.tree_rules.specs.declared.query.Query.{Query}
 use Rattle.inline_sizes.specs.Flexes.{AreMembers, flex_seen}
 use Rattle.block_sizes.specs.Flexes.{lines_of}
-use Rattle.block_sizes.specs.declared.flex.ColumnParts.{ColumnParts}
-use Rattle.block_sizes.specs.declared.flex.RowParts.{RowParts}
+use Rattle.placing.specs.declared.lined.ColumnParts.{ColumnParts}
+use Rattle.placing.specs.declared.lined.RowParts.{RowParts}
 
 -- the children with border boxes of these inline sizes
 unfoldable pub settled_seen : BareTrees → NodeId → List ℤ → List rules.Settled

@@ -9,36 +9,16 @@ ghost use Rattle.inline_sizes.specs.Flexes.{AreMembers, flex_seen};
 ghost use Rattle.block_sizes.specs.Flexes.{HaveInner};
 ghost use Rattle.block_sizes.specs.Settling.{AreRoomy, IsColumn, IsRow, block_of, column_boxes_seen, row_items_seen, settled_seen};
 
-use crate::flexes::{Lines, column_block, row_block};
-use inline_sizes::{Member, column_box, cross_box, flex_item, outer_cross, with_room};
+use crate::flexes::{column_block, row_block};
+use inline_sizes::{column_box, cross_box, flex_item, outer_cross, with_room};
 use layout_cache::Given;
 use lunit::{Lu, NoMemory, Sequence};
 use node_arena::{Arena, NodeId};
 use part_rules::FlexItem;
-use placing::{Node, node_at, root};
+use placing::{
+    ColumnParts, Member, Node, RowParts, SharedColumnParts, SharedRowParts, node_at, root,
+};
 use std::alloc::Global;
-
-/// A row in a container of known inline size.
-#[derive(Drop)]
-pub struct RowParts {
-    /// The children with their intrinsic inline sizes, in order-modified document order.
-    pub members: Sequence<Member>,
-    /// The lines, and the main size of each child as a border-box size.
-    pub lines: Lines,
-    /// The block size of the content of each child at its main size, in units of 1/64 px.
-    pub blocks: Sequence<Lu>,
-}
-
-/// A column in a container of known inline size.
-#[derive(Drop)]
-pub struct ColumnParts {
-    /// The children with their intrinsic inline sizes, in order-modified document order.
-    pub members: Sequence<Member>,
-    /// The inline size of each child as a border-box size, before its line is known, in units of 1/64 px.
-    pub boxes: Sequence<Lu>,
-    /// The block size of the content of each child at that inline size, in units of 1/64 px.
-    pub blocks: Sequence<Lu>,
-}
 
 /// The inline size that a question gives; 0 where it gives none.
 pub(crate) fn size_of(given: &Given) -> Lu
@@ -180,25 +160,28 @@ fn row_size(
     row_block(alloc, &node_at(tree, id).style, &outers, ranges)
 }
 
-/// The block size of the content of a row, as `row_size` finds it. The row is let go here, in one place.
-pub(crate) fn size_of_row(
+/// The block size of the content of a row, as `row_size` finds it, and the row as those share it who read it.
+pub(crate) fn sized_row(
     alloc: Global,
     tree: &Arena<Node>,
     id: NodeId,
     width: Lu,
     parts: RowParts,
-) -> Result<Lu, NoMemory>
+) -> Result<(Lu, SharedRowParts), NoMemory>
     requires live { IsLive (bare tree.now.tree) id }
     requires readable { AreReadable (bare tree.now.tree) }
     requires row { IsRow (bare tree.now.tree) id width parts }
-    ensures { IfOk result
-        (λ size. size ≡
+    ensures size { IfOk result
+        (λ sized. sized.0 ≡
         rules.row_block (flex_seen (bare tree.now.tree) id)
         (rules.row_lines (flex_seen (bare tree.now.tree) id) width)
         (rules.row_settled (flex_seen (bare tree.now.tree) id)
         (rules.row_lines (flex_seen (bare tree.now.tree) id) width))) }
+    ensures row { IfOk result (λ sized. sized.1 ≡ parts) }
 {
-    row_size(alloc, tree, id, width, &parts)
+    let size = row_size(alloc, tree, id, width, &parts)?;
+    let held = SharedRowParts::new(alloc, parts)?;
+    Ok((size, held))
 }
 
 /// The block size of the content of a column. `NoMemory` where memory is wanting.
@@ -221,23 +204,26 @@ fn column_size(
     Ok(column_block(&node_at(tree, id).style, &items))
 }
 
-/// The block size of the content of a column, as `column_size` finds it. The column is let go here, in one place.
-pub(crate) fn size_of_column(
+/// The block size of the content of a column, as `column_size` finds it, and the column as those share it who read it.
+pub(crate) fn sized_column(
     alloc: Global,
     tree: &Arena<Node>,
     id: NodeId,
     width: Lu,
     parts: ColumnParts,
-) -> Result<Lu, NoMemory>
+) -> Result<(Lu, SharedColumnParts), NoMemory>
     requires live { IsLive (bare tree.now.tree) id }
     requires readable { AreReadable (bare tree.now.tree) }
     requires column { IsColumn (bare tree.now.tree) id width parts }
-    ensures { IfOk result
-        (λ size. size ≡
+    ensures size { IfOk result
+        (λ sized. sized.0 ≡
         rules.column_block (flex_seen (bare tree.now.tree) id)
         (rules.column_settled (flex_seen (bare tree.now.tree) id) width)) }
+    ensures column { IfOk result (λ sized. sized.1 ≡ parts) }
 {
-    column_size(alloc, tree, id, width, &parts)
+    let size = column_size(alloc, tree, id, width, &parts)?;
+    let held = SharedColumnParts::new(alloc, parts)?;
+    Ok((size, held))
 }
 
 /// The child at an index.

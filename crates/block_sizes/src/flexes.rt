@@ -15,19 +15,11 @@ use flex_lines::{collect_lines, cross_sizes, resolve_lengths};
 use inline_sizes::{gap_by, in_a_row, stretches};
 use lunit::{Along, Lu, NoMemory, Sequence, Steps, Wide};
 use part_rules::FlexItem;
+use placing::Lines;
 use placing::style::{distribution, gap, wraps};
 use std::alloc::Global;
 use std::sync::ledger::Ledger;
 use style_types::Style;
-
-/// The lines of a flex container.
-#[derive(Drop)]
-pub struct Lines {
-    /// Each line as a range of the items.
-    pub ranges: Sequence<(usize, usize)>,
-    /// The main size of each item as a border-box size, in units of 1/64 px.
-    pub mains: Sequence<Lu>,
-}
 
 /// A length along an axis.
 fn along<const AXIS: u8>(length: Lu) -> Along<AXIS>

@@ -27,9 +27,8 @@ pub use children::{
     child_block, child_inline, from_first, given_box, given_view, own_block, own_inline,
 };
 pub use edges::edges_in;
-pub use flex::{ColumnParts, RowParts};
-pub use flexes::{Lines, column_block, crosses_of, lines_by, row_block, row_lines};
-pub use held::wide_for;
+pub use flexes::{column_block, crosses_of, lines_by, row_block, row_lines};
+pub use held::{column_for, row_for, wide_for};
 pub use last_tracks::{LastTracks, ViewParts, box_after};
 pub use laws::{children_of_grids_are_as_defined, lines_are_as_defined};
 pub use queries::{block_query, kept_wide};

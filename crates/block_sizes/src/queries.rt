@@ -4,17 +4,19 @@ ghost use Rattle.std.specs.Prelude.{◌≡◌, true, false, Some, None, IfOk, If
 ghost use Rattle.layout_cache.specs.Kept.{answer_to};
 ghost use Rattle.placing.specs.Kept.{kept_at, IsRight};
 ghost use Rattle.placing.specs.Nodes.{bare, children_at, sight_at, IsLive};
+ghost use Rattle.placing.specs.Lined.{HoldsColumn, HoldsRow};
 ghost use Rattle.placing.specs.Wides.{HoldsWide};
 ghost use Rattle.placing.specs.Walks.{State, Walked, WalkedBelow};
 ghost use Rattle.placing.specs.declared.node.Answer.TheVariants as answer;
 ghost use Rattle.tree_rules.specs.AskedQueries.{block_query};
+ghost use Rattle.tree_rules.specs.Frames.{given_size};
 ghost use Rattle.tree_rules.specs.KeptAnswers.{IsAbsent};
 ghost use Rattle.tree_rules.specs.Queries.{answer_of, block_size, lent_items};
 
 use layout_cache::{Ask, Counts, Given, Query};
 use lunit::{Copied, Item, Lu, NoMemory, Sequence};
 use node_arena::{Arena, NodeId};
-use placing::{Answer, Node, SharedWide, find_by};
+use placing::{Answer, Node, SharedColumnParts, SharedRowParts, SharedWide, find_by};
 use std::alloc::Global;
 
 /// The question for the block size of a node that sees these counts above it and is given this in the inline axis, or, where it is
@@ -63,6 +65,8 @@ pub(crate) fn kept_block(
     match find_by(tree, id, Ask::Block, reps, width, &none) {
         Some(Answer::Block(size)) => Some(*size),
         Some(Answer::Laid(size, _)) => Some(*size),
+        Some(Answer::Row(size, _)) => Some(*size),
+        Some(Answer::Column(size, _)) => Some(*size),
         _ => None,
     }
 }
@@ -83,6 +87,44 @@ pub fn kept_wide<'a>(
     let none = Given::None;
     match find_by(tree, id, Ask::Block, reps, width, &none) {
         Some(Answer::Laid(_, wide)) => Some(wide),
+        _ => None,
+    }
+}
+
+/// The row that a node keeps with its block size by what it is given in the inline axis.
+pub(crate) fn kept_row<'a>(
+    tree: &'a Arena<Node>,
+    id: NodeId,
+    width: &Given,
+) -> Option<&'a SharedRowParts>
+    requires live { IsLive (bare tree.now.tree) id }
+    requires right { IsRight tree.now.tree }
+    ensures { IfSome result
+        (λ row. HoldsRow (sight_at (bare tree.now.tree) id) (children_at (bare tree.now.tree) id)
+        (given_size width.now) row.now) }
+{
+    let none = Given::None;
+    match find_by(tree, id, Ask::Block, &[], width, &none) {
+        Some(Answer::Row(_, row)) => Some(row),
+        _ => None,
+    }
+}
+
+/// The column that a node keeps with its block size by what it is given in the inline axis.
+pub(crate) fn kept_column<'a>(
+    tree: &'a Arena<Node>,
+    id: NodeId,
+    width: &Given,
+) -> Option<&'a SharedColumnParts>
+    requires live { IsLive (bare tree.now.tree) id }
+    requires right { IsRight tree.now.tree }
+    ensures { IfSome result
+        (λ column. HoldsColumn (sight_at (bare tree.now.tree) id)
+        (children_at (bare tree.now.tree) id) (given_size width.now) column.now) }
+{
+    let none = Given::None;
+    match find_by(tree, id, Ask::Block, &[], width, &none) {
+        Some(Answer::Column(_, column)) => Some(column),
         _ => None,
     }
 }

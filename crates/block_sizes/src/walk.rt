@@ -26,20 +26,21 @@ use crate::again::{ToldWide, keep_told};
 use crate::asking::{told_wide_at, wide_at};
 use crate::children::given_box;
 use crate::flex::{
-    ColumnParts, RowParts, box_at, boxes_in_column, items_in_row, member_at, size_of,
-    size_of_column, size_of_row,
+    box_at, boxes_in_column, items_in_row, member_at, size_of, sized_column, sized_row,
 };
 use crate::flexes::row_lines;
 use crate::queries::{block_query, kept_block, kept_rows};
 use crate::row_sizes::laid_rows;
 use crate::wide::lent_of;
-use inline_sizes::{Member, flex_in, with_room};
+use inline_sizes::{flex_in, with_room};
 use layout_cache::{Given, Query};
 use lunit::{Area, Item, Lu, NoMemory, Sequence, Span};
 use node_arena::{Arena, NodeId};
 use outside::Ruler;
 use placing::style::is_column;
-use placing::{Above, Answer, Node, NodeKind, SharedWide, node_at, parent, root};
+use placing::{
+    Above, Answer, ColumnParts, Member, Node, NodeKind, RowParts, SharedWide, node_at, parent, root,
+};
 use std::sync::ledger::Ledger;
 use walker::{Seat, Walker};
 
@@ -248,7 +249,7 @@ fn grid_anew<R: Ruler, L: Ledger>(
 }
 
 #[cycle(walk)]
-/// The block size of the content of a column that keeps none for this question.
+/// The block size of the content of a column that keeps none for this question. The column is kept with it.
 fn column_anew<R: Ruler, L: Ledger>(
     walk: &mut Walker<R, L>,
     id: NodeId,
@@ -271,18 +272,18 @@ fn column_anew<R: Ruler, L: Ledger>(
     ensures stopped { OnErr result
         (Stopped id query (seen R.log walk.old) (seen R.log walk.new)) }
     ensures own { IfOk result
-        (λ size. kept walk.new id ≡
-        kept_with (kept walk.old id) ((query, answer.Block size) ∷ [])) }
+        (λ size. GrowsBy (kept walk.old id) query size (kept walk.new id)) }
 {
+    root(walk.tree);
     let width = size_of(&query.inline);
     let parts = column_in(walk, id, width)?;
-    let size = size_of_column(walk.alloc, walk.tree, id, width, parts)?;
-    walk.put(id, query, Answer::Block(size))?;
+    let (size, held) = sized_column(walk.alloc, walk.tree, id, width, parts)?;
+    walk.put(id, query, Answer::Column(size, held))?;
     Ok(size)
 }
 
 #[cycle(walk)]
-/// The block size of the content of a row that keeps none for this question.
+/// The block size of the content of a row that keeps none for this question. The row is kept with it.
 fn row_anew<R: Ruler, L: Ledger>(
     walk: &mut Walker<R, L>,
     id: NodeId,
@@ -305,13 +306,13 @@ fn row_anew<R: Ruler, L: Ledger>(
     ensures stopped { OnErr result
         (Stopped id query (seen R.log walk.old) (seen R.log walk.new)) }
     ensures own { IfOk result
-        (λ size. kept walk.new id ≡
-        kept_with (kept walk.old id) ((query, answer.Block size) ∷ [])) }
+        (λ size. GrowsBy (kept walk.old id) query size (kept walk.new id)) }
 {
+    root(walk.tree);
     let width = size_of(&query.inline);
     let parts = row_in(walk, id, width)?;
-    let size = size_of_row(walk.alloc, walk.tree, id, width, parts)?;
-    walk.put(id, query, Answer::Block(size))?;
+    let (size, held) = sized_row(walk.alloc, walk.tree, id, width, parts)?;
+    walk.put(id, query, Answer::Row(size, held))?;
     Ok(size)
 }
 

@@ -7,7 +7,7 @@ use Rattle.std.specs.Prelude.{int_le}
 use Rattle.placing.specs.Nodes.{BareTrees}
 use Rattle.tree_rules.specs.FlexSizes as rules
 use Rattle.inline_sizes.specs.Flexes.{member_of}
-use Rattle.inline_sizes.specs.declared.flex.Member.{Member}
+use Rattle.placing.specs.declared.lined.Member.{Member}
 use Rattle.box_layout.specs.FlexFrames.{block_of, member_item, settled_by}
 
 pub items_alike : (b : BareTrees) (height : ℤ) (members : List Member) (boxes : List ℤ) → zipped (member_item b height) members (map block_of (settled_by b members boxes)) ≡ map (rules.column_item (Some height)) (settled_by b members boxes)

@@ -20,7 +20,7 @@ use Rattle.tree_rules.specs.Orders.{in_order}
 use Rattle.tree_rules.specs.Repetitions.{gap_by}
 use Rattle.block_sizes.specs.Flexes.{crosses_by}
 use Rattle.inline_sizes.specs.Flexes.{AreMembers, IsChild, flex_seen, member_of}
-use Rattle.inline_sizes.specs.declared.flex.Member.{Member}
+use Rattle.placing.specs.declared.lined.Member.{Member}
 use Rattle.box_layout.specs.declared.sitting.Sitting.{Sitting}
 use Rattle.box_layout.specs.FlexFrames.{block_of, member_cross, member_outer, member_sitting, numbered, settled_by, zipped3}
 use Rattle.box_layout.specs.Near.{AreUnits}

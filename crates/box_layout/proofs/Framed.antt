@@ -19,7 +19,7 @@ use Rattle.tree_rules.specs.Frames as frames
 use Rattle.tree_rules.specs.Orders.{in_order, numbered_from}
 use Rattle.tree_rules.specs.Repetitions.{gap_by}
 use Rattle.inline_sizes.specs.Flexes.{AreMembers, IsChild, flex_seen, member_of}
-use Rattle.inline_sizes.specs.declared.flex.Member.{Member}
+use Rattle.placing.specs.declared.lined.Member.{Member}
 use Rattle.block_sizes.specs.Settling.{column_boxes_seen, settled_seen}
 use Rattle.box_layout.proofs.ColumnAlike.{ranges_few}
 use Rattle.box_layout.proofs.FlexAlike.{each_child}

@@ -19,7 +19,7 @@ use Rattle.tree_rules.specs.declared.query.Ask.TheVariants as ask
 use Rattle.tree_rules.specs.declared.query.Given.TheVariants as given
 use Rattle.tree_rules.specs.declared.query.Query.{Query}
 use Rattle.inline_sizes.specs.Flexes.{flex_seen, member_of}
-use Rattle.inline_sizes.specs.declared.flex.Member.{Member}
+use Rattle.placing.specs.declared.lined.Member.{Member}
 use Rattle.box_layout.specs.declared.sitting.Sitting.{Sitting}
 use Rattle.box_layout.specs.Sittings.{flex_numbered, flex_ordered, sitting_by}
 

@@ -12,12 +12,12 @@ ghost use Rattle.box_layout.specs.FlexFrames.{block_of, column_lines_seen, membe
 
 use crate::flexes::style_of;
 use crate::sitting::gap_in;
-use block_sizes::{Lines, lines_by};
-use inline_sizes::{Member, flex_item};
+use block_sizes::lines_by;
+use inline_sizes::flex_item;
 use lunit::{Lu, NoMemory, Steps};
 use node_arena::{Arena, NodeId};
 use part_rules::FlexItem;
-use placing::{Node, node_at};
+use placing::{Lines, Member, Node, node_at};
 use std::alloc::Global;
 use std::sync::ledger::Ledger;
 

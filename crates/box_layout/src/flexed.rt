@@ -18,11 +18,13 @@ ghost use Rattle.box_layout.specs.FlexFrames.{AreFrames, AreStyled, AsksWidths, 
 use crate::columns::column_lines;
 use crate::flexes::{LinedChildren, frames_in_lines};
 use crate::sizes::height_in;
-use block_sizes::{ColumnParts, Lines, RowParts, column_in, row_in};
+use block_sizes::{column_for, row_for};
 use lunit::{Area, Lu, NoMemory, Sequence, Span};
 use node_arena::{Arena, NodeId};
 use outside::Ruler;
-use placing::{Frame, Node, count, root};
+use placing::{
+    ColumnParts, Frame, Lines, Node, RowParts, SharedColumnParts, SharedRowParts, count, root,
+};
 use std::alloc::Global;
 use std::sync::ledger::Ledger;
 use walker::Walker;
@@ -70,7 +72,7 @@ fn frames_of_row(
     id: NodeId,
     width: Lu,
     height: Lu,
-    row: RowParts,
+    row: SharedRowParts,
 ) -> Result<Sequence<Frame>, NoMemory>
     requires live { IsLive (bare tree.now.tree) id }
     requires readable { AreReadable (bare tree.now.tree) }
@@ -78,7 +80,7 @@ fn frames_of_row(
     ensures { IfOk result
         (AreFrames (bare tree.now.tree) id (row_seen (bare tree.now.tree) id width height)) }
 {
-    frames_in_row(alloc, tree, id, width, height, &row)
+    frames_in_row(alloc, tree, id, width, height, row.parts())
 }
 
 /// The frames of the children of a column whose content box has these sizes, once its lines are known.
@@ -124,7 +126,7 @@ fn frames_of_column(
     id: NodeId,
     width: Lu,
     height: Lu,
-    column: ColumnParts,
+    column: SharedColumnParts,
     lines: Lines,
 ) -> Result<Sequence<Frame>, NoMemory>
     requires live { IsLive (bare tree.now.tree) id }
@@ -137,11 +139,11 @@ fn frames_of_column(
     ensures { IfOk result
         (AreFrames (bare tree.now.tree) id (column_seen (bare tree.now.tree) id width height)) }
 {
-    frames_in_column(alloc, tree, id, width, height, &column, &lines)
+    frames_in_column(alloc, tree, id, width, height, column.parts(), &lines)
 }
 
 /// The frames of the children of a row of this inline size that is given this block size. Nothing is kept for the row itself. It
-/// makes one step. `NoMemory` where memory is wanting.
+/// makes one step at most, and none where the row keeps its lines with its block size. `NoMemory` where memory is wanting.
 pub fn row_frames<R: Ruler, L: Ledger>(
     walk: &mut Walker<R, L>,
     id: NodeId,
@@ -163,7 +165,7 @@ pub fn row_frames<R: Ruler, L: Ledger>(
         ((q : Query) → given_size q.inline ≡ width → needs_inline q.ask ≡ true →
         Stopped id q (seen R.log walk.old) (seen R.log walk.new)) }
 {
-    let row = row_in(walk, id, width)?;
+    let row = row_for(walk, id, width)?;
     let frames = frames_of_row(walk.alloc, walk.tree, id, width, height, row)?;
     Ok(frames)
 }
@@ -223,9 +225,10 @@ pub fn column_frames<R: Ruler, L: Ledger>(
         ((q : Query) → AsksWidths width height q →
         Stopped id q (seen R.log walk.old) (seen R.log walk.new)) }
 {
-    let column = column_in(walk, id, width)?;
-    let members = column.members.as_slice();
-    let blocks = column.blocks.as_slice();
+    let column = column_for(walk, id, width)?;
+    let parts = column.parts();
+    let members = parts.members.as_slice();
+    let blocks = parts.blocks.as_slice();
     let lines = column_lines(
         walk.alloc,
         walk.tree,

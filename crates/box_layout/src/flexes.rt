@@ -16,10 +16,10 @@ ghost use Rattle.box_layout.specs.Sittings.{HasStyle, container_by};
 use crate::lines::flex_frames;
 use crate::sitting::{Container, Sitting, container_of, sitting_of};
 use block_sizes::crosses_of;
-use inline_sizes::{Member, cross_box, outer_cross};
+use inline_sizes::{cross_box, outer_cross};
 use lunit::{Lu, NoMemory, Sequence};
 use node_arena::{Arena, NodeId};
-use placing::{Frame, Node, node_at, root};
+use placing::{Frame, Member, Node, node_at, root};
 use std::alloc::Global;
 use style_types::Style;
 

@@ -19,7 +19,7 @@ use Rattle.tree_rules.specs.declared.kind.NodeKind.TheVariants as kind
 use Rattle.tree_rules.specs.declared.query.Query.{Query}
 use Rattle.inline_sizes.proofs.Grids.{contains_drop, map_drop}
 use Rattle.inline_sizes.specs.Flexes.{flex_seen, member_of, members_from}
-use Rattle.inline_sizes.specs.declared.flex.Member.{Member}
+use Rattle.placing.specs.declared.lined.Member.{Member}
 
 drop_mapped : {A B : Type 0} (f : A → B) (n : ℕ) (xs : List A) → drop n (map f xs) ≡ map f (drop n xs)
 drop_mapped f zero xs = refl

@@ -17,7 +17,7 @@ use Rattle.tree_rules.specs.declared.query.Given.{Given}
 use Rattle.inline_sizes.specs.Grids.{IsBase, IsCounted, IsGrid}
 use Rattle.inline_sizes.specs.GridsSeen.{grid_seen}
 
-tops_get : {A : Type 0} → (t : Trees (NodeId × A)) (i : ℕ) → number_of (slice_get (tops t) i) ≡ slice_get (top_numbers t) i
+pub tops_get : {A : Type 0} → (t : Trees (NodeId × A)) (i : ℕ) → number_of (slice_get (tops t) i) ≡ slice_get (top_numbers t) i
 tops_get leafless i = refl
 tops_get (tree x below after) zero = refl
 tops_get (tree x below after) (suc i) = tops_get after i

@@ -9,7 +9,7 @@ use Rattle.placing.specs.Nodes.{BareTrees, IsLive, kid_at, kids_at, sight_at}
 use Rattle.tree_rules.specs.FlexSizes as rules
 use Rattle.tree_rules.specs.Orders.{in_order}
 use Rattle.tree_rules.specs.Answers.{Kid}
-use Rattle.inline_sizes.specs.declared.flex.Member.{Member}
+use Rattle.placing.specs.declared.lined.Member.{Member}
 
 -- the container of a number
 unfoldable pub flex_seen : BareTrees → NodeId → rules.Flex

@@ -13,20 +13,9 @@ use crate::flex_items::inline_contributions;
 use lunit::{Lu, NoMemory, Sequence};
 use node_arena::{Arena, NodeId};
 use placing::style::{gap, is_column, wraps};
-use placing::{Node, node_at};
+use placing::{Member, Node, node_at};
 use std::alloc::Global;
 use style_types::Style;
-
-/// A child of a flex container with its two intrinsic inline sizes.
-#[derive(Clone, Copy)]
-pub struct Member {
-    /// The number of the node.
-    pub child: NodeId,
-    /// Its place in document order, from 0.
-    pub number: usize,
-    /// The two sizes of its content, in units of 1/64 px.
-    pub inline: (Lu, Lu),
-}
 
 /// A flex container with what its children answer.
 #[derive(Drop)]

@@ -35,7 +35,7 @@ pub use distribution::{
     area_size, content_size, gap_by, greatest_of, in_a_row, is_safe, mode_of, open_tracks, sum_of,
     total_of_tracks, tracks_over,
 };
-pub use flex::{FlexParts, Member};
+pub use flex::FlexParts;
 pub use flex_items::{
     automatic_minimum, base_size, column_box, cross_box, flex_item, inline_contributions,
     is_stretched_across, line_align, outer_cross,

@@ -20,14 +20,14 @@ ghost use Rattle.inline_sizes.specs.Flexes.{AreMembers};
 use crate::asking::{ask_alone, grid_in};
 use crate::children::{is_grid, keep_told};
 use crate::columns::{grid_inline, grid_lends, with_room};
-use crate::flex::{FlexParts, Member, flex_inline};
+use crate::flex::{FlexParts, flex_inline};
 use crate::laws::items_lie_in_their_tracks;
 use crate::queries::{inline_query, kept_items, kept_sizes};
 use layout_cache::Query;
 use lunit::{Area, Item, Lu, NoMemory, Sequence, Span};
 use node_arena::{Arena, NodeId};
 use outside::Ruler;
-use placing::{Answer, Node, NodeKind, child, node_at, ordered, parent};
+use placing::{Answer, Member, Node, NodeKind, child, node_at, ordered, parent};
 use std::sync::ledger::Ledger;
 use walker::{Seat, Walker};
 

@@ -5,12 +5,14 @@ use Rattle.node_arena.specs.Numbers.{value_at}
 use Rattle.tree_rules.specs.declared.query.Query.{Query}
 use Rattle.tree_rules.specs.Answers as rules
 use Rattle.tree_rules.specs.KeptAnswers.{AreRight, EachPair}
+use Rattle.tree_rules.specs.Frames.{given_size}
 use Rattle.tree_rules.specs.Places.{Seen}
 use Rattle.tree_rules.specs.Queries as queries
 use Rattle.placing.specs.declared.node.Answer.{Answer}
-use Rattle.placing.specs.declared.node.Answer.TheVariants.{Sizes, Lent, Block, Laid, Frames}
+use Rattle.placing.specs.declared.node.Answer.TheVariants.{Sizes, Lent, Block, Laid, Row, Column, Frames}
 use Rattle.placing.specs.declared.node.Frame.{Frame}
 use Rattle.placing.specs.declared.node.Node.{Node}
+use Rattle.placing.specs.Lined.{HoldsColumn, HoldsRow}
 use Rattle.placing.specs.Nodes.{NodeTrees, bare, children_at, sight_at}
 use Rattle.placing.specs.Wides.{HoldsWide}
 use Rattle.placing.specs.Told.{HoldsPast, no_past}
@@ -27,15 +29,19 @@ plain_answer (Sizes low high) = queries.inline_sizes (low, high)
 plain_answer (Lent items) = queries.lent_items items
 plain_answer (Block size) = queries.block_size size
 plain_answer (Laid size wide) = queries.block_size size
+plain_answer (Row size row) = queries.block_size size
+plain_answer (Column size column) = queries.block_size size
 plain_answer (Frames frames) = queries.child_frames (map frame_of frames)
 
 -- What an answer to a question holds besides is of a node of which the rules see this and which has these children: frames are those of the
--- children, in order, and a grid in its columns is the one by the counts and the width of the question.
+-- children, in order, a grid in its columns is the one by the counts and the width of the question, and a row or a column is the one of that width.
 abbrev pub IsOfNode : Seen → List NodeId → Query → Answer → Type 0
 IsOfNode s children q (Sizes low high) = Unit {0}
 IsOfNode s children q (Lent items) = Unit {0}
 IsOfNode s children q (Block size) = Unit {0}
 IsOfNode s children q (Laid size wide) = HoldsWide s children q.reps q.inline wide
+IsOfNode s children q (Row size row) = HoldsRow s children (given_size q.inline) row
+IsOfNode s children q (Column size column) = HoldsColumn s children (given_size q.inline) column
 IsOfNode s children q (Frames frames) = map (λ (f : Frame). f.child) frames ≡ children
 
 abbrev pub kept_of : Option Node → List (Query × Answer)

@@ -9,6 +9,7 @@ pub mod Glances
 pub mod Insides
 pub mod Keeping
 pub mod Kept
+pub mod Lined
 pub mod Nodes
 pub mod Order
 pub mod Ranges
@@ -22,6 +23,7 @@ pub mod Wishes
 pub mod Written
 pub use Rattle.layout_cache.specs.Kept as CacheKept
 pub use Rattle.layout_cache.specs.Reach as Reach
+pub use Rattle.flex_lines.specs.Lines as FlexLineRanges
 pub use Rattle.line_names.specs.Sides as LineSides
 pub use Rattle.line_names.specs.Tables as LineTables
 pub use Rattle.node_arena.specs.Numbers as ArenaNumbers

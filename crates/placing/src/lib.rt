@@ -15,6 +15,7 @@ mod keeping;
 mod last_frames;
 mod laws;
 mod lengths;
+mod lined;
 mod linked;
 mod node;
 mod order;
@@ -41,10 +42,11 @@ pub use laws::{
     dropping_keeps_the_rest, forgetting_keeps_the_rest, kept_answers_are_defined,
     readable_node_by_node, right_where_seen_the_same,
 };
+pub use lined::{ColumnParts, Lines, Member, RowParts};
 pub use node::{Answer, Frame, Node};
 pub use placement::{areas_in, ordered};
 pub use seats::{areas, context, seat};
-pub use shared::{SharedBase, SharedFrames, SharedWide};
+pub use shared::{SharedBase, SharedColumnParts, SharedFrames, SharedRowParts, SharedWide};
 pub use sight::{child, count, node_at, parent, root};
 pub use telling::{MANY, keep_columns, keep_wide, put_items, take_columns, take_wide, turn_of};
 pub use told::{

@@ -1,4 +1,4 @@
-use crate::shared::{SharedFrames, SharedWide};
+use crate::shared::{SharedColumnParts, SharedFrames, SharedRowParts, SharedWide};
 use crate::told::Past;
 use layout_cache::Kept;
 use lunit::{Item, Lu, Name, Rect, Sequence};
@@ -49,6 +49,10 @@ pub enum Answer {
     Block(Lu),
     /// The block size of the content of a grid, and the grid in its columns.
     Laid(Lu, SharedWide),
+    /// The block size of the content of a row, and its children in their lines.
+    Row(Lu, SharedRowParts),
+    /// The block size of the content of a column, and its children as wide as they are in it.
+    Column(Lu, SharedColumnParts),
     /// The children, in document order.
     Frames(SharedFrames),
 }

@@ -1,7 +1,9 @@
-//! What a node keeps and all who read it share: a list of frames, a grid before its children are asked, a grid in its columns.
+//! What a node keeps and all who read it share: a list of frames, a grid before its children are asked, a grid in its columns, a row
+//! and a column with what their children told.
 
 ghost use Rattle.std.specs.Prelude.{◌≡◌, IfOk, IfSome};
 
+use crate::lined::{ColumnParts, RowParts};
 use crate::node::Frame;
 use crate::wide::{GridBase, GridWide};
 use lunit::{NoMemory, Sequence};
@@ -159,5 +161,95 @@ impl SharedWide {
         ensures { result.now ≡ self.now }
     {
         self.wide.as_ref()
+    }
+}
+
+/// A row with its children in their lines. It is made once, and all who read it share it.
+#[derive(Drop)]
+pub struct SharedRowParts {
+    parts: Rc<RowParts>,
+}
+
+impl Model for SharedRowParts {
+    ghost use Rattle.placing.specs.declared.lined.RowParts.{RowParts};
+    ghost use Rattle.placing.specs.contracts.lined.RowParts as row_parts;
+
+    ghost Value = { RowParts };
+
+    ghost coded = { row_parts.the_row.coded };
+
+    ghost view = { λ a. a.parts.value };
+}
+
+impl SharedRowParts {
+    /// This row; `NoMemory` where memory is wanting.
+    pub fn new(alloc: Global, parts: RowParts) -> Result<SharedRowParts, NoMemory>
+        ensures { IfOk result (λ made. made ≡ parts) }
+    {
+        Ok(SharedRowParts {
+            parts: Rc::new(alloc, parts)?,
+        })
+    }
+
+    /// This row once more. Takes no memory; `NoMemory` only where it is shared more often than can
+    /// be counted.
+    pub fn again(&self) -> Result<SharedRowParts, NoMemory>
+        ensures { IfOk result (λ other. other ≡ self.now) }
+    {
+        Ok(SharedRowParts {
+            parts: self.parts.clone()?,
+        })
+    }
+
+    /// This row.
+    pub fn parts(&self) -> &RowParts
+        ensures { result.now ≡ self.now }
+    {
+        self.parts.as_ref()
+    }
+}
+
+/// A column with its children as wide as they are in it. It is made once, and all who read it share it.
+#[derive(Drop)]
+pub struct SharedColumnParts {
+    parts: Rc<ColumnParts>,
+}
+
+impl Model for SharedColumnParts {
+    ghost use Rattle.placing.specs.declared.lined.ColumnParts.{ColumnParts};
+    ghost use Rattle.placing.specs.contracts.lined.ColumnParts as column_parts;
+
+    ghost Value = { ColumnParts };
+
+    ghost coded = { column_parts.the_row.coded };
+
+    ghost view = { λ a. a.parts.value };
+}
+
+impl SharedColumnParts {
+    /// This column; `NoMemory` where memory is wanting.
+    pub fn new(alloc: Global, parts: ColumnParts) -> Result<SharedColumnParts, NoMemory>
+        ensures { IfOk result (λ made. made ≡ parts) }
+    {
+        Ok(SharedColumnParts {
+            parts: Rc::new(alloc, parts)?,
+        })
+    }
+
+    /// This column once more. Takes no memory; `NoMemory` only where it is shared more often than can
+    /// be counted.
+    pub fn again(&self) -> Result<SharedColumnParts, NoMemory>
+        ensures { IfOk result (λ other. other ≡ self.now) }
+    {
+        Ok(SharedColumnParts {
+            parts: self.parts.clone()?,
+        })
+    }
+
+    /// This column.
+    pub fn parts(&self) -> &ColumnParts
+        ensures { result.now ≡ self.now }
+    {
+        self.parts.as_ref()
     }
 }

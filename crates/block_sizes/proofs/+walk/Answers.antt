@@ -63,6 +63,9 @@ use Rattle.block_sizes.proofs.FlexLeading.{column_leads, row_leads}
 use Rattle.block_sizes.proofs.FlexMade.{items_few, lines_made}
 use Rattle.block_sizes.proofs.Settled.{covering_roomy, map_length, seen_length, settled_length}
 use Rattle.block_sizes.specs.Flexes.{AreCovering, HaveInner}
+use Rattle.placing.specs.Lined.{HoldsColumn, HoldsRow}
+use Rattle.placing.specs.Children.{IsTree}
+use Rattle.block_sizes.proofs.HeldLines.{column_held, row_held}
 use Rattle.block_sizes.specs.Settling.{AreRoomy, IsColumn, IsRow, LeadsTo, block_of, column_boxes_seen, settled_seen}
 use Rattle.block_sizes.specs.Wides.{rows_seen}
 use Rattle.walker.proofs.Parts.{parts_then, same_parts}
@@ -652,10 +655,10 @@ pub walk::block_anew-returns-then-is_leaf-clause-own : goal.walk::block_anew-ret
 walk::block_anew-returns-then-is_leaf-clause-own g t c = grows_by_block c.leaf_height.result (kept c.args.walk.now c.args.id) (kept c.leaf_height.new.self c.args.id) c.args.query c.leaf_height.ensures.own
 
 pub walk::block_anew-returns-then-is_column-clause-own : goal.walk::block_anew-returns-then-is_column-clause-own
-walk::block_anew-returns-then-is_column-clause-own g t c = grows_by_block c.column_anew.result (kept c.args.walk.now c.args.id) (kept c.column_anew.new.walk c.args.id) c.args.query c.column_anew.ensures.own
+walk::block_anew-returns-then-is_column-clause-own g t c = c.column_anew.ensures.own
 
 pub walk::block_anew-returns-clause-own : goal.walk::block_anew-returns-clause-own
-walk::block_anew-returns-clause-own g t c = grows_by_block c.row_anew.result (kept c.args.walk.now c.args.id) (kept c.row_anew.new.walk c.args.id) c.args.query c.row_anew.ensures.own
+walk::block_anew-returns-clause-own g t c = c.row_anew.ensures.own
 
 pub walk::rows_anew-wide_at-requires : goal.walk::rows_anew-wide_at-requires
 walk::rows_anew-wide_at-requires g t c =
@@ -734,17 +737,17 @@ pub walk::rows_anew-returns-clause-own : goal.walk::rows_anew-returns-clause-own
 walk::rows_anew-returns-clause-own g t c =
     c.in_ok-put.ensures.own ∙ (λ i. kept_with ((c.in_ok-wide.ensures.below c.args.query (ap (λ (q : Query). q.reps) c.requires.query) refl (ap (λ (q : Query). needs_inline q.ask) c.requires.query)).own i) ((c.args.query, answer.Lent (sym (c.in_ok-lent.ensures ∙ c.as_slice.ensures) i)) ∷ []))
 
-pub walk::row_anew-size_of_row-requires-clause-live : goal.walk::row_anew-size_of_row-requires-clause-live
-walk::row_anew-size_of_row-requires-clause-live g t c = subst (λ (z : BareTrees). IsLive z c.args.id) (sym (c.in_ok-parts.ensures.below c.args.query (sym c.size_of-width.ensures) (ap needs_inline c.requires.ask)).walk.bare_same) c.requires.live
+pub walk::row_anew-sized_row-requires-clause-live : goal.walk::row_anew-sized_row-requires-clause-live
+walk::row_anew-sized_row-requires-clause-live g t c = subst (λ (z : BareTrees). IsLive z c.args.id) (sym (c.in_ok-parts.ensures.below c.args.query (sym c.size_of-width.ensures) (ap needs_inline c.requires.ask)).walk.bare_same) c.requires.live
 
-pub walk::row_anew-size_of_row-requires-clause-row : goal.walk::row_anew-size_of_row-requires-clause-row
-walk::row_anew-size_of_row-requires-clause-row g t c =
+pub walk::row_anew-sized_row-requires-clause-row : goal.walk::row_anew-sized_row-requires-clause-row
+walk::row_anew-sized_row-requires-clause-row g t c =
     subst (λ (z : BareTrees). IsRow z c.args.id c.size_of-width.result c.in_ok-parts.parts) (sym (c.in_ok-parts.ensures.below c.args.query (sym c.size_of-width.ensures) (ap needs_inline c.requires.ask)).walk.bare_same) c.in_ok-parts.ensures.value
 
 pub walk::row_anew-put-requires-clause-value : goal.walk::row_anew-put-requires-clause-value
 walk::row_anew-put-requires-clause-value g t c =
     ap block_size
-    (c.in_ok-size.ensures ∙
+    (c.in_ok-size.ensures.size ∙
     ap
     (λ (w : ℤ). rules.row_block (flex_seen (nodes c.row_in.new.walk) c.args.id) (rules.row_lines (flex_seen (nodes c.row_in.new.walk) c.args.id) w)
     (rules.row_settled (flex_seen (nodes c.row_in.new.walk) c.args.id) (rules.row_lines (flex_seen (nodes c.row_in.new.walk) c.args.id) w))) c.size_of-width.ensures)
@@ -770,7 +773,7 @@ walk::row_anew-put-requires-clause-fits g t c = subst (λ (z : BareTrees). Fits 
 pub walk::row_anew-returns-clause-value : goal.walk::row_anew-returns-clause-value
 walk::row_anew-returns-clause-value g t c =
     ap block_size
-    (c.in_ok-size.ensures ∙
+    (c.in_ok-size.ensures.size ∙
     ap
     (λ (w : ℤ). rules.row_block (flex_seen (nodes c.row_in.new.walk) c.args.id) (rules.row_lines (flex_seen (nodes c.row_in.new.walk) c.args.id) w)
     (rules.row_settled (flex_seen (nodes c.row_in.new.walk) c.args.id) (rules.row_lines (flex_seen (nodes c.row_in.new.walk) c.args.id) w))) c.size_of-width.ensures)
@@ -793,18 +796,35 @@ pub walk::row_anew-returns-in_err-put-clause-stopped : goal.walk::row_anew-retur
 walk::row_anew-returns-in_err-put-clause-stopped g t c = on_err _ _ (c.in_err-put.ensures.stopped _ 1 (c.in_ok-parts.ensures.below c.args.query (sym c.size_of-width.ensures) (ap needs_inline c.requires.ask)))
 
 pub walk::row_anew-returns-clause-own : goal.walk::row_anew-returns-clause-own
-walk::row_anew-returns-clause-own g t c = c.in_ok-put.ensures.own ∙ ap (λ l. kept_with l ((c.args.query, answer.Block c.in_ok-size.size) ∷ [])) (c.in_ok-parts.ensures.below c.args.query (sym c.size_of-width.ensures) (ap needs_inline c.requires.ask)).own
+walk::row_anew-returns-clause-own g t c = (
+  answer.Row c.in_ok-size.size c.in_ok-size.held,
+  (
+    refl,
+    c.in_ok-put.ensures.own ∙
+        ap (λ l. kept_with l ((c.args.query, answer.Row c.in_ok-size.size c.in_ok-size.held) ∷ []))
+        (c.in_ok-parts.ensures.below c.args.query (sym c.size_of-width.ensures) (ap needs_inline c.requires.ask)).own,
+  ),
+)
 
-pub walk::column_anew-size_of_column-requires-clause-live : goal.walk::column_anew-size_of_column-requires-clause-live
-walk::column_anew-size_of_column-requires-clause-live g t c = subst (λ (z : BareTrees). IsLive z c.args.id) (sym (c.in_ok-parts.ensures.below c.args.query (sym c.size_of-width.ensures) (ap needs_inline c.requires.ask)).walk.bare_same) c.requires.live
+pub walk::row_anew-put-requires-clause-children : goal.walk::row_anew-put-requires-clause-children
+walk::row_anew-put-requires-clause-children g t c =
+    let b = nodes c.row_in.new.walk in
+    let back = sym (c.in_ok-parts.ensures.below c.args.query (sym c.size_of-width.ensures) (ap needs_inline c.requires.ask)).walk.bare_same in
+    let is : IsRow b c.args.id c.size_of-width.result c.in_ok-parts.parts = subst (λ (z : BareTrees). IsRow z c.args.id c.size_of-width.result c.in_ok-parts.parts) back c.in_ok-parts.ensures.value in
+    subst (HoldsRow (sight_at b c.args.id) (children_at b c.args.id) (given_size c.args.query.inline)) (sym c.in_ok-size.ensures.row)
+    (subst (λ (w : ℤ). HoldsRow (sight_at b c.args.id) (children_at b c.args.id) w c.in_ok-parts.parts) c.size_of-width.ensures
+    (row_held b c.args.id (subst IsTree back c.root.ensures.tree) c.size_of-width.result c.in_ok-parts.parts is))
 
-pub walk::column_anew-size_of_column-requires-clause-column : goal.walk::column_anew-size_of_column-requires-clause-column
-walk::column_anew-size_of_column-requires-clause-column g t c =
+pub walk::column_anew-sized_column-requires-clause-live : goal.walk::column_anew-sized_column-requires-clause-live
+walk::column_anew-sized_column-requires-clause-live g t c = subst (λ (z : BareTrees). IsLive z c.args.id) (sym (c.in_ok-parts.ensures.below c.args.query (sym c.size_of-width.ensures) (ap needs_inline c.requires.ask)).walk.bare_same) c.requires.live
+
+pub walk::column_anew-sized_column-requires-clause-column : goal.walk::column_anew-sized_column-requires-clause-column
+walk::column_anew-sized_column-requires-clause-column g t c =
     subst (λ (z : BareTrees). IsColumn z c.args.id c.size_of-width.result c.in_ok-parts.parts) (sym (c.in_ok-parts.ensures.below c.args.query (sym c.size_of-width.ensures) (ap needs_inline c.requires.ask)).walk.bare_same) c.in_ok-parts.ensures.value
 
 pub walk::column_anew-put-requires-clause-value : goal.walk::column_anew-put-requires-clause-value
 walk::column_anew-put-requires-clause-value g t c =
-    ap block_size (c.in_ok-size.ensures ∙ ap (λ (w : ℤ). rules.column_block (flex_seen (nodes c.column_in.new.walk) c.args.id) (rules.column_settled (flex_seen (nodes c.column_in.new.walk) c.args.id) w)) c.size_of-width.ensures)
+    ap block_size (c.in_ok-size.ensures.size ∙ ap (λ (w : ℤ). rules.column_block (flex_seen (nodes c.column_in.new.walk) c.args.id) (rules.column_settled (flex_seen (nodes c.column_in.new.walk) c.args.id) w)) c.size_of-width.ensures)
     ∙ column_answer (nodes c.column_in.new.walk) c.args.id c.args.query
     (subst (λ (z : BareTrees). (sight_at z c.args.id).label.kind ≡ kind.Flex) (sym (c.in_ok-parts.ensures.below c.args.query (sym c.size_of-width.ensures) (ap needs_inline c.requires.ask)).walk.bare_same) c.requires.flex)
     (subst (λ (z : BareTrees). (sight_at z c.args.id).label.content.column ≡ true) (sym (c.in_ok-parts.ensures.below c.args.query (sym c.size_of-width.ensures) (ap needs_inline c.requires.ask)).walk.bare_same) c.requires.direction)
@@ -826,7 +846,7 @@ walk::column_anew-put-requires-clause-fits g t c = subst (λ (z : BareTrees). Fi
 
 pub walk::column_anew-returns-clause-value : goal.walk::column_anew-returns-clause-value
 walk::column_anew-returns-clause-value g t c =
-    ap block_size (c.in_ok-size.ensures ∙ ap (λ (w : ℤ). rules.column_block (flex_seen (nodes c.column_in.new.walk) c.args.id) (rules.column_settled (flex_seen (nodes c.column_in.new.walk) c.args.id) w)) c.size_of-width.ensures)
+    ap block_size (c.in_ok-size.ensures.size ∙ ap (λ (w : ℤ). rules.column_block (flex_seen (nodes c.column_in.new.walk) c.args.id) (rules.column_settled (flex_seen (nodes c.column_in.new.walk) c.args.id) w)) c.size_of-width.ensures)
     ∙ column_answer (nodes c.column_in.new.walk) c.args.id c.args.query
     (subst (λ (z : BareTrees). (sight_at z c.args.id).label.kind ≡ kind.Flex) (sym (c.in_ok-parts.ensures.below c.args.query (sym c.size_of-width.ensures) (ap needs_inline c.requires.ask)).walk.bare_same) c.requires.flex)
     (subst (λ (z : BareTrees). (sight_at z c.args.id).label.content.column ≡ true) (sym (c.in_ok-parts.ensures.below c.args.query (sym c.size_of-width.ensures) (ap needs_inline c.requires.ask)).walk.bare_same) c.requires.direction)
@@ -846,7 +866,24 @@ pub walk::column_anew-returns-in_err-put-clause-stopped : goal.walk::column_anew
 walk::column_anew-returns-in_err-put-clause-stopped g t c = on_err _ _ (c.in_err-put.ensures.stopped _ 0 (c.in_ok-parts.ensures.below c.args.query (sym c.size_of-width.ensures) (ap needs_inline c.requires.ask)))
 
 pub walk::column_anew-returns-clause-own : goal.walk::column_anew-returns-clause-own
-walk::column_anew-returns-clause-own g t c = c.in_ok-put.ensures.own ∙ ap (λ l. kept_with l ((c.args.query, answer.Block c.in_ok-size.size) ∷ [])) (c.in_ok-parts.ensures.below c.args.query (sym c.size_of-width.ensures) (ap needs_inline c.requires.ask)).own
+walk::column_anew-returns-clause-own g t c = (
+  answer.Column c.in_ok-size.size c.in_ok-size.held,
+  (
+    refl,
+    c.in_ok-put.ensures.own ∙
+        ap (λ l. kept_with l ((c.args.query, answer.Column c.in_ok-size.size c.in_ok-size.held) ∷ []))
+        (c.in_ok-parts.ensures.below c.args.query (sym c.size_of-width.ensures) (ap needs_inline c.requires.ask)).own,
+  ),
+)
+
+pub walk::column_anew-put-requires-clause-children : goal.walk::column_anew-put-requires-clause-children
+walk::column_anew-put-requires-clause-children g t c =
+    let b = nodes c.column_in.new.walk in
+    let back = sym (c.in_ok-parts.ensures.below c.args.query (sym c.size_of-width.ensures) (ap needs_inline c.requires.ask)).walk.bare_same in
+    let is : IsColumn b c.args.id c.size_of-width.result c.in_ok-parts.parts = subst (λ (z : BareTrees). IsColumn z c.args.id c.size_of-width.result c.in_ok-parts.parts) back c.in_ok-parts.ensures.value in
+    subst (HoldsColumn (sight_at b c.args.id) (children_at b c.args.id) (given_size c.args.query.inline)) (sym c.in_ok-size.ensures.column)
+    (subst (λ (w : ℤ). HoldsColumn (sight_at b c.args.id) (children_at b c.args.id) w c.in_ok-parts.parts) c.size_of-width.ensures
+    (column_held b c.args.id (subst IsTree back c.root.ensures.tree) c.size_of-width.result c.in_ok-parts.parts is))
 
 pub walk::row_in-items_in_row-requires-clause-live : goal.walk::row_in-items_in_row-requires-clause-live
 walk::row_in-items_in_row-requires-clause-live g t c = subst (λ (z : BareTrees). IsLive z c.args.id) (sym (c.in_ok-parts.ensures.below (inline_query false [])).walk.bare_same) c.requires.live

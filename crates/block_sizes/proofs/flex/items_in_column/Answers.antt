@@ -2,7 +2,7 @@ use Rattle.std.proofs.Common.{arith, ap, sym, ◌≡◌, ◌∙◌, ◌<◌, ℤ
 use Rattle.placing.specs.Nodes.{bare}
 use Rattle.tree_rules.specs.FlexSizes as rules
 use Rattle.inline_sizes.specs.Flexes.{member_of}
-use Rattle.inline_sizes.specs.declared.flex.Member.{Member}
+use Rattle.placing.specs.declared.lined.Member.{Member}
 use Rattle.block_sizes.specs.Settling.{block_of, settled_seen}
 use Rattle.block_sizes.proofs.Settled.{item_by, item_settled, map_all, map_length, map_step, settled_block, settled_length, settled_member}
 use Rattle.block_sizes.proofs.flex.items_in_column.Goals as goal

@@ -7,7 +7,7 @@ use Rattle.tree_rules.specs.FlexSizes as rules
 use Rattle.tree_rules.specs.Labels.{grid_of}
 use Rattle.inline_sizes.proofs.InRange.{inner_units}
 use Rattle.inline_sizes.specs.Flexes.{member_of}
-use Rattle.inline_sizes.specs.declared.flex.Member.{Member}
+use Rattle.placing.specs.declared.lined.Member.{Member}
 use Rattle.block_sizes.specs.Flexes.{HaveInner}
 use Rattle.block_sizes.proofs.Settled.{inner_more, item_by, mapped_all, mapped_step}
 use Rattle.block_sizes.proofs.flex.items_in_row.Goals as goal

@@ -5,7 +5,7 @@ use Rattle.tree_rules.specs.FlexSizes as rules
 use Rattle.tree_rules.specs.Labels.{grid_of}
 use Rattle.tree_rules.specs.NodeSizes.{margins}
 use Rattle.inline_sizes.specs.Flexes.{member_of}
-use Rattle.inline_sizes.specs.declared.flex.Member.{Member}
+use Rattle.placing.specs.declared.lined.Member.{Member}
 use Rattle.block_sizes.specs.Settling.{block_of, settled_seen}
 use Rattle.block_sizes.proofs.Settled.{map_all, map_length, map_step, outer_by, outer_settled, settled_block, settled_length, settled_member}
 use Rattle.block_sizes.proofs.flex.outers_in_row.Goals as goal

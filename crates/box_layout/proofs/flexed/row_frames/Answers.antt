@@ -35,6 +35,6 @@ returns-in_err-row-clause-stopped g c = on_err _ _ c.in_err-row.ensures.stopped
 pub returns-in_err-frames-clause-stopped : goal.returns-in_err-frames-clause-stopped
 returns-in_err-frames-clause-stopped g c =
     let all : (q : Query) → given_size q.inline ≡ c.args.width → needs_inline q.ask ≡ true →
-    Stopped c.args.id q (seen g.R.Ruler.log c.args.walk.now) (seen g.R.Ruler.log c.row_in.new.walk) = λ q w n. stopped c.args.id q 1 _ _
+    Stopped c.args.id q (seen g.R.Ruler.log c.args.walk.now) (seen g.R.Ruler.log c.row_for.new.walk) = λ q w n. stopped c.args.id q 1 _ _
     (c.in_ok-row.ensures.below q w n) in
     on_err _ _ all

@@ -1,7 +1,7 @@
 use Rattle.std.proofs.Common.{sym, subst}
 use Rattle.placing.specs.Nodes.{bare}
 use Rattle.inline_sizes.specs.Flexes.{IsChild}
-use Rattle.inline_sizes.specs.declared.flex.Member.{Member}
+use Rattle.placing.specs.declared.lined.Member.{Member}
 use Rattle.box_layout.specs.FlexFrames.{member_cross, zipped3}
 use Rattle.box_layout.proofs.FlexAlike.{triple_step}
 use Rattle.box_layout.proofs.flexes.own_crosses.Goals as goal

@@ -2,7 +2,7 @@ use Rattle.std.proofs.Common.{sym, subst}
 use Rattle.part_rules.specs.Lists.{zipped}
 use Rattle.placing.specs.Nodes.{bare}
 use Rattle.inline_sizes.specs.Flexes.{IsChild}
-use Rattle.inline_sizes.specs.declared.flex.Member.{Member}
+use Rattle.placing.specs.declared.lined.Member.{Member}
 use Rattle.box_layout.specs.FlexFrames.{member_outer}
 use Rattle.box_layout.proofs.FlexAlike.{pair_step}
 use Rattle.box_layout.proofs.flexes.own_outers.Goals as goal

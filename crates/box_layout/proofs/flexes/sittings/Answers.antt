@@ -1,7 +1,7 @@
 use Rattle.std.proofs.Common.{arith, sym, subst}
 use Rattle.placing.specs.Nodes.{bare}
 use Rattle.inline_sizes.specs.Flexes.{IsChild}
-use Rattle.inline_sizes.specs.declared.flex.Member.{Member}
+use Rattle.placing.specs.declared.lined.Member.{Member}
 use Rattle.box_layout.specs.FlexFrames.{member_sitting, zipped3}
 use Rattle.box_layout.proofs.FlexAlike.{triple_step, units_step}
 use Rattle.box_layout.proofs.flexes.sittings.Goals as goal

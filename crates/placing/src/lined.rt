@@ -1,0 +1,47 @@
+//! A flex container once its inline size is known (CSS Flexbox 1, 9.2 to 9.4): what its answer for the block size holds beside the
+//! size, so that its frames begin with it.
+
+use lunit::{Lu, Sequence};
+use node_arena::NodeId;
+
+/// A child of a flex container with its two intrinsic inline sizes.
+#[derive(Clone, Copy)]
+pub struct Member {
+    /// The number of the node.
+    pub child: NodeId,
+    /// Its place in document order, from 0.
+    pub number: usize,
+    /// The two sizes of its content, in units of 1/64 px.
+    pub inline: (Lu, Lu),
+}
+
+/// The lines of a flex container.
+#[derive(Drop)]
+pub struct Lines {
+    /// Each line as a range of the items.
+    pub ranges: Sequence<(usize, usize)>,
+    /// The main size of each item as a border-box size, in units of 1/64 px.
+    pub mains: Sequence<Lu>,
+}
+
+/// A row in a container of known inline size.
+#[derive(Drop)]
+pub struct RowParts {
+    /// The children with their intrinsic inline sizes, in order-modified document order.
+    pub members: Sequence<Member>,
+    /// The lines, and the main size of each child as a border-box size.
+    pub lines: Lines,
+    /// The block size of the content of each child at its main size, in units of 1/64 px.
+    pub blocks: Sequence<Lu>,
+}
+
+/// A column in a container of known inline size.
+#[derive(Drop)]
+pub struct ColumnParts {
+    /// The children with their intrinsic inline sizes, in order-modified document order.
+    pub members: Sequence<Member>,
+    /// The inline size of each child as a border-box size, before its line is known, in units of 1/64 px.
+    pub boxes: Sequence<Lu>,
+    /// The block size of the content of each child at that inline size, in units of 1/64 px.
+    pub blocks: Sequence<Lu>,
+}
