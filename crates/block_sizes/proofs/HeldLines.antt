@@ -1,5 +1,5 @@
 -- A row and a column as an answer holds them are those that the walk tells, and the other way round.
-use Rattle.std.proofs.Common.{◌≡◌, ℕ, zero, suc, ℤ, List, [], ◌∷◌, Some, arith, map, drop, length, refl, sym, ap, ◌∙◌}
+use Rattle.std.proofs.Common.{◌≡◌, ℕ, zero, suc, ℤ, List, [], ◌∷◌, Some, arith, map, drop, refl, sym, ap, ◌∙◌}
 use Rattle.std.specs.Prelude.{All, slice_get}
 use Rattle.node_arena.specs.declared.number.NodeId.{NodeId}
 use Rattle.node_arena.specs.Numbers.{below_at, child_at}
