@@ -184,7 +184,8 @@ left_by E (x ∷ xs) [] i h k = absurd (omega arith)
 left_by E (x ∷ xs) (y ∷ ys) zero h k = refl
 left_by E (x ∷ xs) (y ∷ ys) (suc i) h k = left_by E xs ys i (omega arith) (omega arith)
 
-pub same_next : {A : Type 0} → (E : A → A → Bool) (xs ys : List A) (i : ℕ) (test all : Bool) → test ≡ option_eq E (slice_get xs i) (slice_get ys i) → test ≡ true → i < length xs → length xs ≡ length ys → pointwise E (drop i xs) (drop i ys) ≡ all → pointwise E (drop (i + 1) xs) (drop (i + 1) ys) ≡ all
+pub same_next : {A : Type 0} → (E : A → A → Bool) (xs ys : List A) (i : ℕ) (test all : Bool) → test ≡ option_eq E (slice_get xs i) (slice_get ys i) → test ≡ true → i < length xs → length xs ≡ length ys
+    → pointwise E (drop i xs) (drop i ys) ≡ all → pointwise E (drop (i + 1) xs) (drop (i + 1) ys) ≡ all
 same_next E xs ys i test all t h k l s =
     let n : i + 1 ≡ suc i = omega arith in
     ap (λ (m : ℕ). pointwise E (drop m xs) (drop m ys)) n

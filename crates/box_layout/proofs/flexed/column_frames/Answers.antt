@@ -37,7 +37,9 @@ column_lines-requires-clause-counted g c =
     let column = c.in_ok-column.column in
     let are = c.in_ok-column.ensures.value in
     let boxes : length column.boxes ≡ length column.members = ap length are.across ∙ column_boxed b c.args.id c.args.width ∙ sym (told_members b c.args.id column.members are.children.same) in
-    ap length (c.as_slice-blocks.ensures ∙ ap (λ (p : ColumnParts). p.blocks) c.parts-parts.ensures) ∙ blocks_count b column.members column.boxes column.blocks boxes (are.along ∙ ap (map block_of) (settled_is b c.args.id column.members column.boxes are.children.same)) ∙ ap length (sym (c.as_slice-members.ensures ∙ ap (λ (p : ColumnParts). p.members) c.parts-parts.ensures))
+    ap length (c.as_slice-blocks.ensures ∙ ap (λ (p : ColumnParts). p.blocks) c.parts-parts.ensures)
+    ∙ blocks_count b column.members column.boxes column.blocks boxes (are.along ∙ ap (map block_of) (settled_is b c.args.id column.members column.boxes are.children.same))
+    ∙ ap length (sym (c.as_slice-members.ensures ∙ ap (λ (p : ColumnParts). p.members) c.parts-parts.ensures))
 
 pub frames_of_column-requires-clause-live : goal.frames_of_column-requires-clause-live
 frames_of_column-requires-clause-live g c = subst (λ (z : BareTrees). IsLive z c.args.id) (sym (c.in_ok-column.ensures.below (block_query false [] (given.Size c.args.width)) refl refl).walk.bare_same) c.requires.live
@@ -53,7 +55,10 @@ frames_of_column-requires-clause-lines g c =
     let b = nodes c.column_for.new.walk in
     let column = c.in_ok-column.column in
     let are : IsColumn b c.args.id c.args.width column = subst (λ (z : BareTrees). IsColumn z c.args.id c.args.width column) (sym (c.in_ok-column.ensures.below (block_query false [] (given.Size c.args.width)) refl refl).walk.bare_same) c.in_ok-column.ensures.value in
-    let found = c.in_ok-lines.ensures.value column.boxes ((c.as_slice-blocks.ensures ∙ ap (λ (p : ColumnParts). p.blocks) c.parts-parts.ensures) ∙ are.along ∙ ap (map block_of) (settled_is b c.args.id column.members column.boxes are.children.same) ∙ ap (λ ms. map block_of (settled_by b ms column.boxes)) (sym (c.as_slice-members.ensures ∙ ap (λ (p : ColumnParts). p.members) c.parts-parts.ensures))) in
+    let found =
+    c.in_ok-lines.ensures.value column.boxes
+    ((c.as_slice-blocks.ensures ∙ ap (λ (p : ColumnParts). p.blocks) c.parts-parts.ensures) ∙ are.along ∙ ap (map block_of) (settled_is b c.args.id column.members column.boxes are.children.same)
+    ∙ ap (λ ms. map block_of (settled_by b ms column.boxes)) (sym (c.as_slice-members.ensures ∙ ap (λ (p : ColumnParts). p.members) c.parts-parts.ensures))) in
     found ∙ ap (λ ms. column_lines_seen b c.args.id c.args.height (settled_by b ms column.boxes)) (c.as_slice-members.ensures ∙ ap (λ (p : ColumnParts). p.members) c.parts-parts.ensures)
 
 pub frames_of_column-requires-clause-ranges : goal.frames_of_column-requires-clause-ranges

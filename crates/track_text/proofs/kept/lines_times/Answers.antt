@@ -10,7 +10,9 @@ loop-left-preserved c =
     let some : 0 < c.loop-left.left = omega (arith, c.loop-left-test.true) in
     record {
       few = c.in_ok-lines.ensures.few;
-      closed = time_closed 10001 c.loop-left.left c.loop-left.lines.closed c.in_ok-lines.lines.closed (take 10001 (c.args.lines.closed ++ closed_by c.args.lines.last (times c.args.count es))) c.loop-left.lines.last c.in_ok-lines.lines.last es some c.in_ok-lines.ensures.closed c.in_ok-lines.ensures.last c.loop-left.invariant.closed;
+      closed =
+          time_closed 10001 c.loop-left.left c.loop-left.lines.closed c.in_ok-lines.lines.closed (take 10001 (c.args.lines.closed ++ closed_by c.args.lines.last (times c.args.count es)))
+          c.loop-left.lines.last c.in_ok-lines.lines.last es some c.in_ok-lines.ensures.closed c.in_ok-lines.ensures.last c.loop-left.invariant.closed;
       last = time_open c.loop-left.left c.loop-left.lines.last c.in_ok-lines.lines.last (open_after c.args.lines.last (times c.args.count es)) es some c.in_ok-lines.ensures.last c.loop-left.invariant.last;
     }
 
