@@ -1,14 +1,14 @@
 -- Digits and the numbers that they write.
-use Rattle.std.proofs.Common.{arith, rules, ap, sym, refl, inl, inr, ◌∙◌, ◌≡◌, ℕ, ◌+◌, ◌-◌, ◌*◌, ◌/◌, ◌%◌, ◌^◌, ◌<◌, ◌≤◌, min, Bool, true, not, ◌==◌, ◌&&◌, ◌||◌, nat_lt, nat_le, List, [], ◌∷◌, ◌++◌, length, take, drop, get_or, unwrap_or, if◌then◌else◌, cond, Some, None, length-append, length-drop, ◌⊎◌}
+use Rattle.std.proofs.Common.{arith, rules, ap, sym, refl, inl, inr, ◌∙◌, ◌≡◌, ℕ, ◌+◌, ◌-◌, ◌*◌, ◌/◌, ◌%◌, ◌^◌, ◌<◌, ◌≤◌, min, Bool, true, false, not, ◌==◌, ◌&&◌, ◌||◌, nat_lt, nat_le, List, [], ◌∷◌, ◌++◌, length, take, drop, get_or, unwrap_or, if◌then◌else◌, cond, Some, None, length-append, length-drop, ◌⊎◌}
 use Rattle.std.specs.List.{list_any, position, position_or_len}
-use Rattle.std.proofs.lemmas.Bool.{and_parts, cases_eq, cases_lt, eq-eqb, ne_eqb, lt-ltb, le-ltb, leb-true}
+use Rattle.std.proofs.lemmas.Bool.{and_parts, cases_eq, cases_lt, eq-eqb, false≢true, ne_eqb, lt-ltb, le-ltb, leb-true}
 use Rattle.std.proofs.lemmas.Nat.{pow-add, div-mul-add, mod-mul-add}
-use Rattle.std.proofs.lemmas.List.{take_more, take_all, take-append-drop, take_min, length-take, length-take-le}
+use Rattle.std.proofs.lemmas.List.{drop_all, take_more, take_all, take-append-drop, take_min, length-take, length-take-le}
 use Rattle.std.proofs.lemmas.List.Sums.{prefix_len-le-length}
 use Rattle.std.proofs.lemmas.List.Folds.{list_all-append}
 use Rattle.std.proofs.lemmas.Str.Parse.{IsNumeralModel, numerals_by_weight, digits_value_short}
 use Rattle.std.proofs.Math.Nat.{one-le-pow, mul-pos, mul_comm, mul_assoc, mul-div-mul_left, mul-div_cancel}
-use Rattle.lunit.specs.Decimals.{is_digit, all_digits, digits_number, are_parts, decimal_of, decimal_or_none}
+use Rattle.lunit.specs.Decimals.{is_digit, all_digits, digits_number, is_sign, is_point, has_minus, without_sign, whole_part, decimal_part, are_parts, decimal_of, decimal_or_none, number_of}
 use Rattle.lunit.specs.Rounded.{rounded_or_none}
 use Rattle.lunit.specs.declared.number.Rounded.{Rounded}
 
@@ -143,3 +143,46 @@ rounded_parts negative w d h =
 
     rounded_as : Bool → ℕ → ℕ → ℕ → Rounded
     rounded_as negative whole rest place = record { negative = negative; whole = min 4294967296 whole; millionths = rest * 1000000 / place; has_rest = nat_lt 0 rest }
+
+-- ---- digits alone
+
+digit_from : (d : ℕ) → is_digit d ≡ true → 48 ≤ d
+digit_from d h = leb-true 48 d (and_parts (nat_le 48 d) (nat_le d 57) h).0
+
+no_point : (ds : List ℕ) → all_digits ds ≡ true → position_or_len is_point ds ≡ length ds
+no_point [] h = refl
+no_point (d ∷ ds) h =
+    let parts = and_parts (is_digit d) (all_digits ds) h in
+    let other : is_point d ≡ false = ne_eqb d 46 (λ e. omega (arith, e, digit_from d parts.0)) in
+    let rest : 1 + position_or_len is_point ds ≡ length (d ∷ ds) = omega (arith, no_point ds parts.1) in
+    ap (λ (b : Bool). cond (not b) (1 + position_or_len is_point ds) 0) other ∙ rest
+
+-- they have no sign, and no decimals
+parts_alone : (d : ℕ) (ds : List ℕ) → all_digits (d ∷ ds) ≡ true → number_of (d ∷ ds) ≡ decimal_or_none false (d ∷ ds) []
+parts_alone d ds h =
+    let from : 48 ≤ d = digit_from d (and_parts (is_digit d) (all_digits ds) h).0 in
+    let minus : has_minus (d ∷ ds) ≡ false = ne_eqb d 45 (λ e. omega (arith, e, from)) in
+    let sign : is_sign d ≡ false = ap (λ (b : Bool). b || (d == 45)) (ne_eqb d 43 (λ e. omega (arith, e, from))) ∙ minus in
+    let point : position_or_len is_point (d ∷ ds) ≡ length (d ∷ ds) = no_point (d ∷ ds) h in
+    let whole : whole_part (d ∷ ds) ≡ d ∷ ds = take_all (position_or_len is_point (d ∷ ds)) (d ∷ ds) (omega (arith, point)) in
+    let decimals : decimal_part (d ∷ ds) ≡ [] = drop_all (position_or_len is_point (d ∷ ds) + 1) (d ∷ ds) (omega (arith, point)) in
+    ap (λ (b : Bool). decimal_or_none b (whole_part (without_sign (d ∷ ds))) (decimal_part (without_sign (d ∷ ds)))) minus
+    ∙ ap (λ (b : Bool). decimal_or_none false (whole_part (if b then ds else d ∷ ds)) (decimal_part (if b then ds else d ∷ ds))) sign
+    ∙ ap (λ (w : List ℕ). decimal_or_none false w (decimal_part (d ∷ ds))) whole
+    ∙ ap (λ (r : List ℕ). decimal_or_none false (d ∷ ds) r) decimals
+
+are_alone : (d : ℕ) (ds : List ℕ) → all_digits (d ∷ ds) ≡ true → are_parts (d ∷ ds) [] ≡ true
+are_alone d ds h =
+    ap (λ (b : Bool). (b && true) && nat_lt 0 (length (d ∷ ds) + 0)) h
+    ∙ lt-ltb 0 (length (d ∷ ds) + 0) (omega arith)
+
+abbrev rounded_alone : ℕ → Rounded
+rounded_alone n = record { negative = false; whole = n; millionths = 0; has_rest = false }
+
+-- the number that digits alone are
+pub whole_alone : (text : List ℕ) (whole : ℕ) → (nat_lt 0 (length text) && all_digits text) ≡ true → whole ≡ min 4294967296 (digits_number text) → Some (rounded_alone whole) ≡ rounded_or_none (number_of text)
+whole_alone [] whole h e = absurd (false≢true h)
+whole_alone (d ∷ ds) whole h e =
+    let digits : all_digits (d ∷ ds) ≡ true = (and_parts (nat_lt 0 (length (d ∷ ds))) (all_digits (d ∷ ds)) h).1 in
+    ap (λ (n : ℕ). Some (rounded_alone n)) e
+    ∙ sym (ap rounded_or_none (parts_alone d ds digits) ∙ rounded_parts false (d ∷ ds) [] (are_alone d ds digits))

@@ -1,4 +1,4 @@
-ghost use Rattle.std.specs.Prelude.{◌≡◌, ◌*◌, ◌≤◌, ◌<◌, ◌+◌, ◌-◌, ◌/◌, ◌^◌, ◌||◌, ◌==◌, not, min, nat_lt, length, take, unsigned_abs, IfSome, IsTrue};
+ghost use Rattle.std.specs.Prelude.{◌≡◌, ◌*◌, ◌≤◌, ◌<◌, ◌+◌, ◌-◌, ◌/◌, ◌^◌, ◌&&◌, ◌||◌, ◌==◌, not, min, nat_lt, length, take, unsigned_abs, IfSome, IsTrue};
 ghost use Rattle.std.specs.List.{list_all, list_any, position, position_or_len};
 ghost use Rattle.lunit.specs.Decimals.{is_digit, all_digits, digits_number, is_point, has_minus, without_sign, whole_part, decimal_part, are_parts, decimal_or_none, number_of, is_number, signed, read_number, IsScale};
 ghost use Rattle.lunit.specs.Rounded.{rounded_or_none, allows, size_of};
@@ -212,10 +212,26 @@ fn read_parts(negative: bool, whole: &[u8], decimals: &[u8]) -> Option<Rounded>
     })
 }
 
-/// The number that the text is.
+/// Whether the text is digits alone, one at least.
+fn is_whole(text: &[u8]) -> bool
+    ensures { result ≡ (nat_lt 0 (length text.now) && all_digits text.now) }
+{
+    text.len() > 0 && all_digits(text)
+}
+
+#[tactic(auto, using(crate::proofs::Numerals::whole_alone))]
+/// The number that the text is. Most are whole and have no sign, so these are read first.
 fn read_rounded(text: &[u8]) -> Option<Rounded>
     ensures { result ≡ rounded_or_none (number_of text.now) }
 {
+    if is_whole(text) {
+        return Some(Rounded {
+            negative: false,
+            whole: limited(text),
+            millionths: 0,
+            has_rest: false,
+        });
+    }
     let digits = without_sign(text);
     read_parts(has_minus(text), whole_part(digits), decimal_part(digits))
 }
