@@ -1,10 +1,10 @@
 -- A line without tokens is a blank one.
-use Rattle.std.proofs.Common.{◌≡◌, refl, ap, sym, ◌∙◌, ℕ, ◌+◌, ◌↔◌, Bool, true, false, ◌&&◌, ◌||◌, is_none, None, List, [], ◌∷◌, length, inl, inr, ◌⊎◌, arith}
-use Rattle.std.specs.List.{list_all}
+use Rattle.std.proofs.Common.{◌≡◌, refl, ap, sym, ◌∙◌, ℕ, suc, ◌+◌, ◌↔◌, Bool, true, false, not, cond, ◌&&◌, ◌||◌, is_none, None, List, [], ◌∷◌, length, take, if◌then◌else◌, inl, inr, ◌⊎◌, arith}
+use Rattle.std.specs.List.{list_all, position_or_len}
 use Rattle.std.proofs.lemmas.Bool.{eqb-true, false≢true}
 use Rattle.text_scan.specs.declared.line.Line.{Line}
 use Rattle.text_scan.specs.declared.token.Token.{Token}
-use Rattle.text_scan.specs.Tokens.{is_space, is_mark, is_separator, before_comment, tokens_from, tokens_of, is_skipped}
+use Rattle.text_scan.specs.Tokens.{is_space, is_mark, is_separator, is_comment_mark, before_comment, tokens_from, tokens_of, is_skipped}
 use Rattle.text_scan.proofs.Runs.{mark_first, run, space_first, kind_of}
 
 both : (a b : Bool) → (a && b) ≡ true → (a ≡ true) × (b ≡ true)
@@ -42,3 +42,56 @@ skipped_tokens line tokens good e =
     let bytes = before_comment line.bytes in
     let test : is_skipped line ≡ list_all is_space bytes = ap (λ f. is_none f && list_all is_space bytes) good in
     ((λ none. test ∙ blank 0 bytes (sym e ∙ none)), (λ skip. e ∙ no_tokens 0 bytes (sym test ∙ skip)))
+
+-- ---- the first byte of a line
+
+-- by what it is
+by_first : (byte : ℕ) (bytes : List ℕ) → list_all is_space (before_comment (byte ∷ bytes)) ≡ (if is_comment_mark byte then true else is_space byte && list_all is_space (before_comment bytes))
+by_first byte bytes = by (is_comment_mark byte)
+  where
+    rest : ℕ
+    rest = position_or_len is_comment_mark bytes
+
+    one_more : 1 + rest ≡ suc rest
+    one_more = omega arith
+
+    by : (mark : Bool) → list_all is_space (take (cond (not mark) (1 + rest) 0) (byte ∷ bytes)) ≡ (if mark then true else is_space byte && list_all is_space (take rest bytes))
+    by true = refl
+    by false = ap (λ (n : ℕ). list_all is_space (take n (byte ∷ bytes))) one_more
+
+-- a space is no comment, so what follows it decides
+blank_space : (byte : ℕ) (bytes : List ℕ) → is_space byte ≡ true → list_all is_space (before_comment bytes) ≡ list_all is_space (before_comment (byte ∷ bytes))
+blank_space byte bytes s =
+    let plain : is_comment_mark byte ≡ false = ap is_comment_mark (eqb-true byte 32 s) in
+    sym (
+    by_first byte bytes
+    ∙ ap (λ (mark : Bool). if mark then true else is_space byte && list_all is_space (before_comment bytes)) plain
+    ∙ ap (λ (t : Bool). t && list_all is_space (before_comment bytes)) s)
+
+-- another byte decides
+blank_other : (byte : ℕ) (bytes : List ℕ) → is_space byte ≡ false → is_comment_mark byte ≡ list_all is_space (before_comment (byte ∷ bytes))
+blank_other byte bytes s =
+    sym (
+    by_first byte bytes
+    ∙ ap (λ (t : Bool). if is_comment_mark byte then true else t && list_all is_space (before_comment bytes)) s
+    ∙ same (is_comment_mark byte))
+  where
+    same : (mark : Bool) → (if mark then true else false && list_all is_space (before_comment bytes)) ≡ mark
+    same true = refl
+    same false = refl
+
+-- what is left of a line has the same answer as the line
+abbrev pub IsBlankAs : List ℕ → List ℕ → Type 0
+IsBlankAs left bytes = list_all is_space (before_comment left) ≡ list_all is_space (before_comment bytes)
+
+pub left_space : (bytes left rest : List ℕ) (byte : ℕ) → IsBlankAs left bytes → left ≡ byte ∷ rest → is_space byte ≡ true → IsBlankAs rest bytes
+left_space bytes left rest byte i e s = blank_space byte rest s ∙ ap (λ (l : List ℕ). list_all is_space (before_comment l)) (sym e) ∙ i
+
+pub left_other : (bytes left rest : List ℕ) (byte : ℕ) (mark : Bool) → IsBlankAs left bytes → left ≡ byte ∷ rest → is_space byte ≡ false → mark ≡ is_comment_mark byte → mark ≡ list_all is_space (before_comment bytes)
+left_other bytes left rest byte mark i e s m = m ∙ blank_other byte rest s ∙ ap (λ (l : List ℕ). list_all is_space (before_comment l)) (sym e) ∙ i
+
+pub left_none : (bytes left : List ℕ) → IsBlankAs left bytes → length left ≡ 0 → true ≡ list_all is_space (before_comment bytes)
+left_none bytes [] i e = i
+left_none bytes (byte ∷ left) i e = absurd (omega (arith, e))
+
+pub ruleset blank_fronts = (left_space, left_other, left_none)

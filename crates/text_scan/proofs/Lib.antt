@@ -7,3 +7,5 @@ pub mod Reading
 pub mod Runs
 pub mod Found
 pub mod Blank
+pub mod Plain
+pub mod Bad

@@ -1,4 +1,5 @@
-ghost use Rattle.std.specs.Prelude.{◌≡◌, ◌≤◌, not, length, position, take, IfOk};
+ghost use Rattle.std.specs.Prelude.{◌≡◌, ◌≤◌, ◌||◌, not, length, position, take, IfOk};
+ghost use Rattle.std.specs.List.{list_any};
 ghost use Rattle.text_scan.specs.Lines.{is_printable, line_fault, line_of};
 
 use lunit::{NoMemory, Sequence};
@@ -82,9 +83,38 @@ fn line_fault(number: u32, bytes: &[u8]) -> Option<Fault>
     }
 }
 
-/// Where the first byte stands that is not from 32 to 126.
+fn is_bad(byte: u8) -> bool
+    ensures { result ≡ not (is_printable byte) }
+{
+    !(b' '..=b'~').contains(&byte)
+}
+
+/// Whether one of two facts holds, found without a branch.
+fn either(a: bool, b: bool) -> bool
+    ensures { result ≡ (a || b) }
+{
+    a | b
+}
+
+#[tactic(auto, using(crate::proofs::Bad::bad_bytes))]
+/// Whether some byte is not from 32 to 126. It does not stop at the first, so that many bytes are looked at at once.
+fn has_bad(bytes: &[u8]) -> bool
+    ensures { result ≡ list_any (λ byte. not (is_printable byte)) bytes.now }
+{
+    let mut bad = false;
+    for byte in bytes {
+        bad = either(bad, is_bad(*byte));
+    }
+    bad
+}
+
+#[tactic(auto, using(crate::proofs::Bad::bad_bytes))]
+/// Where the first byte stands that is not from 32 to 126. Few lines have one.
 fn first_bad(bytes: &[u8]) -> Option<usize>
     ensures { result ≡ position (λ byte. not (is_printable byte)) bytes.now }
 {
-    bytes.iter().position(|byte| !(b' '..=b'~').contains(byte))
+    if !has_bad(bytes) {
+        return None;
+    }
+    bytes.iter().position(|byte| is_bad(*byte))
 }

@@ -1,5 +1,6 @@
-ghost use Rattle.std.specs.Prelude.{◌≡◌, ◌+◌, ◌<◌, ◌≤◌, ◌↔◌, [], true, length, drop, None, IfOk, position};
+ghost use Rattle.std.specs.Prelude.{◌≡◌, ◌+◌, ◌<◌, ◌≤◌, ◌↔◌, ◌||◌, [], true, length, drop, None, IfOk, position};
 ghost use Rattle.std.specs.List.{list_all, position_or_len};
+ghost use Rattle.lunit.specs.Names.{between};
 ghost use Rattle.text_scan.specs.Tokens.{is_space, is_mark, is_separator, is_comment_mark, before_comment, front_length, tokens_from, tokens_of, is_skipped, AreTokens};
 
 use crate::line::Line;
@@ -32,7 +33,8 @@ pub fn tokens(alloc: Global, line: &Line) -> Result<Vec<Token>, NoMemory>
 pub fn tokens_in(alloc: Global, bytes: &[u8]) -> Result<Vec<Token>, NoMemory>
     ensures { IfOk result (λ tokens. tokens.items ≡ tokens_from 0 bytes.now) }
 {
-    let mut tokens = Vec::new(alloc);
+    // Most tokens have two bytes or more, and a space behind them.
+    let mut tokens = Vec::with_capacity(alloc, bytes.len() / 3 + 1)?;
     let mut at = 0;
     while at < bytes.len() {
         let length = front_length(bytes, at);
@@ -55,7 +57,7 @@ impl Line {
     pub fn is_skipped(&self) -> bool
         ensures { result ≡ is_skipped self.now }
     {
-        self.fault.is_none() && is_blank(before_comment(self.bytes.as_slice()))
+        self.fault.is_none() && is_blank(self.bytes.as_slice())
     }
 }
 
@@ -84,9 +86,25 @@ fn word_length(bytes: &[u8]) -> usize
 fn first_separator(bytes: &[u8]) -> Option<usize>
     ensures { result ≡ position is_separator bytes.now }
 {
-    bytes
-        .iter()
-        .position(|byte| *byte == b' ' || is_mark(*byte))
+    bytes.iter().position(|byte| is_separator(*byte))
+}
+
+/// Whether the byte is a small letter or a digit, as most bytes of words are.
+fn is_plain(byte: u8) -> bool
+    ensures { result ≡ (between 97 122 byte || between 48 57 byte) }
+{
+    byte.is_ascii_lowercase() || byte.is_ascii_digit()
+}
+
+#[tactic(auto, using(crate::proofs::Plain::plain_bytes))]
+/// Whether the byte ends a word. Most bytes do not, and are known by two tests.
+fn is_separator(byte: u8) -> bool
+    ensures { result ≡ is_separator byte }
+{
+    if is_plain(byte) {
+        return false;
+    }
+    byte == b' ' || is_mark(byte)
 }
 
 fn is_mark(byte: u8) -> bool
@@ -117,8 +135,24 @@ fn comment_start(bytes: &[u8]) -> Option<usize>
     bytes.iter().position(|byte| *byte == b'#')
 }
 
-fn is_blank(bytes: &[u8]) -> bool
-    ensures { result ≡ list_all is_space bytes.now }
+fn is_comment_mark(byte: u8) -> bool
+    ensures { result ≡ is_comment_mark byte }
 {
-    bytes.iter().all(|byte| *byte == b' ')
+    byte == b'#'
+}
+
+#[tactic(auto, using(crate::proofs::Blank::blank_fronts))]
+/// Whether the bytes hold nothing but spaces and, perhaps, a comment. None is looked at after the first that is no
+/// space.
+fn is_blank(bytes: &[u8]) -> bool
+    ensures { result ≡ list_all is_space (before_comment bytes.now) }
+{
+    let mut left = bytes;
+    while let Some((byte, rest)) = left.split_first() {
+        if *byte != b' ' {
+            return is_comment_mark(*byte);
+        }
+        left = rest;
+    }
+    true
 }
