@@ -60,12 +60,17 @@ words_first text =
     widths_first space.1 >>= λ widths.
     Ok (kind.Leaf (content.Words line.0 space.0 widths.0), widths.1)
 
--- the content of a leaf; 7, `unknown-kind`, where neither of its words comes first
+-- the content of a leaf by its first word, the place of that, and the text after it; 7, `unknown-kind`, where it is neither
+-- of two words
+abbrev pub content_by : Word → Place → Text → Result (Kind × Text) Fault
+content_by word at rest =
+    if bytes_eq word (codes "leaf") then fixed_first rest
+    else if bytes_eq word (codes "words") then words_first rest
+    else Err (fault_at 7 at)
+
+-- the content of a leaf
 abbrev pub content_first : Text → Result (Kind × Text) Fault
-content_first text =
-    if is_word (codes "leaf") text then fixed_first (after_word text)
-    else if is_word (codes "words") text then words_first (after_word text)
-    else Err (fault_at 7 (word_place text))
+content_first text = content_by (first_word text) (word_place text) (after_word text)
 
 -- the kind of a node
 abbrev pub kind_first : Text → Result (Kind × Text) Fault
@@ -120,11 +125,16 @@ with_settings (setting ∷ settings) style = with_settings settings (map.insert 
 abbrev pub is_among : List Word → Word → Bool
 is_among names name = list_any (λ held. bytes_eq held name) names
 
--- a declaration of a property whose name is none of these: 10, `duplicate-property`, at a name that is (own rule)
-abbrev pub declaration_of : ℕ → List Word → Text → Result Settings Fault
-declaration_of version names text =
-    if is_among names (first_word text) then Err (fault_at 10 (word_place text))
+-- a declaration that begins with this word at this place, which is none of these names: 10, `duplicate-property`, where it is
+-- (own rule)
+abbrev pub declaration_by : ℕ → List Word → Word → Place → Text → Result Settings Fault
+declaration_by version names word at text =
+    if is_among names word then Err (fault_at 10 at)
     else declaration version text.at text.bytes
+
+-- a declaration of a property whose name is none of these
+abbrev pub declaration_of : ℕ → List Word → Text → Result Settings Fault
+declaration_of version names text = declaration_by version names (first_word text) (word_place text) text
 
 -- the names so far, and what is declared so far
 abbrev pub SoFar : Type 0

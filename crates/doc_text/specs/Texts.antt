@@ -82,11 +82,15 @@ abbrev pub ◌>>=◌ : {A B : Type 0} → Result A Fault → (A → Result B Fau
 (Ok x) >>= next = next x
 (Err fault) >>= next = Err fault
 
+-- a token at this place that is due: what it stands for, and the text after it; or this fault at it
+abbrev pub due_at : {A : Type 0} → ℕ → Place → Text → Option A → Result (A × Text) Fault
+due_at number at rest None = Err (fault_at number at)
+due_at number at rest (Some value) = Ok (value, rest)
+
 -- a part that is one token: what the token stands for, and the text after it; or this fault at the token, or where one is
 -- missing at the end of the text
 abbrev pub due : {A : Type 0} → ℕ → Text → Option A → Result (A × Text) Fault
-due number text None = Err (fault_at number (word_place text))
-due number text (Some value) = Ok (value, after_word text)
+due number text value = due_at number (word_place text) (after_word text) value
 
 -- nothing is left; 9, `bad-value`, at what is (own rule)
 abbrev pub end_of : Text → Result (Unit {0}) Fault

@@ -9,7 +9,7 @@ ghost use Rattle.track_text.specs.Words.{word_at, fits};
 ghost use Rattle.value_text.specs.Declarations.{place_after};
 ghost use Rattle.doc_text.specs.Texts.{Text, first_word};
 ghost use Rattle.doc_text.specs.Tokens.{size_of_word};
-ghost use Rattle.doc_text.specs.NodeText.{fixed_first, is_brace, width_at, widths_of, all_widths, widths_first, words_first, content_first, kind_first, is_semicolon, is_close, with_settings, is_among, declaration_of, SoFar, one_declared, ends_declaration, with_braces, braces_in, style_first, node_text};
+ghost use Rattle.doc_text.specs.NodeText.{fixed_first, is_brace, width_at, widths_of, all_widths, widths_first, words_first, content_by, content_first, kind_first, is_semicolon, is_close, with_settings, is_among, declaration_by, SoFar, one_declared, ends_declaration, with_braces, braces_in, style_first, node_text};
 
 use crate::kind::Kind;
 use crate::text::{Text, end_of, fault, place_after};
@@ -19,7 +19,7 @@ use part_rules::Content;
 use std::alloc::Global;
 use std::marker::Model;
 use style_types::{Declared, DeclaredValue, Prop};
-use text_scan::{Token, tokens_in};
+use text_scan::{Place, Token, tokens_in};
 use track_text::{BAD_VALUE, ReadError};
 use value_text::read_decl;
 
@@ -73,7 +73,7 @@ fn widths_of(alloc: Global, text: &Text, tokens: &[Token]) -> Result<Sequence<Lu
     requires { list_all (fits text.now.bytes) tokens.now ≡ true }
     ensures { Reads result (widths_of text.now tokens.now) }
 {
-    let mut widths = Sequence::new(alloc);
+    let mut widths = Sequence::from_vec(Vec::with_capacity(alloc, tokens.len())?);
     for token in tokens {
         widths.push(width_of(text, *token)?)?;
     }
@@ -108,6 +108,25 @@ fn words_first<'a>(alloc: Global, text: &Text<'a>) -> Result<(Kind, Text<'a>), R
     Ok((Kind::Leaf(Content::Words { line, space, words }), text))
 }
 
+/// The content of a leaf by its first word, and the text after it; fault 7 at the place of the word
+/// where it is neither of two words.
+fn content_by<'a>(
+    alloc: Global,
+    word: &[u8],
+    at: Place,
+    rest: &Text<'a>,
+) -> Result<(Kind, Text<'a>), ReadError>
+    ensures { Reads result (content_by word.now at rest.now) }
+{
+    if word == b"leaf".as_slice() {
+        fixed_first(rest)
+    } else if word == b"words".as_slice() {
+        words_first(alloc, rest)
+    } else {
+        Err(fault(UNKNOWN_KIND, at))
+    }
+}
+
 /// The content of a leaf that comes first, and the text after it; fault 7 where neither of its
 /// words does.
 pub(crate) fn content_first<'a>(
@@ -117,26 +136,20 @@ pub(crate) fn content_first<'a>(
     ensures { Reads result (content_first text.now) }
 {
     let (word, at, rest) = text.first();
-    if word == b"leaf".as_slice() {
-        fixed_first(&rest)
-    } else if word == b"words".as_slice() {
-        words_first(alloc, &rest)
-    } else {
-        Err(fault(UNKNOWN_KIND, at))
-    }
+    content_by(alloc, word, at, &rest)
 }
 
 /// The kind of a node that comes first, and the text after it.
 fn kind_first<'a>(alloc: Global, text: &Text<'a>) -> Result<(Kind, Text<'a>), ReadError>
     ensures { Reads result (kind_first text.now) }
 {
-    let (word, _, rest) = text.first();
+    let (word, at, rest) = text.first();
     if word == b"grid".as_slice() {
         Ok((Kind::Grid, rest))
     } else if word == b"flex".as_slice() {
         Ok((Kind::Flex, rest))
     } else {
-        content_first(alloc, text)
+        content_by(alloc, word, at, &rest)
     }
 }
 
@@ -189,16 +202,18 @@ fn with_settings(
     Ok(style)
 }
 
-/// What a declaration sets whose property has none of these names; fault 10 where it has one.
-fn declaration_of(
+/// What a declaration sets that begins with this name at this place, where that is none of these
+/// names; fault 10 where it is one.
+fn declaration_by(
     alloc: Global,
     version: u8,
     names: &[Held],
+    name: &[u8],
+    at: Place,
     text: &Text,
 ) -> Result<Sequence<(Prop, DeclaredValue)>, ReadError>
-    ensures { Reads result (declaration_of version names.now text.now) }
+    ensures { Reads result (declaration_by version names.now name.now at text.now) }
 {
-    let (name, at, _) = text.first();
     if is_among(names, name) {
         return Err(fault(DUPLICATE_PROPERTY, at));
     }
@@ -217,12 +232,12 @@ fn one_declared<'a>(
 ) -> Result<SoFar<'a>, ReadError>
     ensures { Reads result (one_declared version text.now made.entry) }
 {
-    let (name, _, _) = text.first();
+    let (name, at, _) = text.first();
     if name.is_empty() {
         return Ok(made);
     }
     let (mut names, style) = made;
-    let settings = declaration_of(alloc, version, names.as_slice(), text)?;
+    let settings = declaration_by(alloc, version, names.as_slice(), name, at, text)?;
     names.push(Held::new(name))?;
     Ok((names, with_settings(style, settings)?))
 }

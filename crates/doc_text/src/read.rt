@@ -11,7 +11,7 @@ use crate::document::{Children, Doc, Plain};
 use crate::growth::Growth;
 use crate::node_text::node_text;
 use crate::text::{Text, fault, spaces_of};
-use crate::token::{name_first, size_of_word};
+use crate::token::{name_at, size_of_word};
 use lunit::Lu;
 use std::alloc::Global;
 use text_scan::{Line, Place};
@@ -128,8 +128,8 @@ fn node_on(
     requires { level ≤ open_levels growth }
     ensures { Reads result (node_on version level text.now growth) }
 {
-    let (_, at, _) = text.first();
-    let (name, rest) = name_first(text)?;
+    let (word, at, after) = text.first();
+    let (name, rest) = name_at(word, at, after)?;
     growth.standing(version, level, &name, at)?;
     let (kind, style) = node_text(alloc, version, &rest)?;
     let node = Plain {

@@ -1,7 +1,8 @@
 //! The text of a line, word by word from its left end.
 
-ghost use Rattle.std.specs.Prelude.{◌≡◌, ◌+◌, ◌<◌, ◌≤◌, ◌&&◌, not, length, take, drop, position};
-ghost use Rattle.std.specs.List.{list_all, position_or_len};
+ghost use Rattle.std.specs.Prelude.{◌≡◌, ◌+◌, ◌<◌, ◌≤◌, ◌&&◌, ◌||◌, not, length, take, drop, position};
+ghost use Rattle.std.specs.List.{list_all, list_any, position_or_len};
+ghost use Rattle.lunit.specs.Names.{between};
 ghost use Rattle.text_scan.specs.Tokens.{is_space, is_mark, is_separator, is_comment_mark, before_comment, front_length};
 ghost use Rattle.track_text.specs.declared.errors.ReadError.TheVariants as error;
 ghost use Rattle.track_text.specs.Gives.{Reads, fault_at};
@@ -16,7 +17,9 @@ use track_text::{BAD_VALUE, ReadError};
 pub(crate) fn place_after(at: Place, bytes: usize) -> Place
     ensures { result ≡ place_after at bytes }
 {
-    let column = (at.column as u128 + bytes as u128).min(4_294_967_295);
+    let column = (at.column as usize)
+        .saturating_add(bytes)
+        .min(4_294_967_295);
     Place {
         line: at.line,
         column: column as u32,
@@ -38,12 +41,28 @@ fn is_mark(byte: u8) -> bool
     )
 }
 
+/// Whether the byte is a small letter or a digit, as most bytes of words are.
+fn is_plain(byte: u8) -> bool
+    ensures { result ≡ (between 97 122 byte || between 48 57 byte) }
+{
+    byte.is_ascii_lowercase() || byte.is_ascii_digit()
+}
+
+#[tactic(auto, using(text_scan::proofs::Plain::plain_bytes))]
+/// Whether the byte ends a word. Most bytes do not, and are known by two tests.
+fn is_separator(byte: u8) -> bool
+    ensures { result ≡ is_separator byte }
+{
+    if is_plain(byte) {
+        return false;
+    }
+    byte == b' ' || is_mark(byte)
+}
+
 fn first_separator(bytes: &[u8]) -> Option<usize>
     ensures { result ≡ position is_separator bytes.now }
 {
-    bytes
-        .iter()
-        .position(|byte| *byte == b' ' || is_mark(*byte))
+    bytes.iter().position(|byte| is_separator(*byte))
 }
 
 #[tactic(auto, using(lunit::proofs::Numerals::found_or_length))]
@@ -55,16 +74,21 @@ fn word_length(bytes: &[u8]) -> usize
     first_separator(bytes).unwrap_or(bytes.len())
 }
 
+#[tactic(auto, using(crate::proofs::Fronts::words))]
 /// The length of the token that the bytes begin with; 0 where they begin with a space, or there are
 /// none.
 fn front_length(bytes: &[u8]) -> usize
     ensures length { result ≡ front_length bytes.now }
     ensures within { result ≤ length bytes.now }
 {
+    let length = word_length(bytes);
+    if length > 0 {
+        return length;
+    }
     match bytes.first() {
         None => 0,
         Some(byte) if is_mark(*byte) => 1,
-        Some(_) => word_length(bytes),
+        Some(_) => length,
     }
 }
 
@@ -83,16 +107,26 @@ pub(crate) fn spaces_of(bytes: &[u8]) -> usize
     first_other_than_space(bytes).unwrap_or(bytes.len())
 }
 
+fn has_comment(bytes: &[u8]) -> bool
+    ensures { result ≡ list_any is_comment_mark bytes.now }
+{
+    bytes.contains(&b'#')
+}
+
 fn first_comment_mark(bytes: &[u8]) -> Option<usize>
     ensures { result ≡ position is_comment_mark bytes.now }
 {
     bytes.iter().position(|byte| *byte == b'#')
 }
 
-/// The bytes before the first `#`, or all where there is none.
+#[tactic(auto, using(crate::proofs::Fronts::comments))]
+/// The bytes before the first `#`, or all where there is none, as in most lines.
 fn before_comment(bytes: &[u8]) -> &[u8]
     ensures { result.now ≡ before_comment bytes.now }
 {
+    if !has_comment(bytes) {
+        return bytes;
+    }
     match first_comment_mark(bytes) {
         Some(at) => {
             let (front, _) = bytes.split_at(at);

@@ -3,6 +3,7 @@
 ghost use Rattle.std.specs.Prelude.{◌≡◌, ◌*◌, ◌≤◌, IfSome, ◌≤ℤ◌, pos};
 ghost use Rattle.lunit.specs.Decimals.{read_number, IsScale};
 ghost use Rattle.track_text.specs.Gives.{Reads};
+ghost use Rattle.doc_text.specs.Texts.{due_at};
 ghost use Rattle.doc_text.specs.Tokens.{name_of, px_of_word, size_of_word, position_of_word, index_of};
 ghost use Rattle.doc_text.specs.Tokens.{times_of, name_first, size_first, position_first};
 ghost use Rattle.doc_text.specs.Tokens.{index_first, times_first};
@@ -86,15 +87,26 @@ fn times_of(word: &[u8]) -> Option<u32>
     }
 }
 
-/// The name that comes first, its place, and the text after it; fault 5 where none does.
-pub(crate) fn name_first<'a>(text: &Text<'a>) -> Result<(Name, Text<'a>), ReadError>
-    ensures { Reads result (name_first text.now) }
+/// The name that a word at this place is, and the text after it; fault 5 where it is none.
+pub(crate) fn name_at<'a>(
+    word: &[u8],
+    at: Place,
+    rest: Text<'a>,
+) -> Result<(Name, Text<'a>), ReadError>
+    ensures { Reads result (due_at 5 at rest.entry (name_of word.now)) }
 {
-    let (word, at, rest) = text.first();
     match name_of(word) {
         Some(name) => Ok((name, rest)),
         None => Err(fault(BAD_NAME, at)),
     }
+}
+
+/// The name that comes first, and the text after it; fault 5 where none does.
+pub(crate) fn name_first<'a>(text: &Text<'a>) -> Result<(Name, Text<'a>), ReadError>
+    ensures { Reads result (name_first text.now) }
+{
+    let (word, at, rest) = text.first();
+    name_at(word, at, rest)
 }
 
 /// The size that comes first, and the text after it; fault 9 where none does.
