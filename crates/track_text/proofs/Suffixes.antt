@@ -4,7 +4,7 @@ use Rattle.std.proofs.lemmas.List.{drop-drop, length-drop}
 use Rattle.std.proofs.lemmas.Bool.{true≢false, leb-true}
 use Rattle.std.proofs.lemmas.Slice.Eq.{bytes_eq-Decides}
 use Rattle.std.specs.List.{list_all, list_any, position_or_len}
-use Rattle.std.specs.Option.{option_map}
+use Rattle.std.specs.Option.{is_none, option_map}
 use Rattle.std.specs.Str.{bytes_eq}
 use Rattle.lunit.specs.declared.number.NumberForm.{NumberForm}
 use Rattle.lunit.specs.Decimals.{Decimal, is_digit, is_sign, is_point, all_digits, has_minus, whole_part, decimal_part, are_parts, decimal_of, decimal_or_none, number_of, is_number, read_allowed, read_number}
@@ -15,7 +15,7 @@ use Rattle.track_text.specs.Words.{Word}
 use Rattle.style_types.specs.declared.unit.Unit.{Unit}
 use Rattle.track_text.specs.Values.{in_px, zero_of, relative_of, ends_in, before, length_in, percentage_of}
 use Rattle.track_text.specs.TrackSizes.{breadth_of, length_or_percentage, length_side}
-use Rattle.track_text.specs.Unsupported.{has_unit, units, is_measured}
+use Rattle.track_text.specs.Unsupported.{begins_number, has_unit, in_number, units, is_measured}
 
 abbrev last_two : Word → Word
 last_two word = drop (length word - 2) word
@@ -53,9 +53,6 @@ other_units ok word (unit ∷ units) o h =
     ∙ other_units ok word units o (and_parts (is_other ok unit) (list_all (is_other ok) units) h).1
 
 -- ---- numbers have no letters
-
-abbrev in_number : ℕ → Bool
-in_number byte = is_sign byte || (is_digit byte || is_point byte)
 
 or_right : (a b : Bool) → b ≡ true → (a || b) ≡ true
 or_right true b h = refl
@@ -228,3 +225,38 @@ breadth_not relative word b e =
       by_flex a n x false t = argument_not relative false word b (sym (rest a n x t) ∙ e) where
         rest : bytes_eq word (codes "auto") ≡ false → bytes_eq word (codes "min-content") ≡ false → bytes_eq word (codes "max-content") ≡ false → ends_in (codes "fr") word ≡ false → breadth_of relative word ≡ length_or_percentage relative false word
         rest a n x t = rw (a, n, x, t) refl
+
+-- ---- words that are measured in none of these units
+
+no_number : (text : Word) → begins_number text ≡ false → is_number text ≡ false
+no_number [] h = refl
+no_number (byte ∷ bytes) h = by_number (number_of (byte ∷ bytes)) refl where
+  by_number : (o : Option Decimal) → number_of (byte ∷ bytes) ≡ o → not (is_none o) ≡ false
+  by_number None e = refl
+  by_number (Some d) e = elim (true≢false (sym (and_parts (in_number byte) (list_all in_number bytes) (number_in (byte ∷ bytes) d e)).0 ∙ h)) [ ]
+
+begins_front : (word : Word) (n : ℕ) → begins_number word ≡ false → begins_number (take n word) ≡ false
+begins_front [] zero h = refl
+begins_front [] (suc n) h = refl
+begins_front (byte ∷ bytes) zero h = refl
+begins_front (byte ∷ bytes) (suc n) h = h
+
+and_none : (a b : Bool) → b ≡ false → (a && b) ≡ false
+and_none true b h = h
+and_none false b h = refl
+
+none_measured : (word : Word) (units : List Word) → begins_number word ≡ false → list_any (has_unit word) units ≡ false
+none_measured word [] h = refl
+none_measured word (unit ∷ units) h =
+    ap (λ (b : Bool). b || list_any (has_unit word) units) (and_none (ends_in unit word) (is_number (before unit word)) (no_number (before unit word) (begins_front word (length word - length unit) h)))
+    ∙ none_measured word units h
+
+-- a word that begins as no number
+pub unbegun : (relative : Bool) (word : Word) → begins_number word ≡ false → false ≡ is_measured relative word
+unbegun relative word h = sym (none_measured word (units relative) h)
+
+-- a word that ends in `px`
+pub ended_px : (relative : Bool) (word : Word) → ends_in (codes "px") word ≡ true → false ≡ is_measured relative word
+ended_px relative word h = sym (ends_so (λ x. bytes_eq x (codes "px")) relative word h px_other)
+
+pub ruleset unmeasured = (unbegun, ended_px)

@@ -1,8 +1,8 @@
 -- Words that a value may not hold because what they ask for is not supported (own rule).
-use Rattle.std.specs.Prelude.{Bool, true, false, not, ◌&&◌, ◌||◌, List, [], ◌∷◌, if◌then◌else◌, codes}
+use Rattle.std.specs.Prelude.{ℕ, Bool, true, false, not, ◌&&◌, ◌||◌, List, [], ◌∷◌, if◌then◌else◌, codes}
 use Rattle.std.specs.Str.{bytes_eq}
 use Rattle.std.specs.List.{list_any}
-use Rattle.lunit.specs.Decimals.{is_number}
+use Rattle.lunit.specs.Decimals.{is_digit, is_number, is_point, is_sign}
 use Rattle.track_text.specs.Words.{Word, begins_with}
 use Rattle.track_text.specs.Values.{ends_in, before}
 
@@ -34,6 +34,14 @@ units false = codes "em" ∷ codes "rem" ∷ other_units
 
 abbrev pub has_unit : Word → Word → Bool
 has_unit word unit = ends_in unit word && is_number (before unit word)
+
+-- a byte that numbers have: a sign, a digit or a point
+abbrev pub in_number : ℕ → Bool
+in_number byte = is_sign byte || (is_digit byte || is_point byte)
+
+abbrev pub begins_number : Word → Bool
+begins_number [] = false
+begins_number (byte ∷ bytes) = in_number byte
 
 -- a number with one of the units
 abbrev pub is_measured : Bool → Word → Bool

@@ -1,10 +1,12 @@
 //! Words that a value may not hold because what they ask for is not supported.
 
-ghost use Rattle.std.specs.Prelude.{◌≡◌};
+ghost use Rattle.std.specs.Prelude.{◌≡◌, codes};
 ghost use Rattle.std.specs.List.{list_any};
-ghost use Rattle.track_text.specs.Unsupported.{is_one_of, wide_keywords, functions, has_unit, other_units, is_measured, is_unsupported_before};
+ghost use Rattle.lunit.specs.Decimals.{is_sign};
+ghost use Rattle.track_text.specs.Values.{ends_in};
+ghost use Rattle.track_text.specs.Unsupported.{is_one_of, wide_keywords, functions, has_unit, other_units, in_number, begins_number, is_measured, is_unsupported_before};
 
-use crate::values::before;
+use crate::values::{before, has_unit};
 use crate::words::Words;
 use lunit::is_number;
 
@@ -28,7 +30,7 @@ fn is_function(word: &[u8]) -> bool
 }
 
 /// Whether the word is a number with this unit.
-fn has_unit(word: &[u8], unit: &[u8]) -> bool
+fn is_in(word: &[u8], unit: &[u8]) -> bool
     ensures { result ≡ has_unit word.now unit.now }
 {
     match before(unit, word) {
@@ -41,27 +43,63 @@ fn has_unit(word: &[u8], unit: &[u8]) -> bool
 fn has_other_unit(word: &[u8]) -> bool
     ensures { result ≡ list_any (has_unit word.now) other_units }
 {
-    has_unit(word, b"ex")
-        || has_unit(word, b"ch")
-        || has_unit(word, b"vw")
-        || has_unit(word, b"vh")
-        || has_unit(word, b"vmin")
-        || has_unit(word, b"vmax")
-        || has_unit(word, b"cm")
-        || has_unit(word, b"mm")
-        || has_unit(word, b"in")
-        || has_unit(word, b"pt")
-        || has_unit(word, b"pc")
+    is_in(word, b"ex")
+        || is_in(word, b"ch")
+        || is_in(word, b"vw")
+        || is_in(word, b"vh")
+        || is_in(word, b"vmin")
+        || is_in(word, b"vmax")
+        || is_in(word, b"cm")
+        || is_in(word, b"mm")
+        || is_in(word, b"in")
+        || is_in(word, b"pt")
+        || is_in(word, b"pc")
 }
 
-/// Whether the word is a number with one of the units that are not supported.
+fn is_sign(byte: u8) -> bool
+    ensures { result ≡ is_sign byte }
+{
+    byte == b'+' || byte == b'-'
+}
+
+fn in_number(byte: u8) -> bool
+    ensures { result ≡ in_number byte }
+{
+    is_sign(byte) || byte.is_ascii_digit() || byte == b'.'
+}
+
+/// Whether the word begins as numbers do.
+fn begins_number(word: &[u8]) -> bool
+    ensures { result ≡ begins_number word.now }
+{
+    match word.first() {
+        Some(byte) => in_number(*byte),
+        None => false,
+    }
+}
+
+fn is_in_px(word: &[u8]) -> bool
+    ensures { result ≡ ends_in (codes "px") word.now }
+{
+    has_unit(b"px", word)
+}
+
+#[tactic(auto, using(crate::proofs::Suffixes::unmeasured))]
+/// Whether the word is a number with one of the units that are not supported. Most words are not, by their first byte
+/// or their last two.
 fn is_measured(relative: bool, word: &[u8]) -> bool
     ensures { result ≡ is_measured relative word.now }
 {
+    if !begins_number(word) {
+        return false;
+    }
+    if is_in_px(word) {
+        return false;
+    }
     if relative {
         return has_other_unit(word);
     }
-    has_unit(word, b"em") || has_unit(word, b"rem") || has_other_unit(word)
+    is_in(word, b"em") || is_in(word, b"rem") || has_other_unit(word)
 }
 
 /// Whether the word, before these, is one that no property has; `em` and `rem` are units where lengths may be relative.
