@@ -17,3 +17,4 @@ pub mod Kept
 pub mod Validity
 pub mod Undone
 pub mod TakenBack
+pub mod Naming

@@ -1,8 +1,8 @@
 -- A tree kept as its last node on each level.
-use Rattle.std.proofs.Common.{◌≡◌, ℕ, zero, suc, ◌+◌, ◌<◌, ◌≤◌, min, max, Bool, true, false, ◌||◌, List, [], ◌∷◌, ◌++◌, length, drop, get_or, Option, Some, None, refl, ap, sym, ◌∙◌, arith, cond, ◌⊎◌, inl, inr}
+use Rattle.std.proofs.Common.{◌≡◌, ℕ, zero, suc, ◌+◌, ◌<◌, ◌≤◌, min, max, Bool, true, false, not, ◌||◌, List, [], ◌∷◌, ◌++◌, length, drop, get_or, Option, Some, None, refl, ap, sym, ◌∙◌, arith, cond, ◌⊎◌, inl, inr}
 use Rattle.std.specs.Prelude.{nat_lt}
 use Rattle.std.proofs.lemmas.List.{length-drop, length-append}
-use Rattle.std.proofs.lemmas.Bool.{cases_lt, lt-ltb, le-ltb, ltb-false}
+use Rattle.std.proofs.lemmas.Bool.{cases_lt, lt-ltb, le-ltb, ltb-false, not-false, not-true}
 use Rattle.std.specs.Str.{bytes_eq}
 use Rattle.std.specs.BTreeSet.{BTreeSet, contains, Updates, IsEmpty}
 use Rattle.std.specs.Ordering.{nat_cmp}
@@ -204,4 +204,11 @@ kept_grown names larger path left name count k u more bare size = record {
   counted = omega (arith, k.counted, size);
 }
 
-pub ruleset growing = (within_path)
+-- a name that the set had, or took
+pub held_already : (path : List Plain) (names : BTreeSet Word) (count : ℕ) (name : Word) (added : Bool) → IsKept path names count → added ≡ not (contains (slice_cmp nat_cmp) names name) → added ≡ false → holds (assembled path) name ≡ true
+held_already path names count name added k e f = sym (k.named name) ∙ not-false (contains (slice_cmp nat_cmp) names name) (sym e ∙ f)
+
+pub held_not : (path : List Plain) (names : BTreeSet Word) (count : ℕ) (name : Word) (added : Bool) → IsKept path names count → added ≡ not (contains (slice_cmp nat_cmp) names name) → added ≡ true → holds (assembled path) name ≡ false
+held_not path names count name added k e f = sym (k.named name) ∙ not-true (contains (slice_cmp nat_cmp) names name) (sym e ∙ f)
+
+pub ruleset growing = (within_path, held_already, held_not)

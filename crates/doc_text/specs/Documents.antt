@@ -81,27 +81,34 @@ has_root (tree label below after) = true
 abbrev pub is_second_root : ℕ → Trees Label → Bool
 is_second_root level trees = level == 0 && has_root trees
 
--- a node of this name may stand on this level, counted from 0, as the next one: else 6, 12, 13, 14 or 15, the first of them,
--- at the name
-abbrev pub standing : ℕ → ℕ → Word → Place → Trees Label → Result (Unit {0}) Fault
-standing version level name at trees =
-    if holds trees name then Err (fault_at 6 at)
-    else if nat_le 64 level then Err (fault_at 12 at)
+-- a node may stand on this level, counted from 0, as the next one: else 12, 13, 14 or 15, the first of them, at its name
+abbrev pub standing_on : ℕ → ℕ → Place → Trees Label → Result (Unit {0}) Fault
+standing_on version level at trees =
+    if nat_le 64 level then Err (fault_at 12 at)
     else if not (has_room version level trees) then Err (fault_at 13 at)
     else if is_leaf_node (parent_on level trees) then Err (fault_at 14 at)
     else if is_second_root level trees then Err (fault_at 15 at)
     else Ok tt
 
+-- so may one of this name, which no other node has: else 6 first
+abbrev pub standing : ℕ → ℕ → Word → Place → Trees Label → Result (Unit {0}) Fault
+standing version level name at trees = if holds trees name then Err (fault_at 6 at) else standing_on version level at trees
+
 abbrev pub label_with : Word → Kind × DeclaredMap → Label
 label_with name node = record { name = name; kind = node.0; style = node.1 }
+
+-- a node of this name at this place, with what stands after the name, on this level
+abbrev pub named_on : ℕ → ℕ → Word → Place → Text → Trees Label → Result (Trees Label) Fault
+named_on version level name at rest trees =
+    standing version level name at trees >>= λ _.
+    node_text version rest >>= λ node.
+    Ok (put_last level (label_with name node) trees)
 
 -- a node on this level
 abbrev pub node_on : ℕ → ℕ → Text → Trees Label → Result (Trees Label) Fault
 node_on version level text trees =
     name_first text >>= λ name.
-    standing version level name.0 (word_place text) trees >>= λ _.
-    node_text version name.1 >>= λ node.
-    Ok (put_last level (label_with name.0 node) trees)
+    named_on version level name.0 (word_place text) name.1 trees
 
 -- two spaces for each level, and at most one level more than the node before has
 abbrev pub is_indent : ℕ → ℕ → Bool

@@ -17,3 +17,4 @@ pub mod Laws
 pub mod DocumentExamples
 pub mod EditExamples
 pub mod HistoryExamples
+pub mod NamedFaults

@@ -1,12 +1,13 @@
 //! A tree of nodes that grows by one node after another, in document order.
 
-ghost use Rattle.std.specs.Prelude.{◌≡◌, ◌≤◌, ◌<◌, ◌+◌, ◌∷◌, [], false, length, min, nat_lt, MatchOption, IfOk, OnOk};
+ghost use Rattle.std.specs.Prelude.{◌≡◌, ◌≤◌, ◌<◌, ◌+◌, ◌∷◌, [], true, false, length, min, nat_lt, MatchOption, IfOk, OnOk};
 ghost use Rattle.plain_tree.specs.Trees.{leafless, tree, size_of};
 ghost use Rattle.track_text.specs.Gives.{Reads};
 ghost use Rattle.doc_text.specs.View.{label_of};
 ghost use Rattle.doc_text.specs.Open.{assembled, EndsBare, HasMore};
 ghost use Rattle.doc_text.specs.Growth.{holds, open_levels, last_on, parent_on, put_last};
-ghost use Rattle.doc_text.specs.Documents.{node_limit, child_count, has_room_below, has_room, is_leaf, is_leaf_node, has_root, is_second_root, standing, label_with};
+ghost use Rattle.doc_text.specs.Documents.{node_limit, child_count, has_room_below, has_room, is_leaf, is_leaf_node, has_root, is_second_root, standing_on};
+ghost use Rattle.doc_text.specs.NamedFaults.{first_fault};
 
 use crate::document::{Children, Plain};
 use crate::kind::Kind;
@@ -222,24 +223,14 @@ impl Growth {
     }
 
     #[tactic(auto, using(crate::proofs::Opening::within_path))]
-    /// Whether a node of this name may stand on this level as the next one; else fault 6, 12, 13,
-    /// 14 or 15 at its place.
-    pub(crate) fn standing(
-        &self,
-        version: u8,
-        level: usize,
-        name: &Name,
-        at: Place,
-    ) -> Result<(), ReadError>
+    /// Whether a node may stand on this level as the next one, whatever its name; else fault 12, 13,
+    /// 14 or 15 at this place.
+    pub(crate) fn standing_on(&self, version: u8, level: usize, at: Place) -> Result<(), ReadError>
         requires { level ≤ open_levels self.now }
-        ensures standing { Reads result (standing version level name.now at self.now) }
-        ensures new { OnOk result (holds self.now name.now ≡ false) }
+        ensures standing { Reads result (standing_on version level at self.now) }
         ensures room { OnOk result (size_of self.now < 131072) }
         ensures root { OnOk result (is_second_root level self.now ≡ false) }
     {
-        if self.holds(name) {
-            return Err(fault(DUPLICATE_NAME, at));
-        }
         if level >= MAX_LEVELS {
             return Err(fault(TOO_DEEP, at));
         }
@@ -255,24 +246,41 @@ impl Growth {
         Ok(())
     }
 
+    /// The first fault of a node of this name at this place: 6 where a node has the name, and else
+    /// the one that was found after it.
+    pub(crate) fn first_fault(&self, name: &Name, at: Place, later: ReadError) -> ReadError
+        ensures { result ≡ first_fault (holds self.now name.now) at later }
+    {
+        if self.holds(name) {
+            fault(DUPLICATE_NAME, at)
+        } else {
+            later
+        }
+    }
+
     #[tactic(auto, using(crate::proofs::Opening::growing))]
-    /// The tree with one node more on this level, which has no children.
-    pub(crate) fn grown(self, level: usize, node: Plain) -> Result<Growth, NoMemory>
+    /// The tree with one node more on this level, which has no children; `None` exactly where a node
+    /// has its name.
+    pub(crate) fn grown(self, level: usize, node: Plain) -> Result<Option<Growth>, NoMemory>
         requires level { level ≤ open_levels self }
         requires root { is_second_root level self ≡ false }
-        requires new { holds self node.name ≡ false }
         requires room { size_of self < 131072 }
         requires bare { node.children ≡ leafless }
-        ensures { IfOk result (λ grown. grown ≡ put_last level (label_of node) self) }
+        ensures { IfOk result
+            (λ grown. MatchOption grown (holds self node.name ≡ true)
+            (λ more. (holds self node.name ≡ false) ×
+            (more ≡ put_last level (label_of node) self))) }
     {
         let Growth { path, names, count } = self;
         let mut names = names;
-        let _ = names.insert(node.name)?;
-        Ok(Growth {
+        if !names.insert(node.name)? {
+            return Ok(None);
+        }
+        Ok(Some(Growth {
             path: pushed(path, level, node)?,
             names,
             count: count + 1,
-        })
+        }))
     }
 
     #[tactic(auto, using(crate::proofs::Opening::last_root))]

@@ -5,14 +5,14 @@ ghost use Rattle.plain_tree.specs.Trees.{leafless};
 ghost use Rattle.doc_text.specs.Valid.{IsValid, AreShort};
 ghost use Rattle.track_text.specs.Gives.{Reads};
 ghost use Rattle.doc_text.specs.Growth.{open_levels};
-ghost use Rattle.doc_text.specs.Documents.{from_counted, version_word, version_in, sizes_in, viewport_in, header, is_indent, node_on, node_in, node_of, nodes_of, rooted, sized, document_of};
+ghost use Rattle.doc_text.specs.Documents.{from_counted, version_word, version_in, sizes_in, viewport_in, header, is_indent, named_on, node_on, node_in, node_of, nodes_of, rooted, sized, document_of};
 
 use crate::document::{Children, Doc, Plain};
-use crate::growth::Growth;
+use crate::growth::{DUPLICATE_NAME, Growth};
 use crate::node_text::node_text;
 use crate::text::{Text, fault, spaces_of};
 use crate::token::{name_at, size_of_word};
-use lunit::Lu;
+use lunit::{Lu, Name};
 use std::alloc::Global;
 use text_scan::{Line, Place};
 use track_text::ReadError;
@@ -117,6 +117,41 @@ fn read_viewport(line: &Line) -> Result<(Lu, Lu), ReadError>
     viewport_in(&text).ok_or(fault(BAD_HEADER, at))
 }
 
+/// The tree with a node more of this name at this place, with what stands after the name, on this
+/// level. Whether the name is taken is asked when the node is put there, so that it is looked up
+/// once; another fault gives way to that of the name.
+fn named_on(
+    alloc: Global,
+    version: u8,
+    level: usize,
+    name: Name,
+    at: Place,
+    rest: &Text,
+    growth: Growth,
+) -> Result<Growth, ReadError>
+    requires { level ≤ open_levels growth }
+    ensures { Reads result (named_on version level name at rest.now growth) }
+{
+    match growth.standing_on(version, level, at) {
+        Ok(()) => (),
+        Err(error) => return Err(growth.first_fault(&name, at, error)),
+    }
+    let (kind, style) = match node_text(alloc, version, rest) {
+        Ok(read) => read,
+        Err(error) => return Err(growth.first_fault(&name, at, error)),
+    };
+    let node = Plain {
+        name,
+        kind,
+        style,
+        children: Children::new(alloc),
+    };
+    match growth.grown(level, node)? {
+        Some(grown) => Ok(grown),
+        None => Err(fault(DUPLICATE_NAME, at)),
+    }
+}
+
 /// The tree with the node of a text more, which stands on this level.
 fn node_on(
     alloc: Global,
@@ -130,15 +165,7 @@ fn node_on(
 {
     let (word, at, after) = text.first();
     let (name, rest) = name_at(word, at, after)?;
-    growth.standing(version, level, &name, at)?;
-    let (kind, style) = node_text(alloc, version, &rest)?;
-    let node = Plain {
-        name,
-        kind,
-        style,
-        children: Children::new(alloc),
-    };
-    Ok(growth.grown(level, node)?)
+    named_on(alloc, version, level, name, at, &rest, growth)
 }
 
 /// Whether so many spaces are those of a level, of which one more than these is the last.
