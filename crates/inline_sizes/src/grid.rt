@@ -35,9 +35,10 @@ fn with_pair(
 ) -> Result<Sequence<(u32, u32)>, NoMemory>
     ensures { IfOk result (λ pairs. pairs ≡ outer.now ++ pair ∷ []) }
 {
-    let mut pairs = Sequence::from_slice(alloc, outer)?;
+    let mut pairs = Vec::with_capacity(alloc, outer.len().saturating_add(1))?;
+    pairs.extend_from_slice(outer)?;
     pairs.push(pair)?;
-    Ok(pairs)
+    Ok(Sequence::from_vec(pairs))
 }
 
 /// The subgrids from a grid up to the grid that sizes its columns, itself first.
