@@ -190,6 +190,38 @@ pub fn total_for<const AXIS: u8, L: Ledger>(
     Ok(total_of_tracks(sized.rules.as_slice(), sized.sizes.as_slice(), sized.gap).clamp())
 }
 
+/// The total of the tracks of an axis with these rules and this gap, which are those where percentages are of nothing, for an
+/// intrinsic space. It makes one step.
+fn total_by<const AXIS: u8, L: Ledger>(
+    alloc: Global,
+    input: &TrackInput<'_>,
+    space: Space<AXIS>,
+    rules: &Sequence<Rule>,
+    gap: Lu,
+    passes: &mut Steps<L>,
+) -> Result<Lu, NoMemory>
+    requires input { CanSize AXIS input.now.style.now input.now.tracks input.now.items.now }
+    requires space { IsKnownSpace space }
+    requires fixed { HaveFixed rules.now }
+    requires counted { length rules.now ≡ track_count input.now.tracks }
+    requires few { track_count input.now.tracks < 2 ^ 32 }
+    requires some { pos 0 ≤ℤ gap }
+    requires rules { rules.now ≡
+        axis_rules None (grid_at AXIS input.now.style.now)
+        (written (grid_at AXIS input.now.style.now).template input.now.count)
+        input.now.spans.now (tracks_of input.now.tracks) }
+    requires gap { gap ≡ gap_by None (pos 0) (grid_at AXIS input.now.style.now).gap }
+    ensures value { IfOk result
+        (λ total. total ≡
+        total_for
+        (track_axis AXIS input.now.style.now input.now.count input.now.spans.now
+        input.now.tracks input.now.items.now) space.entry) }
+    ensures step { passes.new ≡ passes.old + 1 }
+{
+    let sizes = sizes_for::<AXIS, L>(alloc, input, space, rules, gap, passes)?;
+    Ok(total_of_tracks(rules.as_slice(), sizes.as_slice(), gap).clamp())
+}
+
 /// The totals of the columns of a grid under a min-content and a max-content space, the second at least the first (CSS Grid 2,
 /// 5.2). It makes two steps. `NoMemory` where memory is wanting.
 pub fn intrinsic_totals<L: Ledger>(
@@ -206,7 +238,9 @@ pub fn intrinsic_totals<L: Ledger>(
     ensures step { OnOk result (passes.new ≡ passes.old + 2) }
     ensures stopped { OnErr result ((passes.old ≤ passes.new) × (passes.new ≤ passes.old + 2)) }
 {
-    let low = total_for::<0, L>(alloc, input, Space::MinContent, passes)?;
-    let high = total_for::<0, L>(alloc, input, Space::MaxContent, passes)?;
+    let gap = gap_for::<0>(input.style, &None);
+    let rules = rules_for::<0>(alloc, input, None)?;
+    let low = total_by::<0, L>(alloc, input, Space::MinContent, &rules, gap, passes)?;
+    let high = total_by::<0, L>(alloc, input, Space::MaxContent, &rules, gap, passes)?;
     Ok((low, low.max(high)))
 }
