@@ -49,7 +49,7 @@ pub use plain::{is_plain, plain_block, plain_inline};
 pub use queries::inline_query;
 pub use sides::{inner, inner_end, inner_start, margins, outer_end, outer_start};
 pub use sized::{bounds_of, child_item, is_stretched, subgrid_box};
-pub use tracks::{SizedTracks, TrackInput, intrinsic_totals, sized_for, total_for};
+pub use tracks::{SizedTracks, TrackInput, intrinsic_totals, sized_for};
 pub use used::{block_used, content_of_box, inline_used, self_align, stretches};
 pub use views::view_in;
 pub use walk::{flex_in, inline_at, lend_columns_at};

@@ -168,28 +168,6 @@ pub fn sized_for<const AXIS: u8, L: Ledger>(
     Ok(SizedTracks { rules, sizes, gap })
 }
 
-/// The total of the tracks of an axis for an intrinsic space, where percentages are of nothing (CSS Grid 2, section 5.2). It makes
-/// one step. `NoMemory` where memory is wanting.
-pub fn total_for<const AXIS: u8, L: Ledger>(
-    alloc: Global,
-    input: &TrackInput<'_>,
-    space: Space<AXIS>,
-    passes: &mut Steps<L>,
-) -> Result<Lu, NoMemory>
-    requires input { CanSize AXIS input.now.style.now input.now.tracks input.now.items.now }
-    requires space { IsKnownSpace space }
-    ensures value { IfOk result
-        (λ total. total ≡
-        total_for
-        (track_axis AXIS input.now.style.now input.now.count input.now.spans.now
-        input.now.tracks input.now.items.now) space.entry) }
-    ensures step { OnOk result (passes.new ≡ passes.old + 1) }
-    ensures stopped { OnErr result ((passes.old ≤ passes.new) × (passes.new ≤ passes.old + 1)) }
-{
-    let sized = sized_for::<AXIS, L>(alloc, input, space, None, passes)?;
-    Ok(total_of_tracks(sized.rules.as_slice(), sized.sizes.as_slice(), sized.gap).clamp())
-}
-
 /// The total of the tracks of an axis with these rules and this gap, which are those where percentages are of nothing, for an
 /// intrinsic space. It makes one step.
 fn total_by<const AXIS: u8, L: Ledger>(
