@@ -137,7 +137,7 @@ fn share_of(margin: &Option<Lu>) -> Share
 fn shares_of(alloc: Global, line: &[Sitting]) -> Result<Vec<Share>, NoMemory>
     ensures { IfOk result (λ rows. rows.items ≡ shares_of line.now) }
 {
-    let mut rows = Vec::new(alloc);
+    let mut rows = Vec::with_capacity(alloc, line.len().saturating_mul(2))?;
     for child in line {
         rows.push(share_of(&child.along.start))?;
         rows.push(share_of(&child.along.end))?;
@@ -149,7 +149,7 @@ fn shares_of(alloc: Global, line: &[Sitting]) -> Result<Vec<Share>, NoMemory>
 fn parts_of(alloc: Global, rows: &[Share]) -> Result<Vec<Lu>, NoMemory>
     ensures { IfOk result (λ parts. parts.items ≡ map (λ (s : Share). s.got) rows.now) }
 {
-    let mut parts = Vec::new(alloc);
+    let mut parts = Vec::with_capacity(alloc, rows.len())?;
     for row in rows {
         parts.push(row.got)?;
     }

@@ -58,7 +58,7 @@ fn own_crosses(
     ensures { IfOk result
         (λ sizes. sizes.items ≡ map (own_cross outer.now cross.now wrap) lines.now) }
 {
-    let mut sizes = Vec::new(alloc);
+    let mut sizes = Vec::with_capacity(alloc, lines.len())?;
     for line in lines {
         sizes.push(own_cross(outer, cross, wrap, line))?;
     }
@@ -82,7 +82,7 @@ fn cross_rest(cross: Wide, gap: Lu, sizes: &[Lu]) -> Lu
 fn open_rows(alloc: Global, sizes: &[Lu]) -> Result<Vec<Share>, NoMemory>
     ensures { IfOk result (λ rows. rows.items ≡ open_rows sizes.now) }
 {
-    let mut rows = Vec::new(alloc);
+    let mut rows = Vec::with_capacity(alloc, sizes.len())?;
     for _size in sizes {
         rows.push(Share {
             room: None,
@@ -97,7 +97,7 @@ fn added(alloc: Global, sizes: &[Lu], rows: &[Share]) -> Result<Vec<Lu>, NoMemor
     requires { length sizes.now ≤ length rows.now }
     ensures { IfOk result (λ all. all.items ≡ added sizes.now rows.now) }
 {
-    let mut all = Vec::new(alloc);
+    let mut all = Vec::with_capacity(alloc, sizes.len())?;
     for (place, size) in sizes.iter().enumerate() {
         let row = &rows[place];
         all.push((size.wide() + row.got.wide()).clamp())?;

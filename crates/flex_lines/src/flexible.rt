@@ -54,7 +54,7 @@ pub fn first_flexible(
 ) -> Result<Vec<Flexible>, NoMemory>
     ensures { IfOk result (λ all. all.items ≡ flexible_from 0 (map (begin grow) items.now)) }
 {
-    let mut all = Vec::new(alloc);
+    let mut all = Vec::with_capacity(alloc, items.len())?;
     for (place, item) in items.iter().enumerate() {
         if is_inflexible(grow, item) {
             continue;
@@ -80,7 +80,7 @@ fn first_size(grow: bool, item: &FlexItem) -> Lu
 pub fn first_sizes(alloc: Global, grow: bool, items: &[FlexItem]) -> Result<Vec<Lu>, NoMemory>
     ensures { IfOk result (λ sizes. sizes.items ≡ map size_of (map (begin grow) items.now)) }
 {
-    let mut sizes = Vec::new(alloc);
+    let mut sizes = Vec::with_capacity(alloc, items.len())?;
     for item in items {
         sizes.push(first_size(grow, item))?;
     }

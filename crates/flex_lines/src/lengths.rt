@@ -206,7 +206,7 @@ fn all_sizes(
     requires ranges { AreRanges (length items.now) lines.now }
     ensures { IfOk result (λ sizes. sizes.items ≡ main_sizes main gap items.now lines.now) }
 {
-    let mut all = Vec::new(alloc);
+    let mut all = Vec::with_capacity(alloc, items.len())?;
     for line in lines {
         let sizes = line_sizes(alloc, main, gap, items_of(items, line))?;
         append(&mut all, &sizes)?;

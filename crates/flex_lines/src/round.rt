@@ -90,7 +90,7 @@ pub fn try_sizes(
         (λ sizes. sizes.items ≡ tries grow space whole 0 (pieces flexible.now)) }
     ensures range { IfOk result (λ sizes. All IsSize sizes.items) }
 {
-    let mut sizes = Vec::new(alloc);
+    let mut sizes = Vec::with_capacity(alloc, flexible.len())?;
     let mut before = 0;
     let mut lower = reach(space, whole, 0);
     for one in flexible {
