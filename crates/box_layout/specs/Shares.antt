@@ -8,6 +8,11 @@ abbrev pub share_of : Option ℤ → Share
 share_of None = record { room = None; got = pos 0 }
 share_of (Some x) = record { room = Some (pos 0); got = pos 0 }
 
+-- nothing for both margins of each child
+abbrev pub nothing_for : List Sitting → List ℤ
+nothing_for [] = []
+nothing_for (s ∷ rest) = pos 0 ∷ pos 0 ∷ nothing_for rest
+
 abbrev pub shares_of : List Sitting → List Share
 shares_of [] = []
 shares_of (s ∷ rest) = share_of s.along.start ∷ share_of s.along.end ∷ shares_of rest

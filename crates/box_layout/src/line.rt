@@ -1,17 +1,19 @@
 //! The children of one line of a flex container (CSS Flexbox 1, 9.5).
 
 ghost use Rattle.std.specs.Prelude.{◌≡◌, ◌*◌, ◌<◌, ◌≤◌, ◌++◌, ◌+ℤ◌, length, map, pos, IfOk};
+ghost use Rattle.std.specs.List.{list_any};
 ghost use Rattle.lunit.specs.Units.{IsUnits};
 ghost use Rattle.part_rules.specs.FlexLines.{gaps, line_margins};
 ghost use Rattle.part_rules.specs.Lists.{joined, sum_of};
 ghost use Rattle.part_rules.specs.declared.share.Share.{Share};
 ghost use Rattle.tree_rules.specs.NodeSizes.{margin};
 ghost use Rattle.box_layout.specs.Ranges.{IsAlong, IsFree, IsGaps, IsLineRest, IsOuter, IsOuterSum, IsReach, IsSpot, IsStep, IsSum};
-ghost use Rattle.box_layout.specs.Seats.{autos_of, line_rest, line_seats, moved_by_rest, outer_main, seats_along};
-ghost use Rattle.box_layout.specs.Shares.{share_of, shares_of};
+ghost use Rattle.box_layout.specs.Seats.{autos_of, has_auto, line_rest, line_seats, moved_by_rest, outer_main, seats_along};
+ghost use Rattle.box_layout.specs.Shares.{nothing_for, share_of, shares_of};
+ghost use Rattle.box_layout.specs.declared.sitting.Sitting.{Sitting};
 
 use crate::aligned::{both_margins, margin};
-use crate::seats::{Seat, seat_in};
+use crate::seats::{Seat, has_auto, seat_in};
 use crate::sitting::{Container, Sitting};
 use box_align::content_offset;
 use inline_sizes::{is_safe, mode_of};
@@ -156,6 +158,27 @@ fn parts_of(alloc: Global, rows: &[Share]) -> Result<Vec<Lu>, NoMemory>
     Ok(parts)
 }
 
+/// Whether a margin of a child of a line is `auto` along it.
+fn any_auto(line: &[Sitting]) -> bool
+    ensures { result ≡ list_any (λ (s : Sitting). has_auto s.along) line.now }
+{
+    line.iter().any(|child| has_auto(&child.along))
+}
+
+#[tactic(auto, using(crate::proofs::Rows::nothing_next))]
+/// Nothing for both margins of each child of a line.
+fn nothing_for(alloc: Global, line: &[Sitting]) -> Result<Vec<Lu>, NoMemory>
+    ensures { IfOk result (λ taken. taken.items ≡ nothing_for line.now) }
+{
+    let nothing = Lu::default();
+    let mut taken = Vec::with_capacity(alloc, line.len().saturating_mul(2))?;
+    for _child in line {
+        taken.push(nothing)?;
+        taken.push(nothing)?;
+    }
+    Ok(taken)
+}
+
 /// What the margins of the children of a line, two for each, take of what it leaves: the `auto` ones share it in equal parts
 /// (CSS Flexbox 1, 9.5, step 12).
 fn taken_of(alloc: Global, rest: Wide, line: &[Sitting]) -> Result<Vec<Lu>, NoMemory>
@@ -163,6 +186,9 @@ fn taken_of(alloc: Global, rest: Wide, line: &[Sitting]) -> Result<Vec<Lu>, NoMe
         (λ taken. taken.items ≡ line_margins rest (joined (map autos_of line.now))) }
     ensures count { IfOk result (λ taken. length taken.items ≡ 2 * length line.now) }
 {
+    if !any_auto(line) {
+        return nothing_for(alloc, line);
+    }
     let mut rows = shares_of(alloc, line)?;
     let _left = hand_out(rest.clamp(), rows.as_mut_slice());
     parts_of(alloc, &rows)

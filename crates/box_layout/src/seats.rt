@@ -42,7 +42,7 @@ fn size_in(size: Lu, child: &Sitting) -> Lu
 }
 
 /// Whether a margin is `auto`.
-fn has_auto(margins: &Margins) -> bool
+pub(crate) fn has_auto(margins: &Margins) -> bool
     ensures { result ≡ has_auto margins.now }
 {
     is_auto_margin(&margins.start) || is_auto_margin(&margins.end)
