@@ -40,6 +40,7 @@ pub mod Near
 mod NearBoxes
 pub mod OwnRows
 pub mod OwnTracks
+mod PlainLimits
 pub mod Positions
 pub mod Reaches
 pub mod Rooms

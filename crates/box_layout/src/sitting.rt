@@ -7,12 +7,13 @@ ghost use Rattle.tree_rules.specs.Repetitions.{gap_by};
 ghost use Rattle.tree_rules.specs.FlexSizes.{cross_content, cross_grid};
 ghost use Rattle.tree_rules.specs.Labels.{content_of, grid_of};
 ghost use Rattle.tree_rules.specs.NodeSizes.{bounds_of};
+ghost use Rattle.inline_sizes.specs.Plains.{IsPlain};
 ghost use Rattle.inline_sizes.specs.Styled.{content_at, grid_at, styled};
 ghost use Rattle.box_layout.specs.Sittings.{container_by, greatest_across, least_across, limits_across, margins_in, sitting_by};
 
 use crate::aligned::{Margins, margins_of};
 use inline_sizes::{
-    Bounds, bounds_of, gap_by, inner, inner_start, is_stretched_across, line_align,
+    Bounds, bounds_of, gap_by, inner, inner_start, is_plain, is_stretched_across, line_align,
 };
 use lunit::{Lu, Wide};
 use node_arena::NodeId;
@@ -129,6 +130,36 @@ fn most_of(bounds: &Bounds) -> Lu
     }
 }
 
+/// The limits of a plain child along an axis, as `limits_of` tells them.
+fn plain_limits<const AXIS: u8>(style: &Style, container: Lu) -> (Lu, Lu)
+    requires { IsPlain (grid_at AXIS style.now) (content_at AXIS style.now) }
+    ensures { result ≡ (
+      least_across (bounds_of (Some container) (content_of style.now).border_box
+          (grid_at AXIS style.now) (content_at AXIS style.now)),
+      greatest_across (bounds_of (Some container) (content_of style.now).border_box
+          (grid_at AXIS style.now) (content_at AXIS style.now)),
+    ) }
+{
+    (Lu::default(), longest())
+}
+
+/// The limits of a child along an axis, of which percentages are of the container's size there; in few steps for a plain one.
+fn limits_of<const AXIS: u8>(style: &Style, container: Lu) -> (Lu, Lu)
+    requires { IsGridAxis (grid_at AXIS style.now) }
+    ensures { result ≡ (
+      least_across (bounds_of (Some container) (content_of style.now).border_box
+          (grid_at AXIS style.now) (content_at AXIS style.now)),
+      greatest_across (bounds_of (Some container) (content_of style.now).border_box
+          (grid_at AXIS style.now) (content_at AXIS style.now)),
+    ) }
+{
+    if is_plain::<AXIS>(style) {
+        return plain_limits::<AXIS>(style, container);
+    }
+    let bounds = bounds_of::<AXIS>(style, Some(container));
+    (least_of(&bounds), most_of(&bounds))
+}
+
 /// The least and the greatest size of a child along an axis that is the cross one: both its own size, or its limits where it is
 /// stretched, of which percentages are of the container's size there.
 fn limits<const AXIS: u8>(stretched: bool, style: &Style, container: Lu, own: Lu) -> (Lu, Lu)
@@ -139,8 +170,7 @@ fn limits<const AXIS: u8>(stretched: bool, style: &Style, container: Lu, own: Lu
         (content_at AXIS style.now)) own }
 {
     if stretched {
-        let bounds = bounds_of::<AXIS>(style, Some(container));
-        (least_of(&bounds), most_of(&bounds))
+        limits_of::<AXIS>(style, container)
     } else {
         (own, own)
     }

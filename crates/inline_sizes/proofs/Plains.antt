@@ -209,6 +209,18 @@ module _ (g : GridAxis) (c : ContentAxis) (p : IsPlain g c) where
       let way : block_used (bounds_of (Some room) border_box g c) (is_stretched a g c) (margins g) room content ≡ block_used no_bounds (stretches a.mode) (pos 0) room content = λ i. block_used (p.bounds (Some room) border_box i) (p.stretched a i) (p.margins i) room content in
       sym way
 
+  -- what it contributes beside others in a line
+  pub plain_outside : (border_box : Bool) (content size : ℤ) → size ≡ contribution no_bounds (pos 0) content → size ≡ contribution (bounds_of None border_box g c) (margins g) content
+  plain_outside border_box content size is =
+      let way : contribution (bounds_of None border_box g c) (margins g) content ≡ contribution no_bounds (pos 0) content = λ i. contribution (p.bounds None border_box i) (p.margins i) content in
+      is ∙ sym way
+
+  -- across a line, where it is not stretched
+  pub plain_across : (cross : Option ℤ) (border_box : Bool) (nothing content size : ℤ) → nothing ≡ pos 0 → size ≡ block_used no_bounds false (pos 0) nothing content → size ≡ block_used (bounds_of cross border_box g c) false (pos 0) (pos 0) content
+  plain_across cross border_box nothing content size none is =
+      let way : block_used (bounds_of cross border_box g c) false (pos 0) (pos 0) content ≡ block_used no_bounds false (pos 0) (pos 0) content = λ i. block_used (p.bounds cross border_box i) false (pos 0) (pos 0) content in
+      is ∙ ap (λ (z : ℤ). block_used no_bounds false (pos 0) z content) none ∙ sym way
+
   -- what it is given
   pub plain_box : (size : ℤ) → IsUnits size → size ≡ content_of_box (inner g) size
   plain_box size h =

@@ -7,11 +7,13 @@ ghost use Rattle.placing.specs.Ranges.{IsGridStyle, IsGridAxis};
 ghost use Rattle.tree_rules.specs.FlexSizes.{automatic_minimum, base_size, cross_grid, flex_item, is_stretched_across, line_align};
 ghost use Rattle.tree_rules.specs.Labels.{content_of, grid_of};
 ghost use Rattle.tree_rules.specs.NodeSizes.{block_used, border_size, bounds_of, contribution, inline_used, inner, margins, resolved};
+ghost use Rattle.inline_sizes.specs.Plains.{IsPlain};
 ghost use Rattle.inline_sizes.specs.Styled.{content_at, flex_item_at, grid_at, styled};
 ghost use Rattle.inline_sizes.specs.Sums.{IsSum};
 
 use crate::bounds::{Bounds, at_most, border_size, or, resolved};
 use crate::contributions::{contribution, with_inner};
+use crate::plain::{is_plain, plain_block, plain_contributions};
 use crate::sides::margins;
 use crate::sized::{bounds_of, is_stretched};
 use crate::used::{block_used, inline_used, self_align};
@@ -135,8 +137,23 @@ pub fn flex_item(column: bool, main: &Option<Lu>, style: &Style, content: (Lu, L
     }
 }
 
+/// The inline contributions of a plain child, as `inline_contributions` tells them.
+fn plain_contributed(style: &Style, content: (Lu, Lu)) -> (Lu, Lu)
+    requires { IsPlain (grid_of style.now).columns (content_of style.now).inline }
+    ensures low { result.0 ≡
+        contribution
+        (bounds_of None (content_of style.now).border_box (grid_of style.now).columns
+        (content_of style.now).inline) (margins (grid_of style.now).columns) content.0 }
+    ensures high { result.1 ≡
+        contribution
+        (bounds_of None (content_of style.now).border_box (grid_of style.now).columns
+        (content_of style.now).inline) (margins (grid_of style.now).columns) content.1 }
+{
+    plain_contributions(content)
+}
+
 /// The inline contributions of a child of a flex container by its two content sizes (CSS Flexbox 1, 9.9; that the flex basis plays
-/// no part is an own rule).
+/// no part is an own rule), in few steps for a plain one.
 pub fn inline_contributions(style: &Style, content: (Lu, Lu)) -> (Lu, Lu)
     requires { IsGridStyle (grid_of style.now) }
     ensures low { result.0 ≡
@@ -148,6 +165,9 @@ pub fn inline_contributions(style: &Style, content: (Lu, Lu)) -> (Lu, Lu)
         (bounds_of None (content_of style.now).border_box (grid_of style.now).columns
         (content_of style.now).inline) (margins (grid_of style.now).columns) content.1 }
 {
+    if is_plain::<0>(style) {
+        return plain_contributed(style, content);
+    }
     let bounds = bounds_of::<0>(style, None);
     let outside = margins::<0>(style);
     let low = contribution(&bounds, outside.wide(), content.0);
@@ -203,6 +223,33 @@ pub fn column_box(container: &Style, style: &Style, width: Lu, content: (Lu, Lu)
     inline_used(&bounds, fills, margins::<0>(style), width, content)
 }
 
+/// The block size of a plain child of a row, as `block_box` tells it.
+fn plain_block_box(cross: Option<Lu>, style: &Style, block: Lu) -> Lu
+    requires { IsPlain (grid_of style.now).rows (content_of style.now).block }
+    ensures { result ≡
+        block_used
+        (bounds_of cross (content_of style.now).border_box (grid_of style.now).rows
+        (content_of style.now).block) false (pos 0) (pos 0) block }
+{
+    plain_block(false, Lu::default(), block)
+}
+
+/// The block size of a child of a row as a border-box size, whose content has this one, where percentages are of the container's cross
+/// size, or of none; in few steps for a plain one.
+fn block_box(cross: Option<Lu>, style: &Style, block: Lu) -> Lu
+    requires { IsGridStyle (grid_of style.now) }
+    ensures { result ≡
+        block_used
+        (bounds_of cross (content_of style.now).border_box (grid_of style.now).rows
+        (content_of style.now).block) false (pos 0) (pos 0) block }
+{
+    if is_plain::<1>(style) {
+        return plain_block_box(cross, style, block);
+    }
+    let bounds = bounds_of::<1>(style, cross);
+    block_used(&bounds, false, Lu::default(), Lu::default(), block)
+}
+
 /// The hypothetical cross size of a child as a border-box size (CSS Flexbox 1, 9.4, step 7): in a row its block size, whose content
 /// is given, where percentages are of the container's cross size, or of none; in a column its inline size, which is given.
 pub fn cross_box(column: bool, cross: Option<Lu>, style: &Style, inline: Lu, block: Lu) -> Lu
@@ -215,8 +262,7 @@ pub fn cross_box(column: bool, cross: Option<Lu>, style: &Style, inline: Lu, blo
     if column {
         inline
     } else {
-        let bounds = bounds_of::<1>(style, cross);
-        block_used(&bounds, false, Lu::default(), Lu::default(), block)
+        block_box(cross, style, block)
     }
 }
 

@@ -133,6 +133,16 @@ fn plain_contribution(content: Lu) -> Lu
     some_length(content)
 }
 
+/// The contributions of such a node whose content has these two sizes.
+pub(crate) fn plain_contributions(content: (Lu, Lu)) -> (Lu, Lu)
+    ensures low { result.0 ≡ contribution no_bounds (pos 0) content.0 }
+    ensures high { result.1 ≡ contribution no_bounds (pos 0) content.1 }
+{
+    let low = plain_contribution(content.0);
+    let high = plain_contribution(content.1);
+    (low, high)
+}
+
 /// Such a node as an item over this span of lines, with these two content sizes.
 pub(crate) fn plain_item(scrolls: bool, span: Span, content: (Lu, Lu)) -> Item
     ensures { result ≡ plain_item scrolls span content }
