@@ -6,6 +6,7 @@ ghost use Rattle.lunit.specs.Units.{IsUnits};
 ghost use Rattle.part_rules.specs.Lists.{at_most};
 ghost use Rattle.tree_rules.specs.NodeSizes.{border_size, fitted, resolved};
 ghost use Rattle.inline_sizes.specs.Bounded.{IsBorderSize, IsBound};
+ghost use Rattle.inline_sizes.specs.Plains.{no_bounds};
 ghost use Rattle.inline_sizes.specs.Sums.{IsSum};
 
 use crate::numbers::exact;
@@ -168,6 +169,18 @@ impl Bounds {
             size: bound(border_box, inner, &base, size),
             least: bound(border_box, inner, &base, least),
             most: bound(border_box, inner, &base, most),
+        }
+    }
+
+    /// No declared sizes, and no borders and paddings.
+    pub(crate) fn none() -> Bounds
+        ensures { result ≡ no_bounds }
+    {
+        Bounds {
+            inner: Lu::default(),
+            size: None,
+            least: None,
+            most: None,
         }
     }
 

@@ -106,12 +106,35 @@ fn least_of(style: &Style, bounds: &Bounds, content: Lu) -> Lu
     .clamp()
 }
 
+/// The declared sizes of a plain child, as `main_bounds` tells them.
+fn plain_bounds<const AXIS: u8>(style: &Style, main: Option<Lu>) -> Bounds
+    requires { IsPlain (grid_at AXIS style.now) (content_at AXIS style.now) }
+    ensures { result ≡
+        bounds_of main (content_of style.now).border_box (grid_at AXIS style.now)
+        (content_at AXIS style.now) }
+{
+    Bounds::none()
+}
+
+/// The declared sizes of a child along the main axis, where percentages are of this size; in a row in few steps for a plain one.
+fn main_bounds<const AXIS: u8>(style: &Style, main: Option<Lu>) -> Bounds
+    requires { IsGridAxis (grid_at AXIS style.now) }
+    ensures { result ≡
+        bounds_of main (content_of style.now).border_box (grid_at AXIS style.now)
+        (content_at AXIS style.now) }
+{
+    if AXIS == 0 && is_plain::<AXIS>(style) {
+        return plain_bounds::<AXIS>(style, main);
+    }
+    bounds_of::<AXIS>(style, main)
+}
+
 /// A child along this axis as the main one.
 fn flex_item_at<const AXIS: u8>(main: &Option<Lu>, style: &Style, content: (Lu, Lu)) -> FlexItem
     requires { IsGridAxis (grid_at AXIS style.now) }
     ensures { result ≡ flex_item_at AXIS main.now style.now content }
 {
-    let bounds = bounds_of::<AXIS>(style, *main);
+    let bounds = main_bounds::<AXIS>(style, *main);
     FlexItem {
         base: base_of(main, style, &bounds, content.1),
         min: least_of(style, &bounds, content.0),
