@@ -1,6 +1,7 @@
 mod AllLines
 mod Begun
 mod Crossing
+mod JustFull
 mod Kept
 mod Orders
 mod Sizes

@@ -1,6 +1,6 @@
 //! Exact numbers of units, and how they compare.
 
-ghost use Rattle.std.specs.Prelude.{◌≡◌, int_le, int_lt};
+ghost use Rattle.std.specs.Prelude.{◌≡◌, ◌&&◌, int_le, int_lt};
 
 use lunit::Wide;
 
@@ -17,6 +17,13 @@ pub fn is_at_most(first: Wide, second: Wide) -> bool
     ensures { result ≡ int_le first second }
 {
     first <= second
+}
+
+/// Whether both are the same.
+pub fn is_same(first: Wide, second: Wide) -> bool
+    ensures { result ≡ (int_le first second && int_le second first) }
+{
+    is_at_most(first, second) && is_at_most(second, first)
 }
 
 #[tactic(auto, using(crate::proofs::Orders::lt_is))]

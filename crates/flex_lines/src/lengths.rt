@@ -1,15 +1,17 @@
 //! The main sizes of the items of the lines.
 
-ghost use Rattle.std.specs.Prelude.{◌≡◌, ◌↔◌, ◌++◌, [], IsTrue, OnOk, ◌<◌, ◌^◌, ◌+◌, ◌≤ℤ◌, int_lt, length, map, pos, slice_range, IfOk};
+ghost use Rattle.std.specs.Prelude.{◌≡◌, ◌↔◌, ◌++◌, [], true, IsTrue, OnOk, ◌<◌, ◌^◌, ◌+◌, ◌≤ℤ◌, int_lt, length, map, pos, slice_range, IfOk};
 ghost use Rattle.std.specs.List.{All};
 ghost use Rattle.part_rules.specs.FlexLines.{begin, free_space, grows, line_length, line_sizes, main_sizes, outer_hypothetical, outer_now};
 ghost use Rattle.part_rules.specs.Lists.{sum_of};
+ghost use Rattle.flex_lines.specs.Filling.{AreSized};
 ghost use Rattle.flex_lines.specs.Lines.{AreRanges, IsRange};
 ghost use Rattle.flex_lines.specs.Ranges.{ArePlaced, IsSize, IsSum, IsTaken};
 ghost use Rattle.flex_lines.specs.Rounds.{pieces, round_sizes, space_left, IsKeptOf, IsRoundOf};
 
-use crate::compare::{is_less, units};
+use crate::compare::{is_less, is_same, units};
 use crate::flexible::{Flexible, first_flexible, first_held, first_sizes};
+use crate::full::{are_sized, bases_of};
 use crate::limits::outer_hypothetical;
 use crate::round::{change_of, left, newly_held, settle, try_sizes};
 use crate::space::{gaps, space_given, space_left, sums_of};
@@ -51,6 +53,17 @@ fn grows(main: Wide, gap: Lu, items: &[FlexItem]) -> bool
     ensures { result ≡ grows main gap items.now }
 {
     is_less(line_length(gap, items), main)
+}
+
+/// Whether the items of a line fill it just as they are, and their limits leave their base sizes so.
+fn is_full(main: Wide, gap: Lu, items: &[FlexItem]) -> bool
+    ensures main { result ≡ true → line_length gap items.now ≡ main }
+    ensures sized { result ≡ true → AreSized items.now }
+{
+    if !is_same(line_length(gap, items), main) {
+        return false;
+    }
+    are_sized(items)
 }
 
 /// A line as it begins.
@@ -154,12 +167,15 @@ fn sizes_of(kept: Kept) -> Vec<Lu>
 /// The main sizes of the items of one line (CSS Flexbox 1, 9.7).
 ///
 /// Each round freezes an item, so that there are no more rounds than items; a round goes over the items alone that are not
-/// frozen before it.
+/// frozen before it. Items that fill the line just as they are keep their base sizes.
 fn line_sizes(alloc: Global, main: Wide, gap: Lu, items: &[FlexItem]) -> Result<Vec<Lu>, NoMemory>
     requires few { length items.now < 2 ^ 32 }
     requires main { IsSum main }
     ensures { IfOk result (λ sizes. sizes.items ≡ line_sizes main gap items.now) }
 {
+    if is_full(main, gap, items) {
+        return bases_of(alloc, items);
+    }
     let grow = grows(main, gap, items);
     let mut kept = begin(alloc, grow, gap, items)?;
     let initial = initial_space(grow, main, &kept);

@@ -6,6 +6,7 @@
 mod compare;
 mod crosses;
 mod flexible;
+mod full;
 mod lengths;
 mod limits;
 mod lines;

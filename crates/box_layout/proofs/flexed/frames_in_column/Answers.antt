@@ -41,8 +41,13 @@ pub frames_in_lines-requires-clause-lines : goal.frames_in_lines-requires-clause
 frames_in_lines-requires-clause-lines c =
     let b = bare c.args.tree.now.tree in
     let column = c.args.column.now in
-    let few : length (settled_by b column.members column.boxes) ≤ 65536 = omega
-    (arith, settled_count b column.members column.boxes (ap length c.requires.column.across ∙ column_boxed (bare c.args.tree.now.tree) c.args.id c.args.width ∙ sym (told_members (bare c.args.tree.now.tree) c.args.id c.args.column.now.members c.requires.column.children.same)), members_few b c.args.id column.members c.requires.column.children (c.requires.readable.children c.args.id)) in
+    let few : length (settled_by b column.members column.boxes) ≤ 65536 = omega (
+      arith,
+      settled_count b column.members column.boxes
+          (ap length c.requires.column.across ∙ column_boxed (bare c.args.tree.now.tree) c.args.id c.args.width
+          ∙ sym (told_members (bare c.args.tree.now.tree) c.args.id c.args.column.now.members c.requires.column.children.same)),
+      members_few b c.args.id column.members c.requires.column.children (c.requires.readable.children c.args.id),
+    ) in
     omega (arith, ap length c.as_slice-ranges.ensures, ap (λ (l : rules.Lines). length l.ranges) c.requires.lines, column_ranges b c.args.id c.args.height (settled_by b column.members column.boxes) few)
 
 pub returns : goal.returns

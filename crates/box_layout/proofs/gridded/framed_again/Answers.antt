@@ -7,7 +7,11 @@ use Rattle.box_layout.specs.Tracked.{frames_by, nodes_in}
 use Rattle.box_layout.proofs.gridded.framed_again.Goals as goal
 
 pub loop-at-init : goal.loop-at-init
-loop-at-init c = (again_start (nodes_in c.args.grid.now) c.args.grid.now.id c.args.grid.now.reps.now c.args.grid.now.width.now c.args.grid.now.wide.now c.requires.grid.wide c.args.grid.now.rows.now c.root.ensures.tree c.args.fresh.now c.args.frames c.args.places.now c.requires.places c.requires.fresh c.requires.frames, tt)
+loop-at-init c = (
+  again_start (nodes_in c.args.grid.now) c.args.grid.now.id c.args.grid.now.reps.now c.args.grid.now.width.now c.args.grid.now.wide.now c.requires.grid.wide
+      c.args.grid.now.rows.now c.root.ensures.tree c.args.fresh.now c.args.frames c.args.places.now c.requires.places c.requires.fresh c.requires.frames,
+  tt,
+)
 
 pub frame_again-requires-clause-places : goal.frame_again-requires-clause-places
 frame_again-requires-clause-places c =

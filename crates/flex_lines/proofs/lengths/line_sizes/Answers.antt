@@ -1,9 +1,19 @@
-use Rattle.std.proofs.Common.{arith, ap, ◌≡◌, ◌∙◌, sym, ◌-◌, ◌≤◌, [], length, map}
+use Rattle.std.proofs.Common.{arith, ap, ◌≡◌, ◌∙◌, sym, ◌-◌, ◌≤◌, [], List, length, map, subst, ℤ}
+use Rattle.std.specs.Prelude.{IfOk}
 use Rattle.std.proofs.lemmas.Int.{ints}
-use Rattle.part_rules.specs.FlexLines.{begin, free_space, resolved, size_of, turn}
+use Rattle.part_rules.specs.FlexLines.{begin, free_space, line_sizes, resolved, size_of, turn}
+use Rattle.flex_lines.specs.Filling.{bases_of}
 use Rattle.flex_lines.specs.Rounds.{flexible_from}
+use Rattle.flex_lines.proofs.JustFull.{full_sizes}
 use Rattle.flex_lines.proofs.Turns.{kept_few, kept_next, kept_placed, line_is, mapped-length, resolved_end, resolved_next, resolved_still, space_is, turn-length}
 use Rattle.flex_lines.proofs.lengths.line_sizes.Goals as goal
+
+pub returns-then-is_full : goal.returns-then-is_full
+returns-then-is_full c =
+    let items = c.args.items.now in
+    let law : bases_of items ≡ line_sizes c.args.main c.args.gap items = full_sizes c.args.main c.args.gap items (c.is_full.ensures.main c.if-is_full.true) (c.is_full.ensures.sized c.if-is_full.true) in
+    let Is : List ℤ → Type 0 = λ zs. IfOk c.bases_of.result (λ sizes. sizes.items ≡ zs) in
+    subst Is law c.bases_of.ensures
 
 pub initial_space-initial-requires-clause-few : goal.initial_space-initial-requires-clause-few
 initial_space-initial-requires-clause-few c =
