@@ -1,7 +1,6 @@
 -- A walk of the children of a flex container.
-use Rattle.std.proofs.Common.{◌≡◌, ℕ, zero, suc, ◌+◌, ◌<◌, ◌≤◌, ◌∷◌, ◌++◌, [], List, false, length, map, drop, refl, sym, ap, ◌∙◌, subst, arith, append_assoc, append-nil, ℤ, Contains}
+use Rattle.std.proofs.Common.{◌≡◌, ℕ, zero, suc, ◌+◌, ◌<◌, ◌∷◌, ◌++◌, [], List, false, length, map, drop, refl, sym, ap, ◌∙◌, subst, Contains}
 use Rattle.std.specs.Prelude.{get_or}
-use Rattle.std.proofs.lemmas.List.{drop_all, length-map, map-append}
 use Rattle.std.proofs.lemmas.List.Elements.{Contains-append_left}
 use Rattle.node_arena.specs.declared.number.NodeId.{NodeId}
 use Rattle.placing.specs.Areas.{orders_at}
@@ -18,8 +17,6 @@ use Rattle.tree_rules.specs.declared.kind.NodeKind.{NodeKind}
 use Rattle.tree_rules.specs.declared.kind.NodeKind.TheVariants as kind
 use Rattle.tree_rules.specs.declared.query.Query.{Query}
 use Rattle.inline_sizes.proofs.Grids.{contains_drop, map_drop}
-use Rattle.inline_sizes.specs.Flexes.{flex_seen, member_of, members_from}
-use Rattle.placing.specs.declared.lined.Member.{Member}
 
 drop_mapped : {A B : Type 0} (f : A → B) (n : ℕ) (xs : List A) → drop n (map f xs) ≡ map f (drop n xs)
 drop_mapped f zero xs = refl
@@ -43,24 +40,6 @@ module _ (b : BareTrees) (n : NodeId) (numbers : List ℕ) (is : numbers ≡ num
         ∙ ap (λ (x : Kid). (get_or numbers k 0, x) ∷ map (item_of (kid_at b c) (kids_at b n)) (drop (k + 1) numbers)) (head_is (kid_at b c) (kids_at b n) (drop (get_or numbers k 0 + 1) (kids_at b n)) (get_or numbers k 0) (kid_at b c) next.kids)
         ∙ ap (λ (l : List (ℕ × Kid)). (get_or numbers k 0, kid_at b c) ∷ l) (sym (drop_mapped (item_of (kid_at b c) (kids_at b n)) (k + 1) numbers) ∙ ap (drop (k + 1)) (sym (by_numbers (kid_at b c))))
 
-    members_then : (old new : List Member) (all : List rules.Member) (sizes : ℤ × ℤ) → sizes ≡ (kid_at b c).answers.inline [] → new ≡ old ++ record { child = c; number = get_or numbers k 0; inline = sizes } ∷ [] →
-        map (member_of b) old ++ map rules.member_of (drop k kids_in_order) ≡ all → map (member_of b) new ++ map rules.member_of (drop (k + 1) kids_in_order) ≡ all
-    members_then old new all sizes value grown so_far =
-        ap (λ l. map (member_of b) l ++ rest) grown
-        ∙ ap (λ l. l ++ rest) (map-append (member_of b) old (record { child = c; number = get_or numbers k 0; inline = sizes } ∷ []))
-        ∙ (λ j. (map (member_of b) old ++ record { number = get_or numbers k 0; kid = kid_at b c; inline = value j } ∷ []) ++ rest)
-        ∙ append_assoc (map (member_of b) old) (rules.member_of (get_or numbers k 0, kid_at b c) ∷ []) rest
-        ∙ ap (λ (l : List (ℕ × Kid)). map (member_of b) old ++ map rules.member_of l) (sym kid_next) ∙ so_far
-      where
-        rest : List rules.Member
-        rest = map rules.member_of (drop (k + 1) kids_in_order)
-
-    -- the members up to it
-    pub members_next : (old new : List Member) (sizes : ℤ × ℤ) → sizes ≡ (kid_at b c).answers.inline [] → new ≡ old ++ record { child = c; number = get_or numbers k 0; inline = sizes } ∷ [] →
-        map (member_of b) old ++ members_from b n k ≡ (flex_seen b n).members → map (member_of b) new ++ members_from b n (k + 1) ≡ (flex_seen b n).members
-    unfolding kids_in_order
-    members_next old new sizes value grown so_far = members_then old new (flex_seen b n).members sizes value grown so_far
-
     asks_by : (q : Query) (rest : List ToChild) (x : NodeKind) → x ≡ kind.Flex → Contains (map flex_asks_inline (map rules.member_of kids_in_order) ++ rest) (get_or numbers k 0, inline_query false [])
     asks_by q rest x e =
         Contains-append_left _ rest _ (contains_drop (map flex_asks_inline (map rules.member_of kids_in_order)) (map flex_asks_inline (map rules.member_of (drop (k + 1) kids_in_order))) k (get_or numbers k 0, inline_query false [])
@@ -74,21 +53,3 @@ module _ (b : BareTrees) (n : NodeId) (numbers : List ℕ) (is : numbers ≡ num
     -- every question leads to the one to it
     pub flex_uses_next : (q : Query) → (sight_at b n).label.kind ≡ kind.Flex → Contains (uses_at b n q) (get_or numbers k 0, inline_query false [])
     flex_uses_next q e = uses_kind q (sight_at b n).label.kind e
-
-  -- all of them
-  pub members_all : (k : ℕ) (done : List Member) → length numbers ≤ k → map (member_of b) done ++ members_from b n k ≡ (flex_seen b n).members → map (member_of b) done ≡ (flex_seen b n).members
-  unfolding kids_in_order
-  members_all k done h so_far =
-      sym (ap (λ (l : List (ℕ × Kid)). map (member_of b) done ++ map rules.member_of l) (drop_all k kids_in_order few) ∙ append-nil (map (member_of b) done)) ∙ so_far
-    where
-      few : length kids_in_order ≤ k
-      few = at (kids_at b n) refl
-        where
-          at : (kids : List Kid) → kids_at b n ≡ kids → length kids_in_order ≤ k
-          at [] e = omega (arith, ap (λ (l : List Kid). length (in_order (λ (k : Kid). k.label.grid.order) l)) e)
-          at (x ∷ xs) e = omega (arith, h, ap length (by_numbers x), length-map numbers (item_of x (kids_at b n)))
-
--- the first of them
-pub members_first : (b : BareTrees) (n : NodeId) → members_from b n 0 ≡ (flex_seen b n).members
-unfolding flex_seen
-members_first b n = refl

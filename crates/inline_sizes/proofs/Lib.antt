@@ -7,6 +7,7 @@ pub mod FineContexts
 pub mod FineSights
 pub mod Fixing
 pub mod FlexMembers
+pub mod FlexTold
 pub mod FlexWalks
 pub mod Grids
 pub mod InRange

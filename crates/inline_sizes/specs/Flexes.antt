@@ -1,14 +1,12 @@
 -- A flex container by its number, and what the code holds of it.
-use Rattle.std.specs.Prelude.{◌≡◌, ℕ, ℤ, List, map}
+use Rattle.std.specs.Prelude.{◌≡◌, ℤ, List, map}
 use Rattle.node_arena.specs.declared.number.NodeId.{NodeId}
 use Rattle.node_arena.specs.Numbers.{child_at}
-use Rattle.std.specs.Prelude.{All, Some, drop, pos, None, if◌then◌else◌}
+use Rattle.std.specs.Prelude.{All, Some, pos, None, if◌then◌else◌}
 use Rattle.tree_rules.specs.Labels.{ContentStyle, GridStyle}
 use Rattle.tree_rules.specs.Repetitions.{gap_by}
 use Rattle.placing.specs.Nodes.{BareTrees, IsLive, kid_at, kids_at, sight_at}
 use Rattle.tree_rules.specs.FlexSizes as rules
-use Rattle.tree_rules.specs.Orders.{in_order}
-use Rattle.tree_rules.specs.Answers.{Kid}
 use Rattle.placing.specs.declared.lined.Member.{Member}
 
 -- the container of a number
@@ -23,10 +21,6 @@ member_of b m = record { number = m.number; kid = kid_at b m.child; inline = m.i
 pub record IsChild (b : BareTrees) (n : NodeId) (m : Member) : Type 0 where
   pub number : child_at b n m.number ≡ Some m.child
   pub live : IsLive b m.child
-
--- the children from this one on, in order-modified document order, with what each answers
-abbrev pub members_from : BareTrees → NodeId → ℕ → List rules.Member
-members_from b n at = map rules.member_of (drop at (in_order (λ (k : Kid). k.label.grid.order) (kids_at b n)))
 
 -- These are the children of the container of the definitions.
 pub record AreMembers (b : BareTrees) (n : NodeId) (members : List Member) : Type 0 where

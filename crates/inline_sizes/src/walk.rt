@@ -1,9 +1,11 @@
 //! The walk down the tree for the inline axis: a kept answer is taken as it is, else the children are asked, and what is found is
 //! kept last, once.
 
-ghost use Rattle.std.specs.Prelude.{◌≡◌, ◌∷◌, [], true, false, IfOk, OnOk, OnErr};
+ghost use Rattle.std.specs.Prelude.{◌≡◌, ◌<◌, ◌∷◌, [], true, false, IfOk, OnOk, OnErr};
 ghost use Rattle.placing.specs.Keeping.{is_leaf};
-ghost use Rattle.placing.specs.Nodes.{bare, sight_at, IsLive};
+ghost use Rattle.placing.specs.Members.{place_of, Tells};
+ghost use Rattle.placing.specs.Nodes.{bare, kid_at, sight_at, IsLive};
+ghost use Rattle.placing.specs.Told.{last_turn, ArePastMembers, AreToldMembers};
 ghost use Rattle.placing.specs.Walks.{kept_with, Stopped, Walked, WalkedBelow};
 ghost use Rattle.placing.specs.declared.node.Answer.TheVariants as answer;
 ghost use Rattle.tree_rules.specs.AskedQueries.{inline_query};
@@ -20,14 +22,14 @@ ghost use Rattle.inline_sizes.specs.Flexes.{AreMembers};
 use crate::asking::{ask_alone, grid_in};
 use crate::children::{is_grid, keep_told};
 use crate::columns::{grid_inline, grid_lends, with_room};
-use crate::flex::{FlexParts, flex_inline};
+use crate::flex::{FlexParts, flex_inline, keep_members, known, last_members, members_of, told_by};
 use crate::laws::items_lie_in_their_tracks;
 use crate::queries::{inline_query, kept_items, kept_sizes};
 use layout_cache::Query;
 use lunit::{Area, Item, Lu, NoMemory, Sequence, Span};
 use node_arena::{Arena, NodeId};
 use outside::Ruler;
-use placing::{Answer, Member, Node, NodeKind, child, node_at, ordered, parent};
+use placing::{Answer, Node, NodeKind, ToldMember, node_at, parent, root};
 use std::sync::ledger::Ledger;
 use walker::{Seat, Walker};
 
@@ -59,8 +61,114 @@ fn subgrids_are_grids(tree: &Arena<Node>, id: NodeId)
 // ---- the children of a flex container
 
 #[cycle(walk)]
-/// A flex container with what its children answer for the inline axis: each child is asked once. Nothing is kept for the container
-/// itself. `NoMemory` where memory is wanting.
+/// A child of a flex container with what it tells for the inline sizes of the container: it is asked.
+fn ask_member<R: Ruler, L: Ledger>(
+    walk: &mut Walker<R, L>,
+    last: &ToldMember,
+) -> Result<ToldMember, NoMemory>
+    requires stands { Stands walk.old }
+    requires live { IsLive (nodes walk.old) last.now.member.child }
+    requires alone { (sight_at (nodes walk.old) last.now.member.child).chain ≡ [] }
+    ensures place { IfOk result (λ told. place_of told ≡ place_of last.now) }
+    ensures told { IfOk result (Tells (kid_at (nodes walk.old) last.now.member.child)) }
+    ensures stands { Stands walk.new }
+    ensures parts { SameParts walk.old walk.new }
+    ensures walked { OnOk result
+        (Walked last.now.member.child (inline_query false [])
+        (seen R.log walk.old) (seen R.log walk.new)) }
+    ensures stopped { OnErr result
+        (Stopped last.now.member.child (inline_query false [])
+        (seen R.log walk.old) (seen R.log walk.new)) }
+{
+    let inline = ask_alone(walk, last.member.child, NO_AREA)?;
+    Ok(told_by(walk.tree, last, inline))
+}
+
+#[cycle(walk)]
+/// A child of a flex container with what it tells for the inline sizes of the container: it is asked where that is not known.
+fn tell_member<R: Ruler, L: Ledger>(
+    walk: &mut Walker<R, L>,
+    last: &ToldMember,
+) -> Result<ToldMember, NoMemory>
+    requires stands { Stands walk.old }
+    requires live { IsLive (nodes walk.old) last.now.member.child }
+    requires alone { (sight_at (nodes walk.old) last.now.member.child).chain ≡ [] }
+    requires last { last.now.turn < last_turn →
+        Tells (kid_at (nodes walk.old) last.now.member.child) last.now }
+    ensures place { IfOk result (λ told. place_of told ≡ place_of last.now) }
+    ensures told { IfOk result (Tells (kid_at (nodes walk.old) last.now.member.child)) }
+    ensures stands { Stands walk.new }
+    ensures parts { SameParts walk.old walk.new }
+    ensures walked { OnOk result
+        (Walked last.now.member.child (inline_query false [])
+        (seen R.log walk.old) (seen R.log walk.new)) }
+    ensures stopped { OnErr result
+        (Stopped last.now.member.child (inline_query false [])
+        (seen R.log walk.old) (seen R.log walk.new)) }
+{
+    if let Some(told) = known(last) {
+        return Ok(told);
+    }
+    ask_member(walk, last)
+}
+
+#[cycle(walk)]
+/// The children of a flex container with what they tell for its inline sizes: those are asked of which it is not known.
+fn tell_members<R: Ruler, L: Ledger>(
+    walk: &mut Walker<R, L>,
+    id: NodeId,
+    past: &[ToldMember],
+) -> Result<Sequence<ToldMember>, NoMemory>
+    requires stands { Stands walk.old }
+    requires flex { (sight_at (nodes walk.old) id).label.kind ≡ kind.Flex }
+    requires past { ArePastMembers (nodes walk.old) id past.now }
+    ensures told { IfOk result (AreToldMembers (nodes walk.old) id) }
+    ensures stands { Stands walk.new }
+    ensures parts { SameParts walk.old walk.new }
+    ensures below { OnOk result
+        ((q : Query) →
+        WalkedBelow id q 0 (seen R.log walk.old) (seen R.log walk.new)) }
+    ensures stopped { OnErr result
+        ((q : Query) →
+        Stopped id q (seen R.log walk.old) (seen R.log walk.new)) }
+{
+    root(walk.tree);
+    let mut told = with_room(walk.alloc, past.len())?;
+    for last in past {
+        let child = tell_member(walk, last)?;
+        told.push(child)?;
+    }
+    Ok(told)
+}
+
+#[cycle(walk)]
+/// The children of a flex container with what they tell for its inline sizes: a child that told it before is asked only where its answers
+/// went since. Nothing is kept.
+fn told_members<R: Ruler, L: Ledger>(
+    walk: &mut Walker<R, L>,
+    id: NodeId,
+) -> Result<Sequence<ToldMember>, NoMemory>
+    requires stands { Stands walk.old }
+    requires live { IsLive (nodes walk.old) id }
+    requires flex { (sight_at (nodes walk.old) id).label.kind ≡ kind.Flex }
+    ensures told { IfOk result (AreToldMembers (nodes walk.old) id) }
+    ensures stands { Stands walk.new }
+    ensures parts { SameParts walk.old walk.new }
+    ensures below { OnOk result
+        ((q : Query) →
+        WalkedBelow id q 0 (seen R.log walk.old) (seen R.log walk.new)) }
+    ensures stopped { OnErr result
+        ((q : Query) →
+        Stopped id q (seen R.log walk.old) (seen R.log walk.new)) }
+{
+    let past = last_members(walk, id)?;
+    let told = tell_members(walk, id, past.as_slice())?;
+    Ok(told)
+}
+
+/// A flex container with what its children answer for the inline axis: a child that told it before is asked only where its answers went
+/// since. What the children tell is kept, where they are many; no answer is kept for the container itself. `NoMemory` where memory is
+/// wanting.
 pub fn flex_in<R: Ruler, L: Ledger>(
     walk: &mut Walker<R, L>,
     id: NodeId,
@@ -78,17 +186,10 @@ pub fn flex_in<R: Ruler, L: Ledger>(
         ((q : Query) →
         Stopped id q (seen R.log walk.old) (seen R.log walk.new)) }
 {
-    let numbers = ordered(walk.alloc, walk.tree, id)?;
-    let mut members = with_room(walk.alloc, numbers.len())?;
-    for number in numbers.as_slice() {
-        let child = child(walk.tree, id, *number);
-        let inline = ask_alone(walk, child, NO_AREA)?;
-        members.push(Member {
-            child,
-            number: *number,
-            inline,
-        })?;
-    }
+    root(walk.tree);
+    let told = told_members(walk, id)?;
+    let members = members_of(walk.alloc, told.as_slice())?;
+    keep_members(walk, id, told.as_slice())?;
     Ok(FlexParts { members })
 }
 
@@ -158,6 +259,33 @@ fn grid_anew<R: Ruler, L: Ledger>(
 }
 
 #[cycle(walk)]
+/// The two inline sizes of a flex container: a child that told it before is asked only where its answers went since. What the children
+/// tell is kept, where they are many; no answer is kept for the container itself.
+fn flex_sizes<R: Ruler, L: Ledger>(
+    walk: &mut Walker<R, L>,
+    id: NodeId,
+    query: &Query,
+) -> Result<(Lu, Lu), NoMemory>
+    requires stands { Stands walk.old }
+    requires live { IsLive (nodes walk.old) id }
+    requires flex { (sight_at (nodes walk.old) id).label.kind ≡ kind.Flex }
+    requires ask { query.now.ask ≡ ask.Inline }
+    ensures value { IfOk result
+        (λ sizes. inline_sizes sizes ≡ answer_of (sight_at (nodes walk.old) id) query.now) }
+    ensures stands { Stands walk.new }
+    ensures parts { SameParts walk.old walk.new }
+    ensures below { OnOk result
+        (WalkedBelow id query.now 0 (seen R.log walk.old) (seen R.log walk.new)) }
+    ensures stopped { OnErr result
+        (Stopped id query.now (seen R.log walk.old) (seen R.log walk.new)) }
+{
+    let told = told_members(walk, id)?;
+    let sizes = flex_inline(walk.alloc, walk.tree, id, told.as_slice())?;
+    keep_members(walk, id, told.as_slice())?;
+    Ok(sizes)
+}
+
+#[cycle(walk)]
 /// The two inline sizes of a flex container that keeps none for this question.
 fn flex_anew<R: Ruler, L: Ledger>(
     walk: &mut Walker<R, L>,
@@ -182,8 +310,7 @@ fn flex_anew<R: Ruler, L: Ledger>(
         (λ sizes. kept walk.new id ≡
         kept_with (kept walk.old id) ((query, answer.Sizes sizes.0 sizes.1) ∷ [])) }
 {
-    let parts = flex_in(walk, id)?;
-    let (low, high) = flex_inline(walk.alloc, walk.tree, id, &parts)?;
+    let (low, high) = flex_sizes(walk, id, &query)?;
     walk.put(id, query, Answer::Sizes(low, high))?;
     Ok((low, high))
 }

@@ -9,6 +9,7 @@ pub mod Full
 pub mod Glances
 pub mod KeptTrees
 mod LastFrames
+pub mod LastMembers
 pub mod Leaves
 pub mod Loans
 pub mod Mapped

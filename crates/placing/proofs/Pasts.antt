@@ -26,12 +26,14 @@ use Rattle.tree_rules.specs.Whole.{kids_of}
 use Rattle.placing.specs.Areas.{child_in}
 use Rattle.placing.specs.Bases.{AreOf, HoldsPlaces}
 use Rattle.placing.specs.Keeping.{standing_of}
+use Rattle.placing.specs.Members.{AreInOrder, Every, IsPlace, Place, Tells, place_of, turn_in}
 use Rattle.placing.specs.Nodes.{BareTrees, IsLive, children_at, kid_at, sight_at}
 use Rattle.placing.specs.Order.{numbers_in_order}
 use Rattle.placing.specs.Seats.{context_at}
-use Rattle.placing.specs.Told.{AreColumns, AreFrames, AreRows, AreRowsFor, AreTurns, Fresh, HoldsColumns, HoldsFrames, HoldsPast, HoldsTold, IsFrameIn, TellsColumns, TellsFrame, TellsRows, columns_in, entry_with, is_fresh, last_turn, row_axis, rows_in, wide_told}
+use Rattle.placing.specs.Told.{AreColumns, AreFrames, AreRows, AreRowsFor, AreTurns, Fresh, HoldsColumns, HoldsEach, HoldsFrames, HoldsMembers, HoldsPast, HoldsTold, IsFrameIn, TellsColumns, TellsFrame, TellsRows, columns_in, entry_with, is_fresh, last_turn, row_axis, rows_in, wide_told}
 use Rattle.placing.specs.Wides.{HoldsAreas, HoldsRows, IsAbove, child_of, kids_in}
 use Rattle.placing.specs.declared.contexts.Placed.{Placed}
+use Rattle.placing.specs.declared.lined.ToldMember.{ToldMember}
 use Rattle.placing.specs.declared.node.Frame.{Frame}
 use Rattle.placing.specs.declared.told.KeptColumns.{KeptColumns}
 use Rattle.placing.specs.declared.told.KeptFrames.{KeptFrames}
@@ -332,6 +334,38 @@ module _ (b d : BareTrees) (turn late : NodeId → ℕ) (n : NodeId)
                 (subst (λ (z : Wide). IsFrameIn (sight_at b n) base columns rows z (record { rect = f.rect; inline = f.inline; block = f.block })) (wide c a (kid_stays base turns h s k c a fresh e)) (y.frame c a e));
           }
 
+  -- the children of a flex container stand in the same order
+  order_stays : (places : List Place) → AreInOrder (sight_at b n) (children_at b n) places → AreInOrder (sight_at d n) (children_at d n) places
+  order_stays places h =
+      record {
+        numbers = h.numbers ∙ ap numbers_in_order (sym (orders_same (sight_at b n) (sight_at d n) grid chain siblings));
+        children = subst (λ l. Every (IsPlace l) places) (sym kids) h.children;
+      }
+
+  -- each tells what it told where its turn is the same
+  module _ {A : Type 0} (place : A → Place) (last : A → ℕ) (T U : Kid → A → Type 0) (still : (k : Kid) (e : A) → T k e → U k e) where
+    turns_stay : (told : List A) → Every (IsPlace (children_at d n)) (map place told) → Every (λ e. last e ≤ turn (place e).1) told → Every (λ e. last e ≤ late (place e).1) told
+    turns_stay [] h g = tt
+    turns_stay (e ∷ es) h g = (omega (arith, g.0, later (place e).1 (children_live d n (place e).0 (place e).1 h.0)), turns_stay es h.1 g.1)
+
+    tells_on : (e : A) → IsLive d (place e).1 → last e ≤ turn (place e).1 → (last e ≡ turn (place e).1 → last e < last_turn → T (kid_at b (place e).1) e) → last e ≡ late (place e).1 → last e < last_turn → U (kid_at d (place e).1) e
+    tells_on e live had w same few =
+        let after : turn (place e).1 ≤ late (place e).1 = later (place e).1 live in
+        let stood : late (place e).1 ≡ turn (place e).1 = omega (arith, same, had, after) in
+        let low : late (place e).1 < last_turn = omega (arith, same, few) in
+        let was : last e ≡ turn (place e).1 = omega (arith, same, had, after) in
+        still (kid_at d (place e).1) e (subst (λ (k : Kid). T k e) (kid_same b d (place e).1 (stands (place e).1 live stood low)) (w was few))
+
+    each_stays : (told : List A) → Every (IsPlace (children_at d n)) (map place told) → Every (λ e. last e ≤ turn (place e).1) told
+        → Every (λ e. last e ≡ turn (place e).1 → last e < last_turn → T (kid_at b (place e).1) e) told → Every (λ e. last e ≡ late (place e).1 → last e < last_turn → U (kid_at d (place e).1) e) told
+    each_stays [] h g w = tt
+    each_stays (e ∷ es) h g w = (tells_on e (children_live d n (place e).0 (place e).1 h.0) g.0 w.0, each_stays es h.1 g.1 w.1)
+
+    all_stay : (told : List A) → HoldsEach place last T b turn n told → HoldsEach place last U d late n told
+    all_stay told h =
+        let order : AreInOrder (sight_at d n) (children_at d n) (map place told) = order_stays (map place told) h.order in
+        record { order = order; turns = turns_stay told order.children h.turns; told = each_stays told order.children h.turns h.told }
+
   pub past_stays : (p : Past) → HoldsPast b turn n p → HoldsPast d late n p
   past_stays p h =
       record {
@@ -339,8 +373,13 @@ module _ (b d : BareTrees) (turn late : NodeId → ℕ) (n : NodeId)
         columns = columns p.columns h.columns;
         wide = wide p.wide h.wide;
         frames = frames p.frames h.frames;
+        members = members p.members h.members;
       }
     where
+      members : (o : Option (List ToldMember)) → IfSome o (HoldsMembers b turn n) → IfSome o (HoldsMembers d late n)
+      members None w = tt
+      members (Some told) w = all_stay place_of turn_in Tells Tells (λ k e f. f) told w
+
       columns : (o : Option KeptColumns) → IfSome o (HoldsColumns b turn n) → IfSome o (HoldsColumns d late n)
       columns None w = tt
       columns (Some k) w =

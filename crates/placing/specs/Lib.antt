@@ -10,6 +10,7 @@ pub mod Insides
 pub mod Keeping
 pub mod Kept
 pub mod Lined
+pub mod Members
 pub mod Nodes
 pub mod Order
 pub mod Ranges

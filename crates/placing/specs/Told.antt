@@ -24,10 +24,12 @@ use Rattle.tree_rules.specs.declared.query.Given.{Given}
 use Rattle.tree_rules.specs.declared.query.Given.TheVariants as given
 use Rattle.placing.specs.Areas.{placed_of}
 use Rattle.placing.specs.Bases.{AreOf, HoldsPlaces}
+use Rattle.placing.specs.Members.{AreInOrder, Every, Place, Tells, place_of, turn_in}
 use Rattle.placing.specs.Nodes.{BareTrees, children_at, kid_at, sight_at}
 use Rattle.placing.specs.Seats.{context_at}
 use Rattle.placing.specs.Turns.{turns}
 use Rattle.placing.specs.Wides.{HoldsRows, child_of}
+use Rattle.placing.specs.declared.lined.ToldMember.{ToldMember}
 use Rattle.placing.specs.declared.node.Frame.{Frame}
 use Rattle.placing.specs.declared.told.KeptColumns.{KeptColumns}
 use Rattle.placing.specs.declared.told.KeptFrames.{KeptFrames}
@@ -231,16 +233,28 @@ pub record HoldsFrames (b : BareTrees) (turn : NodeId → ℕ) (n : NodeId) (w :
   pub turns : AreTurns turn w.base.placed.areas w.turns
   pub frames : AreFrames (sight_at b n) (kid_at b) w.base w.columns w.rows (Fresh turn w.base.placed.areas w.turns) w.frames
 
+-- What a flex container keeps of what its children told, one entry each: those count that have the turn still which they had then, unless that is the last one.
+pub record HoldsEach {A : Type 0} (place : A → Place) (last : A → ℕ) (T : Kid → A → Type 0) (b : BareTrees) (turn : NodeId → ℕ) (n : NodeId) (entries : List A) : Type
+    0 where
+  pub order : AreInOrder (sight_at b n) (children_at b n) (map place entries)
+  pub turns : Every (λ e. last e ≤ turn (place e).1) entries
+  pub told : Every (λ e. last e ≡ turn (place e).1 → last e < last_turn → T (kid_at b (place e).1) e) entries
+
+-- what they told for its inline sizes
+abbrev pub HoldsMembers : BareTrees → (NodeId → ℕ) → NodeId → List ToldMember → Type 0
+HoldsMembers b turn n told = HoldsEach place_of turn_in Tells b turn n told
+
 -- All that a node keeps longer than its answers is of it.
 pub record HoldsPast (b : BareTrees) (turn : NodeId → ℕ) (n : NodeId) (p : Past) : Type 0 where
   pub bases : AreOf (sight_at b n) (children_at b n) p.bases
   pub columns : IfSome p.columns (HoldsColumns b turn n)
   pub wide : IfSome p.wide (HoldsTold b turn n)
   pub frames : IfSome p.frames (HoldsFrames b turn n)
+  pub members : IfSome p.members (HoldsMembers b turn n)
 
 -- nothing
 abbrev pub no_past : Past
-no_past = record { bases = []; columns = None; wide = None; frames = None }
+no_past = record { bases = []; columns = None; wide = None; frames = None; members = None }
 
 -- ---- what is taken
 
@@ -282,3 +296,31 @@ pub record ArePastFrames (b : BareTrees) (n : NodeId) (p : PastFrames) : Type 0 
   pub places : HoldsPlaces (sight_at b n) (children_at b n) p.base
   pub counted : length p.fresh ≡ length p.base.placed.areas
   pub frames : AreFrames (sight_at b n) (kid_at b) p.base p.columns p.rows (Marked p.fresh) p.frames
+
+-- What the children of a flex container told, one entry each, where those have the last turn that must be asked again.
+pub record ArePast {A : Type 0} (place : A → Place) (last : A → ℕ) (T : Kid → A → Type 0) (b : BareTrees) (n : NodeId) (entries : List A) : Type 0 where
+  pub order : AreInOrder (sight_at b n) (children_at b n) (map place entries)
+  pub told : Every (λ e. last e < last_turn → T (kid_at b (place e).1) e) entries
+
+-- What the children of a flex container tell, one entry each.
+pub record AreNow {A : Type 0} (place : A → Place) (T : Kid → A → Type 0) (b : BareTrees) (n : NodeId) (entries : List A) : Type 0 where
+  pub order : AreInOrder (sight_at b n) (children_at b n) (map place entries)
+  pub told : Every (λ e. T (kid_at b (place e).1) e) entries
+
+-- the last turn in the place of another one than now
+abbrev pub marked_turn : ℕ → ℕ → ℕ
+marked_turn last now = if last == now then last else last_turn
+
+-- for its inline sizes
+abbrev pub ArePastMembers : BareTrees → NodeId → List ToldMember → Type 0
+ArePastMembers b n told = ArePast place_of turn_in Tells b n told
+
+abbrev pub AreToldMembers : BareTrees → NodeId → List ToldMember → Type 0
+AreToldMembers b n told = AreNow place_of Tells b n told
+
+abbrev pub marked_at : (NodeId → ℕ) → ToldMember → ToldMember
+marked_at turn e = record e { turn = marked_turn e.turn (turn e.member.child) }
+
+-- with the turn that it has
+abbrev pub turned_at : (NodeId → ℕ) → ToldMember → ToldMember
+turned_at turn e = record e { turn = turn e.member.child }

@@ -13,6 +13,7 @@ mod grids;
 mod items;
 mod keeping;
 mod last_frames;
+mod last_members;
 mod laws;
 mod lengths;
 mod lined;
@@ -38,11 +39,12 @@ pub use grids::context_in;
 pub use items::{ChildArea, entry, has_subgrid};
 pub use keeping::{drop_past, find, find_base, find_by, keep_base, leaf_height, leaf_sizes, put};
 pub use last_frames::{keep_frames, take_frames};
+pub use last_members::{keep_members, take_members, unasked};
 pub use laws::{
     dropping_keeps_the_rest, forgetting_keeps_the_rest, kept_answers_are_defined,
     readable_node_by_node, right_where_seen_the_same,
 };
-pub use lined::{ColumnParts, Lines, Member, RowParts};
+pub use lined::{ColumnParts, Lines, Member, RowParts, ToldMember};
 pub use node::{Answer, Frame, Node};
 pub use placement::{areas_in, ordered};
 pub use seats::{areas, context, seat};
@@ -51,7 +53,7 @@ pub use sight::{child, count, node_at, parent, root};
 pub use telling::{MANY, keep_columns, keep_wide, put_items, take_columns, take_wide, turn_of};
 pub use told::{
     KeptColumns, KeptFrames, KeptWide, Past, PastColumns, PastFrames, PastRows, PastWide,
-    SharedColumns, SharedLast, SharedTold, ToldColumns, ToldRows,
+    SharedColumns, SharedLast, SharedMembers, SharedTold, ToldColumns, ToldRows,
 };
 pub use tree_rules::NodeKind;
 pub use wide::{GridBase, GridParts, GridWide, RowsAt, WideChild};

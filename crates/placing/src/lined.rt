@@ -15,6 +15,19 @@ pub struct Member {
     pub inline: (Lu, Lu),
 }
 
+/// A child of a flex container with what it told for the inline sizes of the container.
+#[derive(Clone, Copy)]
+pub struct ToldMember {
+    /// The child.
+    pub member: Member,
+    /// What it contributes by the first of its two sizes, in units of 1/64 px.
+    pub low: Lu,
+    /// By the second.
+    pub high: Lu,
+    /// Its turn then; 2^64 - 1 where it must be asked again.
+    pub turn: u64,
+}
+
 /// The lines of a flex container.
 #[derive(Drop)]
 pub struct Lines {

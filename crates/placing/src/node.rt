@@ -19,7 +19,7 @@ pub struct Node {
     pub name: Name,
     /// The computed values (CSS Values 4, section 6.1).
     pub style: Style,
-    /// What a grid keeps longer than its answers.
+    /// What a container keeps longer than its answers.
     pub past: Past,
     /// The values as they are declared. They stand last, since no layout reads them.
     pub declared: Declared,

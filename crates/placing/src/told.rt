@@ -5,6 +5,7 @@ ghost use Rattle.std.specs.Prelude.{◌≡◌, [], None, IfOk, IfSome};
 ghost use Rattle.placing.specs.Told.{no_past};
 
 use crate::bases::Bases;
+use crate::lined::ToldMember;
 use crate::node::Frame;
 use crate::shared::{SharedBase, SharedFrames, SharedWide};
 use crate::wide::{GridParts, RowsAt, WideChild};
@@ -233,17 +234,57 @@ impl SharedLast {
     }
 }
 
-/// What a grid keeps longer than its answers.
+/// What the children of a flex container told for its inline sizes, as it keeps it longer than its answers.
+#[derive(Drop)]
+pub struct SharedMembers {
+    told: Rc<Sequence<ToldMember>>,
+}
+
+impl Model for SharedMembers {
+    ghost use Rattle.std.specs.Prelude.{List};
+    ghost use Rattle.std.specs.Coded.{coded_list};
+    ghost use Rattle.placing.specs.declared.lined.ToldMember.{ToldMember};
+    ghost use Rattle.placing.specs.contracts.lined.ToldMember as told_member;
+
+    ghost Value = { List ToldMember };
+
+    ghost coded = { coded_list told_member.the_row.coded };
+
+    ghost view = { λ a. a.told.value };
+}
+
+impl SharedMembers {
+    /// This; `NoMemory` where memory is wanting.
+    pub(crate) fn new(alloc: Global, told: Sequence<ToldMember>) -> Result<SharedMembers, NoMemory>
+        ensures { IfOk result (λ made. made ≡ told) }
+    {
+        Ok(SharedMembers {
+            told: Rc::new(alloc, told)?,
+        })
+    }
+
+    /// What it holds; `None` only where it is shared.
+    pub(crate) fn into_inner(self) -> Option<Sequence<ToldMember>>
+        ensures { IfSome result (λ told. told ≡ self) }
+    {
+        let SharedMembers { told } = self;
+        Rc::into_inner(told)
+    }
+}
+
+/// What a container keeps longer than its answers.
 #[derive(Drop)]
 pub struct Past {
-    /// Its contexts and the areas of its children.
+    /// The contexts of a grid and the areas of its children.
     pub bases: Bases,
-    /// What its children told last for its inline sizes.
+    /// What the children of a grid told last for its inline sizes.
     pub columns: Option<SharedColumns>,
     /// What its children told last for its block size.
     pub wide: Option<SharedTold>,
     /// The frames that it gave its children last.
     pub frames: Option<SharedLast>,
+    /// What the children of a flex container told last for its inline sizes.
+    pub members: Option<SharedMembers>,
 }
 
 impl Past {
@@ -256,6 +297,7 @@ impl Past {
             columns: None,
             wide: None,
             frames: None,
+            members: None,
         }
     }
 
@@ -267,5 +309,6 @@ impl Past {
         self.columns = None;
         self.wide = None;
         self.frames = None;
+        self.members = None;
     }
 }

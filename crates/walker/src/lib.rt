@@ -2,6 +2,7 @@
 #![tactic(auto)]
 
 mod frames_kept;
+mod members_kept;
 mod seat;
 mod walker;
 

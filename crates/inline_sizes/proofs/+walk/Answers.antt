@@ -1,13 +1,13 @@
-use Rattle.std.proofs.Common.{Option, drop, rules, arith, refl, sym, ap, subst, ◌≡◌, ◌∙◌, ◌+◌, ◌*◌, ◌<◌, ◌∷◌, ◌++◌, [], List, ℕ, true, false, length, map, pos, ◌&&◌, Bool}
-use Rattle.std.specs.Prelude.{All, Contains, IfSome, get_or}
-use Rattle.std.proofs.lemmas.List.Elements.{All-push}
+use Rattle.std.proofs.Common.{Option, drop, rules, arith, refl, sym, ap, subst, ◌≡◌, ◌∙◌, ◌+◌, ◌*◌, ◌<◌, ◌∷◌, ◌++◌, [], List, true, false, length, map, pos, ◌&&◌, Bool}
+use Rattle.std.specs.Prelude.{All, IfSome, get_or}
 use Rattle.placing.specs.Areas.{HasChildren}
 use Rattle.placing.specs.Bases.{HoldsPlaces, same_pairs}
-use Rattle.placing.specs.Children.{IsNext, IsTree}
-use Rattle.placing.specs.Told.{AllBut, AreColumns, AreTold, Each, IsPastColumns, TellsColumns}
+use Rattle.placing.specs.Children.{IsTree}
+use Rattle.placing.specs.Members.{Every, Tells, place_of}
+use Rattle.placing.specs.Told.{AllBut, AreColumns, ArePastMembers, AreTold, AreToldMembers, Each, IsPastColumns, TellsColumns, last_turn}
 use Rattle.placing.specs.declared.wide.GridBase.{GridBase}
 use Rattle.placing.specs.declared.told.PastColumns.{PastColumns}
-use Rattle.placing.specs.Nodes.{BareTrees, IsLive, children_at, kid_at, kids_at, sight_at, size_at, uses_at}
+use Rattle.placing.specs.Nodes.{BareTrees, IsLive, children_at, kid_at, sight_at, size_at}
 use Rattle.placing.specs.Seats.{IsSeat, context_at}
 use Rattle.placing.specs.Counted.{IsGivenSize}
 use Rattle.placing.specs.Walks.{Stopped, Walked, kept_with}
@@ -30,11 +30,10 @@ use Rattle.tree_rules.specs.declared.query.Given.{Given}
 use Rattle.tree_rules.specs.declared.query.Query.{Query}
 use Rattle.inline_sizes.proofs.Anew.{flex_answer, flex_quiet, grid_answer, grid_quiet, lent_answer}
 use Rattle.inline_sizes.proofs.Asked.{chain_in_flex, entry_here, fits_no_chain, lent_fit, levels_above, on_ok, pairs_all, rows_fits, shared_asked, shared_chain, shared_fits, sizes_answered, sizes_are, sizes_fit, walked_stopped}
-use Rattle.inline_sizes.proofs.FlexWalks.{flex_uses_next, members_all, members_first, members_next}
+use Rattle.inline_sizes.proofs.FlexTold.{all_told, asks_at, last_at, next_at, places_next, tells_in, tells_there, told_more}
 use Rattle.inline_sizes.proofs.Grids.{below_then, grid_there, leads_there, stops_then}
 use Rattle.inline_sizes.proofs.Held.{places_held}
 use Rattle.inline_sizes.proofs.Tellings.{answers_there, columns_there, counted_again, counted_then, laid_there, next_stale, none_stale, past_stale, past_told, places_there, told_again, told_empty, told_then}
-use Rattle.inline_sizes.specs.Flexes.{AreMembers, IsChild, member_of, members_from}
 use Rattle.inline_sizes.specs.Grids.{HaveTold, IsEntry, IsGrid, IsLaid, LeadsOn, items_seen}
 use Rattle.inline_sizes.specs.GridsSeen.{HasLines}
 use Rattle.inline_sizes.specs.Lifted.{IsSelfLifted}
@@ -489,15 +488,6 @@ walk::columns_anew-put-requires-clause-absent g t c = subst (IsAbsent c.args.que
 pub walk::columns_anew-put-requires-clause-fits : goal.walk::columns_anew-put-requires-clause-fits
 walk::columns_anew-put-requires-clause-fits g t c = subst (λ (z : BareTrees). Fits (sight_at z c.args.id) c.args.query) (sym (c.in_ok-told.ensures.below c.args.query (ap (λ (z : Query). z.reps) c.requires.query) refl).walk.bare_same) c.requires.fits
 
-pub walk::flex_anew-put-requires-clause-live : goal.walk::flex_anew-put-requires-clause-live
-walk::flex_anew-put-requires-clause-live g t c = subst (λ (z : BareTrees). IsLive z c.args.id) (sym (c.in_ok-parts.ensures.below c.args.query).walk.bare_same) c.requires.live
-
-pub walk::flex_anew-put-requires-clause-absent : goal.walk::flex_anew-put-requires-clause-absent
-walk::flex_anew-put-requires-clause-absent g t c = subst (IsAbsent c.args.query) (sym (c.in_ok-parts.ensures.below c.args.query).own) c.requires.absent
-
-pub walk::flex_anew-put-requires-clause-fits : goal.walk::flex_anew-put-requires-clause-fits
-walk::flex_anew-put-requires-clause-fits g t c = subst (λ (z : BareTrees). Fits (sight_at z c.args.id) c.args.query) (sym (c.in_ok-parts.ensures.below c.args.query).walk.bare_same) c.requires.fits
-
 pub walk::columns_anew-put-requires-clause-value : goal.walk::columns_anew-put-requires-clause-value
 walk::columns_anew-put-requires-clause-value g t c =
     ap lent_items (c.in_ok-items.ensures (nodes c.args.walk.now) c.args.id c.args.query.reps given.None (subst (λ (o : List Pair). IsGrid (nodes c.args.walk.now) c.args.id o given.None c.in_ok-told.told.parts) (sym (ap (λ (z : Query). z.reps) c.requires.query))
@@ -522,130 +512,6 @@ pub walk::columns_anew-returns-clause-own : goal.walk::columns_anew-returns-clau
 walk::columns_anew-returns-clause-own g t c =
     c.in_ok-put.ensures.own ∙ (λ i. kept_with ((c.in_ok-told.ensures.below c.args.query (ap (λ (z : Query). z.reps) c.requires.query) refl).own i) ((c.args.query, answer.Lent (sym (c.in_ok-lent.ensures ∙ c.as_slice.ensures) i)) ∷ []))
 
-pub walk::flex_anew-flex_inline-requires-clause-live : goal.walk::flex_anew-flex_inline-requires-clause-live
-walk::flex_anew-flex_inline-requires-clause-live g t c = subst (λ (z : BareTrees). IsLive z c.args.id) (sym (c.in_ok-parts.ensures.below c.args.query).walk.bare_same) c.requires.live
-
-pub walk::flex_anew-flex_inline-requires-clause-members : goal.walk::flex_anew-flex_inline-requires-clause-members
-walk::flex_anew-flex_inline-requires-clause-members g t c = subst (λ (z : BareTrees). AreMembers z c.args.id c.in_ok-parts.parts.members) (sym (c.in_ok-parts.ensures.below c.args.query).walk.bare_same) c.in_ok-parts.ensures.value
-
-pub walk::flex_anew-returns-in_err-low-clause-stopped : goal.walk::flex_anew-returns-in_err-low-clause-stopped
-walk::flex_anew-returns-in_err-low-clause-stopped g t c = on_err _ _ (stopped c.args.id c.args.query 0 _ _ (c.in_ok-parts.ensures.below c.args.query))
-
-pub walk::flex_anew-put-requires-clause-value : goal.walk::flex_anew-put-requires-clause-value
-walk::flex_anew-put-requires-clause-value g t c =
-    ap inline_sizes c.in_ok-low.ensures ∙
-    flex_answer (nodes c.flex_in.new.walk) c.args.id c.args.query (subst (λ (z : BareTrees). (sight_at z c.args.id).label.kind ≡ kind.Flex) (sym (c.in_ok-parts.ensures.below c.args.query).walk.bare_same) c.requires.flex) c.requires.ask
-
-pub walk::flex_anew-put-requires-clause-quiet : goal.walk::flex_anew-put-requires-clause-quiet
-walk::flex_anew-put-requires-clause-quiet g t c = flex_quiet (nodes c.flex_in.new.walk) c.args.id c.args.query (subst (λ (z : BareTrees). (sight_at z c.args.id).label.kind ≡ kind.Flex) (sym (c.in_ok-parts.ensures.below c.args.query).walk.bare_same) c.requires.flex)
-
-pub walk::flex_anew-returns-clause-value : goal.walk::flex_anew-returns-clause-value
-walk::flex_anew-returns-clause-value g t c =
-    ap inline_sizes c.in_ok-low.ensures ∙
-    flex_answer (nodes c.flex_in.new.walk) c.args.id c.args.query (subst (λ (z : BareTrees). (sight_at z c.args.id).label.kind ≡ kind.Flex) (sym (c.in_ok-parts.ensures.below c.args.query).walk.bare_same) c.requires.flex) c.requires.ask
-    ∙ ap (λ (z : BareTrees). answer_of (sight_at z c.args.id) c.args.query) (c.in_ok-parts.ensures.below c.args.query).walk.bare_same
-
-pub walk::flex_anew-returns-clause-walked : goal.walk::flex_anew-returns-clause-walked
-walk::flex_anew-returns-clause-walked g t c = c.in_ok-put.ensures.joins _ 0 (omega arith) (c.in_ok-parts.ensures.below c.args.query)
-
-pub walk::flex_anew-returns-in_err-put-clause-stopped : goal.walk::flex_anew-returns-in_err-put-clause-stopped
-walk::flex_anew-returns-in_err-put-clause-stopped g t c = on_err _ _ (c.in_err-put.ensures.stopped _ 0 (c.in_ok-parts.ensures.below c.args.query))
-
-pub walk::flex_anew-returns-clause-own : goal.walk::flex_anew-returns-clause-own
-walk::flex_anew-returns-clause-own g t c = c.in_ok-put.ensures.own ∙ ap (λ l. kept_with l ((c.args.query, answer.Sizes c.in_ok-low.low c.in_ok-low.high) ∷ [])) (c.in_ok-parts.ensures.below c.args.query).own
-
-pub walk::flex_in-returns-in_err-numbers-clause-stopped : goal.walk::flex_in-returns-in_err-numbers-clause-stopped
-walk::flex_in-returns-in_err-numbers-clause-stopped g t c =
-    let all : (q : Query) → Stopped c.args.id q (seen g.R.Ruler.log c.args.walk.now) (seen g.R.Ruler.log c.args.walk.now) =
-    λ q. stopped c.args.id q 0 _ _ (walked_none c.args.id q (seen g.R.Ruler.log c.args.walk.now) c.requires.stands.right) in
-    on_err _ _ all
-
-pub walk::flex_in-returns-in_err-members-clause-stopped : goal.walk::flex_in-returns-in_err-members-clause-stopped
-walk::flex_in-returns-in_err-members-clause-stopped g t c =
-    let all : (q : Query) → Stopped c.args.id q (seen g.R.Ruler.log c.args.walk.now) (seen g.R.Ruler.log c.args.walk.now) =
-    λ q. stopped c.args.id q 0 _ _ (walked_none c.args.id q (seen g.R.Ruler.log c.args.walk.now) c.requires.stands.right) in
-    on_err _ _ all
-
-pub walk::flex_in-loop-number-init : goal.walk::flex_in-loop-number-init
-walk::flex_in-loop-number-init g t c =
-    record {
-      stands = c.requires.stands;
-      parts = same_parts c.args.walk.now;
-      same = refl;
-      walked = λ q. walked_none c.args.id q (seen g.R.Ruler.log c.args.walk.now) c.requires.stands.right;
-      members = ap (λ l. map (member_of (nodes c.args.walk.now)) l ++ members_from (nodes c.args.walk.now) c.args.id 0) c.in_ok-members.ensures ∙ members_first (nodes c.args.walk.now) c.args.id;
-      children = λ k d h. absurd (omega (arith, ap length c.in_ok-members.ensures));
-    }
-
-pub walk::flex_in-child-child-requires : goal.walk::flex_in-child-child-requires
-walk::flex_in-child-child-requires g t c =
-    let there : c.loop-number.number-index < length c.in_ok-numbers.numbers = omega (arith, ap length c.as_slice-number-items.ensures, c.loop-number-test.true) in
-    subst (λ (l : List ℕ). get_or l c.loop-number.number-index 0 < length (kids_at (nodes c.loop-number.walk) c.args.id)) (sym c.as_slice-number-items.ensures)
-    (subst (λ (z : BareTrees). get_or c.in_ok-numbers.numbers c.loop-number.number-index 0 < length (kids_at z c.args.id)) (sym c.loop-number.invariant.same) (c.in_ok-numbers.ensures.within c.loop-number.number-index 0 there))
-
-pub walk::flex_in-ask_alone-requires : goal.walk::flex_in-ask_alone-requires
-walk::flex_in-ask_alone-requires g t c =
-    let none = (chain_in_flex (nodes c.loop-number.walk) c.args.id c.child-child.result _ c.child-child.ensures.next (subst (λ (z : BareTrees). (sight_at z c.args.id).label.kind ≡ kind.Flex) (sym c.loop-number.invariant.same) c.requires.flex)) in
-    let live : IsLive (nodes c.loop-number.walk) c.child-child.result = c.child-child.ensures.next.live in
-    let fits : Fits (sight_at (nodes c.loop-number.walk) c.child-child.result) (inline_query false []) = fits_no_chain (sight_at (nodes c.loop-number.walk) c.child-child.result) none in
-    let seat : IsSeat (sight_at (nodes c.loop-number.walk) c.child-child.result) [] above.Nothing (record { columns = record { start = pos 0; end = pos 0 }; rows = record { start = pos 0; end = pos 0 } }) = alone_there (nodes c.loop-number.walk) c.child-child.result _ (ap has_chain none) in
-    let small : 16 * size_at (nodes c.loop-number.walk) c.child-child.result + 8 < 16 * size_at (nodes c.args.walk.now) c.args.id + 3 = omega (arith, c.child-child.ensures.next.smaller, ap (λ (z : BareTrees). size_at z c.args.id) c.loop-number.invariant.same) in
-    search rules
-
-pub walk::flex_in-returns-in_err-inline-clause-stopped : goal.walk::flex_in-returns-in_err-inline-clause-stopped
-walk::flex_in-returns-in_err-inline-clause-stopped g t c =
-    let all : (q : Query) → Stopped c.args.id q (seen g.R.Ruler.log c.args.walk.now) (seen g.R.Ruler.log c.ask_alone.new.walk) =
-    λ q. c.child-child.ensures.step.stops q (inline_query false []) 0 _ _ _
-    (subst (λ (z : BareTrees). Contains (uses_at z c.args.id q) (get_or c.as_slice-number-items.result.now c.loop-number.number-index 0, inline_query false [])) (sym c.loop-number.invariant.same)
-    (flex_uses_next (nodes c.args.walk.now) c.args.id c.as_slice-number-items.result.now (c.as_slice-number-items.ensures ∙ c.in_ok-numbers.ensures.value) c.loop-number.number-index (omega (arith, c.loop-number-test.true)) c.child-child.result
-    (subst (λ (z : BareTrees). IsNext z c.args.id (get_or c.as_slice-number-items.result.now c.loop-number.number-index 0) c.child-child.result) c.loop-number.invariant.same c.child-child.ensures.next) q c.requires.flex))
-    refl (c.loop-number.invariant.walked q) c.in_err-inline.ensures.stopped in
-    on_err _ _ all
-
-pub walk::flex_in-returns-in_err-push-clause-stopped : goal.walk::flex_in-returns-in_err-push-clause-stopped
-walk::flex_in-returns-in_err-push-clause-stopped g t c =
-    let all : (q : Query) → Stopped c.args.id q (seen g.R.Ruler.log c.args.walk.now) (seen g.R.Ruler.log c.ask_alone.new.walk) =
-    λ q. stopped c.args.id q 0 _ _ (c.child-child.ensures.step.below q (inline_query false []) 0 _ _ _
-    (subst (λ (z : BareTrees). Contains (uses_at z c.args.id q) (get_or c.as_slice-number-items.result.now c.loop-number.number-index 0, inline_query false [])) (sym c.loop-number.invariant.same)
-    (flex_uses_next (nodes c.args.walk.now) c.args.id c.as_slice-number-items.result.now (c.as_slice-number-items.ensures ∙ c.in_ok-numbers.ensures.value) c.loop-number.number-index (omega (arith, c.loop-number-test.true)) c.child-child.result
-    (subst (λ (z : BareTrees). IsNext z c.args.id (get_or c.as_slice-number-items.result.now c.loop-number.number-index 0) c.child-child.result) c.loop-number.invariant.same c.child-child.ensures.next) q c.requires.flex))
-    refl (c.loop-number.invariant.walked q) c.in_ok-inline.ensures.walked) in
-    on_err _ _ all
-
-pub walk::flex_in-loop-number-preserved : goal.walk::flex_in-loop-number-preserved
-walk::flex_in-loop-number-preserved g t c =
-    record {
-      stands = c.ask_alone.ensures.stands;
-      parts = parts_then _ _ _ c.loop-number.invariant.parts c.ask_alone.ensures.parts;
-      same = c.in_ok-inline.ensures.walked.walk.bare_same ∙ c.loop-number.invariant.same;
-      walked = λ q. c.child-child.ensures.step.below q (inline_query false []) 0 _ _ _
-          (subst (λ (z : BareTrees). Contains (uses_at z c.args.id q) (get_or c.as_slice-number-items.result.now c.loop-number.number-index 0, inline_query false [])) (sym c.loop-number.invariant.same)
-          (flex_uses_next (nodes c.args.walk.now) c.args.id c.as_slice-number-items.result.now (c.as_slice-number-items.ensures ∙ c.in_ok-numbers.ensures.value) c.loop-number.number-index (omega (arith, c.loop-number-test.true)) c.child-child.result
-          (subst (λ (z : BareTrees). IsNext z c.args.id (get_or c.as_slice-number-items.result.now c.loop-number.number-index 0) c.child-child.result) c.loop-number.invariant.same c.child-child.ensures.next) q c.requires.flex))
-          refl (c.loop-number.invariant.walked q) c.in_ok-inline.ensures.walked;
-      members =
-          members_next (nodes c.args.walk.now) c.args.id c.as_slice-number-items.result.now (c.as_slice-number-items.ensures ∙ c.in_ok-numbers.ensures.value) c.loop-number.number-index (omega (arith, c.loop-number-test.true)) c.child-child.result
-          (subst (λ (z : BareTrees). IsNext z c.args.id (get_or c.as_slice-number-items.result.now c.loop-number.number-index 0) c.child-child.result) c.loop-number.invariant.same c.child-child.ensures.next) _ _ c.in_ok-inline.inline
-          (sizes_are _ _ c.in_ok-inline.ensures.value ∙ ap (λ (z : BareTrees). (kid_at z c.child-child.result).answers.inline []) c.loop-number.invariant.same)
-          c.in_ok-push.ensures.ok c.loop-number.invariant.members;
-      children = subst (All (IsChild (nodes c.args.walk.now) c.args.id)) (sym c.in_ok-push.ensures.ok)
-          (All-push (IsChild (nodes c.args.walk.now) c.args.id) _ _ c.loop-number.invariant.children
-          (record {
-            number = (subst (λ (z : BareTrees). IsNext z c.args.id (get_or c.as_slice-number-items.result.now c.loop-number.number-index 0) c.child-child.result) c.loop-number.invariant.same c.child-child.ensures.next).number;
-            live = (subst (λ (z : BareTrees). IsNext z c.args.id (get_or c.as_slice-number-items.result.now c.loop-number.number-index 0) c.child-child.result) c.loop-number.invariant.same c.child-child.ensures.next).live;
-          }));
-    }
-
-pub walk::flex_in-returns-clause-value : goal.walk::flex_in-returns-clause-value
-walk::flex_in-returns-clause-value g t c =
-    record {
-      same = members_all (nodes c.args.walk.now) c.args.id c.as_slice-number-items.result.now (c.as_slice-number-items.ensures ∙ c.in_ok-numbers.ensures.value) c.loop-number.number-index c.loop-number.members (omega arith) c.loop-number.invariant.members;
-      children = c.loop-number.invariant.children;
-    }
-
-pub walk::flex_in-returns-clause-below : goal.walk::flex_in-returns-clause-below
-walk::flex_in-returns-clause-below g t c = c.loop-number.invariant.walked
-
 pub walk::columns_anew-put-requires-clause-quiet : goal.walk::columns_anew-put-requires-clause-quiet
 walk::columns_anew-put-requires-clause-quiet g t c =
     grid_quiet (nodes c.grid_in.new.walk) c.args.id c.args.query
@@ -666,3 +532,285 @@ walk::lend_columns_at-returns-in-Some-clause-walked g t c = on_ok _ _ (found_wal
 
 pub walk::lend_columns_at-returns-in-Some-clause-stopped : goal.walk::lend_columns_at-returns-in-Some-clause-stopped
 walk::lend_columns_at-returns-in-Some-clause-stopped g t c = on_err _ _ (stopped c.args.id _ 0 _ _ (walked_none c.args.id (inline_query true c.args.seat.now.reps.now) (seen g.R.Ruler.log c.args.walk.now) c.requires.stands.right))
+
+-- ---- the children of a flex container
+pub walk::ask_member-ask_alone-requires : goal.walk::ask_member-ask_alone-requires
+walk::ask_member-ask_alone-requires g t c =
+    let none = c.requires.alone in
+    let live : IsLive (nodes c.args.walk.now) c.args.last.now.member.child = c.requires.live in
+    let fits : Fits (sight_at (nodes c.args.walk.now) c.args.last.now.member.child) (inline_query false []) = fits_no_chain (sight_at (nodes c.args.walk.now) c.args.last.now.member.child) none in
+    let seat : IsSeat (sight_at (nodes c.args.walk.now) c.args.last.now.member.child) [] above.Nothing (record { columns = record { start = pos 0; end = pos 0 }; rows = record { start = pos 0; end = pos 0 } })
+    = alone_there (nodes c.args.walk.now) c.args.last.now.member.child _ (ap has_chain none) in
+    let small : 16 * size_at (nodes c.args.walk.now) c.args.last.now.member.child + 8 < 16 * size_at (nodes c.args.walk.now) c.args.last.now.member.child + 9 = omega arith in
+    search rules
+
+pub walk::ask_member-told_by-requires-clause-live : goal.walk::ask_member-told_by-requires-clause-live
+walk::ask_member-told_by-requires-clause-live g t c = subst (λ (z : BareTrees). IsLive z c.args.last.now.member.child) (sym c.in_ok-inline.ensures.walked.walk.bare_same) c.requires.live
+
+pub walk::ask_member-told_by-requires-clause-readable : goal.walk::ask_member-told_by-requires-clause-readable
+walk::ask_member-told_by-requires-clause-readable g t c = c.ask_alone.ensures.stands.readable
+
+pub walk::ask_member-told_by-requires-clause-inline : goal.walk::ask_member-told_by-requires-clause-inline
+walk::ask_member-told_by-requires-clause-inline g t c =
+    sizes_are c.in_ok-inline.inline ((kid_at (nodes c.args.walk.now) c.args.last.now.member.child).answers.inline []) c.in_ok-inline.ensures.value
+    ∙ ap (λ (z : BareTrees). (kid_at z c.args.last.now.member.child).answers.inline []) (sym c.in_ok-inline.ensures.walked.walk.bare_same)
+
+pub walk::ask_member-returns-clause-place : goal.walk::ask_member-returns-clause-place
+walk::ask_member-returns-clause-place g t c = c.told_by.ensures.place
+
+pub walk::ask_member-returns-clause-told : goal.walk::ask_member-returns-clause-told
+walk::ask_member-returns-clause-told g t c = subst (λ (z : BareTrees). Tells (kid_at z c.args.last.now.member.child) c.told_by.result) c.in_ok-inline.ensures.walked.walk.bare_same c.told_by.ensures.told
+
+pub walk::tell_member-returns-in-Some-clause-place : goal.walk::tell_member-returns-in-Some-clause-place
+walk::tell_member-returns-in-Some-clause-place g t c = ap place_of c.in-Some.ensures.same
+
+pub walk::tell_member-returns-in-Some-clause-told : goal.walk::tell_member-returns-in-Some-clause-told
+walk::tell_member-returns-in-Some-clause-told g t c =
+    subst (Tells (kid_at (nodes c.args.walk.now) c.args.last.now.member.child)) (sym c.in-Some.ensures.same) (c.requires.last c.in-Some.ensures.few)
+
+pub walk::tell_member-returns-in-Some-clause-walked : goal.walk::tell_member-returns-in-Some-clause-walked
+walk::tell_member-returns-in-Some-clause-walked g t c = found_walked c.args.last.now.member.child (inline_query false []) (seen g.R.Ruler.log c.args.walk.now) c.requires.stands.right
+
+pub walk::tell_members-returns-in_err-told-clause-stopped : goal.walk::tell_members-returns-in_err-told-clause-stopped
+walk::tell_members-returns-in_err-told-clause-stopped g t c =
+    let all : (q : Query) → Stopped c.args.id q (seen g.R.Ruler.log c.args.walk.now) (seen g.R.Ruler.log c.args.walk.now) =
+    λ q. stopped c.args.id q 0 _ _ (walked_none c.args.id q (seen g.R.Ruler.log c.args.walk.now) c.requires.stands.right) in
+    on_err _ _ all
+
+pub walk::tell_members-loop-last-init : goal.walk::tell_members-loop-last-init
+walk::tell_members-loop-last-init g t c =
+    record {
+      stands = c.requires.stands;
+      parts = same_parts c.args.walk.now;
+      same = refl;
+      walked = λ q. walked_none c.args.id q (seen g.R.Ruler.log c.args.walk.now) c.requires.stands.right;
+      places = ap (map place_of) c.in_ok-told.ensures;
+      told = subst (Every (tells_in (nodes c.args.walk.now))) (sym c.in_ok-told.ensures) tt;
+    }
+
+pub walk::tell_members-tell_member-requires : goal.walk::tell_members-tell_member-requires
+walk::tell_members-tell_member-requires g t c =
+    let there : c.loop-last.last-index < length c.args.past.now = omega (arith, c.loop-last-test.true) in
+    let next = next_at (nodes c.args.walk.now) c.args.id c.root.ensures.tree c.args.past.now c.requires.past c.loop-last.last-index c.last-item.result there c.last-item.is in
+    let back = sym c.loop-last.invariant.same in
+    let live : IsLive (nodes c.loop-last.walk) c.last-item.result.member.child = subst (λ (z : BareTrees). IsLive z c.last-item.result.member.child) back next.live in
+    let alone : (sight_at (nodes c.loop-last.walk) c.last-item.result.member.child).chain ≡ [] =
+    subst (λ (z : BareTrees). (sight_at z c.last-item.result.member.child).chain ≡ []) back (chain_in_flex (nodes c.args.walk.now) c.args.id c.last-item.result.member.child _ next c.requires.flex) in
+    let last : c.last-item.result.turn < last_turn → Tells (kid_at (nodes c.loop-last.walk) c.last-item.result.member.child) c.last-item.result =
+    subst (λ (z : BareTrees). c.last-item.result.turn < last_turn → Tells (kid_at z c.last-item.result.member.child) c.last-item.result) back
+    (last_at (nodes c.args.walk.now) c.args.id c.root.ensures.tree c.args.past.now c.requires.past c.loop-last.last-index c.last-item.result there c.last-item.is) in
+    let small : 16 * size_at (nodes c.loop-last.walk) c.last-item.result.member.child + 10 < 16 * size_at (nodes c.args.walk.now) c.args.id = omega (arith, next.smaller, ap (λ (z : BareTrees). size_at z c.last-item.result.member.child) c.loop-last.invariant.same) in
+    search rules
+
+pub walk::tell_members-returns-in_err-child-clause-stopped : goal.walk::tell_members-returns-in_err-child-clause-stopped
+walk::tell_members-returns-in_err-child-clause-stopped g t c =
+    let there : c.loop-last.last-index < length c.args.past.now = omega (arith, c.loop-last-test.true) in
+    let next = next_at (nodes c.args.walk.now) c.args.id c.root.ensures.tree c.args.past.now c.requires.past c.loop-last.last-index c.last-item.result there c.last-item.is in
+    let all : (q : Query) → Stopped c.args.id q (seen g.R.Ruler.log c.args.walk.now) (seen g.R.Ruler.log c.tell_member.new.walk) =
+    λ q. (c.root.ensures.steps c.args.id c.last-item.result.member.child c.last-item.result.member.number next.number).stops q (inline_query false []) 0 _ _ _
+    (asks_at (nodes c.args.walk.now) c.args.id c.root.ensures.tree c.args.past.now c.requires.past c.loop-last.last-index c.last-item.result there c.last-item.is q c.requires.flex)
+    c.loop-last.invariant.same (c.loop-last.invariant.walked q) c.in_err-child.ensures.stopped in
+    on_err _ _ all
+
+pub walk::tell_members-returns-in_err-push-clause-stopped : goal.walk::tell_members-returns-in_err-push-clause-stopped
+walk::tell_members-returns-in_err-push-clause-stopped g t c =
+    let there : c.loop-last.last-index < length c.args.past.now = omega (arith, c.loop-last-test.true) in
+    let next = next_at (nodes c.args.walk.now) c.args.id c.root.ensures.tree c.args.past.now c.requires.past c.loop-last.last-index c.last-item.result there c.last-item.is in
+    let all : (q : Query) → Stopped c.args.id q (seen g.R.Ruler.log c.args.walk.now) (seen g.R.Ruler.log c.tell_member.new.walk) =
+    λ q. stopped c.args.id q 0 _ _ ((c.root.ensures.steps c.args.id c.last-item.result.member.child c.last-item.result.member.number next.number).below q (inline_query false []) 0 _ _ _
+    (asks_at (nodes c.args.walk.now) c.args.id c.root.ensures.tree c.args.past.now c.requires.past c.loop-last.last-index c.last-item.result there c.last-item.is q c.requires.flex)
+    c.loop-last.invariant.same (c.loop-last.invariant.walked q) c.in_ok-child.ensures.walked) in
+    on_err _ _ all
+
+pub walk::tell_members-loop-last-preserved : goal.walk::tell_members-loop-last-preserved
+walk::tell_members-loop-last-preserved g t c =
+    let there : c.loop-last.last-index < length c.args.past.now = omega (arith, c.loop-last-test.true) in
+    let next = next_at (nodes c.args.walk.now) c.args.id c.root.ensures.tree c.args.past.now c.requires.past c.loop-last.last-index c.last-item.result there c.last-item.is in
+    record {
+      stands = c.tell_member.ensures.stands;
+      parts = parts_then _ _ _ c.loop-last.invariant.parts c.tell_member.ensures.parts;
+      same = c.in_ok-child.ensures.walked.walk.bare_same ∙ c.loop-last.invariant.same;
+      walked = λ q. (c.root.ensures.steps c.args.id c.last-item.result.member.child c.last-item.result.member.number next.number).below q (inline_query false []) 0 _ _ _
+          (asks_at (nodes c.args.walk.now) c.args.id c.root.ensures.tree c.args.past.now c.requires.past c.loop-last.last-index c.last-item.result there c.last-item.is q c.requires.flex)
+          c.loop-last.invariant.same (c.loop-last.invariant.walked q) c.in_ok-child.ensures.walked;
+      places = places_next c.args.past.now c.loop-last.told _ c.loop-last.last-index c.last-item.result c.in_ok-child.child there c.last-item.is c.in_ok-push.ensures.ok c.in_ok-child.ensures.place c.loop-last.invariant.places;
+      told = told_more (tells_in (nodes c.args.walk.now)) c.loop-last.told _ c.in_ok-child.child c.in_ok-push.ensures.ok c.loop-last.invariant.told
+          (tells_there (nodes c.args.walk.now) (nodes c.loop-last.walk) c.last-item.result c.in_ok-child.child c.loop-last.invariant.same c.in_ok-child.ensures.place c.in_ok-child.ensures.told);
+    }
+
+pub walk::tell_members-returns-clause-told : goal.walk::tell_members-returns-clause-told
+walk::tell_members-returns-clause-told g t c =
+    all_told (nodes c.args.walk.now) c.args.id c.args.past.now c.loop-last.told c.loop-last.last-index (omega arith) c.requires.past c.loop-last.invariant.places c.loop-last.invariant.told
+
+pub walk::tell_members-returns-clause-below : goal.walk::tell_members-returns-clause-below
+walk::tell_members-returns-clause-below g t c = c.loop-last.invariant.walked
+
+pub walk::told_members-returns-in_err-past-clause-stopped : goal.walk::told_members-returns-in_err-past-clause-stopped
+walk::told_members-returns-in_err-past-clause-stopped g t c =
+    let all : (q : Query) → Stopped c.args.id q (seen g.R.Ruler.log c.args.walk.now) (seen g.R.Ruler.log c.last_members.new.walk) =
+    λ q. c.last_members.ensures.stopped q (seen g.R.Ruler.log c.last_members.new.walk) (stopped c.args.id q 0 _ _ (walked_none c.args.id q (seen g.R.Ruler.log c.last_members.new.walk) c.last_members.ensures.stands.right)) in
+    on_err _ _ all
+
+pub walk::told_members-tell_members-requires : goal.walk::told_members-tell_members-requires
+walk::told_members-tell_members-requires g t c =
+    let back = sym c.last_members.ensures.bare in
+    let flex : (sight_at (nodes c.last_members.new.walk) c.args.id).label.kind ≡ kind.Flex = subst (λ (z : BareTrees). (sight_at z c.args.id).label.kind ≡ kind.Flex) back c.requires.flex in
+    let past : ArePastMembers (nodes c.last_members.new.walk) c.args.id c.as_slice.result.now =
+    subst (λ (z : BareTrees). ArePastMembers z c.args.id c.as_slice.result.now) back (subst (ArePastMembers (nodes c.args.walk.now) c.args.id) (sym c.as_slice.ensures) c.in_ok-past.ensures.past) in
+    let small : 16 * size_at (nodes c.last_members.new.walk) c.args.id < 16 * size_at (nodes c.args.walk.now) c.args.id + 1 = omega (arith, ap (λ (z : BareTrees). size_at z c.args.id) c.last_members.ensures.bare) in
+    search rules
+
+pub walk::told_members-returns-in_err-told-clause-stopped : goal.walk::told_members-returns-in_err-told-clause-stopped
+walk::told_members-returns-in_err-told-clause-stopped g t c =
+    let all : (q : Query) → Stopped c.args.id q (seen g.R.Ruler.log c.args.walk.now) (seen g.R.Ruler.log c.tell_members.new.walk) =
+    λ q. c.last_members.ensures.stopped q (seen g.R.Ruler.log c.tell_members.new.walk) (c.in_err-told.ensures.stopped q) in
+    on_err _ _ all
+
+pub walk::told_members-returns-clause-told : goal.walk::told_members-returns-clause-told
+walk::told_members-returns-clause-told g t c = subst (λ (z : BareTrees). AreToldMembers z c.args.id c.in_ok-told.told) c.last_members.ensures.bare c.in_ok-told.ensures.told
+
+pub walk::told_members-returns-clause-below : goal.walk::told_members-returns-clause-below
+walk::told_members-returns-clause-below g t c = λ q. c.last_members.ensures.below q 0 (seen g.R.Ruler.log c.tell_members.new.walk) (c.in_ok-told.ensures.below q)
+
+pub walk::flex_sizes-returns-in_err-told-clause-stopped : goal.walk::flex_sizes-returns-in_err-told-clause-stopped
+walk::flex_sizes-returns-in_err-told-clause-stopped g t c = on_err _ _ (c.in_err-told.ensures.stopped c.args.query.now)
+
+pub walk::flex_sizes-flex_inline-requires-clause-live : goal.walk::flex_sizes-flex_inline-requires-clause-live
+walk::flex_sizes-flex_inline-requires-clause-live g t c = subst (λ (z : BareTrees). IsLive z c.args.id) (sym (c.in_ok-told.ensures.below c.args.query.now).walk.bare_same) c.requires.live
+
+pub walk::flex_sizes-flex_inline-requires-clause-told : goal.walk::flex_sizes-flex_inline-requires-clause-told
+walk::flex_sizes-flex_inline-requires-clause-told g t c =
+    subst (λ (z : BareTrees). AreToldMembers z c.args.id c.as_slice.result.now) (sym (c.in_ok-told.ensures.below c.args.query.now).walk.bare_same)
+    (subst (AreToldMembers (nodes c.args.walk.now) c.args.id) (sym c.as_slice.ensures) c.in_ok-told.ensures.told)
+
+pub walk::flex_sizes-returns-in_err-sizes-clause-stopped : goal.walk::flex_sizes-returns-in_err-sizes-clause-stopped
+walk::flex_sizes-returns-in_err-sizes-clause-stopped g t c = on_err _ _ (stopped c.args.id c.args.query.now 0 _ _ (c.in_ok-told.ensures.below c.args.query.now))
+
+pub walk::flex_sizes-keep_members-requires-clause-live : goal.walk::flex_sizes-keep_members-requires-clause-live
+walk::flex_sizes-keep_members-requires-clause-live g t c = subst (λ (z : BareTrees). IsLive z c.args.id) (sym (c.in_ok-told.ensures.below c.args.query.now).walk.bare_same) c.requires.live
+
+pub walk::flex_sizes-keep_members-requires-clause-told : goal.walk::flex_sizes-keep_members-requires-clause-told
+walk::flex_sizes-keep_members-requires-clause-told g t c =
+    subst (λ (z : BareTrees). AreToldMembers z c.args.id c.as_slice-2.result.now) (sym (c.in_ok-told.ensures.below c.args.query.now).walk.bare_same)
+    (subst (AreToldMembers (nodes c.args.walk.now) c.args.id) (sym c.as_slice-2.ensures) c.in_ok-told.ensures.told)
+
+pub walk::flex_sizes-returns-in_err-keep_members-clause-stopped : goal.walk::flex_sizes-returns-in_err-keep_members-clause-stopped
+walk::flex_sizes-returns-in_err-keep_members-clause-stopped g t c =
+    on_err _ _ (stopped c.args.id c.args.query.now 0 _ _ (c.keep_members.ensures.below c.args.query.now 0 _ (c.in_ok-told.ensures.below c.args.query.now)))
+
+pub walk::flex_sizes-returns-clause-value : goal.walk::flex_sizes-returns-clause-value
+walk::flex_sizes-returns-clause-value g t c =
+    ap inline_sizes c.in_ok-sizes.ensures
+    ∙ flex_answer (nodes c.told_members.new.walk) c.args.id c.args.query.now (subst (λ (z : BareTrees). (sight_at z c.args.id).label.kind ≡ kind.Flex) (sym (c.in_ok-told.ensures.below c.args.query.now).walk.bare_same) c.requires.flex) c.requires.ask
+    ∙ ap (λ (z : BareTrees). answer_of (sight_at z c.args.id) c.args.query.now) (c.in_ok-told.ensures.below c.args.query.now).walk.bare_same
+
+pub walk::flex_sizes-returns-clause-below : goal.walk::flex_sizes-returns-clause-below
+walk::flex_sizes-returns-clause-below g t c = c.keep_members.ensures.below c.args.query.now 0 _ (c.in_ok-told.ensures.below c.args.query.now)
+
+pub walk::flex_anew-put-requires-clause-live : goal.walk::flex_anew-put-requires-clause-live
+walk::flex_anew-put-requires-clause-live g t c = subst (λ (z : BareTrees). IsLive z c.args.id) (sym c.in_ok-low.ensures.below.walk.bare_same) c.requires.live
+
+pub walk::flex_anew-put-requires-clause-absent : goal.walk::flex_anew-put-requires-clause-absent
+walk::flex_anew-put-requires-clause-absent g t c = subst (IsAbsent c.args.query) (sym c.in_ok-low.ensures.below.own) c.requires.absent
+
+pub walk::flex_anew-put-requires-clause-fits : goal.walk::flex_anew-put-requires-clause-fits
+walk::flex_anew-put-requires-clause-fits g t c = subst (λ (z : BareTrees). Fits (sight_at z c.args.id) c.args.query) (sym c.in_ok-low.ensures.below.walk.bare_same) c.requires.fits
+
+pub walk::flex_anew-put-requires-clause-value : goal.walk::flex_anew-put-requires-clause-value
+walk::flex_anew-put-requires-clause-value g t c = c.in_ok-low.ensures.value ∙ ap (λ (z : BareTrees). answer_of (sight_at z c.args.id) c.args.query) (sym c.in_ok-low.ensures.below.walk.bare_same)
+
+pub walk::flex_anew-put-requires-clause-quiet : goal.walk::flex_anew-put-requires-clause-quiet
+walk::flex_anew-put-requires-clause-quiet g t c = flex_quiet (nodes c.flex_sizes.new.walk) c.args.id c.args.query (subst (λ (z : BareTrees). (sight_at z c.args.id).label.kind ≡ kind.Flex) (sym c.in_ok-low.ensures.below.walk.bare_same) c.requires.flex)
+
+pub walk::flex_anew-returns-clause-walked : goal.walk::flex_anew-returns-clause-walked
+walk::flex_anew-returns-clause-walked g t c = c.in_ok-put.ensures.joins _ 0 (omega arith) c.in_ok-low.ensures.below
+
+pub walk::flex_anew-returns-in_err-put-clause-stopped : goal.walk::flex_anew-returns-in_err-put-clause-stopped
+walk::flex_anew-returns-in_err-put-clause-stopped g t c = on_err _ _ (c.in_err-put.ensures.stopped _ 0 c.in_ok-low.ensures.below)
+
+pub walk::flex_anew-returns-clause-own : goal.walk::flex_anew-returns-clause-own
+walk::flex_anew-returns-clause-own g t c = c.in_ok-put.ensures.own ∙ ap (λ l. kept_with l ((c.args.query, answer.Sizes c.in_ok-low.low c.in_ok-low.high) ∷ [])) c.in_ok-low.ensures.below.own
+
+pub walk::ask_member-returns-in_err-inline-clause-parts : goal.walk::ask_member-returns-in_err-inline-clause-parts
+walk::ask_member-returns-in_err-inline-clause-parts g t c = c.ask_alone.ensures.parts
+
+pub walk::ask_member-returns-in_err-inline-clause-stands : goal.walk::ask_member-returns-in_err-inline-clause-stands
+walk::ask_member-returns-in_err-inline-clause-stands g t c = c.ask_alone.ensures.stands
+
+pub walk::ask_member-returns-clause-parts : goal.walk::ask_member-returns-clause-parts
+walk::ask_member-returns-clause-parts g t c = c.ask_alone.ensures.parts
+
+pub walk::ask_member-returns-clause-stands : goal.walk::ask_member-returns-clause-stands
+walk::ask_member-returns-clause-stands g t c = c.ask_alone.ensures.stands
+
+pub walk::tell_member-returns-in-Some-clause-parts : goal.walk::tell_member-returns-in-Some-clause-parts
+walk::tell_member-returns-in-Some-clause-parts g t c = same_parts c.args.walk.now
+
+pub walk::tell_member-returns-in-Some-clause-stands : goal.walk::tell_member-returns-in-Some-clause-stands
+walk::tell_member-returns-in-Some-clause-stands g t c = c.requires.stands
+
+pub walk::tell_members-returns-in_err-told-clause-parts : goal.walk::tell_members-returns-in_err-told-clause-parts
+walk::tell_members-returns-in_err-told-clause-parts g t c = same_parts c.args.walk.now
+
+pub walk::tell_members-returns-in_err-told-clause-stands : goal.walk::tell_members-returns-in_err-told-clause-stands
+walk::tell_members-returns-in_err-told-clause-stands g t c = c.requires.stands
+
+pub walk::tell_members-returns-in_err-child-clause-parts : goal.walk::tell_members-returns-in_err-child-clause-parts
+walk::tell_members-returns-in_err-child-clause-parts g t c = parts_then _ _ _ c.loop-last.invariant.parts c.tell_member.ensures.parts
+
+pub walk::tell_members-returns-in_err-child-clause-stands : goal.walk::tell_members-returns-in_err-child-clause-stands
+walk::tell_members-returns-in_err-child-clause-stands g t c = c.tell_member.ensures.stands
+
+pub walk::tell_members-returns-in_err-push-clause-parts : goal.walk::tell_members-returns-in_err-push-clause-parts
+walk::tell_members-returns-in_err-push-clause-parts g t c = parts_then _ _ _ c.loop-last.invariant.parts c.tell_member.ensures.parts
+
+pub walk::tell_members-returns-in_err-push-clause-stands : goal.walk::tell_members-returns-in_err-push-clause-stands
+walk::tell_members-returns-in_err-push-clause-stands g t c = c.tell_member.ensures.stands
+
+pub walk::tell_members-returns-clause-parts : goal.walk::tell_members-returns-clause-parts
+walk::tell_members-returns-clause-parts g t c = c.loop-last.invariant.parts
+
+pub walk::tell_members-returns-clause-stands : goal.walk::tell_members-returns-clause-stands
+walk::tell_members-returns-clause-stands g t c = c.loop-last.invariant.stands
+
+pub walk::told_members-returns-in_err-past-clause-parts : goal.walk::told_members-returns-in_err-past-clause-parts
+walk::told_members-returns-in_err-past-clause-parts g t c = c.last_members.ensures.parts
+
+pub walk::told_members-returns-in_err-past-clause-stands : goal.walk::told_members-returns-in_err-past-clause-stands
+walk::told_members-returns-in_err-past-clause-stands g t c = c.last_members.ensures.stands
+
+pub walk::told_members-returns-in_err-told-clause-parts : goal.walk::told_members-returns-in_err-told-clause-parts
+walk::told_members-returns-in_err-told-clause-parts g t c = parts_then _ _ _ c.last_members.ensures.parts c.tell_members.ensures.parts
+
+pub walk::told_members-returns-in_err-told-clause-stands : goal.walk::told_members-returns-in_err-told-clause-stands
+walk::told_members-returns-in_err-told-clause-stands g t c = c.tell_members.ensures.stands
+
+pub walk::told_members-returns-clause-parts : goal.walk::told_members-returns-clause-parts
+walk::told_members-returns-clause-parts g t c = parts_then _ _ _ c.last_members.ensures.parts c.tell_members.ensures.parts
+
+pub walk::told_members-returns-clause-stands : goal.walk::told_members-returns-clause-stands
+walk::told_members-returns-clause-stands g t c = c.tell_members.ensures.stands
+
+pub walk::flex_sizes-returns-in_err-told-clause-parts : goal.walk::flex_sizes-returns-in_err-told-clause-parts
+walk::flex_sizes-returns-in_err-told-clause-parts g t c = c.told_members.ensures.parts
+
+pub walk::flex_sizes-returns-in_err-told-clause-stands : goal.walk::flex_sizes-returns-in_err-told-clause-stands
+walk::flex_sizes-returns-in_err-told-clause-stands g t c = c.told_members.ensures.stands
+
+pub walk::flex_sizes-returns-in_err-sizes-clause-parts : goal.walk::flex_sizes-returns-in_err-sizes-clause-parts
+walk::flex_sizes-returns-in_err-sizes-clause-parts g t c = c.told_members.ensures.parts
+
+pub walk::flex_sizes-returns-in_err-sizes-clause-stands : goal.walk::flex_sizes-returns-in_err-sizes-clause-stands
+walk::flex_sizes-returns-in_err-sizes-clause-stands g t c = c.told_members.ensures.stands
+
+pub walk::flex_sizes-returns-in_err-keep_members-clause-parts : goal.walk::flex_sizes-returns-in_err-keep_members-clause-parts
+walk::flex_sizes-returns-in_err-keep_members-clause-parts g t c = parts_then _ _ _ c.told_members.ensures.parts c.keep_members.ensures.parts
+
+pub walk::flex_sizes-returns-in_err-keep_members-clause-stands : goal.walk::flex_sizes-returns-in_err-keep_members-clause-stands
+walk::flex_sizes-returns-in_err-keep_members-clause-stands g t c = c.keep_members.ensures.stands
+
+pub walk::flex_sizes-returns-clause-parts : goal.walk::flex_sizes-returns-clause-parts
+walk::flex_sizes-returns-clause-parts g t c = parts_then _ _ _ c.told_members.ensures.parts c.keep_members.ensures.parts
+
+pub walk::flex_sizes-returns-clause-stands : goal.walk::flex_sizes-returns-clause-stands
+walk::flex_sizes-returns-clause-stands g t c = c.keep_members.ensures.stands

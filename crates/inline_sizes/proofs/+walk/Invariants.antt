@@ -1,13 +1,13 @@
 -- The measures of the walk, and what holds in its loops. The measure of a function is sixteen times the size of its node and a number below 16: those that go down
 -- to a child take the child's node.
-use Rattle.std.proofs.Common.{◌≡◌, ◌+◌, ◌*◌, ◌++◌, ◌≤◌, drop, length, map}
-use Rattle.std.specs.Prelude.{All}
+use Rattle.std.proofs.Common.{◌≡◌, ◌+◌, ◌*◌, ◌≤◌, drop, length, map, take}
+use Rattle.placing.specs.Members.{Every, place_of}
 use Rattle.placing.specs.Nodes.{kid_at, sight_at, size_at}
 use Rattle.placing.specs.Told.{AllBut, AreTold, Each, TellsColumns}
 use Rattle.placing.specs.Walks.{WalkedBelow}
 use Rattle.tree_rules.specs.declared.query.Query.{Query}
-use Rattle.inline_sizes.specs.Flexes.{IsChild, flex_seen, member_of, members_from}
 use Rattle.inline_sizes.specs.Grids.{HaveTold, LeadsOn}
+use Rattle.inline_sizes.proofs.FlexTold.{tells_in}
 use Rattle.walker.specs.Walkers.{SameParts, Stands, nodes, seen}
 use Rattle.inline_sizes.proofs.+walk.Given as goal
 
@@ -38,14 +38,26 @@ decreases-asking::ask_needed g l = 16 * size_at (nodes l.walk.now) l.id + 2
 abbrev pub decreases-asking::grid_in : goal.decreases-asking::grid_in
 decreases-asking::grid_in g l = 16 * size_at (nodes l.walk.now) l.id + 3
 
-abbrev pub decreases-walk::flex_in : goal.decreases-walk::flex_in
-decreases-walk::flex_in g l = 16 * size_at (nodes l.walk.now) l.id + 3
+abbrev pub decreases-walk::ask_member : goal.decreases-walk::ask_member
+decreases-walk::ask_member g l = 16 * size_at (nodes l.walk.now) l.last.now.member.child + 9
+
+abbrev pub decreases-walk::tell_member : goal.decreases-walk::tell_member
+decreases-walk::tell_member g l = 16 * size_at (nodes l.walk.now) l.last.now.member.child + 10
+
+abbrev pub decreases-walk::tell_members : goal.decreases-walk::tell_members
+decreases-walk::tell_members g l = 16 * size_at (nodes l.walk.now) l.id
+
+abbrev pub decreases-walk::told_members : goal.decreases-walk::told_members
+decreases-walk::told_members g l = 16 * size_at (nodes l.walk.now) l.id + 1
 
 abbrev pub decreases-walk::grid_sizes : goal.decreases-walk::grid_sizes
 decreases-walk::grid_sizes g l = 16 * size_at (nodes l.walk.now) l.id + 4
 
 abbrev pub decreases-walk::grid_anew : goal.decreases-walk::grid_anew
 decreases-walk::grid_anew g l = 16 * size_at (nodes l.walk.now) l.id + 5
+
+abbrev pub decreases-walk::flex_sizes : goal.decreases-walk::flex_sizes
+decreases-walk::flex_sizes g l = 16 * size_at (nodes l.walk.now) l.id + 4
 
 abbrev pub decreases-walk::flex_anew : goal.decreases-walk::flex_anew
 decreases-walk::flex_anew g l = 16 * size_at (nodes l.walk.now) l.id + 5
@@ -83,13 +95,13 @@ invariant-asking::ask_stale-loop-index g l =
       told : HaveTold (nodes l.fn.walk) l.id l.base (AllBut (drop l.index-index l.stale)) l.inlines l.items l.ends;
     }
 
-abbrev pub invariant-walk::flex_in-loop-number : goal.invariant-walk::flex_in-loop-number
-invariant-walk::flex_in-loop-number g l =
+abbrev pub invariant-walk::tell_members-loop-last : goal.invariant-walk::tell_members-loop-last
+invariant-walk::tell_members-loop-last g l =
     record {
       stands : Stands l.walk;
       parts : SameParts l.fn.walk l.walk;
       same : nodes l.walk ≡ nodes l.fn.walk;
-      walked : (q : Query) → WalkedBelow l.id q 0 (seen g.R.Ruler.log l.fn.walk) (seen g.R.Ruler.log l.walk);
-      members : map (member_of (nodes l.fn.walk)) l.members ++ members_from (nodes l.fn.walk) l.id l.number-index ≡ (flex_seen (nodes l.fn.walk) l.id).members;
-      children : All (IsChild (nodes l.fn.walk) l.id) l.members;
+      walked : (q : Query) → WalkedBelow l.fn.id q 0 (seen g.R.Ruler.log l.fn.walk) (seen g.R.Ruler.log l.walk);
+      places : map place_of l.told ≡ map place_of (take l.last-index l.past);
+      told : Every (tells_in (nodes l.fn.walk)) l.told;
     }
