@@ -56,7 +56,7 @@ pub still_right : (t u : NodeTrees) → IsRight t → ((n : NodeId) → KeepsOn 
 still_right t u r h g turned = record { lists = λ n. list n (h n); children = λ n. named n (h n); past = λ n. held n (g n) }
   where
     held : (n : NodeId) → HoldsOn t u n → HoldsPast (bare u) (turn_at u) n (past_at u n)
-    held n (inl e) = subst (HoldsPast (bare u) (turn_at u) n) (sym e) (record { bases = tt; columns = tt; wide = tt; frames = tt; members = tt })
+    held n (inl e) = subst (HoldsPast (bare u) (turn_at u) n) (sym e) (record { bases = tt; columns = tt; wide = tt; frames = tt; members = tt; along = tt })
     held n (inr k) =
         subst (HoldsPast (bare u) (turn_at u) n) (sym k.past)
         (past_stays (bare t) (bare u) (turn_at t) (turn_at u) n k.label k.chain k.siblings k.children (λ c l. (turned c l).later) (λ c l. (turned c l).same) (past_at t n) (r.past n))
@@ -77,7 +77,7 @@ none_right t h g =
     record {
       lists = λ n. subst (AreRight (sight_at (bare t) n) plain_answer) (sym (none_at t n h)) (empty_right (sight_at (bare t) n) plain_answer);
       children = λ n. subst (EachPair (λ (q : Query) (a : Answer). IsOfNode (sight_at (bare t) n) (children_at (bare t) n) q a)) (sym (none_at t n h)) tt;
-      past = λ n. subst (HoldsPast (bare t) (turn_at t) n) (sym (held_none t n g)) (record { bases = tt; columns = tt; wide = tt; frames = tt; members = tt });
+      past = λ n. subst (HoldsPast (bare t) (turn_at t) n) (sym (held_none t n g)) (record { bases = tt; columns = tt; wide = tt; frames = tt; members = tt; along = tt });
     }
 
 -- ---- answers let go

@@ -1,13 +1,16 @@
 -- What the children of a flex container told last: which of it still holds.
-use Rattle.std.proofs.Common.{◌≡◌, ℕ, zero, suc, ◌+◌, ◌<◌, ◌≤◌, Bool, true, false, List, [], ◌∷◌, ◌++◌, Some, refl, sym, ap, ◌∙◌, arith, drop, map, subst}
+use Rattle.std.proofs.Common.{◌≡◌, ℕ, zero, suc, ◌+◌, ◌<◌, ◌≤◌, Bool, true, false, ℤ, List, [], ◌∷◌, ◌++◌, Some, refl, sym, ap, ◌∙◌, arith, drop, map, subst}
 use Rattle.std.specs.Prelude.{◌==◌, slice_get, if◌then◌else◌}
 use Rattle.std.proofs.lemmas.Bool.{eqb-true}
 use Rattle.node_arena.specs.declared.number.NodeId.{NodeId}
 use Rattle.tree_rules.specs.Answers.{Kid}
+use Rattle.tree_rules.specs.Labels.{Label}
 use Rattle.placing.specs.Children.{IsNext}
-use Rattle.placing.specs.Members.{AreInOrder, Every, IsPlace, Place, Tells, place_of, turn_in}
+use Rattle.placing.specs.Members.{AreInOrder, Every, Place, Tells, TellsAlong, along_place, along_turn, place_of, turn_in}
 use Rattle.placing.specs.Nodes.{BareTrees, children_at, kid_at, sight_at}
-use Rattle.placing.specs.Told.{AreNow, ArePast, ArePastMembers, AreToldMembers, HoldsEach, HoldsMembers, last_turn, marked_at, marked_turn, turned_at}
+use Rattle.placing.specs.Told.{AreNow, ArePast, ArePastMembers, AreToldAlong, AreToldMembers, HoldsAlong, HoldsEach, HoldsMembers, IsPastAlong, along_marked, along_turned, last_turn, marked_at, marked_turn, turned_at}
+use Rattle.placing.specs.declared.lined.KeptAlong.{KeptAlong}
+use Rattle.placing.specs.declared.lined.ToldAlong.{ToldAlong}
 use Rattle.placing.specs.declared.lined.ToldMember.{ToldMember}
 
 -- ---- lists
@@ -85,6 +88,24 @@ members_taken b turn late n es new same h e =
 
 pub members_kept : (b : BareTrees) (turn : NodeId → ℕ) (n : NodeId) (es new : List ToldMember) → AreToldMembers b n es → new ≡ map (turned_at turn) es → HoldsMembers b turn n new
 members_kept b turn n es new h e = subst (HoldsMembers b turn n) (sym e) (each_kept place_of turn_in Tells turn (turned_at turn) (λ x. refl) (turned_tells turn) (λ x. refl) b n es h)
+
+-- ---- for the block size
+along_marks : (turn : NodeId → ℕ) (x : Label) (width : ℤ) (k : Kid) (e : ToldAlong) → TellsAlong x width k e → TellsAlong x width k (along_marked turn e)
+along_marks turn x width k e h = record { size = h.size; block = h.block; item = h.item }
+
+along_turns : (turn : NodeId → ℕ) (x : Label) (width : ℤ) (k : Kid) (e : ToldAlong) → TellsAlong x width k e → TellsAlong x width k (along_turned turn e)
+along_turns turn x width k e h = record { size = h.size; block = h.block; item = h.item }
+
+pub along_taken : (b : BareTrees) (turn late : NodeId → ℕ) (n : NodeId) (w : KeptAlong) (new : List ToldAlong) → late ≡ turn → HoldsAlong b turn n w → new ≡ map (along_marked late) w.told → IsPastAlong b n (record { width = w.width; told = new })
+along_taken b turn late n w new same h e =
+    let x = (sight_at b n).label in
+    subst (λ l. IsPastAlong b n (record { width = w.width; told = l })) (sym (e ∙ ap (λ t. map (along_marked t) w.told) same))
+    (each_taken along_place along_turn (TellsAlong x w.width) turn (along_marked turn) (λ y. refl) (along_marks turn x w.width) (λ y. refl) b n w.told h)
+
+pub along_kept : (b : BareTrees) (turn : NodeId → ℕ) (n : NodeId) (width : ℤ) (es new : List ToldAlong) → AreToldAlong b n width es → new ≡ map (along_turned turn) es → HoldsAlong b turn n (record { width = width; told = new })
+along_kept b turn n width es new h e =
+    let x = (sight_at b n).label in
+    subst (λ l. HoldsAlong b turn n (record { width = width; told = l })) (sym e) (each_kept along_place along_turn (TellsAlong x width) turn (along_turned turn) (λ y. refl) (along_turns turn x width) (λ y. refl) b n es h)
 
 -- ---- none is asked yet
 pub unasked_told : (kid : NodeId → Kid) (e : ToldMember) → e.turn ≡ last_turn → e.turn < last_turn → Tells (kid e.member.child) e

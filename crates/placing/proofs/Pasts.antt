@@ -26,13 +26,15 @@ use Rattle.tree_rules.specs.Whole.{kids_of}
 use Rattle.placing.specs.Areas.{child_in}
 use Rattle.placing.specs.Bases.{AreOf, HoldsPlaces}
 use Rattle.placing.specs.Keeping.{standing_of}
-use Rattle.placing.specs.Members.{AreInOrder, Every, IsPlace, Place, Tells, place_of, turn_in}
+use Rattle.placing.specs.Members.{AreInOrder, Every, IsPlace, Place, Tells, TellsAlong, along_place, along_turn, place_of, turn_in}
 use Rattle.placing.specs.Nodes.{BareTrees, IsLive, children_at, kid_at, sight_at}
 use Rattle.placing.specs.Order.{numbers_in_order}
 use Rattle.placing.specs.Seats.{context_at}
-use Rattle.placing.specs.Told.{AreColumns, AreFrames, AreRows, AreRowsFor, AreTurns, Fresh, HoldsColumns, HoldsEach, HoldsFrames, HoldsMembers, HoldsPast, HoldsTold, IsFrameIn, TellsColumns, TellsFrame, TellsRows, columns_in, entry_with, is_fresh, last_turn, row_axis, rows_in, wide_told}
+use Rattle.placing.specs.Told.{AreColumns, AreFrames, AreRows, AreRowsFor, AreTurns, Fresh, HoldsAlong, HoldsColumns, HoldsEach, HoldsFrames, HoldsMembers, HoldsPast, HoldsTold, IsFrameIn, TellsColumns, TellsFrame, TellsRows, columns_in, entry_with, is_fresh, last_turn, row_axis, rows_in, wide_told}
 use Rattle.placing.specs.Wides.{HoldsAreas, HoldsRows, IsAbove, child_of, kids_in}
 use Rattle.placing.specs.declared.contexts.Placed.{Placed}
+use Rattle.placing.specs.declared.lined.KeptAlong.{KeptAlong}
+use Rattle.placing.specs.declared.lined.ToldAlong.{ToldAlong}
 use Rattle.placing.specs.declared.lined.ToldMember.{ToldMember}
 use Rattle.placing.specs.declared.node.Frame.{Frame}
 use Rattle.placing.specs.declared.told.KeptColumns.{KeptColumns}
@@ -374,8 +376,16 @@ module _ (b d : BareTrees) (turn late : NodeId → ℕ) (n : NodeId)
         wide = wide p.wide h.wide;
         frames = frames p.frames h.frames;
         members = members p.members h.members;
+        along = along p.along h.along;
       }
     where
+      told_along : (width : ℤ) (k : Kid) (e : ToldAlong) → TellsAlong (sight_at b n).label width k e → TellsAlong (sight_at d n).label width k e
+      told_along width k e f = subst (λ (x : Label). TellsAlong x width k e) (sym label) f
+
+      along : (o : Option KeptAlong) → IfSome o (HoldsAlong b turn n) → IfSome o (HoldsAlong d late n)
+      along None w = tt
+      along (Some k) w = all_stay along_place along_turn (TellsAlong (sight_at b n).label k.width) (TellsAlong (sight_at d n).label k.width) (told_along k.width) k.told w
+
       members : (o : Option (List ToldMember)) → IfSome o (HoldsMembers b turn n) → IfSome o (HoldsMembers d late n)
       members None w = tt
       members (Some told) w = all_stay place_of turn_in Tells Tells (λ k e f. f) told w

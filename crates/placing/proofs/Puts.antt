@@ -23,7 +23,8 @@ use Rattle.placing.specs.Children.{IsOutside}
 use Rattle.placing.specs.Keeping.{ChangesPast, Keeps, with_answer, with_base, with_past}
 use Rattle.placing.specs.Bases.{AreOf, HoldsPlaces}
 use Rattle.placing.specs.Kept.{IsRight, IsOfNode, kept_at, kept_of, past_at, past_of, plain_answer, turn_at, turn_of}
-use Rattle.placing.specs.Told.{HoldsColumns, HoldsFrames, HoldsMembers, HoldsPast, HoldsTold}
+use Rattle.placing.specs.Told.{HoldsAlong, HoldsColumns, HoldsFrames, HoldsMembers, HoldsPast, HoldsTold}
+use Rattle.placing.specs.declared.lined.KeptAlong.{KeptAlong}
 use Rattle.placing.specs.declared.lined.ToldMember.{ToldMember}
 use Rattle.placing.specs.declared.told.KeptColumns.{KeptColumns}
 use Rattle.placing.specs.declared.told.KeptFrames.{KeptFrames}
@@ -274,7 +275,7 @@ module _ (old new : Nodes Node) (n : NodeId) (p : Past) (k : ChangesPast old new
 pub base_more : (t : NodeTrees) (n : NodeId) (base : GridBase) (p : Past) → IsRight t → HoldsPlaces (sight_at (bare t) n) (children_at (bare t) n) base → p ≡ past_at t n → HoldsPast (bare t) (turn_at t) n (with_base base p)
 base_more t n base p r h e =
     let held : HoldsPast (bare t) (turn_at t) n p = subst (HoldsPast (bare t) (turn_at t) n) (sym e) (r.past n) in
-    record { bases = (h, newest_of (sight_at (bare t) n) (children_at (bare t) n) p.bases held.bases); columns = held.columns; wide = held.wide; frames = held.frames; members = held.members }
+    record { bases = (h, newest_of (sight_at (bare t) n) (children_at (bare t) n) p.bases held.bases); columns = held.columns; wide = held.wide; frames = held.frames; members = held.members; along = held.along }
 
 pub base_put : (old : Nodes Node) (n : NodeId) (v : Node) (base : GridBase) (bases : List GridBase) → Some v ≡ value_at old.tree n → IsNumbered old.tree → bases ≡ base ∷ take 1 v.past.bases
     → ChangesPast old (with_value n (record v { past = record v.past { bases = bases } }) old) n (with_base base v.past)
@@ -282,29 +283,35 @@ base_put old n v base bases e u h = record { value = v; there = e; numbered = u;
 
 -- it lets go what its children told
 pub no_columns : (t : NodeTrees) (n : NodeId) → IsRight t → HoldsPast (bare t) (turn_at t) n (record (past_at t n) { columns = None })
-no_columns t n r = let held : HoldsPast (bare t) (turn_at t) n (past_at t n) = r.past n in record { bases = held.bases; columns = tt; wide = held.wide; frames = held.frames; members = held.members }
+no_columns t n r = let held : HoldsPast (bare t) (turn_at t) n (past_at t n) = r.past n in record { bases = held.bases; columns = tt; wide = held.wide; frames = held.frames; members = held.members; along = held.along }
 
 pub no_wide : (t : NodeTrees) (n : NodeId) → IsRight t → HoldsPast (bare t) (turn_at t) n (record (past_at t n) { wide = None })
-no_wide t n r = let held : HoldsPast (bare t) (turn_at t) n (past_at t n) = r.past n in record { bases = held.bases; columns = held.columns; wide = tt; frames = held.frames; members = held.members }
+no_wide t n r = let held : HoldsPast (bare t) (turn_at t) n (past_at t n) = r.past n in record { bases = held.bases; columns = held.columns; wide = tt; frames = held.frames; members = held.members; along = held.along }
 
 pub no_frames : (t : NodeTrees) (n : NodeId) → IsRight t → HoldsPast (bare t) (turn_at t) n (record (past_at t n) { frames = None })
-no_frames t n r = let held : HoldsPast (bare t) (turn_at t) n (past_at t n) = r.past n in record { bases = held.bases; columns = held.columns; wide = held.wide; frames = tt; members = held.members }
+no_frames t n r = let held : HoldsPast (bare t) (turn_at t) n (past_at t n) = r.past n in record { bases = held.bases; columns = held.columns; wide = held.wide; frames = tt; members = held.members; along = held.along }
 
 -- or keeps it
 pub new_columns : (t : NodeTrees) (n : NodeId) (w : KeptColumns) → IsRight t → HoldsColumns (bare t) (turn_at t) n w → HoldsPast (bare t) (turn_at t) n (record (past_at t n) { columns = Some w })
-new_columns t n w r h = let held : HoldsPast (bare t) (turn_at t) n (past_at t n) = r.past n in record { bases = held.bases; columns = h; wide = held.wide; frames = held.frames; members = held.members }
+new_columns t n w r h = let held : HoldsPast (bare t) (turn_at t) n (past_at t n) = r.past n in record { bases = held.bases; columns = h; wide = held.wide; frames = held.frames; members = held.members; along = held.along }
 
 pub new_wide : (t : NodeTrees) (n : NodeId) (w : KeptWide) → IsRight t → HoldsTold (bare t) (turn_at t) n w → HoldsPast (bare t) (turn_at t) n (record (past_at t n) { wide = Some w })
-new_wide t n w r h = let held : HoldsPast (bare t) (turn_at t) n (past_at t n) = r.past n in record { bases = held.bases; columns = held.columns; wide = h; frames = held.frames; members = held.members }
+new_wide t n w r h = let held : HoldsPast (bare t) (turn_at t) n (past_at t n) = r.past n in record { bases = held.bases; columns = held.columns; wide = h; frames = held.frames; members = held.members; along = held.along }
 
 pub new_frames : (t : NodeTrees) (n : NodeId) (w : KeptFrames) → IsRight t → HoldsFrames (bare t) (turn_at t) n w → HoldsPast (bare t) (turn_at t) n (record (past_at t n) { frames = Some w })
-new_frames t n w r h = let held : HoldsPast (bare t) (turn_at t) n (past_at t n) = r.past n in record { bases = held.bases; columns = held.columns; wide = held.wide; frames = h; members = held.members }
+new_frames t n w r h = let held : HoldsPast (bare t) (turn_at t) n (past_at t n) = r.past n in record { bases = held.bases; columns = held.columns; wide = held.wide; frames = h; members = held.members; along = held.along }
 
 pub no_members : (t : NodeTrees) (n : NodeId) → IsRight t → HoldsPast (bare t) (turn_at t) n (record (past_at t n) { members = None })
-no_members t n r = let held : HoldsPast (bare t) (turn_at t) n (past_at t n) = r.past n in record { bases = held.bases; columns = held.columns; wide = held.wide; frames = held.frames; members = tt }
+no_members t n r = let held : HoldsPast (bare t) (turn_at t) n (past_at t n) = r.past n in record { bases = held.bases; columns = held.columns; wide = held.wide; frames = held.frames; members = tt; along = held.along }
 
 pub new_members : (t : NodeTrees) (n : NodeId) (w : List ToldMember) → IsRight t → HoldsMembers (bare t) (turn_at t) n w → HoldsPast (bare t) (turn_at t) n (record (past_at t n) { members = Some w })
-new_members t n w r h = let held : HoldsPast (bare t) (turn_at t) n (past_at t n) = r.past n in record { bases = held.bases; columns = held.columns; wide = held.wide; frames = held.frames; members = h }
+new_members t n w r h = let held : HoldsPast (bare t) (turn_at t) n (past_at t n) = r.past n in record { bases = held.bases; columns = held.columns; wide = held.wide; frames = held.frames; members = h; along = held.along }
+
+pub no_along : (t : NodeTrees) (n : NodeId) → IsRight t → HoldsPast (bare t) (turn_at t) n (record (past_at t n) { along = None })
+no_along t n r = let held : HoldsPast (bare t) (turn_at t) n (past_at t n) = r.past n in record { bases = held.bases; columns = held.columns; wide = held.wide; frames = held.frames; members = held.members; along = tt }
+
+pub new_along : (t : NodeTrees) (n : NodeId) (w : KeptAlong) → IsRight t → HoldsAlong (bare t) (turn_at t) n w → HoldsPast (bare t) (turn_at t) n (record (past_at t n) { along = Some w })
+new_along t n w r h = let held : HoldsPast (bare t) (turn_at t) n (past_at t n) = r.past n in record { bases = held.bases; columns = held.columns; wide = held.wide; frames = held.frames; members = held.members; along = h }
 
 -- ---- a call that keeps an answer
 module _ (s w : State) (n : NodeId) (q : Query) (a : Answer) (k : Keeps s.arena w.arena n q a) (r : IsRight s.arena.tree) where

@@ -24,11 +24,13 @@ use Rattle.tree_rules.specs.declared.query.Given.{Given}
 use Rattle.tree_rules.specs.declared.query.Given.TheVariants as given
 use Rattle.placing.specs.Areas.{placed_of}
 use Rattle.placing.specs.Bases.{AreOf, HoldsPlaces}
-use Rattle.placing.specs.Members.{AreInOrder, Every, Place, Tells, place_of, turn_in}
+use Rattle.placing.specs.Members.{AreInOrder, Every, Place, Tells, TellsAlong, along_place, along_turn, place_of, turn_in}
 use Rattle.placing.specs.Nodes.{BareTrees, children_at, kid_at, sight_at}
 use Rattle.placing.specs.Seats.{context_at}
 use Rattle.placing.specs.Turns.{turns}
 use Rattle.placing.specs.Wides.{HoldsRows, child_of}
+use Rattle.placing.specs.declared.lined.KeptAlong.{KeptAlong}
+use Rattle.placing.specs.declared.lined.ToldAlong.{ToldAlong}
 use Rattle.placing.specs.declared.lined.ToldMember.{ToldMember}
 use Rattle.placing.specs.declared.node.Frame.{Frame}
 use Rattle.placing.specs.declared.told.KeptColumns.{KeptColumns}
@@ -233,9 +235,10 @@ pub record HoldsFrames (b : BareTrees) (turn : NodeId → ℕ) (n : NodeId) (w :
   pub turns : AreTurns turn w.base.placed.areas w.turns
   pub frames : AreFrames (sight_at b n) (kid_at b) w.base w.columns w.rows (Fresh turn w.base.placed.areas w.turns) w.frames
 
--- What a flex container keeps of what its children told, one entry each: those count that have the turn still which they had then, unless that is the last one.
-pub record HoldsEach {A : Type 0} (place : A → Place) (last : A → ℕ) (T : Kid → A → Type 0) (b : BareTrees) (turn : NodeId → ℕ) (n : NodeId) (entries : List A) : Type
-    0 where
+-- What a flex container keeps of what its children told, one entry each: those count that have the turn still which they had
+-- then, unless that is the last one.
+pub record HoldsEach {A : Type 0} (place : A → Place) (last : A → ℕ) (T : Kid → A → Type 0)
+    (b : BareTrees) (turn : NodeId → ℕ) (n : NodeId) (entries : List A) : Type 0 where
   pub order : AreInOrder (sight_at b n) (children_at b n) (map place entries)
   pub turns : Every (λ e. last e ≤ turn (place e).1) entries
   pub told : Every (λ e. last e ≡ turn (place e).1 → last e < last_turn → T (kid_at b (place e).1) e) entries
@@ -244,6 +247,10 @@ pub record HoldsEach {A : Type 0} (place : A → Place) (last : A → ℕ) (T : 
 abbrev pub HoldsMembers : BareTrees → (NodeId → ℕ) → NodeId → List ToldMember → Type 0
 HoldsMembers b turn n told = HoldsEach place_of turn_in Tells b turn n told
 
+-- what they told for its block size
+abbrev pub HoldsAlong : BareTrees → (NodeId → ℕ) → NodeId → KeptAlong → Type 0
+HoldsAlong b turn n k = HoldsEach along_place along_turn (TellsAlong (sight_at b n).label k.width) b turn n k.told
+
 -- All that a node keeps longer than its answers is of it.
 pub record HoldsPast (b : BareTrees) (turn : NodeId → ℕ) (n : NodeId) (p : Past) : Type 0 where
   pub bases : AreOf (sight_at b n) (children_at b n) p.bases
@@ -251,10 +258,11 @@ pub record HoldsPast (b : BareTrees) (turn : NodeId → ℕ) (n : NodeId) (p : P
   pub wide : IfSome p.wide (HoldsTold b turn n)
   pub frames : IfSome p.frames (HoldsFrames b turn n)
   pub members : IfSome p.members (HoldsMembers b turn n)
+  pub along : IfSome p.along (HoldsAlong b turn n)
 
 -- nothing
 abbrev pub no_past : Past
-no_past = record { bases = []; columns = None; wide = None; frames = None; members = None }
+no_past = record { bases = []; columns = None; wide = None; frames = None; members = None; along = None }
 
 -- ---- what is taken
 
@@ -324,3 +332,20 @@ marked_at turn e = record e { turn = marked_turn e.turn (turn e.member.child) }
 -- with the turn that it has
 abbrev pub turned_at : (NodeId → ℕ) → ToldMember → ToldMember
 turned_at turn e = record e { turn = turn e.member.child }
+
+-- for its block size, where it has this inline size
+abbrev pub ArePastAlong : BareTrees → NodeId → ℤ → List ToldAlong → Type 0
+ArePastAlong b n width told = ArePast along_place along_turn (TellsAlong (sight_at b n).label width) b n told
+
+abbrev pub AreToldAlong : BareTrees → NodeId → ℤ → List ToldAlong → Type 0
+AreToldAlong b n width told = AreNow along_place (TellsAlong (sight_at b n).label width) b n told
+
+abbrev pub along_marked : (NodeId → ℕ) → ToldAlong → ToldAlong
+along_marked turn e = record e { turn = marked_turn e.turn (turn e.child) }
+
+abbrev pub along_turned : (NodeId → ℕ) → ToldAlong → ToldAlong
+along_turned turn e = record e { turn = turn e.child }
+
+-- what is taken of it
+abbrev pub IsPastAlong : BareTrees → NodeId → KeptAlong → Type 0
+IsPastAlong b n k = ArePastAlong b n k.width k.told

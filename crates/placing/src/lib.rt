@@ -12,6 +12,7 @@ mod covered;
 mod grids;
 mod items;
 mod keeping;
+mod last_along;
 mod last_frames;
 mod last_members;
 mod laws;
@@ -38,13 +39,14 @@ pub use contexts::{Above, AxisContext, Context, Placed};
 pub use grids::context_in;
 pub use items::{ChildArea, entry, has_subgrid};
 pub use keeping::{drop_past, find, find_base, find_by, keep_base, leaf_height, leaf_sizes, put};
+pub use last_along::{keep_along, take_along};
 pub use last_frames::{keep_frames, take_frames};
 pub use last_members::{keep_members, take_members, unasked};
 pub use laws::{
     dropping_keeps_the_rest, forgetting_keeps_the_rest, kept_answers_are_defined,
     readable_node_by_node, right_where_seen_the_same,
 };
-pub use lined::{ColumnParts, Lines, Member, RowParts, ToldMember};
+pub use lined::{ColumnParts, KeptAlong, Lines, Member, RowParts, ToldAlong, ToldMember};
 pub use node::{Answer, Frame, Node};
 pub use placement::{areas_in, ordered};
 pub use seats::{areas, context, seat};
@@ -53,7 +55,7 @@ pub use sight::{child, count, node_at, parent, root};
 pub use telling::{MANY, keep_columns, keep_wide, put_items, take_columns, take_wide, turn_of};
 pub use told::{
     KeptColumns, KeptFrames, KeptWide, Past, PastColumns, PastFrames, PastRows, PastWide,
-    SharedColumns, SharedLast, SharedMembers, SharedTold, ToldColumns, ToldRows,
+    SharedAlong, SharedColumns, SharedLast, SharedMembers, SharedTold, ToldColumns, ToldRows,
 };
 pub use tree_rules::NodeKind;
 pub use wide::{GridBase, GridParts, GridWide, RowsAt, WideChild};

@@ -3,6 +3,7 @@
 
 use lunit::{Lu, Sequence};
 use node_arena::NodeId;
+use part_rules::FlexItem;
 
 /// A child of a flex container with its two intrinsic inline sizes.
 #[derive(Clone, Copy)]
@@ -26,6 +27,32 @@ pub struct ToldMember {
     pub high: Lu,
     /// Its turn then; 2^64 - 1 where it must be asked again.
     pub turn: u64,
+}
+
+/// A child of a flex container of known inline size with what it told for the block size of the container.
+#[derive(Clone, Copy)]
+pub struct ToldAlong {
+    /// The number of the node.
+    pub child: NodeId,
+    /// Its place in document order, from 0.
+    pub number: usize,
+    /// Its inline size as a border-box size, in units of 1/64 px: in a row its main size, in a column that before its line is known.
+    pub size: Lu,
+    /// The block size of its content at this inline size.
+    pub block: Lu,
+    /// The child along the main axis: in a column where the block size of the container is not known.
+    pub item: FlexItem,
+    /// Its turn then; 2^64 - 1 where it must be asked again.
+    pub turn: u64,
+}
+
+/// The children of a flex container with what they told for its block size.
+#[derive(Drop)]
+pub struct KeptAlong {
+    /// The inline size of the container, in units of 1/64 px.
+    pub width: Lu,
+    /// The children, in order-modified document order.
+    pub told: Sequence<ToldAlong>,
 }
 
 /// The lines of a flex container.

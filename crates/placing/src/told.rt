@@ -5,7 +5,7 @@ ghost use Rattle.std.specs.Prelude.{◌≡◌, [], None, IfOk, IfSome};
 ghost use Rattle.placing.specs.Told.{no_past};
 
 use crate::bases::Bases;
-use crate::lined::ToldMember;
+use crate::lined::{KeptAlong, ToldMember};
 use crate::node::Frame;
 use crate::shared::{SharedBase, SharedFrames, SharedWide};
 use crate::wide::{GridParts, RowsAt, WideChild};
@@ -272,6 +272,42 @@ impl SharedMembers {
     }
 }
 
+/// What the children of a flex container told for its block size, as it keeps it longer than its answers.
+#[derive(Drop)]
+pub struct SharedAlong {
+    kept: Rc<KeptAlong>,
+}
+
+impl Model for SharedAlong {
+    ghost use Rattle.placing.specs.declared.lined.KeptAlong.{KeptAlong};
+    ghost use Rattle.placing.specs.contracts.lined.KeptAlong as kept_along;
+
+    ghost Value = { KeptAlong };
+
+    ghost coded = { kept_along.the_row.coded };
+
+    ghost view = { λ a. a.kept.value };
+}
+
+impl SharedAlong {
+    /// This; `NoMemory` where memory is wanting.
+    pub(crate) fn new(alloc: Global, kept: KeptAlong) -> Result<SharedAlong, NoMemory>
+        ensures { IfOk result (λ made. made ≡ kept) }
+    {
+        Ok(SharedAlong {
+            kept: Rc::new(alloc, kept)?,
+        })
+    }
+
+    /// What it holds; `None` only where it is shared.
+    pub(crate) fn into_inner(self) -> Option<KeptAlong>
+        ensures { IfSome result (λ kept. kept ≡ self) }
+    {
+        let SharedAlong { kept } = self;
+        Rc::into_inner(kept)
+    }
+}
+
 /// What a container keeps longer than its answers.
 #[derive(Drop)]
 pub struct Past {
@@ -285,6 +321,8 @@ pub struct Past {
     pub frames: Option<SharedLast>,
     /// What the children of a flex container told last for its inline sizes.
     pub members: Option<SharedMembers>,
+    /// What they told last for its block size.
+    pub along: Option<SharedAlong>,
 }
 
 impl Past {
@@ -298,6 +336,7 @@ impl Past {
             wide: None,
             frames: None,
             members: None,
+            along: None,
         }
     }
 
@@ -310,5 +349,6 @@ impl Past {
         self.wide = None;
         self.frames = None;
         self.members = None;
+        self.along = None;
     }
 }
