@@ -5,6 +5,7 @@ use Rattle.std.proofs.lemmas.List.{get_or-map}
 use Rattle.inline_sizes.proofs.Asked.{chain_in_flex}
 use Rattle.inline_sizes.specs.Flexes.{AreMembers, IsChild, flex_seen, member_of}
 use Rattle.placing.specs.declared.lined.Member.{Member}
+use Rattle.placing.specs.Members.{member_in}
 use Rattle.node_arena.specs.declared.number.NodeId.{NodeId}
 use Rattle.node_arena.specs.Numbers.{child_at}
 use Rattle.placing.specs.Children.{IsNext, IsTree}
@@ -74,10 +75,6 @@ asked_turn b d n members boxes k m x same tree are room flex h is at =
       room = subst (λ (z : BareTrees). inner (sight_at z m.child).label.grid.columns ≤ℤ x) (sym same) fits;
     }
 
--- the child at a place is live
-pub member_live : (b d : BareTrees) (n : NodeId) (members : List Member) (k : ℕ) (m : Member) → d ≡ b → AreMembers b n members → k < length members → m ≡ get_or members k m → IsLive d m.child
-member_live b d n members k m same are h is = subst (λ (z : BareTrees). IsLive z m.child) (sym same) (subst (λ (o : Member). IsLive b o.child) (sym is) (are.children k m h).live)
-
 -- ---- its question
 
 given_here : (n : ℕ) (w : Given) → IsGivenFor true false 0 w → IsGivenFor true false n w
@@ -105,10 +102,8 @@ pub width_is : (b d : BareTrees) (m : Member) (x : ℤ) (g : GridStyle) (w : Giv
 width_is b d m x g w same e value =
     value ∙ ap (λ (h : GridStyle). given_box h.columns x) e ∙ ap (λ (z : BareTrees). given_box (sight_at z m.child).label.grid.columns x) same
 
--- the child's answer to what it is given is its block size there
-pub block_is : (b d : BareTrees) (m : Member) (x size : ℤ) (w : Given) → d ≡ b → w ≡ (rules.settled_at (member_of b m) x).inline → size ≡ ((kid_at d m.child).answers.down [] w).block → size ≡ block_of (rules.settled_at (member_of b m) x)
-block_is b d m x size w same is value =
-    value ∙ ap (λ (z : BareTrees). ((kid_at z m.child).answers.down [] w).block) same ∙ ap (λ (v : Given). ((kid_at b m.child).answers.down [] v).block) is
+pub block_width : (b : BareTrees) (c : NodeId) (x : ℤ) (g : GridStyle) (w : Given) → g ≡ (sight_at b c).label.grid → w ≡ given_box g.columns x → w ≡ (rules.settled_at (member_in (kid_at b c)) x).inline
+block_width b c x g w e value = value ∙ ap (λ (h : GridStyle). given_box h.columns x) e
 
 -- ---- the block sizes so far
 

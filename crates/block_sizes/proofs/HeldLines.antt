@@ -23,7 +23,7 @@ get_next [] ys (suc k) y e = absurd cc
 get_next (x ∷ xs) ys zero y e = let same : x ≡ y = cc in ap Some same
 get_next (x ∷ xs) ys (suc k) y e = get_next xs ys k y e
 
-each_of : {A : Type 0} (P : A → Type 0) (xs : List A) → All P xs → Each P xs
+pub each_of : {A : Type 0} (P : A → Type 0) (xs : List A) → All P xs → Each P xs
 each_of P [] h = tt
 each_of P (x ∷ rest) h = (h 0 x (omega arith), each_of P rest (λ k d l. h (suc k) d (omega (arith, l))))
 

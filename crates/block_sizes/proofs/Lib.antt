@@ -6,6 +6,7 @@ pub mod FlexLeading
 mod FlexMade
 mod Joined
 mod KeptGrids
+mod KnownAlong
 mod KnownRows
 mod Laid
 pub mod Leading

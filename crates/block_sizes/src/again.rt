@@ -88,8 +88,8 @@ fn same_tracks(a: &[(i64, i64)], b: &[(i64, i64)]) -> bool
     true
 }
 
-/// Whether two gaps are the same.
-fn same_gap(a: Lu, b: Lu) -> bool
+/// Whether two lengths are the same: `true` only where they are.
+pub(crate) fn same_length(a: Lu, b: Lu) -> bool
     ensures { result ≡ true → a ≡ b }
 {
     a == b
@@ -102,7 +102,7 @@ pub fn same_view<const AXIS: u8>(a: &View<AXIS>, b: &View<AXIS>) -> bool
     if !same_tracks(a.edges.as_slice(), b.edges.as_slice()) {
         return false;
     }
-    same_gap(a.gap, b.gap)
+    same_length(a.gap, b.gap)
 }
 
 /// Whether two containers align their items alike.

@@ -1,9 +1,10 @@
 //! The walk down the tree for the block axis: a kept answer is taken as it is, else the children are asked, and what is found is
 //! kept last, once. The seat of a node is handed down, so that a context is made once for each grid.
 
-ghost use Rattle.std.specs.Prelude.{◌≡◌, ◌∷◌, [], true, false, map, IfOk, OnOk, OnErr};
+ghost use Rattle.std.specs.Prelude.{◌≡◌, ◌≤ℤ◌, ◌∷◌, [], true, false, map, IfOk, IfSome, OnOk, OnErr};
 ghost use Rattle.placing.specs.Keeping.{is_leaf};
-ghost use Rattle.placing.specs.Nodes.{bare, level_at, sight_at, IsLive};
+ghost use Rattle.placing.specs.Members.{member_in};
+ghost use Rattle.placing.specs.Nodes.{bare, kid_at, level_at, sight_at, IsLive};
 ghost use Rattle.placing.specs.Walks.{kept_with, Stopped, Walked, WalkedBelow};
 ghost use Rattle.placing.specs.declared.node.Answer.TheVariants as answer;
 ghost use Rattle.tree_rules.specs.AskedQueries.{block_query};
@@ -18,15 +19,18 @@ ghost use Rattle.inline_sizes.specs.Calls.{Found, Keeps};
 ghost use Rattle.placing.specs.Spread.{IsSpread};
 ghost use Rattle.block_sizes.specs.Keeping.{GrowsBy, KeepsSize};
 ghost use Rattle.block_sizes.specs.Wides.{farthest};
-ghost use Rattle.block_sizes.specs.Settling.{AreRoomy, IsColumn, IsRow, LeadsTo, block_of, settled_seen};
+ghost use Rattle.block_sizes.specs.Settling.{block_of, row_items_seen, settled_seen, AreKnown, AreRoomy, IsColumn, IsRow, LeadsTo, TellsBlock};
 ghost use Rattle.inline_sizes.specs.Flexes.{AreMembers, flex_seen};
+ghost use Rattle.tree_rules.specs.FlexSizes as rules;
 ghost use Rattle.tree_rules.specs.Frames.{given_size};
+ghost use Rattle.tree_rules.specs.NodeSizes.{inner};
 
 use crate::again::{ToldWide, keep_told};
 use crate::asking::{told_wide_at, wide_at};
 use crate::children::given_box;
 use crate::flex::{
-    box_at, boxes_in_column, items_in_row, member_at, size_of, sized_column, sized_row,
+    box_at, boxes_in_column, column_size, items_in_row, keep_column, keep_row, known_block,
+    known_of, last_along, member_at, row_size, size_of,
 };
 use crate::flexes::row_lines;
 use crate::queries::{block_query, kept_block, kept_rows};
@@ -37,9 +41,11 @@ use layout_cache::{Given, Query};
 use lunit::{Area, Item, Lu, NoMemory, Sequence, Span};
 use node_arena::{Arena, NodeId};
 use outside::Ruler;
+use part_rules::FlexItem;
 use placing::style::is_column;
 use placing::{
-    Above, Answer, ColumnParts, Member, Node, NodeKind, RowParts, SharedWide, node_at, parent, root,
+    Above, Answer, ColumnParts, Member, Node, NodeKind, RowParts, SharedColumnParts,
+    SharedRowParts, SharedWide, ToldAlong, node_at, parent, root,
 };
 use std::sync::ledger::Ledger;
 use walker::{Seat, Walker};
@@ -82,18 +88,65 @@ fn subgrids_are_grids(tree: &Arena<Node>, id: NodeId)
 // ---- the children of a flex container
 
 #[cycle(walk)]
-/// The block size of the content of each child of a flex container, with border boxes of these inline sizes.
+/// The block size of the content of a child of a flex container with a border box of this inline size: it is asked where it did not tell
+/// that last.
+fn member_block<R: Ruler, L: Ledger>(
+    walk: &mut Walker<R, L>,
+    child: NodeId,
+    size: Lu,
+    last: Option<ToldAlong>,
+) -> Result<Lu, NoMemory>
+    requires stands { Stands walk.old }
+    requires live { IsLive (nodes walk.old) child }
+    requires alone { (sight_at (nodes walk.old) child).chain ≡ [] }
+    requires room { inner (sight_at (nodes walk.old) child).label.grid.columns ≤ℤ size }
+    requires last { IfSome last (TellsBlock (kid_at (nodes walk.old) child)) }
+    ensures value { IfOk result
+        (λ block. block ≡
+        (rules.settled_at (member_in (kid_at (nodes walk.old) child)) size).down.block) }
+    ensures stands { Stands walk.new }
+    ensures parts { SameParts walk.old walk.new }
+    ensures walked { OnOk result
+        (Walked child
+        (block_query false []
+        (rules.settled_at (member_in (kid_at (nodes walk.old) child)) size).inline)
+        (seen R.log walk.old) (seen R.log walk.new)) }
+    ensures stopped { OnErr result
+        (Stopped child
+        (block_query false []
+        (rules.settled_at (member_in (kid_at (nodes walk.old) child)) size).inline)
+        (seen R.log walk.old) (seen R.log walk.new)) }
+{
+    if let Some(block) = known_block(last, size) {
+        return Ok(block);
+    }
+    let width = given_box::<0>(&node_at(walk.tree, child).style, size);
+    let seat = Seat {
+        reps: &[],
+        above: &Above::Nothing,
+        area: NO_AREA,
+    };
+    let block = block_in(walk, child, &seat, &width)?;
+    Ok(block)
+}
+
+#[cycle(walk)]
+/// The block size of the content of each child of a flex container of this inline size, with border boxes of these inline sizes: a child
+/// is asked where it did not tell that last.
 fn ask_members<R: Ruler, L: Ledger>(
     walk: &mut Walker<R, L>,
     id: NodeId,
+    width: Lu,
     members: &[Member],
     boxes: &[Lu],
+    past: &[ToldAlong],
 ) -> Result<Sequence<Lu>, NoMemory>
     requires stands { Stands walk.old }
     requires live { IsLive (nodes walk.old) id }
     requires flex { (sight_at (nodes walk.old) id).label.kind ≡ kind.Flex }
     requires members { AreMembers (nodes walk.old) id members.now }
     requires roomy { AreRoomy (flex_seen (nodes walk.old) id).members boxes.now }
+    requires past { AreKnown (nodes walk.old) id width past.now }
     ensures value { IfOk result
         (λ blocks. blocks ≡ map block_of (settled_seen (nodes walk.old) id boxes.now)) }
     ensures stands { Stands walk.new }
@@ -109,22 +162,67 @@ fn ask_members<R: Ruler, L: Ledger>(
     let mut blocks = with_room(walk.alloc, members.len())?;
     for index in 0..members.len() {
         let member = member_at(members, index);
-        let width = given_box::<0>(
-            &node_at(walk.tree, member.child).style,
-            box_at(boxes, index),
-        );
-        let seat = Seat {
-            reps: &[],
-            above: &Above::Nothing,
-            area: NO_AREA,
-        };
-        let block = block_in(walk, member.child, &seat, &width)?;
+        let size = box_at(boxes, index);
+        let last = known_of(walk.tree, id, width, past, index, &member);
+        let block = member_block(walk, member.child, size, last)?;
         blocks.push(block)?;
     }
     Ok(blocks)
 }
 
 #[cycle(walk)]
+/// A row of a known inline size: the lines and the main sizes of its children, and the block size of each at its main size (CSS
+/// Flexbox 1, 9.3 and 9.4), with the children along the inline axis. What they told last is not asked again. Nothing is kept for the
+/// container itself. It makes one step. `NoMemory` where memory is wanting.
+fn row_told<R: Ruler, L: Ledger>(
+    walk: &mut Walker<R, L>,
+    id: NodeId,
+    width: Lu,
+    past: &[ToldAlong],
+) -> Result<(RowParts, Vec<FlexItem>), NoMemory>
+    requires stands { Stands walk.old }
+    requires live { IsLive (nodes walk.old) id }
+    requires flex { (sight_at (nodes walk.old) id).label.kind ≡ kind.Flex }
+    requires direction { (sight_at (nodes walk.old) id).label.content.column ≡ false }
+    requires past { AreKnown (nodes walk.old) id width past.now }
+    ensures value { IfOk result (λ made. IsRow (nodes walk.old) id width made.0) }
+    ensures items { IfOk result
+        (λ made. made.1.items ≡ row_items_seen (nodes walk.old) id width) }
+    ensures stands { Stands walk.new }
+    ensures parts { SameParts walk.old walk.new }
+    ensures below { OnOk result
+        ((q : Query) → given_size q.inline ≡ width → needs_inline q.ask ≡ true →
+        WalkedBelow id q 1 (seen R.log walk.old) (seen R.log walk.new)) }
+    ensures stopped { OnErr result
+        ((q : Query) → given_size q.inline ≡ width → needs_inline q.ask ≡ true →
+        Stopped id q (seen R.log walk.old) (seen R.log walk.new)) }
+{
+    let parts = flex_in(walk, id)?;
+    let members = parts.members;
+    let items = items_in_row(walk.alloc, walk.tree, id, width, members.as_slice(), past)?;
+    let lines = row_lines(
+        walk.alloc,
+        &node_at(walk.tree, id).style,
+        width,
+        &items,
+        walk.passes,
+    )?;
+    let blocks = ask_members(
+        walk,
+        id,
+        width,
+        members.as_slice(),
+        lines.mains.as_slice(),
+        past,
+    )?;
+    let row = RowParts {
+        members,
+        lines,
+        blocks,
+    };
+    Ok((row, items))
+}
+
 /// A row of a known inline size: the lines and the main sizes of its children, and the block size of each at its main size (CSS
 /// Flexbox 1, 9.3 and 9.4). Nothing is kept for the container itself. It makes one step. `NoMemory` where memory is wanting.
 pub fn row_in<R: Ruler, L: Ledger>(
@@ -146,25 +244,45 @@ pub fn row_in<R: Ruler, L: Ledger>(
         ((q : Query) → given_size q.inline ≡ width → needs_inline q.ask ≡ true →
         Stopped id q (seen R.log walk.old) (seen R.log walk.new)) }
 {
+    let (row, _items) = row_told(walk, id, width, &[])?;
+    Ok(row)
+}
+
+#[cycle(walk)]
+/// A column of a known inline size: the inline size of each child, and its block size there (CSS Flexbox 1, 9.3 and 9.4). What they told
+/// last is not asked again. Nothing is kept for the container itself. `NoMemory` where memory is wanting.
+fn column_told<R: Ruler, L: Ledger>(
+    walk: &mut Walker<R, L>,
+    id: NodeId,
+    width: Lu,
+    past: &[ToldAlong],
+) -> Result<ColumnParts, NoMemory>
+    requires stands { Stands walk.old }
+    requires live { IsLive (nodes walk.old) id }
+    requires flex { (sight_at (nodes walk.old) id).label.kind ≡ kind.Flex }
+    requires direction { (sight_at (nodes walk.old) id).label.content.column ≡ true }
+    requires past { AreKnown (nodes walk.old) id width past.now }
+    ensures value { IfOk result (IsColumn (nodes walk.old) id width) }
+    ensures stands { Stands walk.new }
+    ensures parts { SameParts walk.old walk.new }
+    ensures below { OnOk result
+        ((q : Query) → given_size q.inline ≡ width → needs_inline q.ask ≡ true →
+        WalkedBelow id q 0 (seen R.log walk.old) (seen R.log walk.new)) }
+    ensures stopped { OnErr result
+        ((q : Query) → given_size q.inline ≡ width → needs_inline q.ask ≡ true →
+        Stopped id q (seen R.log walk.old) (seen R.log walk.new)) }
+{
     let parts = flex_in(walk, id)?;
     let members = parts.members;
-    let items = items_in_row(walk.alloc, walk.tree, id, width, members.as_slice())?;
-    let lines = row_lines(
-        walk.alloc,
-        &node_at(walk.tree, id).style,
-        width,
-        &items,
-        walk.passes,
-    )?;
-    let blocks = ask_members(walk, id, members.as_slice(), lines.mains.as_slice())?;
-    Ok(RowParts {
+    let boxes = boxes_in_column(walk.alloc, walk.tree, id, width, members.as_slice(), past)?;
+    let blocks = ask_members(walk, id, width, members.as_slice(), boxes.as_slice(), past)?;
+    Ok(ColumnParts {
         members,
-        lines,
+        boxes,
         blocks,
     })
 }
 
-#[cycle(walk)]
 /// A column of a known inline size: the inline size of each child, and its block size there (CSS Flexbox 1, 9.3 and 9.4). Nothing is
 /// kept for the container itself. `NoMemory` where memory is wanting.
 pub fn column_in<R: Ruler, L: Ledger>(
@@ -186,15 +304,8 @@ pub fn column_in<R: Ruler, L: Ledger>(
         ((q : Query) → given_size q.inline ≡ width → needs_inline q.ask ≡ true →
         Stopped id q (seen R.log walk.old) (seen R.log walk.new)) }
 {
-    let parts = flex_in(walk, id)?;
-    let members = parts.members;
-    let boxes = boxes_in_column(walk.alloc, walk.tree, id, width, members.as_slice())?;
-    let blocks = ask_members(walk, id, members.as_slice(), boxes.as_slice())?;
-    Ok(ColumnParts {
-        members,
-        boxes,
-        blocks,
-    })
+    let column = column_told(walk, id, width, &[])?;
+    Ok(column)
 }
 
 // ---- the block size of a node
@@ -249,7 +360,8 @@ fn grid_anew<R: Ruler, L: Ledger>(
 }
 
 #[cycle(walk)]
-/// The block size of the content of a column that keeps none for this question. The column is kept with it.
+/// The block size of the content of a column that keeps none for this question: a child that told it before is asked only where its
+/// answers went since. The column is kept with it, and what the children tell, where they are many.
 fn column_anew<R: Ruler, L: Ledger>(
     walk: &mut Walker<R, L>,
     id: NodeId,
@@ -276,14 +388,18 @@ fn column_anew<R: Ruler, L: Ledger>(
 {
     root(walk.tree);
     let width = size_of(&query.inline);
-    let parts = column_in(walk, id, width)?;
-    let (size, held) = sized_column(walk.alloc, walk.tree, id, width, parts)?;
+    let past = last_along(walk, id, width)?;
+    let parts = column_told(walk, id, width, past.as_slice())?;
+    let (size, items) = column_size(walk.alloc, walk.tree, id, width, &parts, past.as_slice())?;
+    keep_column(walk, id, width, &parts, &items)?;
+    let held = SharedColumnParts::new(walk.alloc, parts)?;
     walk.put(id, query, Answer::Column(size, held))?;
     Ok(size)
 }
 
 #[cycle(walk)]
-/// The block size of the content of a row that keeps none for this question. The row is kept with it.
+/// The block size of the content of a row that keeps none for this question: a child that told it before is asked only where its answers
+/// went since. The row is kept with it, and what the children tell, where they are many.
 fn row_anew<R: Ruler, L: Ledger>(
     walk: &mut Walker<R, L>,
     id: NodeId,
@@ -310,8 +426,11 @@ fn row_anew<R: Ruler, L: Ledger>(
 {
     root(walk.tree);
     let width = size_of(&query.inline);
-    let parts = row_in(walk, id, width)?;
-    let (size, held) = sized_row(walk.alloc, walk.tree, id, width, parts)?;
+    let past = last_along(walk, id, width)?;
+    let (parts, items) = row_told(walk, id, width, past.as_slice())?;
+    let size = row_size(walk.alloc, walk.tree, id, width, &parts)?;
+    keep_row(walk, id, width, &parts, &items)?;
+    let held = SharedRowParts::new(walk.alloc, parts)?;
     walk.put(id, query, Answer::Row(size, held))?;
     Ok(size)
 }

@@ -27,6 +27,7 @@ use Rattle.block_sizes.proofs.Fitting.{given_some, asked_as, block_fit, block_ow
 use Rattle.block_sizes.proofs.HeldWide.{grows_by_block, on_ok_by, some_or_none, wide_held}
 use Rattle.placing.specs.Nodes.{children_at}
 use Rattle.placing.specs.Wides.{HoldsWide}
+use Rattle.block_sizes.proofs.KnownAlong.{block_known, known_blocks}
 use Rattle.block_sizes.proofs.KnownRows.{rows_last, rows_lost}
 use Rattle.block_sizes.proofs.KeptGrids.{keepable, laid_answer, IsKeepable}
 use Rattle.block_sizes.proofs.Turns.{member_below, member_ends, member_stops, stops_at_once, turn_below, turn_ends, turn_stops}
@@ -56,9 +57,10 @@ use Rattle.tree_rules.specs.GridSizes.{grid_lends_rows}
 use Rattle.tree_rules.specs.Labels.{grid_of}
 use Rattle.tree_rules.specs.NodeSizes.{inner}
 use Rattle.inline_sizes.proofs.Asked.{on_ok}
-use Rattle.inline_sizes.specs.Flexes.{AreMembers, flex_seen, member_of}
+use Rattle.inline_sizes.specs.Flexes.{AreMembers, IsChild, flex_seen, member_of}
+use Rattle.placing.specs.Members.{member_in}
 use Rattle.inline_sizes.specs.GridsSeen.{grid_seen}
-use Rattle.block_sizes.proofs.AskMembers.{asked_turn, block_is, blocks_more, boxes_counted, fits_block, member_live, spread_none, width_is, IsAsked}
+use Rattle.block_sizes.proofs.AskMembers.{asked_turn, block_width, blocks_more, boxes_counted, fits_block, spread_none, IsAsked}
 use Rattle.block_sizes.proofs.FlexLeading.{column_leads, row_leads}
 use Rattle.block_sizes.proofs.FlexMade.{items_few, lines_made}
 use Rattle.block_sizes.proofs.Settled.{covering_roomy, map_length, seen_length, settled_length}
@@ -66,7 +68,7 @@ use Rattle.block_sizes.specs.Flexes.{AreCovering, HaveInner}
 use Rattle.placing.specs.Lined.{HoldsColumn, HoldsRow}
 use Rattle.placing.specs.Children.{IsTree}
 use Rattle.block_sizes.proofs.HeldLines.{column_held, row_held}
-use Rattle.block_sizes.specs.Settling.{AreRoomy, IsColumn, IsRow, LeadsTo, block_of, column_boxes_seen, settled_seen}
+use Rattle.block_sizes.specs.Settling.{AreKnown, AreRoomy, IsColumn, IsRow, LeadsTo, TellsBlock, block_of, column_boxes_seen, row_items_seen, settled_seen}
 use Rattle.block_sizes.specs.Wides.{rows_seen}
 use Rattle.walker.proofs.Parts.{parts_then, same_parts}
 use Rattle.walker.specs.Walkers.{kept, nodes, seen}
@@ -737,300 +739,6 @@ pub walk::rows_anew-returns-clause-own : goal.walk::rows_anew-returns-clause-own
 walk::rows_anew-returns-clause-own g t c =
     c.in_ok-put.ensures.own ∙ (λ i. kept_with ((c.in_ok-wide.ensures.below c.args.query (ap (λ (q : Query). q.reps) c.requires.query) refl (ap (λ (q : Query). needs_inline q.ask) c.requires.query)).own i) ((c.args.query, answer.Lent (sym (c.in_ok-lent.ensures ∙ c.as_slice.ensures) i)) ∷ []))
 
-pub walk::row_anew-sized_row-requires-clause-live : goal.walk::row_anew-sized_row-requires-clause-live
-walk::row_anew-sized_row-requires-clause-live g t c = subst (λ (z : BareTrees). IsLive z c.args.id) (sym (c.in_ok-parts.ensures.below c.args.query (sym c.size_of-width.ensures) (ap needs_inline c.requires.ask)).walk.bare_same) c.requires.live
-
-pub walk::row_anew-sized_row-requires-clause-row : goal.walk::row_anew-sized_row-requires-clause-row
-walk::row_anew-sized_row-requires-clause-row g t c =
-    subst (λ (z : BareTrees). IsRow z c.args.id c.size_of-width.result c.in_ok-parts.parts) (sym (c.in_ok-parts.ensures.below c.args.query (sym c.size_of-width.ensures) (ap needs_inline c.requires.ask)).walk.bare_same) c.in_ok-parts.ensures.value
-
-pub walk::row_anew-put-requires-clause-value : goal.walk::row_anew-put-requires-clause-value
-walk::row_anew-put-requires-clause-value g t c =
-    ap block_size
-    (c.in_ok-size.ensures.size ∙
-    ap
-    (λ (w : ℤ). rules.row_block (flex_seen (nodes c.row_in.new.walk) c.args.id) (rules.row_lines (flex_seen (nodes c.row_in.new.walk) c.args.id) w)
-    (rules.row_settled (flex_seen (nodes c.row_in.new.walk) c.args.id) (rules.row_lines (flex_seen (nodes c.row_in.new.walk) c.args.id) w))) c.size_of-width.ensures)
-    ∙ row_answer (nodes c.row_in.new.walk) c.args.id c.args.query
-    (subst (λ (z : BareTrees). (sight_at z c.args.id).label.kind ≡ kind.Flex) (sym (c.in_ok-parts.ensures.below c.args.query (sym c.size_of-width.ensures) (ap needs_inline c.requires.ask)).walk.bare_same) c.requires.flex)
-    (subst (λ (z : BareTrees). (sight_at z c.args.id).label.content.column ≡ false) (sym (c.in_ok-parts.ensures.below c.args.query (sym c.size_of-width.ensures) (ap needs_inline c.requires.ask)).walk.bare_same) c.requires.direction)
-    c.requires.ask
-
-pub walk::row_anew-put-requires-clause-quiet : goal.walk::row_anew-put-requires-clause-quiet
-walk::row_anew-put-requires-clause-quiet g t c =
-    flex_quiet (nodes c.row_in.new.walk) c.args.id c.args.query
-    (subst (λ (z : BareTrees). (sight_at z c.args.id).label.kind ≡ kind.Flex) (sym (c.in_ok-parts.ensures.below c.args.query (sym c.size_of-width.ensures) (ap needs_inline c.requires.ask)).walk.bare_same) c.requires.flex)
-
-pub walk::row_anew-put-requires-clause-live : goal.walk::row_anew-put-requires-clause-live
-walk::row_anew-put-requires-clause-live g t c = subst (λ (z : BareTrees). IsLive z c.args.id) (sym (c.in_ok-parts.ensures.below c.args.query (sym c.size_of-width.ensures) (ap needs_inline c.requires.ask)).walk.bare_same) c.requires.live
-
-pub walk::row_anew-put-requires-clause-absent : goal.walk::row_anew-put-requires-clause-absent
-walk::row_anew-put-requires-clause-absent g t c = subst (IsAbsent c.args.query) (sym (c.in_ok-parts.ensures.below c.args.query (sym c.size_of-width.ensures) (ap needs_inline c.requires.ask)).own) c.requires.absent
-
-pub walk::row_anew-put-requires-clause-fits : goal.walk::row_anew-put-requires-clause-fits
-walk::row_anew-put-requires-clause-fits g t c = subst (λ (z : BareTrees). Fits (sight_at z c.args.id) c.args.query) (sym (c.in_ok-parts.ensures.below c.args.query (sym c.size_of-width.ensures) (ap needs_inline c.requires.ask)).walk.bare_same) c.requires.fits
-
-pub walk::row_anew-returns-clause-value : goal.walk::row_anew-returns-clause-value
-walk::row_anew-returns-clause-value g t c =
-    ap block_size
-    (c.in_ok-size.ensures.size ∙
-    ap
-    (λ (w : ℤ). rules.row_block (flex_seen (nodes c.row_in.new.walk) c.args.id) (rules.row_lines (flex_seen (nodes c.row_in.new.walk) c.args.id) w)
-    (rules.row_settled (flex_seen (nodes c.row_in.new.walk) c.args.id) (rules.row_lines (flex_seen (nodes c.row_in.new.walk) c.args.id) w))) c.size_of-width.ensures)
-    ∙ row_answer (nodes c.row_in.new.walk) c.args.id c.args.query
-    (subst (λ (z : BareTrees). (sight_at z c.args.id).label.kind ≡ kind.Flex) (sym (c.in_ok-parts.ensures.below c.args.query (sym c.size_of-width.ensures) (ap needs_inline c.requires.ask)).walk.bare_same) c.requires.flex)
-    (subst (λ (z : BareTrees). (sight_at z c.args.id).label.content.column ≡ false) (sym (c.in_ok-parts.ensures.below c.args.query (sym c.size_of-width.ensures) (ap needs_inline c.requires.ask)).walk.bare_same) c.requires.direction)
-    c.requires.ask
-    ∙ ap (λ (z : BareTrees). answer_of (sight_at z c.args.id) c.args.query) (c.in_ok-parts.ensures.below c.args.query (sym c.size_of-width.ensures) (ap needs_inline c.requires.ask)).walk.bare_same
-
-pub walk::row_anew-returns-in_err-parts-clause-stopped : goal.walk::row_anew-returns-in_err-parts-clause-stopped
-walk::row_anew-returns-in_err-parts-clause-stopped g t c = on_err _ _ (c.in_err-parts.ensures.stopped c.args.query (sym c.size_of-width.ensures) (ap needs_inline c.requires.ask))
-
-pub walk::row_anew-returns-in_err-size-clause-stopped : goal.walk::row_anew-returns-in_err-size-clause-stopped
-walk::row_anew-returns-in_err-size-clause-stopped g t c = on_err _ _ (stopped c.args.id c.args.query 1 _ _ (c.in_ok-parts.ensures.below c.args.query (sym c.size_of-width.ensures) (ap needs_inline c.requires.ask)))
-
-pub walk::row_anew-returns-clause-walked : goal.walk::row_anew-returns-clause-walked
-walk::row_anew-returns-clause-walked g t c = c.in_ok-put.ensures.joins _ 1 (omega arith) (c.in_ok-parts.ensures.below c.args.query (sym c.size_of-width.ensures) (ap needs_inline c.requires.ask))
-
-pub walk::row_anew-returns-in_err-put-clause-stopped : goal.walk::row_anew-returns-in_err-put-clause-stopped
-walk::row_anew-returns-in_err-put-clause-stopped g t c = on_err _ _ (c.in_err-put.ensures.stopped _ 1 (c.in_ok-parts.ensures.below c.args.query (sym c.size_of-width.ensures) (ap needs_inline c.requires.ask)))
-
-pub walk::row_anew-returns-clause-own : goal.walk::row_anew-returns-clause-own
-walk::row_anew-returns-clause-own g t c = (
-  answer.Row c.in_ok-size.size c.in_ok-size.held,
-  (
-    refl,
-    c.in_ok-put.ensures.own ∙
-        ap (λ l. kept_with l ((c.args.query, answer.Row c.in_ok-size.size c.in_ok-size.held) ∷ []))
-        (c.in_ok-parts.ensures.below c.args.query (sym c.size_of-width.ensures) (ap needs_inline c.requires.ask)).own,
-  ),
-)
-
-pub walk::row_anew-put-requires-clause-children : goal.walk::row_anew-put-requires-clause-children
-walk::row_anew-put-requires-clause-children g t c =
-    let b = nodes c.row_in.new.walk in
-    let back = sym (c.in_ok-parts.ensures.below c.args.query (sym c.size_of-width.ensures) (ap needs_inline c.requires.ask)).walk.bare_same in
-    let is : IsRow b c.args.id c.size_of-width.result c.in_ok-parts.parts = subst (λ (z : BareTrees). IsRow z c.args.id c.size_of-width.result c.in_ok-parts.parts) back c.in_ok-parts.ensures.value in
-    subst (HoldsRow (sight_at b c.args.id) (children_at b c.args.id) (given_size c.args.query.inline)) (sym c.in_ok-size.ensures.row)
-    (subst (λ (w : ℤ). HoldsRow (sight_at b c.args.id) (children_at b c.args.id) w c.in_ok-parts.parts) c.size_of-width.ensures
-    (row_held b c.args.id (subst IsTree back c.root.ensures.tree) c.size_of-width.result c.in_ok-parts.parts is))
-
-pub walk::column_anew-sized_column-requires-clause-live : goal.walk::column_anew-sized_column-requires-clause-live
-walk::column_anew-sized_column-requires-clause-live g t c = subst (λ (z : BareTrees). IsLive z c.args.id) (sym (c.in_ok-parts.ensures.below c.args.query (sym c.size_of-width.ensures) (ap needs_inline c.requires.ask)).walk.bare_same) c.requires.live
-
-pub walk::column_anew-sized_column-requires-clause-column : goal.walk::column_anew-sized_column-requires-clause-column
-walk::column_anew-sized_column-requires-clause-column g t c =
-    subst (λ (z : BareTrees). IsColumn z c.args.id c.size_of-width.result c.in_ok-parts.parts) (sym (c.in_ok-parts.ensures.below c.args.query (sym c.size_of-width.ensures) (ap needs_inline c.requires.ask)).walk.bare_same) c.in_ok-parts.ensures.value
-
-pub walk::column_anew-put-requires-clause-value : goal.walk::column_anew-put-requires-clause-value
-walk::column_anew-put-requires-clause-value g t c =
-    ap block_size (c.in_ok-size.ensures.size ∙ ap (λ (w : ℤ). rules.column_block (flex_seen (nodes c.column_in.new.walk) c.args.id) (rules.column_settled (flex_seen (nodes c.column_in.new.walk) c.args.id) w)) c.size_of-width.ensures)
-    ∙ column_answer (nodes c.column_in.new.walk) c.args.id c.args.query
-    (subst (λ (z : BareTrees). (sight_at z c.args.id).label.kind ≡ kind.Flex) (sym (c.in_ok-parts.ensures.below c.args.query (sym c.size_of-width.ensures) (ap needs_inline c.requires.ask)).walk.bare_same) c.requires.flex)
-    (subst (λ (z : BareTrees). (sight_at z c.args.id).label.content.column ≡ true) (sym (c.in_ok-parts.ensures.below c.args.query (sym c.size_of-width.ensures) (ap needs_inline c.requires.ask)).walk.bare_same) c.requires.direction)
-    c.requires.ask
-
-pub walk::column_anew-put-requires-clause-quiet : goal.walk::column_anew-put-requires-clause-quiet
-walk::column_anew-put-requires-clause-quiet g t c =
-    flex_quiet (nodes c.column_in.new.walk) c.args.id c.args.query
-    (subst (λ (z : BareTrees). (sight_at z c.args.id).label.kind ≡ kind.Flex) (sym (c.in_ok-parts.ensures.below c.args.query (sym c.size_of-width.ensures) (ap needs_inline c.requires.ask)).walk.bare_same) c.requires.flex)
-
-pub walk::column_anew-put-requires-clause-live : goal.walk::column_anew-put-requires-clause-live
-walk::column_anew-put-requires-clause-live g t c = subst (λ (z : BareTrees). IsLive z c.args.id) (sym (c.in_ok-parts.ensures.below c.args.query (sym c.size_of-width.ensures) (ap needs_inline c.requires.ask)).walk.bare_same) c.requires.live
-
-pub walk::column_anew-put-requires-clause-absent : goal.walk::column_anew-put-requires-clause-absent
-walk::column_anew-put-requires-clause-absent g t c = subst (IsAbsent c.args.query) (sym (c.in_ok-parts.ensures.below c.args.query (sym c.size_of-width.ensures) (ap needs_inline c.requires.ask)).own) c.requires.absent
-
-pub walk::column_anew-put-requires-clause-fits : goal.walk::column_anew-put-requires-clause-fits
-walk::column_anew-put-requires-clause-fits g t c = subst (λ (z : BareTrees). Fits (sight_at z c.args.id) c.args.query) (sym (c.in_ok-parts.ensures.below c.args.query (sym c.size_of-width.ensures) (ap needs_inline c.requires.ask)).walk.bare_same) c.requires.fits
-
-pub walk::column_anew-returns-clause-value : goal.walk::column_anew-returns-clause-value
-walk::column_anew-returns-clause-value g t c =
-    ap block_size (c.in_ok-size.ensures.size ∙ ap (λ (w : ℤ). rules.column_block (flex_seen (nodes c.column_in.new.walk) c.args.id) (rules.column_settled (flex_seen (nodes c.column_in.new.walk) c.args.id) w)) c.size_of-width.ensures)
-    ∙ column_answer (nodes c.column_in.new.walk) c.args.id c.args.query
-    (subst (λ (z : BareTrees). (sight_at z c.args.id).label.kind ≡ kind.Flex) (sym (c.in_ok-parts.ensures.below c.args.query (sym c.size_of-width.ensures) (ap needs_inline c.requires.ask)).walk.bare_same) c.requires.flex)
-    (subst (λ (z : BareTrees). (sight_at z c.args.id).label.content.column ≡ true) (sym (c.in_ok-parts.ensures.below c.args.query (sym c.size_of-width.ensures) (ap needs_inline c.requires.ask)).walk.bare_same) c.requires.direction)
-    c.requires.ask
-    ∙ ap (λ (z : BareTrees). answer_of (sight_at z c.args.id) c.args.query) (c.in_ok-parts.ensures.below c.args.query (sym c.size_of-width.ensures) (ap needs_inline c.requires.ask)).walk.bare_same
-
-pub walk::column_anew-returns-in_err-parts-clause-stopped : goal.walk::column_anew-returns-in_err-parts-clause-stopped
-walk::column_anew-returns-in_err-parts-clause-stopped g t c = on_err _ _ (c.in_err-parts.ensures.stopped c.args.query (sym c.size_of-width.ensures) (ap needs_inline c.requires.ask))
-
-pub walk::column_anew-returns-in_err-size-clause-stopped : goal.walk::column_anew-returns-in_err-size-clause-stopped
-walk::column_anew-returns-in_err-size-clause-stopped g t c = on_err _ _ (stopped c.args.id c.args.query 0 _ _ (c.in_ok-parts.ensures.below c.args.query (sym c.size_of-width.ensures) (ap needs_inline c.requires.ask)))
-
-pub walk::column_anew-returns-clause-walked : goal.walk::column_anew-returns-clause-walked
-walk::column_anew-returns-clause-walked g t c = c.in_ok-put.ensures.joins _ 0 (omega arith) (c.in_ok-parts.ensures.below c.args.query (sym c.size_of-width.ensures) (ap needs_inline c.requires.ask))
-
-pub walk::column_anew-returns-in_err-put-clause-stopped : goal.walk::column_anew-returns-in_err-put-clause-stopped
-walk::column_anew-returns-in_err-put-clause-stopped g t c = on_err _ _ (c.in_err-put.ensures.stopped _ 0 (c.in_ok-parts.ensures.below c.args.query (sym c.size_of-width.ensures) (ap needs_inline c.requires.ask)))
-
-pub walk::column_anew-returns-clause-own : goal.walk::column_anew-returns-clause-own
-walk::column_anew-returns-clause-own g t c = (
-  answer.Column c.in_ok-size.size c.in_ok-size.held,
-  (
-    refl,
-    c.in_ok-put.ensures.own ∙
-        ap (λ l. kept_with l ((c.args.query, answer.Column c.in_ok-size.size c.in_ok-size.held) ∷ []))
-        (c.in_ok-parts.ensures.below c.args.query (sym c.size_of-width.ensures) (ap needs_inline c.requires.ask)).own,
-  ),
-)
-
-pub walk::column_anew-put-requires-clause-children : goal.walk::column_anew-put-requires-clause-children
-walk::column_anew-put-requires-clause-children g t c =
-    let b = nodes c.column_in.new.walk in
-    let back = sym (c.in_ok-parts.ensures.below c.args.query (sym c.size_of-width.ensures) (ap needs_inline c.requires.ask)).walk.bare_same in
-    let is : IsColumn b c.args.id c.size_of-width.result c.in_ok-parts.parts = subst (λ (z : BareTrees). IsColumn z c.args.id c.size_of-width.result c.in_ok-parts.parts) back c.in_ok-parts.ensures.value in
-    subst (HoldsColumn (sight_at b c.args.id) (children_at b c.args.id) (given_size c.args.query.inline)) (sym c.in_ok-size.ensures.column)
-    (subst (λ (w : ℤ). HoldsColumn (sight_at b c.args.id) (children_at b c.args.id) w c.in_ok-parts.parts) c.size_of-width.ensures
-    (column_held b c.args.id (subst IsTree back c.root.ensures.tree) c.size_of-width.result c.in_ok-parts.parts is))
-
-pub walk::row_in-items_in_row-requires-clause-live : goal.walk::row_in-items_in_row-requires-clause-live
-walk::row_in-items_in_row-requires-clause-live g t c = subst (λ (z : BareTrees). IsLive z c.args.id) (sym (c.in_ok-parts.ensures.below (inline_query false [])).walk.bare_same) c.requires.live
-
-pub walk::row_in-items_in_row-requires-clause-members : goal.walk::row_in-items_in_row-requires-clause-members
-walk::row_in-items_in_row-requires-clause-members g t c =
-    subst (AreMembers (nodes c.flex_in.new.walk) c.args.id) (sym c.as_slice.ensures) (subst (λ (z : BareTrees). AreMembers z c.args.id c.in_ok-parts.parts.members) (sym (c.in_ok-parts.ensures.below (inline_query false [])).walk.bare_same) c.in_ok-parts.ensures.value)
-
-pub walk::row_in-returns-in_err-parts-clause-stopped : goal.walk::row_in-returns-in_err-parts-clause-stopped
-walk::row_in-returns-in_err-parts-clause-stopped g t c =
-    let all : (q : Query) → given_size q.inline ≡ c.args.width → needs_inline q.ask ≡ true →
-    Stopped c.args.id q (seen g.R.Ruler.log c.args.walk.now) (seen g.R.Ruler.log c.flex_in.new.walk) = λ q w n. c.in_err-parts.ensures.stopped q in
-    on_err _ _ all
-
-pub walk::column_in-boxes_in_column-requires-clause-live : goal.walk::column_in-boxes_in_column-requires-clause-live
-walk::column_in-boxes_in_column-requires-clause-live g t c = subst (λ (z : BareTrees). IsLive z c.args.id) (sym (c.in_ok-parts.ensures.below (inline_query false [])).walk.bare_same) c.requires.live
-
-pub walk::column_in-boxes_in_column-requires-clause-members : goal.walk::column_in-boxes_in_column-requires-clause-members
-walk::column_in-boxes_in_column-requires-clause-members g t c =
-    subst (AreMembers (nodes c.flex_in.new.walk) c.args.id) (sym c.as_slice.ensures) (subst (λ (z : BareTrees). AreMembers z c.args.id c.in_ok-parts.parts.members) (sym (c.in_ok-parts.ensures.below (inline_query false [])).walk.bare_same) c.in_ok-parts.ensures.value)
-
-pub walk::column_in-returns-in_err-parts-clause-stopped : goal.walk::column_in-returns-in_err-parts-clause-stopped
-walk::column_in-returns-in_err-parts-clause-stopped g t c =
-    let all : (q : Query) → given_size q.inline ≡ c.args.width → needs_inline q.ask ≡ true →
-    Stopped c.args.id q (seen g.R.Ruler.log c.args.walk.now) (seen g.R.Ruler.log c.flex_in.new.walk) = λ q w n. c.in_err-parts.ensures.stopped q in
-    on_err _ _ all
-
-pub walk::row_in-row_lines-requires : goal.walk::row_in-row_lines-requires
-walk::row_in-row_lines-requires g t c = record
-    { few = items_few (nodes c.flex_in.new.walk) c.args.id c.args.width c.deref.result.now c.flex_in.ensures.stands.readable (c.deref.ensures.value ∙ c.in_ok-items.ensures.value) }
-
-pub walk::row_in-ask_members-requires : goal.walk::row_in-ask_members-requires
-walk::row_in-ask_members-requires g t c =
-    let back = sym (c.in_ok-parts.ensures.below (inline_query false [])).walk.bare_same in
-    let live : IsLive (nodes c.flex_in.new.walk) c.args.id = subst (λ (z : BareTrees). IsLive z c.args.id) back c.requires.live in
-    let readable : AreReadable (nodes c.flex_in.new.walk) = c.flex_in.ensures.stands.readable in
-    let flex : (sight_at (nodes c.flex_in.new.walk) c.args.id).label.kind ≡ kind.Flex = subst (λ (z : BareTrees). (sight_at z c.args.id).label.kind ≡ kind.Flex) back c.requires.flex in
-    let members : AreMembers (nodes c.flex_in.new.walk) c.args.id c.as_slice-2.result.now = subst (AreMembers (nodes c.flex_in.new.walk) c.args.id) (sym c.as_slice-2.ensures) (subst (λ (z : BareTrees). AreMembers z c.args.id c.in_ok-parts.parts.members) back c.in_ok-parts.ensures.value) in
-    let roomy : AreRoomy (flex_seen (nodes c.flex_in.new.walk) c.args.id).members c.as_slice-3.result.now = subst (AreRoomy (flex_seen (nodes c.flex_in.new.walk) c.args.id).members) (sym c.as_slice-3.ensures)
-    (covering_roomy c.args.width (flex_seen (nodes c.flex_in.new.walk) c.args.id).members c.in_ok-lines.lines.mains
-    (subst (λ (l : List FlexItem). AreCovering l c.in_ok-lines.lines.mains) (c.deref.ensures.value ∙ c.in_ok-items.ensures.value) (c.in_ok-lines.ensures.cover (subst HaveInner (sym c.deref.ensures.value) c.in_ok-items.ensures.inner)))) in
-    let small : 16 * size_at (nodes c.flex_in.new.walk) c.args.id + 0 < 16 * size_at (nodes c.args.walk.now) c.args.id + 1 = omega (arith, ap (λ (z : BareTrees). size_at z c.args.id) (c.in_ok-parts.ensures.below (inline_query false [])).walk.bare_same) in
-    search rules
-
-pub walk::row_in-returns-in_err-items-clause-stopped : goal.walk::row_in-returns-in_err-items-clause-stopped
-walk::row_in-returns-in_err-items-clause-stopped g t c =
-    let all : (q : Query) → given_size q.inline ≡ c.args.width → needs_inline q.ask ≡ true →
-    Stopped c.args.id q (seen g.R.Ruler.log c.args.walk.now) (seen g.R.Ruler.log c.flex_in.new.walk) = λ q w n. stopped c.args.id q 0
-    (seen g.R.Ruler.log c.args.walk.now) (seen g.R.Ruler.log c.flex_in.new.walk) (c.in_ok-parts.ensures.below q) in
-    on_err _ _ all
-
-pub walk::row_in-returns-in_err-lines-clause-stopped : goal.walk::row_in-returns-in_err-lines-clause-stopped
-walk::row_in-returns-in_err-lines-clause-stopped g t c =
-    let all : (q : Query) → given_size q.inline ≡ c.args.width → needs_inline q.ask ≡ true →
-    Stopped c.args.id q (seen g.R.Ruler.log c.args.walk.now) (state c.flex_in.new.walk.tree.now c.flex_in.new.walk.tally.now c.row_lines.new.passes (g.R.Ruler.log c.flex_in.new.walk.ruler.now)) = λ q w n. stopped c.args.id q 1
-    (seen g.R.Ruler.log c.args.walk.now) (state c.flex_in.new.walk.tree.now c.flex_in.new.walk.tally.now c.row_lines.new.passes (g.R.Ruler.log c.flex_in.new.walk.ruler.now))
-    (ticked c.args.id q 0 1 (seen g.R.Ruler.log c.args.walk.now) (seen g.R.Ruler.log c.flex_in.new.walk) c.row_lines.new.passes c.row_lines.ensures.ticks
-    (c.in_ok-parts.ensures.below q)) in
-    on_err _ _ all
-
-pub walk::row_in-returns-in_err-blocks-clause-stopped : goal.walk::row_in-returns-in_err-blocks-clause-stopped
-walk::row_in-returns-in_err-blocks-clause-stopped g t c =
-    let all : (q : Query) → given_size q.inline ≡ c.args.width → needs_inline q.ask ≡ true →
-    Stopped c.args.id q (seen g.R.Ruler.log c.args.walk.now) (seen g.R.Ruler.log c.ask_members.new.walk) = λ q w n. joined_stopped c.args.id q 1
-    (seen g.R.Ruler.log c.args.walk.now) (state c.flex_in.new.walk.tree.now c.flex_in.new.walk.tally.now c.row_lines.new.passes (g.R.Ruler.log c.flex_in.new.walk.ruler.now))
-    (seen g.R.Ruler.log c.ask_members.new.walk)
-    (ticked c.args.id q 0 1 (seen g.R.Ruler.log c.args.walk.now) (seen g.R.Ruler.log c.flex_in.new.walk) c.row_lines.new.passes c.row_lines.ensures.ticks
-    (c.in_ok-parts.ensures.below q))
-    (c.in_err-blocks.ensures.stopped q
-    (row_leads (nodes c.flex_in.new.walk) c.args.id c.args.width q c.as_slice-3.result.now (subst (λ (z : BareTrees). (sight_at z c.args.id).label.kind ≡ kind.Flex) (sym (c.in_ok-parts.ensures.below (inline_query false [])).walk.bare_same) c.requires.flex)
-    (subst (λ (z : BareTrees). (sight_at z c.args.id).label.content.column ≡ false) (sym (c.in_ok-parts.ensures.below (inline_query false [])).walk.bare_same) c.requires.direction) w n
-    (c.as_slice-3.ensures ∙
-    ap (λ (l : rules.Lines). l.mains)
-    (lines_made (nodes c.flex_in.new.walk) c.args.id c.args.width c.node_at.result.now.style c.deref.result.now c.in_ok-lines.lines c.node_at.ensures.grid c.node_at.ensures.content (c.deref.ensures.value ∙ c.in_ok-items.ensures.value)
-    c.in_ok-lines.ensures.value)))) in
-    on_err _ _ all
-
-pub walk::row_in-returns-clause-below : goal.walk::row_in-returns-clause-below
-walk::row_in-returns-clause-below g t c =
-    λ q w n. joined_below c.args.id q 1 (seen g.R.Ruler.log c.args.walk.now) (state c.flex_in.new.walk.tree.now c.flex_in.new.walk.tally.now c.row_lines.new.passes (g.R.Ruler.log c.flex_in.new.walk.ruler.now))
-    (seen g.R.Ruler.log c.ask_members.new.walk)
-    (ticked c.args.id q 0 1 (seen g.R.Ruler.log c.args.walk.now) (seen g.R.Ruler.log c.flex_in.new.walk) c.row_lines.new.passes c.row_lines.ensures.ticks
-    (c.in_ok-parts.ensures.below q))
-    (c.in_ok-blocks.ensures.below q
-    (row_leads (nodes c.flex_in.new.walk) c.args.id c.args.width q c.as_slice-3.result.now (subst (λ (z : BareTrees). (sight_at z c.args.id).label.kind ≡ kind.Flex) (sym (c.in_ok-parts.ensures.below (inline_query false [])).walk.bare_same) c.requires.flex)
-    (subst (λ (z : BareTrees). (sight_at z c.args.id).label.content.column ≡ false) (sym (c.in_ok-parts.ensures.below (inline_query false [])).walk.bare_same) c.requires.direction) w n
-    (c.as_slice-3.ensures ∙
-    ap (λ (l : rules.Lines). l.mains)
-    (lines_made (nodes c.flex_in.new.walk) c.args.id c.args.width c.node_at.result.now.style c.deref.result.now c.in_ok-lines.lines c.node_at.ensures.grid c.node_at.ensures.content (c.deref.ensures.value ∙ c.in_ok-items.ensures.value) c.in_ok-lines.ensures.value))))
-
-pub walk::row_in-returns-clause-value : goal.walk::row_in-returns-clause-value
-walk::row_in-returns-clause-value g t c =
-    record {
-      children = c.in_ok-parts.ensures.value;
-      along =
-          (lines_made (nodes c.flex_in.new.walk) c.args.id c.args.width c.node_at.result.now.style c.deref.result.now c.in_ok-lines.lines c.node_at.ensures.grid c.node_at.ensures.content (c.deref.ensures.value ∙ c.in_ok-items.ensures.value) c.in_ok-lines.ensures.value) ∙
-          ap (λ (z : BareTrees). rules.row_lines (flex_seen z c.args.id) c.args.width) (c.in_ok-parts.ensures.below (inline_query false [])).walk.bare_same;
-      ranges = subst (λ (k : ℕ). AreRanges k c.in_ok-lines.lines.ranges) (ap length (c.deref.ensures.value ∙ c.in_ok-items.ensures.value) ∙ map_length (λ (m : rules.Member). rules.flex_item false (Some c.args.width) m.kid.label m.inline) (flex_seen (nodes c.flex_in.new.walk) c.args.id).members
-          ∙ ap (λ (z : BareTrees). length (flex_seen z c.args.id).members) (c.in_ok-parts.ensures.below (inline_query false [])).walk.bare_same ∙ seen_length (nodes c.args.walk.now) c.args.id c.in_ok-parts.parts.members c.in_ok-parts.ensures.value.same) c.in_ok-lines.ensures.ranges;
-      across = c.in_ok-blocks.ensures.value ∙ (λ i. map block_of (settled_seen ((c.in_ok-parts.ensures.below (inline_query false [])).walk.bare_same i) c.args.id (c.as_slice-3.ensures i)));
-    }
-
-pub walk::column_in-ask_members-requires : goal.walk::column_in-ask_members-requires
-walk::column_in-ask_members-requires g t c =
-    let back = sym (c.in_ok-parts.ensures.below (inline_query false [])).walk.bare_same in
-    let live : IsLive (nodes c.flex_in.new.walk) c.args.id = subst (λ (z : BareTrees). IsLive z c.args.id) back c.requires.live in
-    let readable : AreReadable (nodes c.flex_in.new.walk) = c.flex_in.ensures.stands.readable in
-    let flex : (sight_at (nodes c.flex_in.new.walk) c.args.id).label.kind ≡ kind.Flex = subst (λ (z : BareTrees). (sight_at z c.args.id).label.kind ≡ kind.Flex) back c.requires.flex in
-    let members : AreMembers (nodes c.flex_in.new.walk) c.args.id c.as_slice-2.result.now = subst (AreMembers (nodes c.flex_in.new.walk) c.args.id) (sym c.as_slice-2.ensures) (subst (λ (z : BareTrees). AreMembers z c.args.id c.in_ok-parts.parts.members) back c.in_ok-parts.ensures.value) in
-    let roomy : AreRoomy (flex_seen (nodes c.flex_in.new.walk) c.args.id).members c.as_slice-3.result.now = subst (AreRoomy (flex_seen (nodes c.flex_in.new.walk) c.args.id).members) (sym c.as_slice-3.ensures) c.in_ok-boxes.ensures.roomy in
-    let small : 16 * size_at (nodes c.flex_in.new.walk) c.args.id + 0 < 16 * size_at (nodes c.args.walk.now) c.args.id + 1 = omega (arith, ap (λ (z : BareTrees). size_at z c.args.id) (c.in_ok-parts.ensures.below (inline_query false [])).walk.bare_same) in
-    search rules
-
-pub walk::column_in-returns-in_err-boxes-clause-stopped : goal.walk::column_in-returns-in_err-boxes-clause-stopped
-walk::column_in-returns-in_err-boxes-clause-stopped g t c =
-    let all : (q : Query) → given_size q.inline ≡ c.args.width → needs_inline q.ask ≡ true →
-    Stopped c.args.id q (seen g.R.Ruler.log c.args.walk.now) (seen g.R.Ruler.log c.flex_in.new.walk) = λ q w n. stopped c.args.id q 0
-    (seen g.R.Ruler.log c.args.walk.now) (seen g.R.Ruler.log c.flex_in.new.walk) (c.in_ok-parts.ensures.below q) in
-    on_err _ _ all
-
-pub walk::column_in-returns-in_err-blocks-clause-stopped : goal.walk::column_in-returns-in_err-blocks-clause-stopped
-walk::column_in-returns-in_err-blocks-clause-stopped g t c =
-    let all : (q : Query) → given_size q.inline ≡ c.args.width → needs_inline q.ask ≡ true →
-    Stopped c.args.id q (seen g.R.Ruler.log c.args.walk.now) (seen g.R.Ruler.log c.ask_members.new.walk) = λ q w n. joined_stopped c.args.id q 0
-    (seen g.R.Ruler.log c.args.walk.now) (seen g.R.Ruler.log c.flex_in.new.walk)
-    (seen g.R.Ruler.log c.ask_members.new.walk) (c.in_ok-parts.ensures.below q)
-    (c.in_err-blocks.ensures.stopped q
-    (column_leads (nodes c.flex_in.new.walk) c.args.id c.args.width q c.as_slice-3.result.now (subst (λ (z : BareTrees). (sight_at z c.args.id).label.kind ≡ kind.Flex) (sym (c.in_ok-parts.ensures.below (inline_query false [])).walk.bare_same) c.requires.flex)
-    (subst (λ (z : BareTrees). (sight_at z c.args.id).label.content.column ≡ true) (sym (c.in_ok-parts.ensures.below (inline_query false [])).walk.bare_same) c.requires.direction) w n (c.as_slice-3.ensures ∙ c.in_ok-boxes.ensures.value))) in
-    on_err _ _ all
-
-pub walk::column_in-returns-clause-below : goal.walk::column_in-returns-clause-below
-walk::column_in-returns-clause-below g t c =
-    λ q w n. joined_below c.args.id q 0 (seen g.R.Ruler.log c.args.walk.now) (seen g.R.Ruler.log c.flex_in.new.walk)
-    (seen g.R.Ruler.log c.ask_members.new.walk) (c.in_ok-parts.ensures.below q)
-    (c.in_ok-blocks.ensures.below q
-    (column_leads (nodes c.flex_in.new.walk) c.args.id c.args.width q c.as_slice-3.result.now (subst (λ (z : BareTrees). (sight_at z c.args.id).label.kind ≡ kind.Flex) (sym (c.in_ok-parts.ensures.below (inline_query false [])).walk.bare_same) c.requires.flex)
-    (subst (λ (z : BareTrees). (sight_at z c.args.id).label.content.column ≡ true) (sym (c.in_ok-parts.ensures.below (inline_query false [])).walk.bare_same) c.requires.direction) w n (c.as_slice-3.ensures ∙ c.in_ok-boxes.ensures.value)))
-
-pub walk::column_in-returns-clause-value : goal.walk::column_in-returns-clause-value
-walk::column_in-returns-clause-value g t c =
-    record {
-      children = c.in_ok-parts.ensures.value;
-      across = c.in_ok-boxes.ensures.value ∙ ap (λ (z : BareTrees). column_boxes_seen z c.args.id c.args.width) (c.in_ok-parts.ensures.below (inline_query false [])).walk.bare_same;
-      along = c.in_ok-blocks.ensures.value ∙ (λ i. map block_of (settled_seen ((c.in_ok-parts.ensures.below (inline_query false [])).walk.bare_same i) c.args.id (c.as_slice-3.ensures i)));
-    }
-
 pub walk::block_in-returns-in_err-query-clause-stopped : goal.walk::block_in-returns-in_err-query-clause-stopped
 walk::block_in-returns-in_err-query-clause-stopped g t c = on_err _ _ (stopped c.args.id _ 0 _ _ (walked_none c.args.id (block_query false c.args.seat.now.reps.now c.args.width.now) (seen g.R.Ruler.log c.args.walk.now) c.requires.stands.right))
 
@@ -1048,106 +756,6 @@ walk::lend_rows_at-returns-in-Some-clause-walked g t c = on_ok _ _ (found_walked
 
 pub walk::lend_rows_at-returns-in-Some-clause-stopped : goal.walk::lend_rows_at-returns-in-Some-clause-stopped
 walk::lend_rows_at-returns-in-Some-clause-stopped g t c = on_err _ _ (stopped c.args.id _ 0 _ _ (walked_none c.args.id (block_query true c.args.seat.now.reps.now c.args.width.now) (seen g.R.Ruler.log c.args.walk.now) c.requires.stands.right))
-
-pub walk::ask_members-returns-in_err-blocks-clause-stopped : goal.walk::ask_members-returns-in_err-blocks-clause-stopped
-walk::ask_members-returns-in_err-blocks-clause-stopped g t c =
-    let all : (q : Query) → LeadsTo (nodes c.args.walk.now) c.args.id c.args.boxes.now q → Stopped c.args.id q (seen g.R.Ruler.log c.args.walk.now) (seen g.R.Ruler.log c.args.walk.now) =
-    λ q leads. stopped c.args.id q 0 _ _ (walked_none c.args.id q (seen g.R.Ruler.log c.args.walk.now) c.requires.stands.right) in
-    on_err _ _ all
-
-pub walk::ask_members-loop-index-init : goal.walk::ask_members-loop-index-init
-walk::ask_members-loop-index-init g t c =
-    record {
-      stands = c.requires.stands;
-      parts = same_parts c.args.walk.now;
-      same = refl;
-      walked = λ q leads. walked_none c.args.id q (seen g.R.Ruler.log c.args.walk.now) c.requires.stands.right;
-      blocks = ap (λ (l : List ℤ). l ++ map block_of (settled_seen (nodes c.args.walk.now) c.args.id c.args.boxes.now)) c.in_ok-blocks.ensures;
-    }
-
-pub walk::ask_members-member_at-member-requires : goal.walk::ask_members-member_at-member-requires
-walk::ask_members-member_at-member-requires g t c = omega (arith, c.loop-index-test.true)
-
-pub walk::ask_members-box_at-requires : goal.walk::ask_members-box_at-requires
-walk::ask_members-box_at-requires g t c = omega (arith, c.loop-index-test.true, boxes_counted (nodes c.args.walk.now) c.args.id c.args.members.now c.args.boxes.now c.requires.members c.requires.roomy)
-
-pub walk::ask_members-node_at-requires : goal.walk::ask_members-node_at-requires
-walk::ask_members-node_at-requires g t c =
-    let live_now : IsLive (nodes c.loop-index.walk) c.member_at-member.result.child =
-    member_live (nodes c.args.walk.now) (nodes c.loop-index.walk) c.args.id c.args.members.now c.loop-index.index c.member_at-member.result c.loop-index.invariant.same c.requires.members (omega (arith, c.loop-index-test.true)) c.member_at-member.ensures in
-    live_now
-
-pub walk::ask_members-given_box-width-requires : goal.walk::ask_members-given_box-width-requires
-walk::ask_members-given_box-width-requires g t c =
-    let live_now : IsLive (nodes c.loop-index.walk) c.member_at-member.result.child =
-    member_live (nodes c.args.walk.now) (nodes c.loop-index.walk) c.args.id c.args.members.now c.loop-index.index c.member_at-member.result c.loop-index.invariant.same c.requires.members (omega (arith, c.loop-index-test.true)) c.member_at-member.ensures in
-    let readable : AreReadable (nodes c.loop-index.walk) = c.loop-index.invariant.stands.readable in
-    subst (λ (s : GridStyle). IsGridAxis s.columns) (sym c.node_at.ensures.grid) (readable.nodes c.member_at-member.result.child live_now).grid.columns
-
-pub walk::ask_members-block_in-requires : goal.walk::ask_members-block_in-requires
-walk::ask_members-block_in-requires g t c =
-    let turn_now : IsAsked (nodes c.args.walk.now) (nodes c.loop-index.walk) c.args.id c.args.boxes.now c.loop-index.index c.member_at-member.result c.box_at.result =
-    asked_turn (nodes c.args.walk.now) (nodes c.loop-index.walk) c.args.id c.args.members.now c.args.boxes.now c.loop-index.index c.member_at-member.result c.box_at.result c.loop-index.invariant.same c.root.ensures.tree c.requires.members c.requires.roomy c.requires.flex
-    (omega (arith, c.loop-index-test.true)) c.member_at-member.ensures c.box_at.ensures in
-    let given : IsGivenFor true false 0 c.given_box-width.result =
-    c.given_box-width.ensures.fits (subst (λ (s : GridStyle). inner s.columns ≤ℤ c.box_at.result) (sym c.node_at.ensures.grid) turn_now.room) in
-    let live : IsLive (nodes c.loop-index.walk) c.member_at-member.result.child = turn_now.live in
-    let readable : AreReadable (nodes c.loop-index.walk) = c.loop-index.invariant.stands.readable in
-    let fits : Fits (sight_at (nodes c.loop-index.walk) c.member_at-member.result.child) (block_query false [] c.given_box-width.result) = fits_block (sight_at (nodes c.loop-index.walk) c.member_at-member.result.child) c.given_box-width.result turn_now.none given in
-    let seat : IsSeat (sight_at (nodes c.loop-index.walk) c.member_at-member.result.child) [] above.Nothing (record { columns = record { start = pos 0; end = pos 0 }; rows = record { start = pos 0; end = pos 0 } }) = alone_there (nodes c.loop-index.walk)
-    c.member_at-member.result.child _ (ap has_chain turn_now.none) in
-    let apart : IsSpread (farthest (level_at (nodes c.loop-index.walk) c.member_at-member.result.child)) c.given_box-width.result = spread_none (farthest (level_at (nodes c.loop-index.walk) c.member_at-member.result.child)) c.given_box-width.result given in
-    let small : 16 * size_at (nodes c.loop-index.walk) c.member_at-member.result.child + 6 < 16 * size_at (nodes c.args.walk.now) c.args.id + 0 = omega (arith, turn_now.small) in
-    search rules
-
-pub walk::ask_members-returns-in_err-block-clause-stopped : goal.walk::ask_members-returns-in_err-block-clause-stopped
-walk::ask_members-returns-in_err-block-clause-stopped g t c =
-    let turn_now : IsAsked (nodes c.args.walk.now) (nodes c.loop-index.walk) c.args.id c.args.boxes.now c.loop-index.index c.member_at-member.result c.box_at.result =
-    asked_turn (nodes c.args.walk.now) (nodes c.loop-index.walk) c.args.id c.args.members.now c.args.boxes.now c.loop-index.index c.member_at-member.result c.box_at.result c.loop-index.invariant.same c.root.ensures.tree c.requires.members c.requires.roomy c.requires.flex
-    (omega (arith, c.loop-index-test.true)) c.member_at-member.ensures c.box_at.ensures in
-    on_err _ _
-    (member_stops (nodes c.args.walk.now) (nodes c.loop-index.walk) c.loop-index.invariant.same c.args.id c.args.boxes.now c.loop-index.index c.member_at-member.result c.box_at.result turn_now c.root.ensures.steps (grid_of c.node_at.result.now.style)
-    c.given_box-width.result c.node_at.ensures.grid c.given_box-width.ensures.value _ _ _ refl c.loop-index.invariant.walked c.in_err-block.ensures.stopped)
-
-pub walk::ask_members-returns-in_err-push-clause-stopped : goal.walk::ask_members-returns-in_err-push-clause-stopped
-walk::ask_members-returns-in_err-push-clause-stopped g t c =
-    let turn_now : IsAsked (nodes c.args.walk.now) (nodes c.loop-index.walk) c.args.id c.args.boxes.now c.loop-index.index c.member_at-member.result c.box_at.result =
-    asked_turn (nodes c.args.walk.now) (nodes c.loop-index.walk) c.args.id c.args.members.now c.args.boxes.now c.loop-index.index c.member_at-member.result c.box_at.result c.loop-index.invariant.same c.root.ensures.tree c.requires.members c.requires.roomy c.requires.flex
-    (omega (arith, c.loop-index-test.true)) c.member_at-member.ensures c.box_at.ensures in
-    on_err _ _
-    (member_ends (nodes c.args.walk.now) (nodes c.loop-index.walk) c.loop-index.invariant.same c.args.id c.args.boxes.now c.loop-index.index c.member_at-member.result c.box_at.result turn_now c.root.ensures.steps (grid_of c.node_at.result.now.style) c.given_box-width.result
-    c.node_at.ensures.grid c.given_box-width.ensures.value _ _ _ refl c.loop-index.invariant.walked c.in_ok-block.ensures.walked)
-
-pub walk::ask_members-loop-index-preserved : goal.walk::ask_members-loop-index-preserved
-walk::ask_members-loop-index-preserved g t c =
-    let turn_now : IsAsked (nodes c.args.walk.now) (nodes c.loop-index.walk) c.args.id c.args.boxes.now c.loop-index.index c.member_at-member.result c.box_at.result =
-    asked_turn (nodes c.args.walk.now) (nodes c.loop-index.walk) c.args.id c.args.members.now c.args.boxes.now c.loop-index.index c.member_at-member.result c.box_at.result c.loop-index.invariant.same c.root.ensures.tree c.requires.members c.requires.roomy c.requires.flex
-    (omega (arith, c.loop-index-test.true)) c.member_at-member.ensures c.box_at.ensures in
-    let width_now : c.given_box-width.result ≡ (settled_at (member_of (nodes c.args.walk.now) c.member_at-member.result) c.box_at.result).inline =
-    width_is (nodes c.args.walk.now) (nodes c.loop-index.walk) c.member_at-member.result c.box_at.result (grid_of c.node_at.result.now.style) c.given_box-width.result c.loop-index.invariant.same c.node_at.ensures.grid c.given_box-width.ensures.value in
-    record {
-      stands = c.block_in.ensures.stands;
-      parts = parts_then _ _ _ c.loop-index.invariant.parts c.block_in.ensures.parts;
-      same = c.in_ok-block.ensures.walked.walk.bare_same ∙ c.loop-index.invariant.same;
-      walked =
-          member_below (nodes c.args.walk.now) (nodes c.loop-index.walk) c.loop-index.invariant.same c.args.id c.args.boxes.now c.loop-index.index c.member_at-member.result c.box_at.result turn_now c.root.ensures.steps (grid_of c.node_at.result.now.style)
-          c.given_box-width.result c.node_at.ensures.grid c.given_box-width.ensures.value _ _ _ refl c.loop-index.invariant.walked c.in_ok-block.ensures.walked;
-      blocks = blocks_more (settled_seen (nodes c.args.walk.now) c.args.id c.args.boxes.now) c.loop-index.index (settled_at (member_of (nodes c.args.walk.now) c.member_at-member.result) c.box_at.result) c.loop-index.blocks _ _ c.in_ok-block.block turn_now.next c.in_ok-push.ensures.ok
-          (block_is (nodes c.args.walk.now) (nodes c.loop-index.walk) c.member_at-member.result c.box_at.result c.in_ok-block.block c.given_box-width.result c.loop-index.invariant.same width_now (size_is _ _ c.in_ok-block.ensures.value)) c.loop-index.invariant.blocks;
-    }
-
-pub walk::ask_members-returns-clause-value : goal.walk::ask_members-returns-clause-value
-walk::ask_members-returns-clause-value g t c =
-    let settled = settled_seen (nodes c.args.walk.now) c.args.id c.args.boxes.now in
-    let few : length settled ≤ c.loop-index.index = omega
-    (arith, c.loop-index-test.false, settled_length (nodes c.args.walk.now) c.args.id c.args.members.now c.args.boxes.now c.requires.members.same (boxes_counted (nodes c.args.walk.now) c.args.id c.args.members.now c.args.boxes.now c.requires.members c.requires.roomy)) in
-    all_there (map block_of) settled c.loop-index.index c.loop-index.blocks (map block_of settled) refl few c.loop-index.invariant.blocks
-
-pub walk::ask_members-returns-clause-below : goal.walk::ask_members-returns-clause-below
-walk::ask_members-returns-clause-below g t c = c.loop-index.invariant.walked
-
-pub walk::row_in-node_at-requires : goal.walk::row_in-node_at-requires
-walk::row_in-node_at-requires g t c = subst (λ (z : BareTrees). IsLive z c.args.id) (sym (c.in_ok-parts.ensures.below (inline_query false [])).walk.bare_same) c.requires.live
 
 pub asking::ask_children-returns-in_err-child-clause-parts : goal.asking::ask_children-returns-in_err-child-clause-parts
 asking::ask_children-returns-in_err-child-clause-parts g t c = parts_then _ _ _ c.loop-index.invariant.parts c.ask_child.ensures.parts
@@ -1251,102 +859,6 @@ asking::told_wide_at-returns-clause-parts g t c = parts_then _ _ _ c.take_past.e
 pub asking::told_wide_at-returns-clause-stands : goal.asking::told_wide_at-returns-clause-stands
 asking::told_wide_at-returns-clause-stands g t c = c.told_wide_by.ensures.stands
 
-pub walk::ask_members-returns-in_err-blocks-clause-parts : goal.walk::ask_members-returns-in_err-blocks-clause-parts
-walk::ask_members-returns-in_err-blocks-clause-parts g t c = same_parts c.args.walk.now
-
-pub walk::ask_members-returns-in_err-blocks-clause-stands : goal.walk::ask_members-returns-in_err-blocks-clause-stands
-walk::ask_members-returns-in_err-blocks-clause-stands g t c = c.requires.stands
-
-pub walk::ask_members-returns-in_err-block-clause-parts : goal.walk::ask_members-returns-in_err-block-clause-parts
-walk::ask_members-returns-in_err-block-clause-parts g t c = parts_then _ _ _ c.loop-index.invariant.parts c.block_in.ensures.parts
-
-pub walk::ask_members-returns-in_err-block-clause-stands : goal.walk::ask_members-returns-in_err-block-clause-stands
-walk::ask_members-returns-in_err-block-clause-stands g t c = c.block_in.ensures.stands
-
-pub walk::ask_members-returns-in_err-push-clause-parts : goal.walk::ask_members-returns-in_err-push-clause-parts
-walk::ask_members-returns-in_err-push-clause-parts g t c = parts_then _ _ _ c.loop-index.invariant.parts c.block_in.ensures.parts
-
-pub walk::ask_members-returns-in_err-push-clause-stands : goal.walk::ask_members-returns-in_err-push-clause-stands
-walk::ask_members-returns-in_err-push-clause-stands g t c = c.block_in.ensures.stands
-
-pub walk::ask_members-returns-clause-parts : goal.walk::ask_members-returns-clause-parts
-walk::ask_members-returns-clause-parts g t c = c.loop-index.invariant.parts
-
-pub walk::ask_members-returns-clause-stands : goal.walk::ask_members-returns-clause-stands
-walk::ask_members-returns-clause-stands g t c = c.loop-index.invariant.stands
-
-pub walk::row_in-returns-in_err-parts-clause-parts : goal.walk::row_in-returns-in_err-parts-clause-parts
-walk::row_in-returns-in_err-parts-clause-parts g t c = c.flex_in.ensures.parts
-
-pub walk::row_in-returns-in_err-parts-clause-stands : goal.walk::row_in-returns-in_err-parts-clause-stands
-walk::row_in-returns-in_err-parts-clause-stands g t c = c.flex_in.ensures.stands
-
-pub walk::row_in-returns-in_err-items-clause-parts : goal.walk::row_in-returns-in_err-items-clause-parts
-walk::row_in-returns-in_err-items-clause-parts g t c = c.flex_in.ensures.parts
-
-pub walk::row_in-returns-in_err-items-clause-stands : goal.walk::row_in-returns-in_err-items-clause-stands
-walk::row_in-returns-in_err-items-clause-stands g t c = c.flex_in.ensures.stands
-
-pub walk::row_in-returns-in_err-lines-clause-parts : goal.walk::row_in-returns-in_err-lines-clause-parts
-walk::row_in-returns-in_err-lines-clause-parts g t c =
-    record {
-      tree = c.flex_in.ensures.parts.tree;
-      ruler = c.flex_in.ensures.parts.ruler;
-      tally = c.flex_in.ensures.parts.tally;
-      passes = c.flex_in.ensures.parts.passes;
-    }
-
-pub walk::row_in-returns-in_err-lines-clause-stands : goal.walk::row_in-returns-in_err-lines-clause-stands
-walk::row_in-returns-in_err-lines-clause-stands g t c = c.flex_in.ensures.stands
-
-pub walk::row_in-returns-in_err-blocks-clause-parts : goal.walk::row_in-returns-in_err-blocks-clause-parts
-walk::row_in-returns-in_err-blocks-clause-parts g t c =
-    record {
-      tree = c.ask_members.ensures.parts.tree ∙ c.flex_in.ensures.parts.tree;
-      ruler = c.ask_members.ensures.parts.ruler ∙ c.flex_in.ensures.parts.ruler;
-      tally = c.ask_members.ensures.parts.tally ∙ c.flex_in.ensures.parts.tally;
-      passes = c.ask_members.ensures.parts.passes ∙ c.flex_in.ensures.parts.passes;
-    }
-
-pub walk::row_in-returns-in_err-blocks-clause-stands : goal.walk::row_in-returns-in_err-blocks-clause-stands
-walk::row_in-returns-in_err-blocks-clause-stands g t c = c.ask_members.ensures.stands
-
-pub walk::row_in-returns-clause-parts : goal.walk::row_in-returns-clause-parts
-walk::row_in-returns-clause-parts g t c =
-    record {
-      tree = c.ask_members.ensures.parts.tree ∙ c.flex_in.ensures.parts.tree;
-      ruler = c.ask_members.ensures.parts.ruler ∙ c.flex_in.ensures.parts.ruler;
-      tally = c.ask_members.ensures.parts.tally ∙ c.flex_in.ensures.parts.tally;
-      passes = c.ask_members.ensures.parts.passes ∙ c.flex_in.ensures.parts.passes;
-    }
-
-pub walk::row_in-returns-clause-stands : goal.walk::row_in-returns-clause-stands
-walk::row_in-returns-clause-stands g t c = c.ask_members.ensures.stands
-
-pub walk::column_in-returns-in_err-parts-clause-parts : goal.walk::column_in-returns-in_err-parts-clause-parts
-walk::column_in-returns-in_err-parts-clause-parts g t c = c.flex_in.ensures.parts
-
-pub walk::column_in-returns-in_err-parts-clause-stands : goal.walk::column_in-returns-in_err-parts-clause-stands
-walk::column_in-returns-in_err-parts-clause-stands g t c = c.flex_in.ensures.stands
-
-pub walk::column_in-returns-in_err-boxes-clause-parts : goal.walk::column_in-returns-in_err-boxes-clause-parts
-walk::column_in-returns-in_err-boxes-clause-parts g t c = c.flex_in.ensures.parts
-
-pub walk::column_in-returns-in_err-boxes-clause-stands : goal.walk::column_in-returns-in_err-boxes-clause-stands
-walk::column_in-returns-in_err-boxes-clause-stands g t c = c.flex_in.ensures.stands
-
-pub walk::column_in-returns-in_err-blocks-clause-parts : goal.walk::column_in-returns-in_err-blocks-clause-parts
-walk::column_in-returns-in_err-blocks-clause-parts g t c = parts_then _ _ _ c.flex_in.ensures.parts c.ask_members.ensures.parts
-
-pub walk::column_in-returns-in_err-blocks-clause-stands : goal.walk::column_in-returns-in_err-blocks-clause-stands
-walk::column_in-returns-in_err-blocks-clause-stands g t c = c.ask_members.ensures.stands
-
-pub walk::column_in-returns-clause-parts : goal.walk::column_in-returns-clause-parts
-walk::column_in-returns-clause-parts g t c = parts_then _ _ _ c.flex_in.ensures.parts c.ask_members.ensures.parts
-
-pub walk::column_in-returns-clause-stands : goal.walk::column_in-returns-clause-stands
-walk::column_in-returns-clause-stands g t c = c.ask_members.ensures.stands
-
 pub walk::grid_anew-returns-in_err-told-clause-parts : goal.walk::grid_anew-returns-in_err-told-clause-parts
 walk::grid_anew-returns-in_err-told-clause-parts g t c = c.told_wide_at.ensures.parts
 
@@ -1413,54 +925,6 @@ walk::grid_anew-returns-clause-parts g t c =
 pub walk::grid_anew-returns-clause-stands : goal.walk::grid_anew-returns-clause-stands
 walk::grid_anew-returns-clause-stands g t c = c.put.ensures.stands
 
-pub walk::column_anew-returns-in_err-parts-clause-parts : goal.walk::column_anew-returns-in_err-parts-clause-parts
-walk::column_anew-returns-in_err-parts-clause-parts g t c = c.column_in.ensures.parts
-
-pub walk::column_anew-returns-in_err-parts-clause-stands : goal.walk::column_anew-returns-in_err-parts-clause-stands
-walk::column_anew-returns-in_err-parts-clause-stands g t c = c.column_in.ensures.stands
-
-pub walk::column_anew-returns-in_err-size-clause-parts : goal.walk::column_anew-returns-in_err-size-clause-parts
-walk::column_anew-returns-in_err-size-clause-parts g t c = c.column_in.ensures.parts
-
-pub walk::column_anew-returns-in_err-size-clause-stands : goal.walk::column_anew-returns-in_err-size-clause-stands
-walk::column_anew-returns-in_err-size-clause-stands g t c = c.column_in.ensures.stands
-
-pub walk::column_anew-returns-in_err-put-clause-parts : goal.walk::column_anew-returns-in_err-put-clause-parts
-walk::column_anew-returns-in_err-put-clause-parts g t c = parts_then _ _ _ c.column_in.ensures.parts c.put.ensures.parts
-
-pub walk::column_anew-returns-in_err-put-clause-stands : goal.walk::column_anew-returns-in_err-put-clause-stands
-walk::column_anew-returns-in_err-put-clause-stands g t c = c.put.ensures.stands
-
-pub walk::column_anew-returns-clause-parts : goal.walk::column_anew-returns-clause-parts
-walk::column_anew-returns-clause-parts g t c = parts_then _ _ _ c.column_in.ensures.parts c.put.ensures.parts
-
-pub walk::column_anew-returns-clause-stands : goal.walk::column_anew-returns-clause-stands
-walk::column_anew-returns-clause-stands g t c = c.put.ensures.stands
-
-pub walk::row_anew-returns-in_err-parts-clause-parts : goal.walk::row_anew-returns-in_err-parts-clause-parts
-walk::row_anew-returns-in_err-parts-clause-parts g t c = c.row_in.ensures.parts
-
-pub walk::row_anew-returns-in_err-parts-clause-stands : goal.walk::row_anew-returns-in_err-parts-clause-stands
-walk::row_anew-returns-in_err-parts-clause-stands g t c = c.row_in.ensures.stands
-
-pub walk::row_anew-returns-in_err-size-clause-parts : goal.walk::row_anew-returns-in_err-size-clause-parts
-walk::row_anew-returns-in_err-size-clause-parts g t c = c.row_in.ensures.parts
-
-pub walk::row_anew-returns-in_err-size-clause-stands : goal.walk::row_anew-returns-in_err-size-clause-stands
-walk::row_anew-returns-in_err-size-clause-stands g t c = c.row_in.ensures.stands
-
-pub walk::row_anew-returns-in_err-put-clause-parts : goal.walk::row_anew-returns-in_err-put-clause-parts
-walk::row_anew-returns-in_err-put-clause-parts g t c = parts_then _ _ _ c.row_in.ensures.parts c.put.ensures.parts
-
-pub walk::row_anew-returns-in_err-put-clause-stands : goal.walk::row_anew-returns-in_err-put-clause-stands
-walk::row_anew-returns-in_err-put-clause-stands g t c = c.put.ensures.stands
-
-pub walk::row_anew-returns-clause-parts : goal.walk::row_anew-returns-clause-parts
-walk::row_anew-returns-clause-parts g t c = parts_then _ _ _ c.row_in.ensures.parts c.put.ensures.parts
-
-pub walk::row_anew-returns-clause-stands : goal.walk::row_anew-returns-clause-stands
-walk::row_anew-returns-clause-stands g t c = c.put.ensures.stands
-
 pub walk::rows_anew-returns-in_err-wide-clause-parts : goal.walk::rows_anew-returns-in_err-wide-clause-parts
 walk::rows_anew-returns-in_err-wide-clause-parts g t c = c.wide_at.ensures.parts
 
@@ -1490,3 +954,756 @@ walk::rows_anew-returns-clause-parts g t c = parts_then _ _ _ c.wide_at.ensures.
 
 pub walk::rows_anew-returns-clause-stands : goal.walk::rows_anew-returns-clause-stands
 walk::rows_anew-returns-clause-stands g t c = c.put.ensures.stands
+
+pub walk::row_anew-row_size-requires-clause-live : goal.walk::row_anew-row_size-requires-clause-live
+walk::row_anew-row_size-requires-clause-live g t c = subst (λ (z : BareTrees). IsLive z c.args.id)
+    (sym (c.last_along.ensures.below c.args.query 1 (seen g.R.Ruler.log c.row_told.new.walk) (c.in_ok-parts.ensures.below c.args.query (sym c.size_of-width.ensures) (ap needs_inline c.requires.ask))).walk.bare_same) c.requires.live
+
+pub walk::row_anew-row_size-requires-clause-row : goal.walk::row_anew-row_size-requires-clause-row
+walk::row_anew-row_size-requires-clause-row g t c = subst (λ (z : BareTrees). IsRow z c.args.id c.size_of-width.result c.in_ok-parts.parts) (sym (c.in_ok-parts.ensures.below c.args.query (sym c.size_of-width.ensures) (ap needs_inline c.requires.ask)).walk.bare_same) c.in_ok-parts.ensures.value
+
+pub walk::row_anew-put-requires-clause-value : goal.walk::row_anew-put-requires-clause-value
+walk::row_anew-put-requires-clause-value g t c =
+    ap block_size
+    (c.in_ok-size.ensures ∙
+    ap
+    (λ (w : ℤ). rules.row_block (flex_seen (nodes c.row_told.new.walk) c.args.id) (rules.row_lines (flex_seen (nodes c.row_told.new.walk) c.args.id) w)
+    (rules.row_settled (flex_seen (nodes c.row_told.new.walk) c.args.id) (rules.row_lines (flex_seen (nodes c.row_told.new.walk) c.args.id) w))) c.size_of-width.ensures)
+    ∙ row_answer (nodes c.row_told.new.walk) c.args.id c.args.query
+    (subst (λ (z : BareTrees). (sight_at z c.args.id).label.kind ≡ kind.Flex)
+    (sym (c.last_along.ensures.below c.args.query 1 (seen g.R.Ruler.log c.row_told.new.walk) (c.in_ok-parts.ensures.below c.args.query (sym c.size_of-width.ensures) (ap needs_inline c.requires.ask))).walk.bare_same) c.requires.flex)
+    (subst (λ (z : BareTrees). (sight_at z c.args.id).label.content.column ≡ false)
+    (sym (c.last_along.ensures.below c.args.query 1 (seen g.R.Ruler.log c.row_told.new.walk) (c.in_ok-parts.ensures.below c.args.query (sym c.size_of-width.ensures) (ap needs_inline c.requires.ask))).walk.bare_same) c.requires.direction)
+    c.requires.ask
+    ∙ ap (λ (z : BareTrees). answer_of (sight_at z c.args.id) c.args.query) (sym c.keep_row.ensures.bare)
+
+pub walk::row_anew-put-requires-clause-quiet : goal.walk::row_anew-put-requires-clause-quiet
+walk::row_anew-put-requires-clause-quiet g t c =
+    flex_quiet (nodes c.keep_row.new.walk) c.args.id c.args.query
+    (subst (λ (z : BareTrees). (sight_at z c.args.id).label.kind ≡ kind.Flex)
+    (sym (c.keep_row.ensures.below c.args.query 1 _ (c.last_along.ensures.below c.args.query 1 (seen g.R.Ruler.log c.row_told.new.walk) (c.in_ok-parts.ensures.below c.args.query (sym c.size_of-width.ensures) (ap needs_inline c.requires.ask)))).walk.bare_same) c.requires.flex)
+
+pub walk::row_anew-put-requires-clause-live : goal.walk::row_anew-put-requires-clause-live
+walk::row_anew-put-requires-clause-live g t c = subst (λ (z : BareTrees). IsLive z c.args.id)
+    (sym (c.keep_row.ensures.below c.args.query 1 _ (c.last_along.ensures.below c.args.query 1 (seen g.R.Ruler.log c.row_told.new.walk) (c.in_ok-parts.ensures.below c.args.query (sym c.size_of-width.ensures) (ap needs_inline c.requires.ask)))).walk.bare_same) c.requires.live
+
+pub walk::row_anew-put-requires-clause-absent : goal.walk::row_anew-put-requires-clause-absent
+walk::row_anew-put-requires-clause-absent g t c = subst (IsAbsent c.args.query)
+    (sym (c.keep_row.ensures.below c.args.query 1 _ (c.last_along.ensures.below c.args.query 1 (seen g.R.Ruler.log c.row_told.new.walk) (c.in_ok-parts.ensures.below c.args.query (sym c.size_of-width.ensures) (ap needs_inline c.requires.ask)))).own) c.requires.absent
+
+pub walk::row_anew-put-requires-clause-fits : goal.walk::row_anew-put-requires-clause-fits
+walk::row_anew-put-requires-clause-fits g t c = subst (λ (z : BareTrees). Fits (sight_at z c.args.id) c.args.query)
+    (sym (c.keep_row.ensures.below c.args.query 1 _ (c.last_along.ensures.below c.args.query 1 (seen g.R.Ruler.log c.row_told.new.walk) (c.in_ok-parts.ensures.below c.args.query (sym c.size_of-width.ensures) (ap needs_inline c.requires.ask)))).walk.bare_same) c.requires.fits
+
+pub walk::row_anew-returns-clause-value : goal.walk::row_anew-returns-clause-value
+walk::row_anew-returns-clause-value g t c =
+    ap block_size
+    (c.in_ok-size.ensures ∙
+    ap
+    (λ (w : ℤ). rules.row_block (flex_seen (nodes c.row_told.new.walk) c.args.id) (rules.row_lines (flex_seen (nodes c.row_told.new.walk) c.args.id) w)
+    (rules.row_settled (flex_seen (nodes c.row_told.new.walk) c.args.id) (rules.row_lines (flex_seen (nodes c.row_told.new.walk) c.args.id) w))) c.size_of-width.ensures)
+    ∙ row_answer (nodes c.row_told.new.walk) c.args.id c.args.query
+    (subst (λ (z : BareTrees). (sight_at z c.args.id).label.kind ≡ kind.Flex)
+    (sym (c.last_along.ensures.below c.args.query 1 (seen g.R.Ruler.log c.row_told.new.walk) (c.in_ok-parts.ensures.below c.args.query (sym c.size_of-width.ensures) (ap needs_inline c.requires.ask))).walk.bare_same) c.requires.flex)
+    (subst (λ (z : BareTrees). (sight_at z c.args.id).label.content.column ≡ false)
+    (sym (c.last_along.ensures.below c.args.query 1 (seen g.R.Ruler.log c.row_told.new.walk) (c.in_ok-parts.ensures.below c.args.query (sym c.size_of-width.ensures) (ap needs_inline c.requires.ask))).walk.bare_same) c.requires.direction)
+    c.requires.ask
+    ∙ ap (λ (z : BareTrees). answer_of (sight_at z c.args.id) c.args.query) (c.last_along.ensures.below c.args.query 1 (seen g.R.Ruler.log c.row_told.new.walk) (c.in_ok-parts.ensures.below c.args.query (sym c.size_of-width.ensures) (ap needs_inline c.requires.ask))).walk.bare_same
+
+pub walk::row_anew-returns-in_err-parts-clause-stopped : goal.walk::row_anew-returns-in_err-parts-clause-stopped
+walk::row_anew-returns-in_err-parts-clause-stopped g t c =
+    on_err _ _ (c.last_along.ensures.stopped c.args.query (seen g.R.Ruler.log c.row_told.new.walk) (c.in_err-parts.ensures.stopped c.args.query (sym c.size_of-width.ensures) (ap needs_inline c.requires.ask)))
+
+pub walk::row_anew-returns-in_err-size-clause-stopped : goal.walk::row_anew-returns-in_err-size-clause-stopped
+walk::row_anew-returns-in_err-size-clause-stopped g t c = on_err _ _ (stopped c.args.id c.args.query 1 _ _ (c.last_along.ensures.below c.args.query 1 (seen g.R.Ruler.log c.row_told.new.walk) (c.in_ok-parts.ensures.below c.args.query (sym c.size_of-width.ensures) (ap needs_inline c.requires.ask))))
+
+pub walk::row_anew-returns-clause-walked : goal.walk::row_anew-returns-clause-walked
+walk::row_anew-returns-clause-walked g t c = c.in_ok-put.ensures.joins _ 1 (omega arith)
+    (c.keep_row.ensures.below c.args.query 1 _ (c.last_along.ensures.below c.args.query 1 (seen g.R.Ruler.log c.row_told.new.walk) (c.in_ok-parts.ensures.below c.args.query (sym c.size_of-width.ensures) (ap needs_inline c.requires.ask))))
+
+pub walk::row_anew-returns-in_err-put-clause-stopped : goal.walk::row_anew-returns-in_err-put-clause-stopped
+walk::row_anew-returns-in_err-put-clause-stopped g t c = on_err _ _
+    (c.in_err-put.ensures.stopped _ 1 (c.keep_row.ensures.below c.args.query 1 _ (c.last_along.ensures.below c.args.query 1 (seen g.R.Ruler.log c.row_told.new.walk) (c.in_ok-parts.ensures.below c.args.query (sym c.size_of-width.ensures) (ap needs_inline c.requires.ask)))))
+
+pub walk::row_anew-returns-clause-own : goal.walk::row_anew-returns-clause-own
+walk::row_anew-returns-clause-own g t c = (
+  answer.Row c.in_ok-size.size c.in_ok-held.held,
+  (
+    refl,
+    c.in_ok-put.ensures.own ∙
+        ap (λ l. kept_with l ((c.args.query, answer.Row c.in_ok-size.size c.in_ok-held.held) ∷ []))
+        (c.keep_row.ensures.below c.args.query 1 _ (c.last_along.ensures.below c.args.query 1 (seen g.R.Ruler.log c.row_told.new.walk) (c.in_ok-parts.ensures.below c.args.query (sym c.size_of-width.ensures) (ap needs_inline c.requires.ask)))).own,
+  ),
+)
+
+pub walk::row_anew-put-requires-clause-children : goal.walk::row_anew-put-requires-clause-children
+walk::row_anew-put-requires-clause-children g t c =
+    let b = nodes c.keep_row.new.walk in
+    let is : IsRow b c.args.id c.size_of-width.result c.in_ok-parts.parts =
+    subst (λ (z : BareTrees). IsRow z c.args.id c.size_of-width.result c.in_ok-parts.parts) (sym c.keep_row.ensures.bare)
+    (subst (λ (z : BareTrees). IsRow z c.args.id c.size_of-width.result c.in_ok-parts.parts) (sym (c.in_ok-parts.ensures.below c.args.query (sym c.size_of-width.ensures) (ap needs_inline c.requires.ask)).walk.bare_same) c.in_ok-parts.ensures.value) in
+    subst (HoldsRow (sight_at b c.args.id) (children_at b c.args.id) (given_size c.args.query.inline)) (sym c.in_ok-held.ensures)
+    (subst (λ (w : ℤ). HoldsRow (sight_at b c.args.id) (children_at b c.args.id) w c.in_ok-parts.parts) c.size_of-width.ensures
+    (row_held b c.args.id
+    (subst IsTree (sym (c.keep_row.ensures.below c.args.query 1 _ (c.last_along.ensures.below c.args.query 1 (seen g.R.Ruler.log c.row_told.new.walk) (c.in_ok-parts.ensures.below c.args.query (sym c.size_of-width.ensures) (ap needs_inline c.requires.ask)))).walk.bare_same) c.root.ensures.tree)
+    c.size_of-width.result c.in_ok-parts.parts is))
+
+pub walk::row_anew-returns-in_err-held-clause-stopped : goal.walk::row_anew-returns-in_err-held-clause-stopped
+walk::row_anew-returns-in_err-held-clause-stopped g t c = on_err _ _
+    (stopped c.args.id c.args.query 1 _ _ (c.keep_row.ensures.below c.args.query 1 _ (c.last_along.ensures.below c.args.query 1 (seen g.R.Ruler.log c.row_told.new.walk) (c.in_ok-parts.ensures.below c.args.query (sym c.size_of-width.ensures) (ap needs_inline c.requires.ask)))))
+
+pub walk::row_anew-returns-in_err-past-clause-stopped : goal.walk::row_anew-returns-in_err-past-clause-stopped
+walk::row_anew-returns-in_err-past-clause-stopped g t c =
+    on_err _ _ (c.last_along.ensures.stopped c.args.query (seen g.R.Ruler.log c.last_along.new.walk) (stopped c.args.id c.args.query 0 _ _ (walked_none c.args.id c.args.query (seen g.R.Ruler.log c.last_along.new.walk) c.last_along.ensures.stands.right)))
+
+pub walk::row_anew-row_told-requires : goal.walk::row_anew-row_told-requires
+walk::row_anew-row_told-requires g t c =
+    let back = sym c.last_along.ensures.bare in
+    let live : IsLive (nodes c.last_along.new.walk) c.args.id = subst (λ (z : BareTrees). IsLive z c.args.id) back c.requires.live in
+    let flex : (sight_at (nodes c.last_along.new.walk) c.args.id).label.kind ≡ kind.Flex = subst (λ (z : BareTrees). (sight_at z c.args.id).label.kind ≡ kind.Flex) back c.requires.flex in
+    let direction : (sight_at (nodes c.last_along.new.walk) c.args.id).label.content.column ≡ false = subst (λ (z : BareTrees). (sight_at z c.args.id).label.content.column ≡ false) back c.requires.direction in
+    let past : AreKnown (nodes c.last_along.new.walk) c.args.id c.size_of-width.result c.as_slice.result.now =
+    subst (λ (z : BareTrees). AreKnown z c.args.id c.size_of-width.result c.as_slice.result.now) back (subst (AreKnown (nodes c.args.walk.now) c.args.id c.size_of-width.result) (sym c.as_slice.ensures) c.in_ok-past.ensures.past) in
+    let small : 16 * size_at (nodes c.last_along.new.walk) c.args.id + 1 < 16 * size_at (nodes c.args.walk.now) c.args.id + 4 = omega (arith, ap (λ (z : BareTrees). size_at z c.args.id) c.last_along.ensures.bare) in
+    search rules
+
+pub walk::row_anew-keep_row-requires-clause-live : goal.walk::row_anew-keep_row-requires-clause-live
+walk::row_anew-keep_row-requires-clause-live g t c = subst (λ (z : BareTrees). IsLive z c.args.id)
+    (sym (c.last_along.ensures.below c.args.query 1 (seen g.R.Ruler.log c.row_told.new.walk) (c.in_ok-parts.ensures.below c.args.query (sym c.size_of-width.ensures) (ap needs_inline c.requires.ask))).walk.bare_same) c.requires.live
+
+pub walk::row_anew-keep_row-requires-clause-direction : goal.walk::row_anew-keep_row-requires-clause-direction
+walk::row_anew-keep_row-requires-clause-direction g t c = subst (λ (z : BareTrees). (sight_at z c.args.id).label.content.column ≡ false)
+    (sym (c.last_along.ensures.below c.args.query 1 (seen g.R.Ruler.log c.row_told.new.walk) (c.in_ok-parts.ensures.below c.args.query (sym c.size_of-width.ensures) (ap needs_inline c.requires.ask))).walk.bare_same) c.requires.direction
+
+pub walk::row_anew-keep_row-requires-clause-row : goal.walk::row_anew-keep_row-requires-clause-row
+walk::row_anew-keep_row-requires-clause-row g t c = subst (λ (z : BareTrees). IsRow z c.args.id c.size_of-width.result c.in_ok-parts.parts) (sym (c.in_ok-parts.ensures.below c.args.query (sym c.size_of-width.ensures) (ap needs_inline c.requires.ask)).walk.bare_same) c.in_ok-parts.ensures.value
+
+pub walk::row_anew-returns-in_err-keep_row-clause-stopped : goal.walk::row_anew-returns-in_err-keep_row-clause-stopped
+walk::row_anew-returns-in_err-keep_row-clause-stopped g t c = on_err _ _
+    (stopped c.args.id c.args.query 1 _ _ (c.keep_row.ensures.below c.args.query 1 _ (c.last_along.ensures.below c.args.query 1 (seen g.R.Ruler.log c.row_told.new.walk) (c.in_ok-parts.ensures.below c.args.query (sym c.size_of-width.ensures) (ap needs_inline c.requires.ask)))))
+
+pub walk::row_anew-keep_row-requires-clause-items : goal.walk::row_anew-keep_row-requires-clause-items
+walk::row_anew-keep_row-requires-clause-items g t c =
+    c.deref.ensures.value ∙ c.in_ok-parts.ensures.items ∙ ap (λ (z : BareTrees). row_items_seen z c.args.id c.size_of-width.result) (sym (c.in_ok-parts.ensures.below c.args.query (sym c.size_of-width.ensures) (ap needs_inline c.requires.ask)).walk.bare_same)
+
+pub walk::column_anew-column_size-requires-clause-live : goal.walk::column_anew-column_size-requires-clause-live
+walk::column_anew-column_size-requires-clause-live g t c = subst (λ (z : BareTrees). IsLive z c.args.id)
+    (sym (c.last_along.ensures.below c.args.query 0 (seen g.R.Ruler.log c.column_told.new.walk) (c.in_ok-parts.ensures.below c.args.query (sym c.size_of-width.ensures) (ap needs_inline c.requires.ask))).walk.bare_same) c.requires.live
+
+pub walk::column_anew-column_size-requires-clause-column : goal.walk::column_anew-column_size-requires-clause-column
+walk::column_anew-column_size-requires-clause-column g t c = subst (λ (z : BareTrees). IsColumn z c.args.id c.size_of-width.result c.in_ok-parts.parts)
+    (sym (c.in_ok-parts.ensures.below c.args.query (sym c.size_of-width.ensures) (ap needs_inline c.requires.ask)).walk.bare_same) c.in_ok-parts.ensures.value
+
+pub walk::column_anew-put-requires-clause-value : goal.walk::column_anew-put-requires-clause-value
+walk::column_anew-put-requires-clause-value g t c =
+    ap block_size (c.in_ok-size.ensures.value ∙ ap (λ (w : ℤ). rules.column_block (flex_seen (nodes c.column_told.new.walk) c.args.id) (rules.column_settled (flex_seen (nodes c.column_told.new.walk) c.args.id) w)) c.size_of-width.ensures)
+    ∙ column_answer (nodes c.column_told.new.walk) c.args.id c.args.query
+    (subst (λ (z : BareTrees). (sight_at z c.args.id).label.kind ≡ kind.Flex)
+    (sym (c.last_along.ensures.below c.args.query 0 (seen g.R.Ruler.log c.column_told.new.walk) (c.in_ok-parts.ensures.below c.args.query (sym c.size_of-width.ensures) (ap needs_inline c.requires.ask))).walk.bare_same) c.requires.flex)
+    (subst (λ (z : BareTrees). (sight_at z c.args.id).label.content.column ≡ true)
+    (sym (c.last_along.ensures.below c.args.query 0 (seen g.R.Ruler.log c.column_told.new.walk) (c.in_ok-parts.ensures.below c.args.query (sym c.size_of-width.ensures) (ap needs_inline c.requires.ask))).walk.bare_same) c.requires.direction)
+    c.requires.ask
+    ∙ ap (λ (z : BareTrees). answer_of (sight_at z c.args.id) c.args.query) (sym c.keep_column.ensures.bare)
+
+pub walk::column_anew-put-requires-clause-quiet : goal.walk::column_anew-put-requires-clause-quiet
+walk::column_anew-put-requires-clause-quiet g t c =
+    flex_quiet (nodes c.keep_column.new.walk) c.args.id c.args.query
+    (subst (λ (z : BareTrees). (sight_at z c.args.id).label.kind ≡ kind.Flex)
+    (sym (c.keep_column.ensures.below c.args.query 0 _ (c.last_along.ensures.below c.args.query 0 (seen g.R.Ruler.log c.column_told.new.walk) (c.in_ok-parts.ensures.below c.args.query (sym c.size_of-width.ensures) (ap needs_inline c.requires.ask)))).walk.bare_same) c.requires.flex)
+
+pub walk::column_anew-put-requires-clause-live : goal.walk::column_anew-put-requires-clause-live
+walk::column_anew-put-requires-clause-live g t c = subst (λ (z : BareTrees). IsLive z c.args.id)
+    (sym (c.keep_column.ensures.below c.args.query 0 _ (c.last_along.ensures.below c.args.query 0 (seen g.R.Ruler.log c.column_told.new.walk) (c.in_ok-parts.ensures.below c.args.query (sym c.size_of-width.ensures) (ap needs_inline c.requires.ask)))).walk.bare_same) c.requires.live
+
+pub walk::column_anew-put-requires-clause-absent : goal.walk::column_anew-put-requires-clause-absent
+walk::column_anew-put-requires-clause-absent g t c = subst (IsAbsent c.args.query)
+    (sym (c.keep_column.ensures.below c.args.query 0 _ (c.last_along.ensures.below c.args.query 0 (seen g.R.Ruler.log c.column_told.new.walk) (c.in_ok-parts.ensures.below c.args.query (sym c.size_of-width.ensures) (ap needs_inline c.requires.ask)))).own) c.requires.absent
+
+pub walk::column_anew-put-requires-clause-fits : goal.walk::column_anew-put-requires-clause-fits
+walk::column_anew-put-requires-clause-fits g t c = subst (λ (z : BareTrees). Fits (sight_at z c.args.id) c.args.query)
+    (sym (c.keep_column.ensures.below c.args.query 0 _ (c.last_along.ensures.below c.args.query 0 (seen g.R.Ruler.log c.column_told.new.walk) (c.in_ok-parts.ensures.below c.args.query (sym c.size_of-width.ensures) (ap needs_inline c.requires.ask)))).walk.bare_same) c.requires.fits
+
+pub walk::column_anew-returns-clause-value : goal.walk::column_anew-returns-clause-value
+walk::column_anew-returns-clause-value g t c =
+    ap block_size (c.in_ok-size.ensures.value ∙ ap (λ (w : ℤ). rules.column_block (flex_seen (nodes c.column_told.new.walk) c.args.id) (rules.column_settled (flex_seen (nodes c.column_told.new.walk) c.args.id) w)) c.size_of-width.ensures)
+    ∙ column_answer (nodes c.column_told.new.walk) c.args.id c.args.query
+    (subst (λ (z : BareTrees). (sight_at z c.args.id).label.kind ≡ kind.Flex)
+    (sym (c.last_along.ensures.below c.args.query 0 (seen g.R.Ruler.log c.column_told.new.walk) (c.in_ok-parts.ensures.below c.args.query (sym c.size_of-width.ensures) (ap needs_inline c.requires.ask))).walk.bare_same) c.requires.flex)
+    (subst (λ (z : BareTrees). (sight_at z c.args.id).label.content.column ≡ true)
+    (sym (c.last_along.ensures.below c.args.query 0 (seen g.R.Ruler.log c.column_told.new.walk) (c.in_ok-parts.ensures.below c.args.query (sym c.size_of-width.ensures) (ap needs_inline c.requires.ask))).walk.bare_same) c.requires.direction)
+    c.requires.ask
+    ∙ ap (λ (z : BareTrees). answer_of (sight_at z c.args.id) c.args.query) (c.last_along.ensures.below c.args.query 0 (seen g.R.Ruler.log c.column_told.new.walk) (c.in_ok-parts.ensures.below c.args.query (sym c.size_of-width.ensures) (ap needs_inline c.requires.ask))).walk.bare_same
+
+pub walk::column_anew-returns-in_err-parts-clause-stopped : goal.walk::column_anew-returns-in_err-parts-clause-stopped
+walk::column_anew-returns-in_err-parts-clause-stopped g t c =
+    on_err _ _ (c.last_along.ensures.stopped c.args.query (seen g.R.Ruler.log c.column_told.new.walk) (c.in_err-parts.ensures.stopped c.args.query (sym c.size_of-width.ensures) (ap needs_inline c.requires.ask)))
+
+pub walk::column_anew-returns-in_err-size-clause-stopped : goal.walk::column_anew-returns-in_err-size-clause-stopped
+walk::column_anew-returns-in_err-size-clause-stopped g t c = on_err _ _
+    (stopped c.args.id c.args.query 0 _ _ (c.last_along.ensures.below c.args.query 0 (seen g.R.Ruler.log c.column_told.new.walk) (c.in_ok-parts.ensures.below c.args.query (sym c.size_of-width.ensures) (ap needs_inline c.requires.ask))))
+
+pub walk::column_anew-returns-clause-walked : goal.walk::column_anew-returns-clause-walked
+walk::column_anew-returns-clause-walked g t c = c.in_ok-put.ensures.joins _ 0 (omega arith)
+    (c.keep_column.ensures.below c.args.query 0 _ (c.last_along.ensures.below c.args.query 0 (seen g.R.Ruler.log c.column_told.new.walk) (c.in_ok-parts.ensures.below c.args.query (sym c.size_of-width.ensures) (ap needs_inline c.requires.ask))))
+
+pub walk::column_anew-returns-in_err-put-clause-stopped : goal.walk::column_anew-returns-in_err-put-clause-stopped
+walk::column_anew-returns-in_err-put-clause-stopped g t c = on_err _ _
+    (c.in_err-put.ensures.stopped _ 0 (c.keep_column.ensures.below c.args.query 0 _ (c.last_along.ensures.below c.args.query 0 (seen g.R.Ruler.log c.column_told.new.walk) (c.in_ok-parts.ensures.below c.args.query (sym c.size_of-width.ensures) (ap needs_inline c.requires.ask)))))
+
+pub walk::column_anew-returns-clause-own : goal.walk::column_anew-returns-clause-own
+walk::column_anew-returns-clause-own g t c = (
+  answer.Column c.in_ok-size.size c.in_ok-held.held,
+  (
+    refl,
+    c.in_ok-put.ensures.own ∙
+        ap (λ l. kept_with l ((c.args.query, answer.Column c.in_ok-size.size c.in_ok-held.held) ∷ []))
+        (c.keep_column.ensures.below c.args.query 0 _ (c.last_along.ensures.below c.args.query 0 (seen g.R.Ruler.log c.column_told.new.walk) (c.in_ok-parts.ensures.below c.args.query (sym c.size_of-width.ensures) (ap needs_inline c.requires.ask)))).own,
+  ),
+)
+
+pub walk::column_anew-put-requires-clause-children : goal.walk::column_anew-put-requires-clause-children
+walk::column_anew-put-requires-clause-children g t c =
+    let b = nodes c.keep_column.new.walk in
+    let is : IsColumn b c.args.id c.size_of-width.result c.in_ok-parts.parts =
+    subst (λ (z : BareTrees). IsColumn z c.args.id c.size_of-width.result c.in_ok-parts.parts) (sym c.keep_column.ensures.bare)
+    (subst (λ (z : BareTrees). IsColumn z c.args.id c.size_of-width.result c.in_ok-parts.parts) (sym (c.in_ok-parts.ensures.below c.args.query (sym c.size_of-width.ensures) (ap needs_inline c.requires.ask)).walk.bare_same) c.in_ok-parts.ensures.value) in
+    subst (HoldsColumn (sight_at b c.args.id) (children_at b c.args.id) (given_size c.args.query.inline)) (sym c.in_ok-held.ensures)
+    (subst (λ (w : ℤ). HoldsColumn (sight_at b c.args.id) (children_at b c.args.id) w c.in_ok-parts.parts) c.size_of-width.ensures
+    (column_held b c.args.id
+    (subst IsTree (sym (c.keep_column.ensures.below c.args.query 0 _ (c.last_along.ensures.below c.args.query 0 (seen g.R.Ruler.log c.column_told.new.walk) (c.in_ok-parts.ensures.below c.args.query (sym c.size_of-width.ensures) (ap needs_inline c.requires.ask)))).walk.bare_same) c.root.ensures.tree)
+    c.size_of-width.result c.in_ok-parts.parts is))
+
+pub walk::column_anew-returns-in_err-held-clause-stopped : goal.walk::column_anew-returns-in_err-held-clause-stopped
+walk::column_anew-returns-in_err-held-clause-stopped g t c = on_err _ _
+    (stopped c.args.id c.args.query 0 _ _ (c.keep_column.ensures.below c.args.query 0 _ (c.last_along.ensures.below c.args.query 0 (seen g.R.Ruler.log c.column_told.new.walk) (c.in_ok-parts.ensures.below c.args.query (sym c.size_of-width.ensures) (ap needs_inline c.requires.ask)))))
+
+pub walk::column_anew-returns-in_err-past-clause-stopped : goal.walk::column_anew-returns-in_err-past-clause-stopped
+walk::column_anew-returns-in_err-past-clause-stopped g t c =
+    on_err _ _ (c.last_along.ensures.stopped c.args.query (seen g.R.Ruler.log c.last_along.new.walk) (stopped c.args.id c.args.query 0 _ _ (walked_none c.args.id c.args.query (seen g.R.Ruler.log c.last_along.new.walk) c.last_along.ensures.stands.right)))
+
+pub walk::column_anew-column_told-requires : goal.walk::column_anew-column_told-requires
+walk::column_anew-column_told-requires g t c =
+    let back = sym c.last_along.ensures.bare in
+    let live : IsLive (nodes c.last_along.new.walk) c.args.id = subst (λ (z : BareTrees). IsLive z c.args.id) back c.requires.live in
+    let flex : (sight_at (nodes c.last_along.new.walk) c.args.id).label.kind ≡ kind.Flex = subst (λ (z : BareTrees). (sight_at z c.args.id).label.kind ≡ kind.Flex) back c.requires.flex in
+    let direction : (sight_at (nodes c.last_along.new.walk) c.args.id).label.content.column ≡ true = subst (λ (z : BareTrees). (sight_at z c.args.id).label.content.column ≡ true) back c.requires.direction in
+    let past : AreKnown (nodes c.last_along.new.walk) c.args.id c.size_of-width.result c.as_slice.result.now =
+    subst (λ (z : BareTrees). AreKnown z c.args.id c.size_of-width.result c.as_slice.result.now) back (subst (AreKnown (nodes c.args.walk.now) c.args.id c.size_of-width.result) (sym c.as_slice.ensures) c.in_ok-past.ensures.past) in
+    let small : 16 * size_at (nodes c.last_along.new.walk) c.args.id + 1 < 16 * size_at (nodes c.args.walk.now) c.args.id + 4 = omega (arith, ap (λ (z : BareTrees). size_at z c.args.id) c.last_along.ensures.bare) in
+    search rules
+
+pub walk::column_anew-keep_column-requires-clause-live : goal.walk::column_anew-keep_column-requires-clause-live
+walk::column_anew-keep_column-requires-clause-live g t c = subst (λ (z : BareTrees). IsLive z c.args.id)
+    (sym (c.last_along.ensures.below c.args.query 0 (seen g.R.Ruler.log c.column_told.new.walk) (c.in_ok-parts.ensures.below c.args.query (sym c.size_of-width.ensures) (ap needs_inline c.requires.ask))).walk.bare_same) c.requires.live
+
+pub walk::column_anew-keep_column-requires-clause-direction : goal.walk::column_anew-keep_column-requires-clause-direction
+walk::column_anew-keep_column-requires-clause-direction g t c = subst (λ (z : BareTrees). (sight_at z c.args.id).label.content.column ≡ true)
+    (sym (c.last_along.ensures.below c.args.query 0 (seen g.R.Ruler.log c.column_told.new.walk) (c.in_ok-parts.ensures.below c.args.query (sym c.size_of-width.ensures) (ap needs_inline c.requires.ask))).walk.bare_same) c.requires.direction
+
+pub walk::column_anew-keep_column-requires-clause-column : goal.walk::column_anew-keep_column-requires-clause-column
+walk::column_anew-keep_column-requires-clause-column g t c = subst (λ (z : BareTrees). IsColumn z c.args.id c.size_of-width.result c.in_ok-parts.parts)
+    (sym (c.in_ok-parts.ensures.below c.args.query (sym c.size_of-width.ensures) (ap needs_inline c.requires.ask)).walk.bare_same) c.in_ok-parts.ensures.value
+
+pub walk::column_anew-returns-in_err-keep_column-clause-stopped : goal.walk::column_anew-returns-in_err-keep_column-clause-stopped
+walk::column_anew-returns-in_err-keep_column-clause-stopped g t c = on_err _ _
+    (stopped c.args.id c.args.query 0 _ _ (c.keep_column.ensures.below c.args.query 0 _ (c.last_along.ensures.below c.args.query 0 (seen g.R.Ruler.log c.column_told.new.walk) (c.in_ok-parts.ensures.below c.args.query (sym c.size_of-width.ensures) (ap needs_inline c.requires.ask)))))
+
+pub walk::column_anew-keep_column-requires-clause-items : goal.walk::column_anew-keep_column-requires-clause-items
+walk::column_anew-keep_column-requires-clause-items g t c = c.deref.ensures.value ∙ c.in_ok-size.ensures.items
+
+pub walk::column_anew-column_size-requires-clause-direction : goal.walk::column_anew-column_size-requires-clause-direction
+walk::column_anew-column_size-requires-clause-direction g t c = subst (λ (z : BareTrees). (sight_at z c.args.id).label.content.column ≡ true)
+    (sym (c.last_along.ensures.below c.args.query 0 (seen g.R.Ruler.log c.column_told.new.walk) (c.in_ok-parts.ensures.below c.args.query (sym c.size_of-width.ensures) (ap needs_inline c.requires.ask))).walk.bare_same) c.requires.direction
+
+pub walk::column_anew-column_size-requires-clause-past : goal.walk::column_anew-column_size-requires-clause-past
+walk::column_anew-column_size-requires-clause-past g t c =
+    subst (λ (z : BareTrees). AreKnown z c.args.id c.size_of-width.result c.as_slice-2.result.now)
+    (sym (c.last_along.ensures.below c.args.query 0 (seen g.R.Ruler.log c.column_told.new.walk) (c.in_ok-parts.ensures.below c.args.query (sym c.size_of-width.ensures) (ap needs_inline c.requires.ask))).walk.bare_same)
+    (subst (AreKnown (nodes c.args.walk.now) c.args.id c.size_of-width.result) (sym c.as_slice-2.ensures) c.in_ok-past.ensures.past)
+
+pub walk::row_told-items_in_row-requires-clause-live : goal.walk::row_told-items_in_row-requires-clause-live
+walk::row_told-items_in_row-requires-clause-live g t c = subst (λ (z : BareTrees). IsLive z c.args.id) (sym (c.in_ok-parts.ensures.below (inline_query false [])).walk.bare_same) c.requires.live
+
+pub walk::row_told-items_in_row-requires-clause-members : goal.walk::row_told-items_in_row-requires-clause-members
+walk::row_told-items_in_row-requires-clause-members g t c =
+    subst (AreMembers (nodes c.flex_in.new.walk) c.args.id) (sym c.as_slice.ensures) (subst (λ (z : BareTrees). AreMembers z c.args.id c.in_ok-parts.parts.members) (sym (c.in_ok-parts.ensures.below (inline_query false [])).walk.bare_same) c.in_ok-parts.ensures.value)
+
+pub walk::row_told-items_in_row-requires-clause-direction : goal.walk::row_told-items_in_row-requires-clause-direction
+walk::row_told-items_in_row-requires-clause-direction g t c = subst (λ (z : BareTrees). (sight_at z c.args.id).label.content.column ≡ false) (sym (c.in_ok-parts.ensures.below (inline_query false [])).walk.bare_same) c.requires.direction
+
+pub walk::row_told-items_in_row-requires-clause-past : goal.walk::row_told-items_in_row-requires-clause-past
+walk::row_told-items_in_row-requires-clause-past g t c = subst (λ (z : BareTrees). AreKnown z c.args.id c.args.width c.args.past.now) (sym (c.in_ok-parts.ensures.below (inline_query false [])).walk.bare_same) c.requires.past
+
+pub walk::row_told-returns-in_err-parts-clause-stopped : goal.walk::row_told-returns-in_err-parts-clause-stopped
+walk::row_told-returns-in_err-parts-clause-stopped g t c =
+    let all : (q : Query) → given_size q.inline ≡ c.args.width → needs_inline q.ask ≡ true →
+    Stopped c.args.id q (seen g.R.Ruler.log c.args.walk.now) (seen g.R.Ruler.log c.flex_in.new.walk) = λ q w n. c.in_err-parts.ensures.stopped q in
+    on_err _ _ all
+
+pub walk::row_told-row_lines-requires : goal.walk::row_told-row_lines-requires
+walk::row_told-row_lines-requires g t c = record
+    { few = items_few (nodes c.flex_in.new.walk) c.args.id c.args.width c.deref.result.now c.flex_in.ensures.stands.readable (c.deref.ensures.value ∙ c.in_ok-items.ensures.value) }
+
+pub walk::row_told-ask_members-requires : goal.walk::row_told-ask_members-requires
+walk::row_told-ask_members-requires g t c =
+    let back = sym (c.in_ok-parts.ensures.below (inline_query false [])).walk.bare_same in
+    let live : IsLive (nodes c.flex_in.new.walk) c.args.id = subst (λ (z : BareTrees). IsLive z c.args.id) back c.requires.live in
+    let readable : AreReadable (nodes c.flex_in.new.walk) = c.flex_in.ensures.stands.readable in
+    let flex : (sight_at (nodes c.flex_in.new.walk) c.args.id).label.kind ≡ kind.Flex = subst (λ (z : BareTrees). (sight_at z c.args.id).label.kind ≡ kind.Flex) back c.requires.flex in
+    let members : AreMembers (nodes c.flex_in.new.walk) c.args.id c.as_slice-2.result.now = subst (AreMembers (nodes c.flex_in.new.walk) c.args.id) (sym c.as_slice-2.ensures) (subst (λ (z : BareTrees). AreMembers z c.args.id c.in_ok-parts.parts.members) back c.in_ok-parts.ensures.value) in
+    let roomy : AreRoomy (flex_seen (nodes c.flex_in.new.walk) c.args.id).members c.as_slice-3.result.now = subst (AreRoomy (flex_seen (nodes c.flex_in.new.walk) c.args.id).members) (sym c.as_slice-3.ensures)
+    (covering_roomy c.args.width (flex_seen (nodes c.flex_in.new.walk) c.args.id).members c.in_ok-lines.lines.mains
+    (subst (λ (l : List FlexItem). AreCovering l c.in_ok-lines.lines.mains) (c.deref.ensures.value ∙ c.in_ok-items.ensures.value) (c.in_ok-lines.ensures.cover (subst HaveInner (sym c.deref.ensures.value) c.in_ok-items.ensures.inner)))) in
+    let past : AreKnown (nodes c.flex_in.new.walk) c.args.id c.args.width c.args.past.now = subst (λ (z : BareTrees). AreKnown z c.args.id c.args.width c.args.past.now) back c.requires.past in
+    let small : 16 * size_at (nodes c.flex_in.new.walk) c.args.id + 0 < 16 * size_at (nodes c.args.walk.now) c.args.id + 1 = omega (arith, ap (λ (z : BareTrees). size_at z c.args.id) (c.in_ok-parts.ensures.below (inline_query false [])).walk.bare_same) in
+    search rules
+
+pub walk::row_told-returns-in_err-items-clause-stopped : goal.walk::row_told-returns-in_err-items-clause-stopped
+walk::row_told-returns-in_err-items-clause-stopped g t c =
+    let all : (q : Query) → given_size q.inline ≡ c.args.width → needs_inline q.ask ≡ true →
+    Stopped c.args.id q (seen g.R.Ruler.log c.args.walk.now) (seen g.R.Ruler.log c.flex_in.new.walk) = λ q w n. stopped c.args.id q 0
+    (seen g.R.Ruler.log c.args.walk.now) (seen g.R.Ruler.log c.flex_in.new.walk) (c.in_ok-parts.ensures.below q) in
+    on_err _ _ all
+
+pub walk::row_told-returns-in_err-lines-clause-stopped : goal.walk::row_told-returns-in_err-lines-clause-stopped
+walk::row_told-returns-in_err-lines-clause-stopped g t c =
+    let all : (q : Query) → given_size q.inline ≡ c.args.width → needs_inline q.ask ≡ true →
+    Stopped c.args.id q (seen g.R.Ruler.log c.args.walk.now) (state c.flex_in.new.walk.tree.now c.flex_in.new.walk.tally.now c.row_lines.new.passes (g.R.Ruler.log c.flex_in.new.walk.ruler.now)) = λ q w n. stopped c.args.id q 1
+    (seen g.R.Ruler.log c.args.walk.now) (state c.flex_in.new.walk.tree.now c.flex_in.new.walk.tally.now c.row_lines.new.passes (g.R.Ruler.log c.flex_in.new.walk.ruler.now))
+    (ticked c.args.id q 0 1 (seen g.R.Ruler.log c.args.walk.now) (seen g.R.Ruler.log c.flex_in.new.walk) c.row_lines.new.passes c.row_lines.ensures.ticks
+    (c.in_ok-parts.ensures.below q)) in
+    on_err _ _ all
+
+pub walk::row_told-returns-in_err-blocks-clause-stopped : goal.walk::row_told-returns-in_err-blocks-clause-stopped
+walk::row_told-returns-in_err-blocks-clause-stopped g t c =
+    let all : (q : Query) → given_size q.inline ≡ c.args.width → needs_inline q.ask ≡ true →
+    Stopped c.args.id q (seen g.R.Ruler.log c.args.walk.now) (seen g.R.Ruler.log c.ask_members.new.walk) = λ q w n. joined_stopped c.args.id q 1
+    (seen g.R.Ruler.log c.args.walk.now) (state c.flex_in.new.walk.tree.now c.flex_in.new.walk.tally.now c.row_lines.new.passes (g.R.Ruler.log c.flex_in.new.walk.ruler.now))
+    (seen g.R.Ruler.log c.ask_members.new.walk)
+    (ticked c.args.id q 0 1 (seen g.R.Ruler.log c.args.walk.now) (seen g.R.Ruler.log c.flex_in.new.walk) c.row_lines.new.passes c.row_lines.ensures.ticks
+    (c.in_ok-parts.ensures.below q))
+    (c.in_err-blocks.ensures.stopped q
+    (row_leads (nodes c.flex_in.new.walk) c.args.id c.args.width q c.as_slice-3.result.now (subst (λ (z : BareTrees). (sight_at z c.args.id).label.kind ≡ kind.Flex) (sym (c.in_ok-parts.ensures.below (inline_query false [])).walk.bare_same) c.requires.flex)
+    (subst (λ (z : BareTrees). (sight_at z c.args.id).label.content.column ≡ false) (sym (c.in_ok-parts.ensures.below (inline_query false [])).walk.bare_same) c.requires.direction) w n
+    (c.as_slice-3.ensures ∙
+    ap (λ (l : rules.Lines). l.mains)
+    (lines_made (nodes c.flex_in.new.walk) c.args.id c.args.width c.node_at.result.now.style c.deref.result.now c.in_ok-lines.lines c.node_at.ensures.grid c.node_at.ensures.content (c.deref.ensures.value ∙ c.in_ok-items.ensures.value)
+    c.in_ok-lines.ensures.value)))) in
+    on_err _ _ all
+
+pub walk::row_told-returns-clause-below : goal.walk::row_told-returns-clause-below
+walk::row_told-returns-clause-below g t c =
+    λ q w n. joined_below c.args.id q 1 (seen g.R.Ruler.log c.args.walk.now) (state c.flex_in.new.walk.tree.now c.flex_in.new.walk.tally.now c.row_lines.new.passes (g.R.Ruler.log c.flex_in.new.walk.ruler.now))
+    (seen g.R.Ruler.log c.ask_members.new.walk)
+    (ticked c.args.id q 0 1 (seen g.R.Ruler.log c.args.walk.now) (seen g.R.Ruler.log c.flex_in.new.walk) c.row_lines.new.passes c.row_lines.ensures.ticks
+    (c.in_ok-parts.ensures.below q))
+    (c.in_ok-blocks.ensures.below q
+    (row_leads (nodes c.flex_in.new.walk) c.args.id c.args.width q c.as_slice-3.result.now (subst (λ (z : BareTrees). (sight_at z c.args.id).label.kind ≡ kind.Flex) (sym (c.in_ok-parts.ensures.below (inline_query false [])).walk.bare_same) c.requires.flex)
+    (subst (λ (z : BareTrees). (sight_at z c.args.id).label.content.column ≡ false) (sym (c.in_ok-parts.ensures.below (inline_query false [])).walk.bare_same) c.requires.direction) w n
+    (c.as_slice-3.ensures ∙
+    ap (λ (l : rules.Lines). l.mains)
+    (lines_made (nodes c.flex_in.new.walk) c.args.id c.args.width c.node_at.result.now.style c.deref.result.now c.in_ok-lines.lines c.node_at.ensures.grid c.node_at.ensures.content (c.deref.ensures.value ∙ c.in_ok-items.ensures.value) c.in_ok-lines.ensures.value))))
+
+pub walk::row_told-returns-clause-value : goal.walk::row_told-returns-clause-value
+walk::row_told-returns-clause-value g t c =
+    record {
+      children = c.in_ok-parts.ensures.value;
+      along =
+          (lines_made (nodes c.flex_in.new.walk) c.args.id c.args.width c.node_at.result.now.style c.deref.result.now c.in_ok-lines.lines c.node_at.ensures.grid c.node_at.ensures.content (c.deref.ensures.value ∙ c.in_ok-items.ensures.value) c.in_ok-lines.ensures.value) ∙
+          ap (λ (z : BareTrees). rules.row_lines (flex_seen z c.args.id) c.args.width) (c.in_ok-parts.ensures.below (inline_query false [])).walk.bare_same;
+      ranges = subst (λ (k : ℕ). AreRanges k c.in_ok-lines.lines.ranges) (ap length (c.deref.ensures.value ∙ c.in_ok-items.ensures.value) ∙ map_length (λ (m : rules.Member). rules.flex_item false (Some c.args.width) m.kid.label m.inline) (flex_seen (nodes c.flex_in.new.walk) c.args.id).members
+          ∙ ap (λ (z : BareTrees). length (flex_seen z c.args.id).members) (c.in_ok-parts.ensures.below (inline_query false [])).walk.bare_same ∙ seen_length (nodes c.args.walk.now) c.args.id c.in_ok-parts.parts.members c.in_ok-parts.ensures.value.same) c.in_ok-lines.ensures.ranges;
+      across = c.in_ok-blocks.ensures.value ∙ (λ i. map block_of (settled_seen ((c.in_ok-parts.ensures.below (inline_query false [])).walk.bare_same i) c.args.id (c.as_slice-3.ensures i)));
+    }
+
+pub walk::row_told-node_at-requires : goal.walk::row_told-node_at-requires
+walk::row_told-node_at-requires g t c = subst (λ (z : BareTrees). IsLive z c.args.id) (sym (c.in_ok-parts.ensures.below (inline_query false [])).walk.bare_same) c.requires.live
+
+pub walk::row_told-returns-clause-items : goal.walk::row_told-returns-clause-items
+walk::row_told-returns-clause-items g t c = c.in_ok-items.ensures.value ∙ ap (λ (z : BareTrees). row_items_seen z c.args.id c.args.width) (c.in_ok-parts.ensures.below (inline_query false [])).walk.bare_same
+
+pub walk::column_told-boxes_in_column-requires-clause-live : goal.walk::column_told-boxes_in_column-requires-clause-live
+walk::column_told-boxes_in_column-requires-clause-live g t c = subst (λ (z : BareTrees). IsLive z c.args.id) (sym (c.in_ok-parts.ensures.below (inline_query false [])).walk.bare_same) c.requires.live
+
+pub walk::column_told-boxes_in_column-requires-clause-members : goal.walk::column_told-boxes_in_column-requires-clause-members
+walk::column_told-boxes_in_column-requires-clause-members g t c =
+    subst (AreMembers (nodes c.flex_in.new.walk) c.args.id) (sym c.as_slice.ensures) (subst (λ (z : BareTrees). AreMembers z c.args.id c.in_ok-parts.parts.members) (sym (c.in_ok-parts.ensures.below (inline_query false [])).walk.bare_same) c.in_ok-parts.ensures.value)
+
+pub walk::column_told-boxes_in_column-requires-clause-direction : goal.walk::column_told-boxes_in_column-requires-clause-direction
+walk::column_told-boxes_in_column-requires-clause-direction g t c = subst (λ (z : BareTrees). (sight_at z c.args.id).label.content.column ≡ true) (sym (c.in_ok-parts.ensures.below (inline_query false [])).walk.bare_same) c.requires.direction
+
+pub walk::column_told-boxes_in_column-requires-clause-past : goal.walk::column_told-boxes_in_column-requires-clause-past
+walk::column_told-boxes_in_column-requires-clause-past g t c = subst (λ (z : BareTrees). AreKnown z c.args.id c.args.width c.args.past.now) (sym (c.in_ok-parts.ensures.below (inline_query false [])).walk.bare_same) c.requires.past
+
+pub walk::column_told-returns-in_err-parts-clause-stopped : goal.walk::column_told-returns-in_err-parts-clause-stopped
+walk::column_told-returns-in_err-parts-clause-stopped g t c =
+    let all : (q : Query) → given_size q.inline ≡ c.args.width → needs_inline q.ask ≡ true →
+    Stopped c.args.id q (seen g.R.Ruler.log c.args.walk.now) (seen g.R.Ruler.log c.flex_in.new.walk) = λ q w n. c.in_err-parts.ensures.stopped q in
+    on_err _ _ all
+
+pub walk::column_told-ask_members-requires : goal.walk::column_told-ask_members-requires
+walk::column_told-ask_members-requires g t c =
+    let back = sym (c.in_ok-parts.ensures.below (inline_query false [])).walk.bare_same in
+    let live : IsLive (nodes c.flex_in.new.walk) c.args.id = subst (λ (z : BareTrees). IsLive z c.args.id) back c.requires.live in
+    let readable : AreReadable (nodes c.flex_in.new.walk) = c.flex_in.ensures.stands.readable in
+    let flex : (sight_at (nodes c.flex_in.new.walk) c.args.id).label.kind ≡ kind.Flex = subst (λ (z : BareTrees). (sight_at z c.args.id).label.kind ≡ kind.Flex) back c.requires.flex in
+    let members : AreMembers (nodes c.flex_in.new.walk) c.args.id c.as_slice-2.result.now = subst (AreMembers (nodes c.flex_in.new.walk) c.args.id) (sym c.as_slice-2.ensures) (subst (λ (z : BareTrees). AreMembers z c.args.id c.in_ok-parts.parts.members) back c.in_ok-parts.ensures.value) in
+    let roomy : AreRoomy (flex_seen (nodes c.flex_in.new.walk) c.args.id).members c.as_slice-3.result.now = subst (AreRoomy (flex_seen (nodes c.flex_in.new.walk) c.args.id).members) (sym c.as_slice-3.ensures) c.in_ok-boxes.ensures.roomy in
+    let past : AreKnown (nodes c.flex_in.new.walk) c.args.id c.args.width c.args.past.now = subst (λ (z : BareTrees). AreKnown z c.args.id c.args.width c.args.past.now) back c.requires.past in
+    let small : 16 * size_at (nodes c.flex_in.new.walk) c.args.id + 0 < 16 * size_at (nodes c.args.walk.now) c.args.id + 1 = omega (arith, ap (λ (z : BareTrees). size_at z c.args.id) (c.in_ok-parts.ensures.below (inline_query false [])).walk.bare_same) in
+    search rules
+
+pub walk::column_told-returns-in_err-boxes-clause-stopped : goal.walk::column_told-returns-in_err-boxes-clause-stopped
+walk::column_told-returns-in_err-boxes-clause-stopped g t c =
+    let all : (q : Query) → given_size q.inline ≡ c.args.width → needs_inline q.ask ≡ true →
+    Stopped c.args.id q (seen g.R.Ruler.log c.args.walk.now) (seen g.R.Ruler.log c.flex_in.new.walk) = λ q w n. stopped c.args.id q 0
+    (seen g.R.Ruler.log c.args.walk.now) (seen g.R.Ruler.log c.flex_in.new.walk) (c.in_ok-parts.ensures.below q) in
+    on_err _ _ all
+
+pub walk::column_told-returns-in_err-blocks-clause-stopped : goal.walk::column_told-returns-in_err-blocks-clause-stopped
+walk::column_told-returns-in_err-blocks-clause-stopped g t c =
+    let all : (q : Query) → given_size q.inline ≡ c.args.width → needs_inline q.ask ≡ true →
+    Stopped c.args.id q (seen g.R.Ruler.log c.args.walk.now) (seen g.R.Ruler.log c.ask_members.new.walk) = λ q w n. joined_stopped c.args.id q 0
+    (seen g.R.Ruler.log c.args.walk.now) (seen g.R.Ruler.log c.flex_in.new.walk)
+    (seen g.R.Ruler.log c.ask_members.new.walk) (c.in_ok-parts.ensures.below q)
+    (c.in_err-blocks.ensures.stopped q
+    (column_leads (nodes c.flex_in.new.walk) c.args.id c.args.width q c.as_slice-3.result.now (subst (λ (z : BareTrees). (sight_at z c.args.id).label.kind ≡ kind.Flex) (sym (c.in_ok-parts.ensures.below (inline_query false [])).walk.bare_same) c.requires.flex)
+    (subst (λ (z : BareTrees). (sight_at z c.args.id).label.content.column ≡ true) (sym (c.in_ok-parts.ensures.below (inline_query false [])).walk.bare_same) c.requires.direction) w n (c.as_slice-3.ensures ∙ c.in_ok-boxes.ensures.value))) in
+    on_err _ _ all
+
+pub walk::column_told-returns-clause-below : goal.walk::column_told-returns-clause-below
+walk::column_told-returns-clause-below g t c =
+    λ q w n. joined_below c.args.id q 0 (seen g.R.Ruler.log c.args.walk.now) (seen g.R.Ruler.log c.flex_in.new.walk)
+    (seen g.R.Ruler.log c.ask_members.new.walk) (c.in_ok-parts.ensures.below q)
+    (c.in_ok-blocks.ensures.below q
+    (column_leads (nodes c.flex_in.new.walk) c.args.id c.args.width q c.as_slice-3.result.now (subst (λ (z : BareTrees). (sight_at z c.args.id).label.kind ≡ kind.Flex) (sym (c.in_ok-parts.ensures.below (inline_query false [])).walk.bare_same) c.requires.flex)
+    (subst (λ (z : BareTrees). (sight_at z c.args.id).label.content.column ≡ true) (sym (c.in_ok-parts.ensures.below (inline_query false [])).walk.bare_same) c.requires.direction) w n (c.as_slice-3.ensures ∙ c.in_ok-boxes.ensures.value)))
+
+pub walk::column_told-returns-clause-value : goal.walk::column_told-returns-clause-value
+walk::column_told-returns-clause-value g t c =
+    record {
+      children = c.in_ok-parts.ensures.value;
+      across = c.in_ok-boxes.ensures.value ∙ ap (λ (z : BareTrees). column_boxes_seen z c.args.id c.args.width) (c.in_ok-parts.ensures.below (inline_query false [])).walk.bare_same;
+      along = c.in_ok-blocks.ensures.value ∙ (λ i. map block_of (settled_seen ((c.in_ok-parts.ensures.below (inline_query false [])).walk.bare_same i) c.args.id (c.as_slice-3.ensures i)));
+    }
+
+pub walk::member_block-given_box-width-requires : goal.walk::member_block-given_box-width-requires
+walk::member_block-given_box-width-requires g t c = subst (λ (s : GridStyle). IsGridAxis s.columns) (sym c.node_at.ensures.grid) (c.requires.stands.readable.nodes c.args.child c.requires.live).grid.columns
+
+pub walk::member_block-block_in-requires : goal.walk::member_block-block_in-requires
+walk::member_block-block_in-requires g t c =
+    let given : IsGivenFor true false 0 c.given_box-width.result = c.given_box-width.ensures.fits (subst (λ (s : GridStyle). inner s.columns ≤ℤ c.args.size) (sym c.node_at.ensures.grid) c.requires.room) in
+    let live : IsLive (nodes c.args.walk.now) c.args.child = c.requires.live in
+    let fits : Fits (sight_at (nodes c.args.walk.now) c.args.child) (block_query false [] c.given_box-width.result) = fits_block (sight_at (nodes c.args.walk.now) c.args.child) c.given_box-width.result c.requires.alone given in
+    let seat : IsSeat (sight_at (nodes c.args.walk.now) c.args.child) [] above.Nothing (record { columns = record { start = pos 0; end = pos 0 }; rows = record { start = pos 0; end = pos 0 } }) = alone_there (nodes c.args.walk.now) c.args.child _ (ap has_chain c.requires.alone) in
+    let apart : IsSpread (farthest (level_at (nodes c.args.walk.now) c.args.child)) c.given_box-width.result = spread_none (farthest (level_at (nodes c.args.walk.now) c.args.child)) c.given_box-width.result given in
+    let small : 16 * size_at (nodes c.args.walk.now) c.args.child + 6 < 16 * size_at (nodes c.args.walk.now) c.args.child + 7 = omega arith in
+    search rules
+
+pub walk::member_block-returns-in-Some-clause-value : goal.walk::member_block-returns-in-Some-clause-value
+walk::member_block-returns-in-Some-clause-value g t c = block_known (kid_at (nodes c.args.walk.now) c.args.child) c.args.last c.args.size c.in-Some.block c.in-Some.ensures c.requires.last
+
+pub walk::member_block-returns-in-Some-clause-walked : goal.walk::member_block-returns-in-Some-clause-walked
+walk::member_block-returns-in-Some-clause-walked g t c = found_walked c.args.child _ (seen g.R.Ruler.log c.args.walk.now) c.requires.stands.right
+
+pub walk::member_block-returns-clause-value : goal.walk::member_block-returns-clause-value
+walk::member_block-returns-clause-value g t c =
+    size_is _ _ c.in_ok-block.ensures.value ∙
+    ap (λ (w : Given). ((kid_at (nodes c.args.walk.now) c.args.child).answers.down [] w).block) (block_width (nodes c.args.walk.now) c.args.child c.args.size (grid_of c.node_at.result.now.style) c.given_box-width.result c.node_at.ensures.grid c.given_box-width.ensures.value)
+
+pub walk::member_block-returns-clause-walked : goal.walk::member_block-returns-clause-walked
+walk::member_block-returns-clause-walked g t c =
+    subst (λ (w : Given). Walked c.args.child (block_query false [] w) (seen g.R.Ruler.log c.args.walk.now) (seen g.R.Ruler.log c.block_in.new.walk))
+    (block_width (nodes c.args.walk.now) c.args.child c.args.size (grid_of c.node_at.result.now.style) c.given_box-width.result c.node_at.ensures.grid c.given_box-width.ensures.value) c.in_ok-block.ensures.walked
+
+pub walk::member_block-returns-in_err-block-clause-stopped : goal.walk::member_block-returns-in_err-block-clause-stopped
+walk::member_block-returns-in_err-block-clause-stopped g t c =
+    on_err _ _ (subst (λ (w : Given). Stopped c.args.child (block_query false [] w) (seen g.R.Ruler.log c.args.walk.now) (seen g.R.Ruler.log c.block_in.new.walk))
+    (block_width (nodes c.args.walk.now) c.args.child c.args.size (grid_of c.node_at.result.now.style) c.given_box-width.result c.node_at.ensures.grid c.given_box-width.ensures.value) c.in_err-block.ensures.stopped)
+
+pub walk::ask_members-returns-in_err-blocks-clause-stopped : goal.walk::ask_members-returns-in_err-blocks-clause-stopped
+walk::ask_members-returns-in_err-blocks-clause-stopped g t c =
+    let all : (q : Query) → LeadsTo (nodes c.args.walk.now) c.args.id c.args.boxes.now q → Stopped c.args.id q (seen g.R.Ruler.log c.args.walk.now) (seen g.R.Ruler.log c.args.walk.now) =
+    λ q leads. stopped c.args.id q 0 _ _ (walked_none c.args.id q (seen g.R.Ruler.log c.args.walk.now) c.requires.stands.right) in
+    on_err _ _ all
+
+pub walk::ask_members-loop-index-init : goal.walk::ask_members-loop-index-init
+walk::ask_members-loop-index-init g t c =
+    record {
+      stands = c.requires.stands;
+      parts = same_parts c.args.walk.now;
+      same = refl;
+      walked = λ q leads. walked_none c.args.id q (seen g.R.Ruler.log c.args.walk.now) c.requires.stands.right;
+      blocks = ap (λ (l : List ℤ). l ++ map block_of (settled_seen (nodes c.args.walk.now) c.args.id c.args.boxes.now)) c.in_ok-blocks.ensures;
+    }
+
+pub walk::ask_members-member_at-member-requires : goal.walk::ask_members-member_at-member-requires
+walk::ask_members-member_at-member-requires g t c = omega (arith, c.loop-index-test.true)
+
+pub walk::ask_members-box_at-size-requires : goal.walk::ask_members-box_at-size-requires
+walk::ask_members-box_at-size-requires g t c = omega (arith, c.loop-index-test.true, boxes_counted (nodes c.args.walk.now) c.args.id c.args.members.now c.args.boxes.now c.requires.members c.requires.roomy)
+
+pub walk::ask_members-known_of-last-requires-clause-child : goal.walk::ask_members-known_of-last-requires-clause-child
+walk::ask_members-known_of-last-requires-clause-child g t c =
+    subst (λ (z : BareTrees). IsChild z c.args.id c.member_at-member.result) (sym c.loop-index.invariant.same)
+    (subst (IsChild (nodes c.args.walk.now) c.args.id) (sym c.member_at-member.ensures) (c.requires.members.children c.loop-index.index c.member_at-member.result (omega (arith, c.loop-index-test.true))))
+
+pub walk::ask_members-known_of-last-requires-clause-past : goal.walk::ask_members-known_of-last-requires-clause-past
+walk::ask_members-known_of-last-requires-clause-past g t c = subst (λ (z : BareTrees). AreKnown z c.args.id c.args.width c.args.past.now) (sym c.loop-index.invariant.same) c.requires.past
+
+pub walk::ask_members-member_block-requires : goal.walk::ask_members-member_block-requires
+walk::ask_members-member_block-requires g t c =
+    let turn_now : IsAsked (nodes c.args.walk.now) (nodes c.loop-index.walk) c.args.id c.args.boxes.now c.loop-index.index c.member_at-member.result c.box_at-size.result =
+    asked_turn (nodes c.args.walk.now) (nodes c.loop-index.walk) c.args.id c.args.members.now c.args.boxes.now c.loop-index.index c.member_at-member.result c.box_at-size.result c.loop-index.invariant.same c.root.ensures.tree c.requires.members c.requires.roomy c.requires.flex
+    (omega (arith, c.loop-index-test.true)) c.member_at-member.ensures c.box_at-size.ensures in
+    let live : IsLive (nodes c.loop-index.walk) c.member_at-member.result.child = turn_now.live in
+    let alone : (sight_at (nodes c.loop-index.walk) c.member_at-member.result.child).chain ≡ [] = turn_now.none in
+    let room : inner (sight_at (nodes c.loop-index.walk) c.member_at-member.result.child).label.grid.columns ≤ℤ c.box_at-size.result = turn_now.room in
+    let last : IfSome c.known_of-last.result (TellsBlock (kid_at (nodes c.loop-index.walk) c.member_at-member.result.child)) = known_blocks (nodes c.loop-index.walk) c.args.id c.args.width c.member_at-member.result.child c.known_of-last.result c.known_of-last.ensures in
+    let small : 16 * size_at (nodes c.loop-index.walk) c.member_at-member.result.child + 7 < 16 * size_at (nodes c.args.walk.now) c.args.id + 0 = omega (arith, turn_now.small) in
+    search rules
+
+pub walk::ask_members-returns-in_err-block-clause-stopped : goal.walk::ask_members-returns-in_err-block-clause-stopped
+walk::ask_members-returns-in_err-block-clause-stopped g t c =
+    let turn_now : IsAsked (nodes c.args.walk.now) (nodes c.loop-index.walk) c.args.id c.args.boxes.now c.loop-index.index c.member_at-member.result c.box_at-size.result =
+    asked_turn (nodes c.args.walk.now) (nodes c.loop-index.walk) c.args.id c.args.members.now c.args.boxes.now c.loop-index.index c.member_at-member.result c.box_at-size.result c.loop-index.invariant.same c.root.ensures.tree c.requires.members c.requires.roomy c.requires.flex
+    (omega (arith, c.loop-index-test.true)) c.member_at-member.ensures c.box_at-size.ensures in
+    on_err _ _
+    (member_stops (nodes c.args.walk.now) (nodes c.loop-index.walk) c.loop-index.invariant.same c.args.id c.args.boxes.now c.loop-index.index c.member_at-member.result c.box_at-size.result turn_now c.root.ensures.steps
+    (sight_at (nodes c.loop-index.walk) c.member_at-member.result.child).label.grid (settled_at (member_in (kid_at (nodes c.loop-index.walk) c.member_at-member.result.child)) c.box_at-size.result).inline refl refl _ _ _ refl c.loop-index.invariant.walked
+    c.in_err-block.ensures.stopped)
+
+pub walk::ask_members-returns-in_err-push-clause-stopped : goal.walk::ask_members-returns-in_err-push-clause-stopped
+walk::ask_members-returns-in_err-push-clause-stopped g t c =
+    let turn_now : IsAsked (nodes c.args.walk.now) (nodes c.loop-index.walk) c.args.id c.args.boxes.now c.loop-index.index c.member_at-member.result c.box_at-size.result =
+    asked_turn (nodes c.args.walk.now) (nodes c.loop-index.walk) c.args.id c.args.members.now c.args.boxes.now c.loop-index.index c.member_at-member.result c.box_at-size.result c.loop-index.invariant.same c.root.ensures.tree c.requires.members c.requires.roomy c.requires.flex
+    (omega (arith, c.loop-index-test.true)) c.member_at-member.ensures c.box_at-size.ensures in
+    on_err _ _
+    (member_ends (nodes c.args.walk.now) (nodes c.loop-index.walk) c.loop-index.invariant.same c.args.id c.args.boxes.now c.loop-index.index c.member_at-member.result c.box_at-size.result turn_now c.root.ensures.steps
+    (sight_at (nodes c.loop-index.walk) c.member_at-member.result.child).label.grid (settled_at (member_in (kid_at (nodes c.loop-index.walk) c.member_at-member.result.child)) c.box_at-size.result).inline refl refl _ _ _ refl c.loop-index.invariant.walked
+    c.in_ok-block.ensures.walked)
+
+pub walk::ask_members-loop-index-preserved : goal.walk::ask_members-loop-index-preserved
+walk::ask_members-loop-index-preserved g t c =
+    let turn_now : IsAsked (nodes c.args.walk.now) (nodes c.loop-index.walk) c.args.id c.args.boxes.now c.loop-index.index c.member_at-member.result c.box_at-size.result =
+    asked_turn (nodes c.args.walk.now) (nodes c.loop-index.walk) c.args.id c.args.members.now c.args.boxes.now c.loop-index.index c.member_at-member.result c.box_at-size.result c.loop-index.invariant.same c.root.ensures.tree c.requires.members c.requires.roomy c.requires.flex
+    (omega (arith, c.loop-index-test.true)) c.member_at-member.ensures c.box_at-size.ensures in
+    record {
+      stands = c.member_block.ensures.stands;
+      parts = parts_then _ _ _ c.loop-index.invariant.parts c.member_block.ensures.parts;
+      same = c.in_ok-block.ensures.walked.walk.bare_same ∙ c.loop-index.invariant.same;
+      walked =
+          member_below (nodes c.args.walk.now) (nodes c.loop-index.walk) c.loop-index.invariant.same c.args.id c.args.boxes.now c.loop-index.index c.member_at-member.result c.box_at-size.result turn_now c.root.ensures.steps
+          (sight_at (nodes c.loop-index.walk) c.member_at-member.result.child).label.grid (settled_at (member_in (kid_at (nodes c.loop-index.walk) c.member_at-member.result.child)) c.box_at-size.result).inline refl refl _ _ _ refl c.loop-index.invariant.walked
+          c.in_ok-block.ensures.walked;
+      blocks = blocks_more (settled_seen (nodes c.args.walk.now) c.args.id c.args.boxes.now) c.loop-index.index (settled_at (member_of (nodes c.args.walk.now) c.member_at-member.result) c.box_at-size.result) c.loop-index.blocks _ _ c.in_ok-block.block turn_now.next c.in_ok-push.ensures.ok
+          (c.in_ok-block.ensures.value ∙ ap (λ (z : BareTrees). (settled_at (member_in (kid_at z c.member_at-member.result.child)) c.box_at-size.result).down.block) c.loop-index.invariant.same) c.loop-index.invariant.blocks;
+    }
+
+pub walk::ask_members-returns-clause-value : goal.walk::ask_members-returns-clause-value
+walk::ask_members-returns-clause-value g t c =
+    let settled = settled_seen (nodes c.args.walk.now) c.args.id c.args.boxes.now in
+    let few : length settled ≤ c.loop-index.index = omega
+    (arith, c.loop-index-test.false, settled_length (nodes c.args.walk.now) c.args.id c.args.members.now c.args.boxes.now c.requires.members.same (boxes_counted (nodes c.args.walk.now) c.args.id c.args.members.now c.args.boxes.now c.requires.members c.requires.roomy)) in
+    all_there (map block_of) settled c.loop-index.index c.loop-index.blocks (map block_of settled) refl few c.loop-index.invariant.blocks
+
+pub walk::ask_members-returns-clause-below : goal.walk::ask_members-returns-clause-below
+walk::ask_members-returns-clause-below g t c = c.loop-index.invariant.walked
+
+pub walk::ask_members-returns-in_err-blocks-clause-parts : goal.walk::ask_members-returns-in_err-blocks-clause-parts
+walk::ask_members-returns-in_err-blocks-clause-parts g t c = same_parts c.args.walk.now
+
+pub walk::ask_members-returns-in_err-blocks-clause-stands : goal.walk::ask_members-returns-in_err-blocks-clause-stands
+walk::ask_members-returns-in_err-blocks-clause-stands g t c = c.requires.stands
+
+pub walk::ask_members-returns-in_err-block-clause-parts : goal.walk::ask_members-returns-in_err-block-clause-parts
+walk::ask_members-returns-in_err-block-clause-parts g t c = parts_then _ _ _ c.loop-index.invariant.parts c.member_block.ensures.parts
+
+pub walk::ask_members-returns-in_err-block-clause-stands : goal.walk::ask_members-returns-in_err-block-clause-stands
+walk::ask_members-returns-in_err-block-clause-stands g t c = c.member_block.ensures.stands
+
+pub walk::ask_members-returns-in_err-push-clause-parts : goal.walk::ask_members-returns-in_err-push-clause-parts
+walk::ask_members-returns-in_err-push-clause-parts g t c = parts_then _ _ _ c.loop-index.invariant.parts c.member_block.ensures.parts
+
+pub walk::ask_members-returns-in_err-push-clause-stands : goal.walk::ask_members-returns-in_err-push-clause-stands
+walk::ask_members-returns-in_err-push-clause-stands g t c = c.member_block.ensures.stands
+
+pub walk::ask_members-returns-clause-parts : goal.walk::ask_members-returns-clause-parts
+walk::ask_members-returns-clause-parts g t c = c.loop-index.invariant.parts
+
+pub walk::ask_members-returns-clause-stands : goal.walk::ask_members-returns-clause-stands
+walk::ask_members-returns-clause-stands g t c = c.loop-index.invariant.stands
+
+pub walk::row_told-returns-in_err-parts-clause-parts : goal.walk::row_told-returns-in_err-parts-clause-parts
+walk::row_told-returns-in_err-parts-clause-parts g t c = c.flex_in.ensures.parts
+
+pub walk::row_told-returns-in_err-parts-clause-stands : goal.walk::row_told-returns-in_err-parts-clause-stands
+walk::row_told-returns-in_err-parts-clause-stands g t c = c.flex_in.ensures.stands
+
+pub walk::row_told-returns-in_err-items-clause-parts : goal.walk::row_told-returns-in_err-items-clause-parts
+walk::row_told-returns-in_err-items-clause-parts g t c = c.flex_in.ensures.parts
+
+pub walk::row_told-returns-in_err-items-clause-stands : goal.walk::row_told-returns-in_err-items-clause-stands
+walk::row_told-returns-in_err-items-clause-stands g t c = c.flex_in.ensures.stands
+
+pub walk::row_told-returns-in_err-lines-clause-parts : goal.walk::row_told-returns-in_err-lines-clause-parts
+walk::row_told-returns-in_err-lines-clause-parts g t c =
+    record {
+      tree = c.flex_in.ensures.parts.tree;
+      ruler = c.flex_in.ensures.parts.ruler;
+      tally = c.flex_in.ensures.parts.tally;
+      passes = c.flex_in.ensures.parts.passes;
+    }
+
+pub walk::row_told-returns-in_err-lines-clause-stands : goal.walk::row_told-returns-in_err-lines-clause-stands
+walk::row_told-returns-in_err-lines-clause-stands g t c = c.flex_in.ensures.stands
+
+pub walk::row_told-returns-in_err-blocks-clause-parts : goal.walk::row_told-returns-in_err-blocks-clause-parts
+walk::row_told-returns-in_err-blocks-clause-parts g t c =
+    record {
+      tree = c.ask_members.ensures.parts.tree ∙ c.flex_in.ensures.parts.tree;
+      ruler = c.ask_members.ensures.parts.ruler ∙ c.flex_in.ensures.parts.ruler;
+      tally = c.ask_members.ensures.parts.tally ∙ c.flex_in.ensures.parts.tally;
+      passes = c.ask_members.ensures.parts.passes ∙ c.flex_in.ensures.parts.passes;
+    }
+
+pub walk::row_told-returns-in_err-blocks-clause-stands : goal.walk::row_told-returns-in_err-blocks-clause-stands
+walk::row_told-returns-in_err-blocks-clause-stands g t c = c.ask_members.ensures.stands
+
+pub walk::row_told-returns-clause-parts : goal.walk::row_told-returns-clause-parts
+walk::row_told-returns-clause-parts g t c =
+    record {
+      tree = c.ask_members.ensures.parts.tree ∙ c.flex_in.ensures.parts.tree;
+      ruler = c.ask_members.ensures.parts.ruler ∙ c.flex_in.ensures.parts.ruler;
+      tally = c.ask_members.ensures.parts.tally ∙ c.flex_in.ensures.parts.tally;
+      passes = c.ask_members.ensures.parts.passes ∙ c.flex_in.ensures.parts.passes;
+    }
+
+pub walk::row_told-returns-clause-stands : goal.walk::row_told-returns-clause-stands
+walk::row_told-returns-clause-stands g t c = c.ask_members.ensures.stands
+
+pub walk::column_told-returns-in_err-parts-clause-parts : goal.walk::column_told-returns-in_err-parts-clause-parts
+walk::column_told-returns-in_err-parts-clause-parts g t c = c.flex_in.ensures.parts
+
+pub walk::column_told-returns-in_err-parts-clause-stands : goal.walk::column_told-returns-in_err-parts-clause-stands
+walk::column_told-returns-in_err-parts-clause-stands g t c = c.flex_in.ensures.stands
+
+pub walk::column_told-returns-in_err-boxes-clause-parts : goal.walk::column_told-returns-in_err-boxes-clause-parts
+walk::column_told-returns-in_err-boxes-clause-parts g t c = c.flex_in.ensures.parts
+
+pub walk::column_told-returns-in_err-boxes-clause-stands : goal.walk::column_told-returns-in_err-boxes-clause-stands
+walk::column_told-returns-in_err-boxes-clause-stands g t c = c.flex_in.ensures.stands
+
+pub walk::column_told-returns-in_err-blocks-clause-parts : goal.walk::column_told-returns-in_err-blocks-clause-parts
+walk::column_told-returns-in_err-blocks-clause-parts g t c = parts_then _ _ _ c.flex_in.ensures.parts c.ask_members.ensures.parts
+
+pub walk::column_told-returns-in_err-blocks-clause-stands : goal.walk::column_told-returns-in_err-blocks-clause-stands
+walk::column_told-returns-in_err-blocks-clause-stands g t c = c.ask_members.ensures.stands
+
+pub walk::column_told-returns-clause-parts : goal.walk::column_told-returns-clause-parts
+walk::column_told-returns-clause-parts g t c = parts_then _ _ _ c.flex_in.ensures.parts c.ask_members.ensures.parts
+
+pub walk::column_told-returns-clause-stands : goal.walk::column_told-returns-clause-stands
+walk::column_told-returns-clause-stands g t c = c.ask_members.ensures.stands
+
+pub walk::row_anew-returns-in_err-past-clause-parts : goal.walk::row_anew-returns-in_err-past-clause-parts
+walk::row_anew-returns-in_err-past-clause-parts g t c = c.last_along.ensures.parts
+
+pub walk::row_anew-returns-in_err-past-clause-stands : goal.walk::row_anew-returns-in_err-past-clause-stands
+walk::row_anew-returns-in_err-past-clause-stands g t c = c.last_along.ensures.stands
+
+pub walk::row_anew-returns-in_err-parts-clause-parts : goal.walk::row_anew-returns-in_err-parts-clause-parts
+walk::row_anew-returns-in_err-parts-clause-parts g t c = parts_then _ _ _ c.last_along.ensures.parts c.row_told.ensures.parts
+
+pub walk::row_anew-returns-in_err-parts-clause-stands : goal.walk::row_anew-returns-in_err-parts-clause-stands
+walk::row_anew-returns-in_err-parts-clause-stands g t c = c.row_told.ensures.stands
+
+pub walk::row_anew-returns-in_err-size-clause-parts : goal.walk::row_anew-returns-in_err-size-clause-parts
+walk::row_anew-returns-in_err-size-clause-parts g t c = parts_then _ _ _ c.last_along.ensures.parts c.row_told.ensures.parts
+
+pub walk::row_anew-returns-in_err-size-clause-stands : goal.walk::row_anew-returns-in_err-size-clause-stands
+walk::row_anew-returns-in_err-size-clause-stands g t c = c.row_told.ensures.stands
+
+pub walk::row_anew-returns-in_err-keep_row-clause-parts : goal.walk::row_anew-returns-in_err-keep_row-clause-parts
+walk::row_anew-returns-in_err-keep_row-clause-parts g t c = parts_then _ _ _ (parts_then _ _ _ c.last_along.ensures.parts c.row_told.ensures.parts) c.keep_row.ensures.parts
+
+pub walk::row_anew-returns-in_err-keep_row-clause-stands : goal.walk::row_anew-returns-in_err-keep_row-clause-stands
+walk::row_anew-returns-in_err-keep_row-clause-stands g t c = c.keep_row.ensures.stands
+
+pub walk::row_anew-returns-in_err-held-clause-parts : goal.walk::row_anew-returns-in_err-held-clause-parts
+walk::row_anew-returns-in_err-held-clause-parts g t c = parts_then _ _ _ (parts_then _ _ _ c.last_along.ensures.parts c.row_told.ensures.parts) c.keep_row.ensures.parts
+
+pub walk::row_anew-returns-in_err-held-clause-stands : goal.walk::row_anew-returns-in_err-held-clause-stands
+walk::row_anew-returns-in_err-held-clause-stands g t c = c.keep_row.ensures.stands
+
+pub walk::row_anew-returns-in_err-put-clause-parts : goal.walk::row_anew-returns-in_err-put-clause-parts
+walk::row_anew-returns-in_err-put-clause-parts g t c = parts_then _ _ _ (parts_then _ _ _ (parts_then _ _ _ c.last_along.ensures.parts c.row_told.ensures.parts) c.keep_row.ensures.parts) c.put.ensures.parts
+
+pub walk::row_anew-returns-in_err-put-clause-stands : goal.walk::row_anew-returns-in_err-put-clause-stands
+walk::row_anew-returns-in_err-put-clause-stands g t c = c.put.ensures.stands
+
+pub walk::row_anew-returns-clause-parts : goal.walk::row_anew-returns-clause-parts
+walk::row_anew-returns-clause-parts g t c = parts_then _ _ _ (parts_then _ _ _ (parts_then _ _ _ c.last_along.ensures.parts c.row_told.ensures.parts) c.keep_row.ensures.parts) c.put.ensures.parts
+
+pub walk::row_anew-returns-clause-stands : goal.walk::row_anew-returns-clause-stands
+walk::row_anew-returns-clause-stands g t c = c.put.ensures.stands
+
+pub walk::column_anew-returns-in_err-past-clause-parts : goal.walk::column_anew-returns-in_err-past-clause-parts
+walk::column_anew-returns-in_err-past-clause-parts g t c = c.last_along.ensures.parts
+
+pub walk::column_anew-returns-in_err-past-clause-stands : goal.walk::column_anew-returns-in_err-past-clause-stands
+walk::column_anew-returns-in_err-past-clause-stands g t c = c.last_along.ensures.stands
+
+pub walk::column_anew-returns-in_err-parts-clause-parts : goal.walk::column_anew-returns-in_err-parts-clause-parts
+walk::column_anew-returns-in_err-parts-clause-parts g t c = parts_then _ _ _ c.last_along.ensures.parts c.column_told.ensures.parts
+
+pub walk::column_anew-returns-in_err-parts-clause-stands : goal.walk::column_anew-returns-in_err-parts-clause-stands
+walk::column_anew-returns-in_err-parts-clause-stands g t c = c.column_told.ensures.stands
+
+pub walk::column_anew-returns-in_err-size-clause-parts : goal.walk::column_anew-returns-in_err-size-clause-parts
+walk::column_anew-returns-in_err-size-clause-parts g t c = parts_then _ _ _ c.last_along.ensures.parts c.column_told.ensures.parts
+
+pub walk::column_anew-returns-in_err-size-clause-stands : goal.walk::column_anew-returns-in_err-size-clause-stands
+walk::column_anew-returns-in_err-size-clause-stands g t c = c.column_told.ensures.stands
+
+pub walk::column_anew-returns-in_err-keep_column-clause-parts : goal.walk::column_anew-returns-in_err-keep_column-clause-parts
+walk::column_anew-returns-in_err-keep_column-clause-parts g t c = parts_then _ _ _ (parts_then _ _ _ c.last_along.ensures.parts c.column_told.ensures.parts) c.keep_column.ensures.parts
+
+pub walk::column_anew-returns-in_err-keep_column-clause-stands : goal.walk::column_anew-returns-in_err-keep_column-clause-stands
+walk::column_anew-returns-in_err-keep_column-clause-stands g t c = c.keep_column.ensures.stands
+
+pub walk::column_anew-returns-in_err-held-clause-parts : goal.walk::column_anew-returns-in_err-held-clause-parts
+walk::column_anew-returns-in_err-held-clause-parts g t c = parts_then _ _ _ (parts_then _ _ _ c.last_along.ensures.parts c.column_told.ensures.parts) c.keep_column.ensures.parts
+
+pub walk::column_anew-returns-in_err-held-clause-stands : goal.walk::column_anew-returns-in_err-held-clause-stands
+walk::column_anew-returns-in_err-held-clause-stands g t c = c.keep_column.ensures.stands
+
+pub walk::column_anew-returns-in_err-put-clause-parts : goal.walk::column_anew-returns-in_err-put-clause-parts
+walk::column_anew-returns-in_err-put-clause-parts g t c = parts_then _ _ _ (parts_then _ _ _ (parts_then _ _ _ c.last_along.ensures.parts c.column_told.ensures.parts) c.keep_column.ensures.parts) c.put.ensures.parts
+
+pub walk::column_anew-returns-in_err-put-clause-stands : goal.walk::column_anew-returns-in_err-put-clause-stands
+walk::column_anew-returns-in_err-put-clause-stands g t c = c.put.ensures.stands
+
+pub walk::column_anew-returns-clause-parts : goal.walk::column_anew-returns-clause-parts
+walk::column_anew-returns-clause-parts g t c = parts_then _ _ _ (parts_then _ _ _ (parts_then _ _ _ c.last_along.ensures.parts c.column_told.ensures.parts) c.keep_column.ensures.parts) c.put.ensures.parts
+
+pub walk::column_anew-returns-clause-stands : goal.walk::column_anew-returns-clause-stands
+walk::column_anew-returns-clause-stands g t c = c.put.ensures.stands
+
+pub walk::member_block-returns-in-Some-clause-parts : goal.walk::member_block-returns-in-Some-clause-parts
+walk::member_block-returns-in-Some-clause-parts g t c = same_parts c.args.walk.now
+
+pub walk::member_block-returns-in-Some-clause-stands : goal.walk::member_block-returns-in-Some-clause-stands
+walk::member_block-returns-in-Some-clause-stands g t c = c.requires.stands
+
+pub walk::member_block-returns-in_err-block-clause-parts : goal.walk::member_block-returns-in_err-block-clause-parts
+walk::member_block-returns-in_err-block-clause-parts g t c = c.block_in.ensures.parts
+
+pub walk::member_block-returns-in_err-block-clause-stands : goal.walk::member_block-returns-in_err-block-clause-stands
+walk::member_block-returns-in_err-block-clause-stands g t c = c.block_in.ensures.stands
+
+pub walk::member_block-returns-clause-parts : goal.walk::member_block-returns-clause-parts
+walk::member_block-returns-clause-parts g t c = c.block_in.ensures.parts
+
+pub walk::member_block-returns-clause-stands : goal.walk::member_block-returns-clause-stands
+walk::member_block-returns-clause-stands g t c = c.block_in.ensures.stands

@@ -41,14 +41,17 @@ decreases-asking::told_wide_at g l = 16 * size_at (nodes l.walk.now) l.id + 3
 abbrev pub decreases-asking::wide_at : goal.decreases-asking::wide_at
 decreases-asking::wide_at g l = 16 * size_at (nodes l.walk.now) l.id + 4
 
+abbrev pub decreases-walk::member_block : goal.decreases-walk::member_block
+decreases-walk::member_block g l = 16 * size_at (nodes l.walk.now) l.child + 7
+
 abbrev pub decreases-walk::ask_members : goal.decreases-walk::ask_members
 decreases-walk::ask_members g l = 16 * size_at (nodes l.walk.now) l.id + 0
 
-abbrev pub decreases-walk::row_in : goal.decreases-walk::row_in
-decreases-walk::row_in g l = 16 * size_at (nodes l.walk.now) l.id + 1
+abbrev pub decreases-walk::row_told : goal.decreases-walk::row_told
+decreases-walk::row_told g l = 16 * size_at (nodes l.walk.now) l.id + 1
 
-abbrev pub decreases-walk::column_in : goal.decreases-walk::column_in
-decreases-walk::column_in g l = 16 * size_at (nodes l.walk.now) l.id + 1
+abbrev pub decreases-walk::column_told : goal.decreases-walk::column_told
+decreases-walk::column_told g l = 16 * size_at (nodes l.walk.now) l.id + 1
 
 abbrev pub decreases-walk::grid_anew : goal.decreases-walk::grid_anew
 decreases-walk::grid_anew g l = 16 * size_at (nodes l.walk.now) l.id + 4

@@ -5,8 +5,8 @@ use Rattle.inline_sizes.specs.Flexes.{member_of}
 use Rattle.block_sizes.specs.Flexes.{HaveInner}
 use Rattle.block_sizes.proofs.flex.items_in_row.Given as goal
 
-abbrev pub invariant-loop-member : goal.invariant-loop-member
-invariant-loop-member l = record {
-  so_far : l.items.items ≡ map (λ (m : rules.Member). rules.flex_item false (Some l.fn.width) m.kid.label m.inline) (map (member_of (bare l.fn.tree.tree)) (take l.member-index l.members));
+abbrev pub invariant-loop-index : goal.invariant-loop-index
+invariant-loop-index l = record {
+  so_far : l.items.items ≡ map (λ (m : rules.Member). rules.flex_item false (Some l.fn.width) m.kid.label m.inline) (map (member_of (bare l.fn.tree.tree)) (take l.index l.members));
   inner : HaveInner l.items.items;
 }
