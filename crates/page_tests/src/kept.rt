@@ -334,3 +334,50 @@ fn what_children_told_stays_where_one_of_them_is_edited(rt: HostRuntime) -> Resu
     }
     Ok(())
 }
+
+/// A column of sixteen leaves as high as their contents.
+static COLUMN: &[&[u8]] = &[
+    b"gridlay 2",
+    b"viewport 600 400",
+    b"main flex { flex-direction: column }",
+    b"  c01 leaf 40 20",
+    b"  c02 leaf 40 20",
+    b"  c03 leaf 40 20",
+    b"  c04 leaf 40 20",
+    b"  c05 leaf 40 20",
+    b"  c06 leaf 40 20",
+    b"  c07 leaf 40 20",
+    b"  c08 leaf 40 20",
+    b"  c09 leaf 40 20",
+    b"  c10 leaf 40 20",
+    b"  c11 leaf 40 20",
+    b"  c12 leaf 40 20",
+    b"  c13 leaf 40 20",
+    b"  c14 leaf 40 20",
+    b"  c15 leaf 40 20",
+    b"  c16 leaf 40 20",
+];
+
+/// Whether the column keeps what its children told for its block size.
+fn keeps_along(page: &Page) -> Result<bool, Fail> {
+    let id = node_named(page, b"main")?;
+    Ok(node_at(page.tree(), id).past.along.is_some())
+}
+
+#[test]
+fn what_children_of_a_column_told_stays_where_one_of_them_is_edited(
+    rt: HostRuntime,
+) -> Result<(), Fail> {
+    static CASES: &[(&[u8], bool)] = &[
+        (b"content c07 leaf 90 50", true),
+        (b"set c07 padding: 3px", true),
+        (b"set c07 order: 1", false),
+        (b"remove c07", false),
+        (b"set main row-gap: 3px", false),
+    ];
+    for (edit, stay) in CASES {
+        let page = edited(rt.alloc(), COLUMN, edit)?;
+        assert_eq!(rt; keeps_along(&page)?, *stay, "{edit:?}");
+    }
+    Ok(())
+}
