@@ -3,8 +3,7 @@ use Rattle.std.proofs.Common.{◌≡◌, ◌≤◌, ℕ, suc, length, arith, ℤ
 use Rattle.std.specs.List.{list_all}
 use Rattle.std.specs.Option.{option_map}
 use Rattle.std.specs.FinMap as map
-use Rattle.style_types.specs.Order.{place_of, prop_cmp, prop_cmp_total, prop_cmp-IsAntisymmetric}
-use Rattle.style_types.specs.Units.{length_of, is_px}
+use Rattle.style_types.specs.Order.{prop_cmp, prop_cmp_total, prop_cmp-IsAntisymmetric}
 use Rattle.style_types.specs.Computed.{next_length, computed_breadth, computed_fit, computed_track, computed_tracks, computed_repeat, computed_list, computed_template, computed_size, computed_with, computed_value, track_of, list_with, DeclaredMap, values_mapped, computed_style, are_px, is_px_alone, plain_style}
 use Rattle.style_types.specs.declared.prop.Prop.{Prop}
 use Rattle.style_types.specs.declared.declared.DeclaredValue.{DeclaredValue}
@@ -52,7 +51,7 @@ style_of_entries em rem es = map.same_map prop_cmp_total prop_cmp-IsAntisymmetri
 
 -- ---- how many tracks
 
-tracks_stay : (em rem : ℤ) (tracks : List TrackFn) (units : List Unit) → length (computed_tracks em rem tracks units).0 ≡ length tracks
+pub tracks_stay : (em rem : ℤ) (tracks : List TrackFn) (units : List Unit) → length (computed_tracks em rem tracks units).0 ≡ length tracks
 tracks_stay em rem [] units = refl
 tracks_stay em rem (track ∷ tracks) units = ap suc (tracks_stay em rem tracks (computed_track em rem track units).1)
 

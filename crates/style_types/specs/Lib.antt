@@ -7,3 +7,4 @@ pub mod Units
 pub mod Computed
 pub mod Briefs
 pub mod UnitLists
+pub mod Parts

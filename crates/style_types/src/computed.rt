@@ -4,6 +4,7 @@ ghost use Rattle.std.specs.Prelude.{◌≡◌, IfOk};
 ghost use Rattle.style_types.specs.Computed.{computed_breadth, computed_fit, computed_track, computed_tracks, computed_repeat, computed_list, computed_template, computed_size, computed_with, computed_value, values_mapped};
 
 use crate::declared::DeclaredValue;
+use crate::listed::value_in_parts;
 use crate::prop::Prop;
 use crate::track::{Breadth, Repeat, Template, TrackFn, TrackList};
 use crate::unit_list::Units;
@@ -41,7 +42,7 @@ impl<'a> Units<'a> {
         }
     }
 
-    fn tracks(
+    pub(crate) fn tracks(
         &mut self,
         alloc: Global,
         em: Lu,
@@ -75,7 +76,7 @@ impl<'a> Units<'a> {
         Runs::of(alloc, made)
     }
 
-    fn repeat(
+    pub(crate) fn repeat(
         &mut self,
         alloc: Global,
         em: Lu,
@@ -136,7 +137,13 @@ impl<'a> Units<'a> {
         }
     }
 
-    fn value(&mut self, alloc: Global, em: Lu, rem: Lu, value: &Value) -> Result<Value, NoMemory>
+    pub(crate) fn value(
+        &mut self,
+        alloc: Global,
+        em: Lu,
+        rem: Lu,
+        value: &Value,
+    ) -> Result<Value, NoMemory>
         ensures { IfOk result (λ made. made ≡ computed_with em rem value.now self.old) }
     {
         match value {
@@ -150,6 +157,19 @@ impl<'a> Units<'a> {
             other => other.copy(alloc),
         }
     }
+}
+
+/// The computed value of a declared one, whose units are written out for it.
+fn written_value(
+    alloc: Global,
+    em: Lu,
+    rem: Lu,
+    declared: &DeclaredValue,
+) -> Result<Value, NoMemory>
+    ensures { IfOk result (λ value. value ≡ computed_value em rem declared.now) }
+{
+    let units = declared.units.written(alloc)?;
+    Units::new(units.as_slice()).value(alloc, em, rem, &declared.value)
 }
 
 #[tactic(auto, using(crate::proofs::Computing::px_value))]
@@ -166,7 +186,10 @@ fn computed_value(
     if declared.units.are_px() {
         return declared.value.copy(alloc);
     }
-    Units::of(&declared.units).value(alloc, em, rem, &declared.value)
+    match declared.units.in_parts() {
+        Some((parts, others)) => value_in_parts(alloc, em, rem, &declared.value, parts, others),
+        None => written_value(alloc, em, rem, declared),
+    }
 }
 
 /// The entries with their computed values.

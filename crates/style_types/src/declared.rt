@@ -6,7 +6,7 @@ ghost use Rattle.style_types.specs.Computed.{computed_style, font_with, font_of}
 use crate::prop::Prop;
 use crate::prop_map::PropMap;
 use crate::style::Style;
-use crate::unit_list::{UnitList, Units};
+use crate::unit_list::UnitList;
 use crate::value::{Size, Value};
 use lunit::{Copied, Lu, NoMemory};
 use std::alloc::Global;
@@ -56,7 +56,7 @@ fn font_of(parent: Lu, root: Lu, declared: &DeclaredValue) -> Lu
     ensures { result ≡ font_with parent root declared.now.value declared.now.units }
 {
     match &declared.value {
-        Value::Size(Size::Length(px)) => Units::of(&declared.units).next_length(parent, root, *px),
+        Value::Size(Size::Length(px)) => declared.units.first_length(parent, root, *px),
         _ => parent,
     }
 }

@@ -6,6 +6,7 @@ mod computed;
 mod declared;
 mod initial;
 mod laws;
+mod listed;
 mod prop;
 mod prop_map;
 mod style;

@@ -1,7 +1,8 @@
 ghost use Rattle.std.specs.Prelude.{◌≡◌, ◌≤◌, ◌*◌, ◌/◌, min, unsigned_abs};
 ghost use Rattle.style_types.specs.Units.{size_of, is_negative, differ, signed, relative, length_of};
 
-use lunit::Lu;
+use lunit::{Copied, Lu, NoMemory};
+use std::alloc::Global;
 
 /// The unit of a declared length (CSS Values 4, section 6).
 #[derive(Clone, Copy, Debug, PartialEq, Eq)]
@@ -71,5 +72,11 @@ impl Unit {
             Unit::Em(millionths) => relative(millionths, em),
             Unit::Rem(millionths) => relative(millionths, rem),
         }
+    }
+}
+
+impl Copied for Unit {
+    fn copy(&self, _alloc: Global) -> Result<Unit, NoMemory> {
+        Ok(*self)
     }
 }

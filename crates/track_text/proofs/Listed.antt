@@ -4,7 +4,7 @@ use Rattle.std.proofs.lemmas.List.{append-nil, append_assoc, map-append, length-
 use Rattle.style_types.specs.declared.unit.Unit.{Unit}
 use Rattle.style_types.specs.declared.track.TrackFn.{TrackFn}
 use Rattle.runs.specs.Times.{times}
-use Rattle.runs.proofs.Times.{length_times, times_more, items_at, items_past}
+use Rattle.runs.proofs.Times.{length_times, items_at, items_past}
 use Rattle.track_text.specs.declared.side.Track.{Track}
 use Rattle.track_text.specs.Sides.{size_of_track, sizes_of, units_before}
 use Rattle.track_text.proofs.Units.{units_append}
@@ -44,21 +44,23 @@ pub ruleset sizes = (items_at, items_past, sizes_next, sizes_fit, sizes_last)
 
 -- ---- units
 
-pub times_units : (held next : List Unit) (count : ℕ) (tracks : List Track) → next ≡ (held ++ units_before (times count tracks) []) ++ units_before tracks [] → next ≡ held ++ units_before (times (count + 1) tracks) []
-times_units held next count tracks e =
-    e
-    ∙ append_assoc held (units_before (times count tracks) []) (units_before tracks [])
-    ∙ ap (λ (units : List Unit). held ++ units) (sym (units_append (times count tracks) tracks))
-    ∙ ap (λ (ts : List Track). held ++ units_before ts []) (sym (times_more count tracks))
+units_times : (count : ℕ) (tracks : List Track) → units_before (times count tracks) [] ≡ times count (units_before tracks [])
+units_times zero tracks = refl
+units_times (suc count) tracks = units_append tracks (times count tracks) ∙ ap (λ (units : List Unit). units_before tracks [] ++ units) (units_times count tracks)
 
-pub units_next_part : (held next : List Unit) (left rest : List Track) (count : ℕ) (body : List Track) → left ≡ times count body ++ rest → next ≡ held ++ units_before (times count body) [] → next ++ units_before rest [] ≡ held ++ units_before left []
-units_next_part held next left rest count body e n =
+-- the units so far before those of the parts that are left
+pub units_next_part : (held next more all : List Unit) (left rest : List Track) (count : ℕ) (body : List Track) → left ≡ times count body ++ rest → more ≡ units_before body [] → next ≡ held ++ times count more
+    → held ++ units_before left [] ≡ all → next ++ units_before rest [] ≡ all
+units_next_part held next more all left rest count body e m n h =
     ap (λ (units : List Unit). units ++ units_before rest []) n
-    ∙ append_assoc held (units_before (times count body) []) (units_before rest [])
+    ∙ ap (λ (units : List Unit). (held ++ times count units) ++ units_before rest []) m
+    ∙ append_assoc held (times count (units_before body [])) (units_before rest [])
+    ∙ ap (λ (units : List Unit). held ++ (units ++ units_before rest [])) (sym (units_times count body))
     ∙ ap (λ (units : List Unit). held ++ units) (sym (units_append (times count body) rest))
     ∙ ap (λ (ts : List Track). held ++ units_before ts []) (sym e)
+    ∙ h
 
 pub units_last : (held : List Unit) (left : List Track) → left ≡ [] → held ++ units_before left [] ≡ held
 units_last held left e = ap (λ (ts : List Track). held ++ units_before ts []) e ∙ append-nil held
 
-pub ruleset units = (items_at, items_past, times_units, units_next_part, units_last)
+pub ruleset units = (items_at, items_past, units_next_part, units_last)

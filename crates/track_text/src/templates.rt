@@ -18,10 +18,10 @@ use crate::words::Words;
 use lunit::{NoMemory, Sequence};
 use runs::Runs;
 use std::alloc::Global;
-use style_types::{Repeat, Template, TrackFn, TrackList, UnitList};
+use style_types::{Repeat, Template, TrackFn, TrackList, Unit, UnitList};
 
 /// Puts the unit of the side, where it is a length, behind the others.
-fn push_side(units: &mut UnitList, side: Side) -> Result<(), NoMemory>
+fn push_side(units: &mut Sequence<Unit>, side: Side) -> Result<(), NoMemory>
     ensures { OnOk result (units.new ≡ units.old ++ side_units side []) }
 {
     if let Side::Length(_, unit) = side {
@@ -30,7 +30,7 @@ fn push_side(units: &mut UnitList, side: Side) -> Result<(), NoMemory>
     Ok(())
 }
 
-fn push_fit(units: &mut UnitList, fit: Option<Side>) -> Result<(), NoMemory>
+fn push_fit(units: &mut Sequence<Unit>, fit: Option<Side>) -> Result<(), NoMemory>
     ensures { OnOk result (units.new ≡ units.old ++ fit_units fit []) }
 {
     if let Some(side) = fit {
@@ -41,7 +41,7 @@ fn push_fit(units: &mut UnitList, fit: Option<Side>) -> Result<(), NoMemory>
 
 #[tactic(auto, using(crate::proofs::Units::track_behind))]
 /// Puts the units of the size behind the others.
-fn push_track(units: &mut UnitList, track: Track) -> Result<(), NoMemory>
+fn push_track(units: &mut Sequence<Unit>, track: Track) -> Result<(), NoMemory>
     ensures { OnOk result (units.new ≡ units.old ++ track_units track []) }
 {
     push_side(units, track.least)?;
@@ -51,7 +51,7 @@ fn push_track(units: &mut UnitList, track: Track) -> Result<(), NoMemory>
 
 #[tactic(auto, using(crate::proofs::Units::units_next))]
 /// Puts the units of the sizes behind the others.
-fn push_units(units: &mut UnitList, tracks: &[Track]) -> Result<(), NoMemory>
+fn push_units(units: &mut Sequence<Unit>, tracks: &[Track]) -> Result<(), NoMemory>
     ensures { OnOk result (units.new ≡ units.old ++ units_before tracks.now []) }
 {
     for track in tracks {
@@ -60,29 +60,31 @@ fn push_units(units: &mut UnitList, tracks: &[Track]) -> Result<(), NoMemory>
     Ok(())
 }
 
-#[tactic(auto, using(crate::proofs::Listed::units))]
-/// Puts the units of sizes that stand so many times behind the others.
-fn push_times(units: &mut UnitList, count: u32, tracks: &[Track]) -> Result<(), NoMemory>
-    ensures { OnOk result (units.new ≡ units.old ++ units_before (times count tracks.now) []) }
+/// These units, and others behind them that stand so many times. `NoMemory` too where there were more than 2^32.
+fn with_units(units: Runs<Unit>, count: u32, more: Sequence<Unit>) -> Result<Runs<Unit>, NoMemory>
+    ensures { IfOk result (λ all. all ≡ units ++ times count more) }
 {
-    for _time in 0..count {
-        push_units(units, tracks)?;
+    if units.len() as u128 + count as u128 * more.len() as u128 > 4_294_967_296 {
+        return Err(NoMemory);
     }
-    Ok(())
+    units.with(count, more)
 }
 
 #[tactic(auto, using(crate::proofs::Listed::units))]
-/// Puts the units of the sizes of a list behind the others.
-fn push_listed(units: &mut UnitList, tracks: &Runs<Track>) -> Result<(), NoMemory>
-    ensures { OnOk result (units.new ≡ units.old ++ units_before tracks.now []) }
+/// The units of the sizes of a list. Those of sizes that stand many times stand once.
+fn listed_units(alloc: Global, tracks: &Runs<Track>) -> Result<Runs<Unit>, NoMemory>
+    ensures { IfOk result (λ units. units ≡ units_before tracks.now []) }
 {
+    let mut units = Runs::new(alloc);
     for (count, body) in tracks.parts() {
-        push_times(units, *count, body.as_slice())?;
+        let mut more = Sequence::new(alloc);
+        push_units(&mut more, body.as_slice())?;
+        units = with_units(units, *count, more)?;
     }
-    Ok(())
+    Ok(units)
 }
 
-fn push_repeat(units: &mut UnitList, repeat: &Option<ReadRepeat>) -> Result<(), NoMemory>
+fn push_repeat(units: &mut Sequence<Unit>, repeat: &Option<ReadRepeat>) -> Result<(), NoMemory>
     ensures { OnOk result (units.new ≡ units.old ++ repeat_units repeat.now) }
 {
     match repeat {
@@ -96,10 +98,10 @@ fn push_repeat(units: &mut UnitList, repeat: &Option<ReadRepeat>) -> Result<(), 
 fn list_units(alloc: Global, list: &ReadList) -> Result<UnitList, NoMemory>
     ensures { IfOk result (λ units. units ≡ list_units list.now) }
 {
-    let mut units = UnitList::new(alloc);
-    push_listed(&mut units, &list.sizes)?;
-    push_repeat(&mut units, &list.repeat)?;
-    Ok(units)
+    let parts = listed_units(alloc, &list.sizes)?;
+    let mut others = Sequence::new(alloc);
+    push_repeat(&mut others, &list.repeat)?;
+    Ok(UnitList::listed(alloc, parts, others))
 }
 
 fn repeat_value(alloc: Global, repeat: ReadRepeat) -> Result<Repeat, NoMemory>
@@ -185,9 +187,9 @@ fn tracks_of(alloc: Global, relative: bool, words: Words) -> Result<Sequence<Tra
 fn sizes_value(alloc: Global, tracks: &[Track]) -> Result<(Sequence<TrackFn>, UnitList), NoMemory>
     ensures { IfOk result (λ value. value ≡ sizes_value tracks.now) }
 {
-    let mut units = UnitList::new(alloc);
+    let mut units = Sequence::new(alloc);
     push_units(&mut units, tracks)?;
-    Ok((sizes_of(alloc, tracks)?, units))
+    Ok((sizes_of(alloc, tracks)?, UnitList::of(alloc, units)))
 }
 
 /// The track sizes that the words are, one at least, with the units of their lengths: the value of `grid-auto-columns`
