@@ -37,6 +37,15 @@ fn note(lines: &mut Sequence<i32>, line: u32) -> Result<(), NoMemory>
     Ok(())
 }
 
+/// These lines, with room for so many more.
+fn with_room(lines: Sequence<i32>, more: u32) -> Result<Sequence<i32>, NoMemory>
+    ensures { IfOk result (λ roomy. roomy ≡ lines) }
+{
+    let mut items = lines.into_vec();
+    items.reserve(more as usize)?;
+    Ok(Sequence::from_vec(items))
+}
+
 /// Adds so many lines, from one on, after those before them.
 fn note_all(lines: &mut Sequence<i32>, first: u32, count: u32) -> Result<(), NoMemory>
     requires { first + count ≤ 2 ^ 31 }
@@ -120,7 +129,8 @@ impl NameIndex {
         Ok(())
     }
 
-    /// Adds so many lines, from one on, to those of a name.
+    /// Adds so many lines, from one on, to those of a name. Their room is made first, since a list that
+    /// grows by itself may take twice what it holds.
     fn add(&mut self, alloc: Global, name: &Name, first: u32, count: u32) -> Result<(), NoMemory>
         requires { first + count ≤ 2 ^ 31 }
         ensures { OnOk result
@@ -128,7 +138,7 @@ impl NameIndex {
             lines_in self.new.lines other ≡
             marked_all (bytes_eq name.now other) (lines_in self.old.lines other) first count) }
     {
-        let mut lines = self.take(alloc, name);
+        let mut lines = with_room(self.take(alloc, name), count)?;
         note_all(&mut lines, first, count)?;
         self.put(name, lines)
     }

@@ -25,7 +25,7 @@ pub(crate) fn own_lines(
 ) -> Result<Sequence<NameSet>, NoMemory>
     ensures { IfOk result (AreLines (λ line. get_or sets.now line []) count) }
 {
-    let mut lines = Sequence::new(alloc);
+    let mut lines = Sequence::from_vec(Vec::with_capacity(alloc, count)?);
     for line in 0..count {
         lines.push(own_names(alloc, sets, line)?)?;
     }
