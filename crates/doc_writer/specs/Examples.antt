@@ -1,5 +1,5 @@
 -- Values and nodes as they are written, worked by hand. They hold by computation.
-use Rattle.std.specs.Prelude.{◌≡◌, refl, ℕ, ℤ, pos, neg_ℤ, Bool, true, false, List, [], ◌∷◌, replicate, Option, Some, None, Ok, Err, codes}
+use Rattle.std.specs.Prelude.{◌≡◌, refl, ℕ, ℤ, pos, neg_ℤ, Bool, true, false, List, [], ◌∷◌, ◌++◌, replicate, Option, Some, None, Ok, Err, codes}
 use Rattle.std.specs.Fmt.{digits}
 use Rattle.lunit.specs.declared.geometry.Area.{Area}
 use Rattle.lunit.specs.declared.geometry.Span.{Span}
@@ -161,8 +161,8 @@ several prop.MarginLeft = Some (declared (value.Size size.Auto) [])
 several p = None
 
 declarations_in_order : node_line 0 (codes "main") kind.Grid several
-    ≡ codes
-    "main grid { grid-column-start: h; grid-column-end: h; grid-row-start: h; grid-row-end: h; row-gap: 4px; column-gap: 0.5%; margin-top: 0px; margin-right: auto; margin-bottom: 0px; margin-left: auto }"
+    ≡ codes "main grid { grid-column-start: h; grid-column-end: h; grid-row-start: h; grid-row-end: h; row-gap: 4px; "
+    ++ codes "column-gap: 0.5%; margin-top: 0px; margin-right: auto; margin-bottom: 0px; margin-left: auto }"
 unfolding number digits
 declarations_in_order = refl
 
