@@ -1,5 +1,6 @@
 pub mod Names
 pub mod Lines
+pub mod LineLists
 pub mod Cut
 pub mod Edges
 pub mod Made

@@ -73,7 +73,7 @@ int_lt-from a b h = search rules
 int_lt-same : (a : ℤ) → int_lt a a ≡ false
 int_lt-same a = search rules
 
-ends_before-from : (xs : List ℤ) (line : ℤ) → ((i : ℕ) → i < length xs → get_or xs i line <ℤ line) → ends_before xs line ≡ true
+pub ends_before-from : (xs : List ℤ) (line : ℤ) → ((i : ℕ) → i < length xs → get_or xs i line <ℤ line) → ends_before xs line ≡ true
 ends_before-from [] line h = refl
 ends_before-from (x ∷ xs) line h =
     let e : slice_get (x ∷ xs) (length (x ∷ xs) - 1) ≡ Some (get_or (x ∷ xs) (length (x ∷ xs) - 1) line) = slice_get-get_or (x ∷ xs) (length (x ∷ xs) - 1) line (omega arith) in

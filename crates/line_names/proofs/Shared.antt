@@ -334,6 +334,10 @@ over_some : (xs ys : List ℤ) → ¬ (xs ≡ []) → over xs ys ≡ xs
 over_some [] ys h = absurd (h refl)
 over_some (x ∷ xs) ys h = refl
 
+pub own_first : (base : ℤ) (xs ys below : List ℤ) → xs ≡ ys → ¬ (xs ≡ []) → told_from base xs ≡ over (told_from base ys) below
+own_first base [] ys below e some = absurd (some refl)
+own_first base (x ∷ xs) ys below e some = ap (λ ls. over (told_from base ls) below) e
+
 pub seen_above : (index : NameIndex) (above : List Level) (base low high : ℤ) (name : List ℕ) → lines_in index.lines name ≡ [] → seen_in index above base low high name ≡ within low high (told_from base (found above name))
 seen_above index above base low high name e = ap (λ own. over (told_from base own) (within low high (told_from base (found above name)))) e
 

@@ -1,9 +1,9 @@
 -- Lines told from another one.
-use Rattle.std.proofs.Common.{arith, refl, sym, ap, ◌∙◌, ◌≡◌, ℕ, zero, suc, ◌+◌, ◌-◌, ◌<◌, ◌≤◌, ℤ, pos, ◌+ℤ◌, ◌-ℤ◌, List, [], ◌∷◌, length, get_or, take, drop}
+use Rattle.std.proofs.Common.{arith, refl, sym, ap, ◌∙◌, ◌≡◌, ℕ, zero, suc, ◌+◌, ◌<◌, ◌≤◌, ℤ, pos, ◌+ℤ◌, ◌-ℤ◌, List, [], ◌∷◌, length, get_or, take, drop}
 use Rattle.std.specs.Prelude.{insert}
 use Rattle.std.proofs.lemmas.Int.{ints}
 use Rattle.std.proofs.lemmas.List.{length-map, drop-map, take-map, get_or-drop}
-use Rattle.std.proofs.lemmas.List.{length-drop, take_rest}
+use Rattle.std.proofs.lemmas.List.{length-drop}
 use Rattle.line_names.specs.Counting.{AreAscending}
 use Rattle.line_names.specs.Levels.{told_from, over}
 
@@ -42,8 +42,8 @@ told_insert base (y ∷ xs) (suc i) x = ap (λ zs. (y -ℤ base) ∷ zs) (told_i
 pub told_take : (base : ℤ) (xs : List ℤ) (n : ℕ) → told_from base (take n xs) ≡ take n (told_from base xs)
 told_take base xs n = sym (take-map (λ line. line -ℤ base) n xs)
 
-pub told_rest : (base : ℤ) (xs : List ℤ) (n : ℕ) → told_from base (take (length xs - n) (drop n xs)) ≡ drop n (told_from base xs)
-told_rest base xs n = ap (λ ls. told_from base ls) (take_rest xs n) ∙ sym (drop-map (λ line. line -ℤ base) n xs)
+pub told_drop : (base : ℤ) (xs : List ℤ) (n : ℕ) → told_from base (drop n xs) ≡ drop n (told_from base xs)
+told_drop base xs n = sym (drop-map (λ line. line -ℤ base) n xs)
 
 -- ---- lines that ascend
 

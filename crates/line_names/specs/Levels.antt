@@ -4,6 +4,7 @@ use Rattle.std.specs.Ordering.{int_eq}
 use Rattle.part_rules.specs.LineNames.{holds_name, lines_by, names_by_areas}
 use Rattle.line_names.specs.Counting.{AreAscending}
 use Rattle.line_names.specs.Indexes.{lines_in}
+use Rattle.line_names.specs.LineLists.{listed}
 use Rattle.line_names.specs.declared.counting.NamedLines.{NamedLines}
 use Rattle.line_names.specs.declared.index.NameIndex.{NameIndex}
 use Rattle.line_names.specs.declared.levels.Level.{Level}
@@ -16,7 +17,7 @@ told_from base lines = map (λ line. line -ℤ base) lines
 
 -- these lines as the table that has them tells them
 abbrev pub told : NamedLines → List ℤ
-told l = told_from l.base.line l.lines.now
+told l = told_from l.base.line (listed l.lines)
 
 -- those of these lines that lie in a range
 abbrev pub within : ℤ → ℤ → List ℤ → List ℤ

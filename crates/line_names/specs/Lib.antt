@@ -1,5 +1,6 @@
 pub mod Counting
 pub mod Indexes
+pub mod LineLists
 pub mod Levels
 pub mod Parts
 pub mod Repeats

@@ -5,6 +5,8 @@ ghost use Rattle.part_rules.specs.LineNames.{going_back, going_on};
 ghost use Rattle.line_names.specs.Counting.{IsNear, IsFar, AreAscending};
 ghost use Rattle.line_names.specs.Levels.{told};
 
+use crate::line_list::LinesIn;
+
 /// The line that lies so many lines after this one.
 pub(crate) fn after(line: i64, more: u32) -> i64
     requires { IsFar line }
@@ -32,7 +34,7 @@ pub(crate) struct Base {
 /// The lines of a name in order, as lines of the topmost grid, beside the one that counts as line 0.
 #[derive(Clone, Copy)]
 pub(crate) struct NamedLines<'a> {
-    pub(crate) lines: &'a [i32],
+    pub(crate) lines: LinesIn<'a>,
     pub(crate) base: Base,
 }
 
@@ -51,7 +53,7 @@ pub(crate) fn line_at(lines: NamedLines, at: usize) -> i64
     ensures value { result ≡ get_or (told lines.entry) at (pos 0) }
     ensures near { IsNear result }
 {
-    i64::from(lines.lines[at]) - i64::from(lines.base.line)
+    i64::from(lines.lines.at(at)) - i64::from(lines.base.line)
 }
 
 /// The first of these lines.
@@ -126,7 +128,7 @@ fn without(lines: NamedLines<'_>, count: usize) -> NamedLines<'_>
     ensures base { result.base ≡ lines.entry.base }
 {
     NamedLines {
-        lines: &lines.lines[count..],
+        lines: lines.lines.without(count),
         base: lines.base,
     }
 }
@@ -138,7 +140,7 @@ fn first_so_many(lines: NamedLines<'_>, count: usize) -> NamedLines<'_>
     ensures base { result.base ≡ lines.entry.base }
 {
     NamedLines {
-        lines: &lines.lines[..count],
+        lines: lines.lines.first_so_many(count),
         base: lines.base,
     }
 }

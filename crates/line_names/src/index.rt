@@ -4,57 +4,65 @@ ghost use Rattle.std.specs.Prelude.{◌≡◌, ◌<◌, ◌≤◌, ◌+◌, ◌^
 ghost use Rattle.std.specs.Str.{bytes_eq};
 ghost use Rattle.part_rules.specs.LineNames.{holds_name};
 ghost use Rattle.line_names.specs.Indexes.{ends_before, lines_in, marked_all, noted, noted_all, IsIndexOf};
+ghost use Rattle.line_names.specs.LineLists.{listed};
 
-use lunit::{Name, NameSet, NoMemory, Sequence};
+use crate::line_list::{LineList, LinesIn, run_of};
+use lunit::{Name, NameSet, NoMemory};
 use std::alloc::Global;
 use std::collections::BTreeMap;
 
 /// The lines that have a name, in order, under each name.
 #[derive(Drop)]
 pub(crate) struct NameIndex {
-    lines: BTreeMap<Name, Sequence<i32>>,
+    lines: BTreeMap<Name, LineList>,
 }
 
 /// Whether the last of these lines, if there is one, is before this one.
-fn ends_before(lines: &[i32], line: u32) -> bool
+fn ends_before(lines: &LineList, line: u32) -> bool
     requires { line < 2 ^ 31 }
     ensures { result ≡ ends_before lines.now (pos line) }
 {
     match lines.last() {
-        Some(last) => *last < line as i32,
+        Some(last) => last < line as i32,
         None => true,
     }
 }
 
-/// Adds a line after those before it.
-fn note(lines: &mut Sequence<i32>, line: u32) -> Result<(), NoMemory>
+/// These lines, and a line after them; `count` lines from it on are to be added.
+fn note(lines: LineList, line: u32, count: u32) -> Result<LineList, NoMemory>
     requires { line < 2 ^ 31 }
-    ensures { OnOk result (lines.new ≡ noted lines.old (pos line)) }
+    ensures { IfOk result (λ all. all ≡ noted lines (pos line)) }
 {
-    if ends_before(lines.as_slice(), line) {
-        lines.push(line as i32)?;
+    if ends_before(&lines, line) {
+        return lines.with(line as i32, count as usize);
     }
-    Ok(())
+    Ok(lines)
 }
 
-/// These lines, with room for so many more.
-fn with_room(lines: Sequence<i32>, more: u32) -> Result<Sequence<i32>, NoMemory>
-    ensures { IfOk result (λ roomy. roomy ≡ lines) }
-{
-    let mut items = lines.into_vec();
-    items.reserve(more as usize)?;
-    Ok(Sequence::from_vec(items))
-}
-
-/// Adds so many lines, from one on, after those before them.
-fn note_all(lines: &mut Sequence<i32>, first: u32, count: u32) -> Result<(), NoMemory>
+/// These lines, and so many lines, from one on, one by one after them.
+fn note_each(lines: LineList, first: u32, count: u32) -> Result<LineList, NoMemory>
     requires { first + count ≤ 2 ^ 31 }
-    ensures { OnOk result (lines.new ≡ noted_all lines.old first count) }
+    ensures { IfOk result (λ all. all ≡ noted_all lines first count) }
 {
+    let mut all = lines;
     for more in 0..count {
-        note(lines, first + more)?;
+        all = note(all, first + more, count - more)?;
     }
-    Ok(())
+    Ok(all)
+}
+
+#[tactic(auto, using(crate::proofs::LineLists::noted_run))]
+/// These lines, and so many lines, from one on, after them. Where they are the first ones they are counted at once.
+fn note_all(lines: LineList, first: u32, count: u32) -> Result<LineList, NoMemory>
+    requires { first + count ≤ 2 ^ 31 }
+    ensures { IfOk result (λ all. all ≡ noted_all lines first count) }
+{
+    if lines.is_empty() {
+        if let Some(run) = run_of(first, count) {
+            return Ok(lines.begun(run));
+        }
+    }
+    note_each(lines, first, count)
 }
 
 #[tactic(auto, using(crate::proofs::Names::same_names))]
@@ -95,31 +103,31 @@ impl NameIndex {
     }
 
     /// The lines of a name, in order.
-    pub(crate) fn lines_of(&self, name: &Name) -> &[i32]
-        ensures { result.now ≡ lines_in self.now.lines name.now }
+    pub(crate) fn lines_of(&self, name: &Name) -> LinesIn<'_>
+        ensures { listed result ≡ lines_in self.now.lines name.now }
     {
         match self.lines.get(name) {
-            Some(lines) => lines.as_slice(),
-            None => &[],
+            Some(lines) => lines.seen(),
+            None => LinesIn::none(),
         }
     }
 
     #[tactic(auto, using(crate::proofs::Names::found))]
     /// Takes the lines of a name out.
-    pub(crate) fn take(&mut self, alloc: Global, name: &Name) -> Sequence<i32>
+    pub(crate) fn take(&mut self, alloc: Global, name: &Name) -> LineList
         ensures taken { result ≡ lines_in self.old.lines name.now }
         ensures others { (other : List ℕ) → bytes_eq name.now other ≡ false →
             lines_in self.new.lines other ≡ lines_in self.old.lines other }
     {
         match self.lines.remove(name) {
             Some(lines) => lines,
-            None => Sequence::new(alloc),
+            None => LineList::new(alloc),
         }
     }
 
     #[tactic(auto, using(crate::proofs::Names::found))]
     /// Puts lines under a name.
-    pub(crate) fn put(&mut self, name: &Name, lines: Sequence<i32>) -> Result<(), NoMemory>
+    pub(crate) fn put(&mut self, name: &Name, lines: LineList) -> Result<(), NoMemory>
         ensures { OnOk result
             ((other : List ℕ) →
             lines_in self.new.lines other ≡
@@ -129,8 +137,7 @@ impl NameIndex {
         Ok(())
     }
 
-    /// Adds so many lines, from one on, to those of a name. Their room is made first, since a list that
-    /// grows by itself may take twice what it holds.
+    /// Adds so many lines, from one on, to those of a name.
     fn add(&mut self, alloc: Global, name: &Name, first: u32, count: u32) -> Result<(), NoMemory>
         requires { first + count ≤ 2 ^ 31 }
         ensures { OnOk result
@@ -138,8 +145,7 @@ impl NameIndex {
             lines_in self.new.lines other ≡
             marked_all (bytes_eq name.now other) (lines_in self.old.lines other) first count) }
     {
-        let mut lines = with_room(self.take(alloc, name), count)?;
-        note_all(&mut lines, first, count)?;
+        let lines = note_all(self.take(alloc, name), first, count)?;
         self.put(name, lines)
     }
 

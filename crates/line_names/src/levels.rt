@@ -4,11 +4,13 @@ ghost use Rattle.std.specs.Prelude.{◌≡◌, ◌≢◌, ◌<◌, ◌≤◌, �
 ghost use Rattle.std.specs.Str.{bytes_eq};
 ghost use Rattle.part_rules.specs.LineNames.{holds_name};
 ghost use Rattle.line_names.specs.Indexes.{lines_in};
+ghost use Rattle.line_names.specs.LineLists.{listed};
 ghost use Rattle.line_names.specs.Levels.{found, seen_in, told, told_from, within, AreOrdered, HoldsLines, HoldsMore, IsAmong, IsGrown, IsLineBelow, IsSorted, IsSortedAbove};
 ghost use Rattle.line_names.specs.Counting.{AreAscending};
 
 use crate::counting::{Base, NamedLines, count_up_to, line_at, lines_from, lines_up_to};
 use crate::index::NameIndex;
+use crate::line_list::{LineList, LinesIn};
 use lunit::{Name, NameSet, NoMemory, Sequence, Span};
 use std::alloc::Global;
 use std::marker::Model;
@@ -88,8 +90,8 @@ pub(crate) fn with_level(
 }
 
 /// The lines of a name in the lowest of these levels that has some.
-fn found<'a>(levels: &'a [SharedLevel], name: &Name) -> &'a [i32]
-    ensures { result.now ≡ found levels.now name.now }
+fn found<'a>(levels: &'a [SharedLevel], name: &Name) -> LinesIn<'a>
+    ensures { listed result ≡ found levels.now name.now }
 {
     for level in levels {
         let lines = level.level().index.lines_of(name);
@@ -97,7 +99,7 @@ fn found<'a>(levels: &'a [SharedLevel], name: &Name) -> &'a [i32]
             return lines;
         }
     }
-    &[]
+    LinesIn::none()
 }
 
 /// Those of these lines that lie in a limit.
@@ -217,7 +219,7 @@ fn take_seen(
     base: Base,
     tracks: u32,
     name: &Name,
-) -> Result<Sequence<i32>, NoMemory>
+) -> Result<LineList, NoMemory>
     requires few { tracks ≤ 20000 }
     requires ordered { AreOrdered above.now }
     ensures taken { IfOk result
@@ -231,11 +233,11 @@ fn take_seen(
         return Ok(own);
     }
     let there = above_in(above, base, all_lines(tracks), name);
-    Sequence::from_slice(alloc, there.lines)
+    there.lines.copied(alloc)
 }
 
 /// These lines and one more, which is not among them.
-fn with_line(lines: Sequence<i32>, base: Base, line: u32) -> Result<Sequence<i32>, NoMemory>
+fn with_line(lines: LineList, alloc: Global, base: Base, line: u32) -> Result<LineList, NoMemory>
     requires low { neg_ℤ (pos 10000) ≤ℤ base.line }
     requires high { base.line ≤ℤ pos 10000 }
     requires few { line ≤ 20000 }
@@ -243,16 +245,9 @@ fn with_line(lines: Sequence<i32>, base: Base, line: u32) -> Result<Sequence<i32
     ensures { IfOk result
         (λ all. IsGrown (told_from base.line lines) (told_from base.line all) (pos line)) }
 {
-    let mut lines = lines;
-    let at = count_up_to(
-        NamedLines {
-            lines: lines.as_slice(),
-            base,
-        },
-        i64::from(line),
-    );
-    lines.insert(at, line_of(base, line))?;
-    Ok(lines)
+    let there = lines.seen();
+    let at = count_up_to(NamedLines { lines: there, base }, i64::from(line));
+    lines.inserted(alloc, at, line_of(base, line))
 }
 
 /// Adds a line to those of a name.
@@ -274,7 +269,7 @@ fn grow(
         (HoldsMore index.old index.new above.now base.line tracks (bytes_eq name.now) (pos line)) }
 {
     let lines = take_seen(index, alloc, above, base, tracks, name)?;
-    let lines = with_line(lines, base, line)?;
+    let lines = with_line(lines, alloc, base, line)?;
     index.put(name, lines)
 }
 

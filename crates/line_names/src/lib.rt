@@ -6,6 +6,7 @@ mod counting;
 mod cutting;
 mod index;
 mod levels;
+mod line_list;
 mod naming;
 mod places;
 mod repetition;
