@@ -10,3 +10,4 @@ pub mod Repeats
 pub mod Told
 pub mod Passing
 pub mod Shared
+pub mod SetLists

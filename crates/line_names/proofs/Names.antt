@@ -1,21 +1,20 @@
 -- The lines of a name, one line after another.
-use Rattle.std.proofs.Common.{arith, rules, refl, sym, ap, ◌∙◌, ◌≡◌, ◌⊎◌, inl, inr, ℕ, zero, suc, ◌+◌, ◌-◌, ◌<◌, ◌≤◌, ℤ, pos, ◌+ℤ◌, ◌<ℤ◌, ◌≤ℤ◌, Bool, true, false, ◌||◌, List, [], ◌∷◌, ◌++◌, length, take, get_or, int_lt, if◌then◌else◌, length-append}
+use Rattle.std.proofs.Common.{arith, rules, refl, sym, ap, ◌∙◌, ◌≡◌, ℕ, zero, suc, ◌+◌, ◌-◌, ◌<◌, ◌≤◌, ℤ, pos, ◌+ℤ◌, ◌<ℤ◌, ◌≤ℤ◌, Bool, true, false, ◌||◌, List, [], ◌∷◌, ◌++◌, length, take, get_or, int_lt, if◌then◌else◌, length-append}
 use Rattle.std.specs.Cmp.Lexicographic.{pointwise, pointwise_decides}
 use Rattle.std.proofs.lemmas.Slice.Eq.{bytes_eq-Decides}
-use Rattle.line_names.specs.Indexes.{noted_all, marked_all}
 use Rattle.std.proofs.Math.ListN.{length-take}
 use Rattle.std.proofs.Math.Seq.{get_or-append_seam}
-use Rattle.std.proofs.lemmas.List.{append-nil, take_more, get_or_default}
-use Rattle.std.specs.Prelude.{Option, Some, None, slice_get}
-use Rattle.std.proofs.lemmas.Bool.{true≢false, cases_lt}
+use Rattle.std.proofs.lemmas.List.{append-nil, take_more}
+use Rattle.std.specs.Prelude.{Some, slice_get}
 use Rattle.std.specs.Str.{bytes_eq}
 use Rattle.std.proofs.lemmas.Int.{ints}
 use Rattle.std.proofs.lemmas.List.Folds.{list_any_more}
 use Rattle.std.proofs.lemmas.Map.Text.{is_eq-slice_cmp}
 use Rattle.std.proofs.lemmas.Option.{slice_get-get_or}
 use Rattle.part_rules.specs.LineNames.{named_from, holds_name}
-use Rattle.line_names.specs.Indexes.{precedes, ends_before, noted, marked}
-use Rattle.line_names.specs.Levels.{picked}
+use Rattle.std.specs.BTreeMap.{BTreeMap}
+use Rattle.line_names.specs.Indexes.{lines_in, precedes, ends_before, noted, marked, IsPart}
+use Rattle.line_names.specs.Passing.{picked}
 
 -- the order of names as bytes tells the same names apart
 pub ruleset found = (is_eq-slice_cmp)
@@ -36,7 +35,7 @@ picked-low true line more d f zero h = omega (arith, ints)
 picked-low true line more d f (suc i) h = omega (arith, ints, f i (omega arith))
 picked-low false line more d f i h = omega (arith, ints, f i h)
 
-picked-high : (held : Bool) (line high : ℤ) (more : List ℤ) (d : ℤ) → line <ℤ high → ((k : ℕ) → k < length more → get_or more k d <ℤ high) → (i : ℕ) → i < length (picked held line more) → get_or (picked held line more) i d <ℤ high
+pub picked-high : (held : Bool) (line high : ℤ) (more : List ℤ) (d : ℤ) → line <ℤ high → ((k : ℕ) → k < length more → get_or more k d <ℤ high) → (i : ℕ) → i < length (picked held line more) → get_or (picked held line more) i d <ℤ high
 picked-high true line high more d l f zero h = l
 picked-high true line high more d l f (suc i) h = f i (omega arith)
 picked-high false line high more d l f i h = f i h
@@ -110,98 +109,82 @@ same_names a b h = (pointwise_decides bytes_eq-Decides a b).0 h
 int_lt-not : (a b : ℤ) → b ≤ℤ a → int_lt a b ≡ false
 int_lt-not a b h = search rules
 
-int_lt-tells : (a b : ℤ) → int_lt a b ≡ false → b ≤ℤ a
-int_lt-tells a b h = search rules
-
--- a line that does not come after the last of these comes before no later one
-not_before : (last : Option ℤ) (a b : ℤ) → a ≤ℤ b → precedes last b ≡ false → precedes last a ≡ false
-not_before None a b h f = elim (true≢false f) [ ]
-not_before (Some last) a b h f =
-    let g : b ≤ℤ last = int_lt-tells last b f in
-    int_lt-not last a (omega (arith, ints, g, h))
-
--- once a line is noted, no line up to it is noted again
-noted-ends : (xs : List ℤ) (a b : ℤ) → a ≤ℤ b → ends_before (noted xs b) a ≡ false
-noted-ends xs a b h = by (ends_before xs b) refl
+-- once a line is noted, it is not noted again
+noted-again : (xs : List ℤ) (line : ℤ) → noted (noted xs line) line ≡ noted xs line
+noted-again xs line = by (ends_before xs line) refl
   where
-    by : (t : Bool) → ends_before xs b ≡ t → ends_before (if t then xs ++ b ∷ [] else xs) a ≡ false
-    by true e = not_before (slice_get (xs ++ b ∷ []) (length (xs ++ b ∷ []) - 1)) a b h (ends_before-pushed xs b)
-    by false e = not_before (slice_get xs (length xs - 1)) a b h e
+    kept : (ys : List ℤ) → ends_before ys line ≡ false → noted ys line ≡ ys
+    kept ys e = ap (λ b. if b then ys ++ line ∷ [] else ys) e
 
-noted-kept : (xs : List ℤ) (line : ℤ) → ends_before xs line ≡ false → noted xs line ≡ xs
-noted-kept xs line e = ap (λ b. if b then xs ++ line ∷ [] else xs) e
-
-noted_all-ends : (xs : List ℤ) (first n k : ℕ) → k < n → ends_before (noted_all xs first n) (pos (first + k)) ≡ false
-noted_all-ends xs first zero k h = absurd (omega arith)
-noted_all-ends xs first (suc n) k h = noted-ends (noted_all xs first n) (pos (first + k)) (pos (first + n)) (omega (arith, ints, h))
-
-kept_all : (ys : List ℤ) (first n m : ℕ) → m ≤ n → ((k : ℕ) → k < n → ends_before ys (pos (first + k)) ≡ false) → noted_all ys first m ≡ ys
-kept_all ys first n zero h f = refl
-kept_all ys first n (suc m) h f =
-    ap (λ zs. noted zs (pos (first + m))) (kept_all ys first n m (omega (arith, h)) f)
-    ∙ noted-kept ys (pos (first + m)) (f m (omega (arith, h)))
-
-noted_all-again : (xs : List ℤ) (first n : ℕ) → noted_all (noted_all xs first n) first n ≡ noted_all xs first n
-noted_all-again xs first n = kept_all (noted_all xs first n) first n n (omega arith) (λ k h. noted_all-ends xs first n k h)
+    by : (t : Bool) → ends_before xs line ≡ t → noted (if t then xs ++ line ∷ [] else xs) line ≡ (if t then xs ++ line ∷ [] else xs)
+    by true e = kept (xs ++ line ∷ []) (ends_before-pushed xs line)
+    by false e = kept xs e
 
 -- marked twice is marked by either
-pub marked_all-again : (one two : Bool) (xs : List ℤ) (first n : ℕ) → marked_all two (marked_all one xs first n) first n ≡ marked_all (one || two) xs first n
-marked_all-again true true xs first n = noted_all-again xs first n
-marked_all-again true false xs first n = refl
-marked_all-again false true xs first n = refl
-marked_all-again false false xs first n = refl
+marked-again : (one two : Bool) (xs : List ℤ) (line : ℤ) → marked two (marked one xs line) line ≡ marked (one || two) xs line
+marked-again true true xs line = noted-again xs line
+marked-again true false xs line = refl
+marked-again false true xs line = refl
+marked-again false false xs line = refl
+
+-- a name of a line more
+pub marked_step : (other : List ℕ) (names : List (List ℕ)) (i : ℕ) (name : List ℕ) (now before : List ℤ) (line : ℤ) → i < length names → name ≡ get_or names i name → now ≡ marked (holds_name other (take i names)) before line →
+    marked (bytes_eq name other) now line ≡ marked (holds_name other (take (i + 1) names)) before line
+marked_step other names i name now before line h e f =
+    ap (λ xs. marked (bytes_eq name other) xs line) f ∙ marked-again (holds_name other (take i names)) (bytes_eq name other) before line ∙ ap (λ m. marked (holds_name other (take i names) || bytes_eq m other) before line) e ∙
+    ap (λ b. marked b before line) (sym (list_any_more (λ held. bytes_eq held other) names i name h))
 
 -- a line more
-marked_all-more : (held : Bool) (xs : List ℤ) (first n : ℕ) → marked held (marked_all held xs first n) (pos (first + n)) ≡ marked_all held xs first (suc n)
-marked_all-more true xs first n = refl
-marked_all-more false xs first n = refl
+pub index_step : (name : List ℕ) (lines : List (List (List ℕ))) (at : ℕ) (names : List (List ℕ)) (now : List ℤ) → at < length lines → names ≡ get_or lines at names → now ≡ named_from name (pos 0) (take at lines) →
+    marked (holds_name name names) now (pos at) ≡ named_from name (pos 0) (take (at + 1) lines)
+index_step name lines at names now h e f =
+    ap (λ xs. marked (holds_name name names) xs (pos at)) f
+    ∙ ap (λ m. marked (holds_name name m) (named_from name (pos 0) (take at lines)) (pos at)) e
+    ∙ sym (named_step name lines at names h)
 
--- a name of these lines more
-pub marked_step : (other : List ℕ) (names : List (List ℕ)) (i : ℕ) (name : List ℕ) (now before : List ℤ) (first n : ℕ) → i < length names → name ≡ get_or names i name → now ≡ marked_all (holds_name other (take i names)) before first n →
-    marked_all (bytes_eq name other) now first n ≡ marked_all (holds_name other (take (i + 1) names)) before first n
-marked_step other names i name now before first n h e f =
-    ap (λ xs. marked_all (bytes_eq name other) xs first n) f ∙ marked_all-again (holds_name other (take i names)) (bytes_eq name other) before first n ∙ ap (λ m. marked_all (holds_name other (take i names) || bytes_eq m other) before first n) e ∙
-    ap (λ b. marked_all b before first n) (sym (list_any_more (λ held. bytes_eq held other) names i name h))
+-- ---- indexes in part
 
--- two lines that were compared are the same, whatever stands past the last
-pub same_line : (lines : List (List (List ℕ))) (i j : ℕ) (a b : List (List ℕ)) → i < length lines → j < length lines → a ≡ get_or lines i a → b ≡ get_or lines j b → a ≡ b
-    → (d : List (List ℕ)) → get_or lines i d ≡ get_or lines j d
-same_line lines i j a b h k e f same d =
-    get_or_default lines i d a h ∙ sym e ∙ same ∙ f ∙ get_or_default lines j b d k
+names_same : (a b : List ℕ) → bytes_eq a b ≡ true → a ≡ b
+names_same a b h = search rules
 
--- how many lines are alike
-pub alike_one : (lines : List (List (List ℕ))) (first k : ℕ) (d : List (List ℕ)) → k < 1 → get_or lines (first + k) d ≡ get_or lines first d
-alike_one lines first k d h = let e : first + k ≡ first = omega (arith, h) in ap (λ n. get_or lines n d) e
-
-pub alike_more : (lines : List (List (List ℕ))) (first count : ℕ) → ((d : List (List ℕ)) → get_or lines (first + count) d ≡ get_or lines first d) → ((k : ℕ) (d : List (List ℕ)) → k < count → get_or lines (first + k) d ≡ get_or lines first d)
-    → (k : ℕ) (d : List (List ℕ)) → k < count + 1 → get_or lines (first + k) d ≡ get_or lines first d
-alike_more lines first count next same k d h = either (cases_lt k count)
+-- the lines of a name are put
+pub part_put : (old new : BTreeMap (List ℕ) (List ℤ)) (done : List ℕ → Bool) (value : List ℕ → List ℤ) (name : List ℕ) (lines : List ℤ) → lines ≡ value name →
+    ((other : List ℕ) → lines_in new other ≡ (if bytes_eq name other then lines else lines_in old other)) → IsPart old done value → IsPart new (λ other. done other || bytes_eq name other) value
+part_put old new done value name lines e put part = λ other. put other ∙ by other (bytes_eq name other) refl
   where
-    either : (k < count) ⊎ (count ≤ k) → get_or lines (first + k) d ≡ get_or lines first d
-    either (inl less) = same k d less
-    either (inr more) = let e : first + k ≡ first + count = omega (arith, h, more) in ap (λ n. get_or lines n d) e ∙ next d
+    both : (a : Bool) → (a || true) ≡ true
+    both true = refl
+    both false = refl
 
--- so many lines more, which have the same names
-alike_lines : (name : List ℕ) (lines : List (List (List ℕ))) (at n : ℕ) (d : List (List ℕ)) → at + n ≤ length lines → ((k : ℕ) → k < n → get_or lines (at + k) d ≡ get_or lines at d)
-    → named_from name (pos 0) (take (at + n) lines) ≡ marked_all (holds_name name (get_or lines at d)) (named_from name (pos 0) (take at lines)) at n
-alike_lines name lines at zero d h same =
-    let e : at + 0 ≡ at = omega arith in
-    ap (λ m. named_from name (pos 0) (take m lines)) e ∙ sym (none (holds_name name (get_or lines at d)) (named_from name (pos 0) (take at lines)))
+    by : (other : List ℕ) (b : Bool) → bytes_eq name other ≡ b → (if b then lines else lines_in old other) ≡ (if (done other || b) then value other else [])
+    by other true same = e ∙ ap value (names_same name other same) ∙ ap (λ t. if t then value other else []) (sym (both (done other)))
+    by other false apart = part other ∙ ap (λ t. if t then value other else []) (sym (or_none (done other)))
+      where
+        or_none : (a : Bool) → (a || false) ≡ a
+        or_none true = refl
+        or_none false = refl
+
+-- a name that has lines is put already
+pub part_there : (old : BTreeMap (List ℕ) (List ℤ)) (done : List ℕ → Bool) (value : List ℕ → List ℤ) (name : List ℕ) → ¬ (lines_in old name ≡ []) → IsPart old done value → IsPart old (λ other. done other || bytes_eq name other) value
+part_there old done value name some part = λ other. part other ∙ ap (λ t. if t then value other else []) (by other (done other) refl (bytes_eq name other) refl)
   where
-    none : (held : Bool) (xs : List ℤ) → marked_all held xs at 0 ≡ xs
-    none true xs = refl
-    none false xs = refl
-alike_lines name lines at (suc n) d h same =
-    let e : at + suc n ≡ at + n + 1 = omega arith in
-    ap (λ m. named_from name (pos 0) (take m lines)) e
-    ∙ named_step name lines (at + n) d (omega (arith, h))
-    ∙ ap (λ names. marked (holds_name name names) (named_from name (pos 0) (take (at + n) lines)) (pos (at + n))) (same n (omega arith))
-    ∙ ap (λ xs. marked (holds_name name (get_or lines at d)) xs (pos (at + n))) (alike_lines name lines at n d (omega (arith, h)) (λ k g. same k (omega (arith, g))))
-    ∙ marked_all-more (holds_name name (get_or lines at d)) (named_from name (pos 0) (take at lines)) at n
+    by : (other : List ℕ) (a : Bool) → done other ≡ a → (b : Bool) → bytes_eq name other ≡ b → a ≡ (a || b)
+    by other true e b f = refl
+    by other false e false f = refl
+    by other false e true f = absurd (some (ap (λ n. lines_in old n) (names_same name other f) ∙ part other ∙ ap (λ t. if t then value other else []) e))
 
-pub index_step : (name : List ℕ) (lines : List (List (List ℕ))) (at n : ℕ) (names : List (List ℕ)) (now : List ℤ) → at + n ≤ length lines → names ≡ get_or lines at names → ((k : ℕ) (d : List (List ℕ)) → k < n → get_or lines (at + k) d ≡ get_or lines at d)
-    → now ≡ named_from name (pos 0) (take at lines) → marked_all (holds_name name names) now at n ≡ named_from name (pos 0) (take (at + n) lines)
-index_step name lines at n names now h e same f =
-    ap (λ xs. marked_all (holds_name name names) xs at n) f
-    ∙ ap (λ m. marked_all (holds_name name m) (named_from name (pos 0) (take at lines)) at n) e
-    ∙ sym (alike_lines name lines at n names h (λ k g. same k names g))
+-- a test more
+pub part_same : (index : BTreeMap (List ℕ) (List ℤ)) (done now : List ℕ → Bool) (value : List ℕ → List ℤ) → ((name : List ℕ) → done name ≡ now name) → IsPart index done value → IsPart index now value
+part_same index done now value e part = λ name. part name ∙ ap (λ t. if t then value name else []) (e name)
+
+-- a name of some more
+pub part_step : (done : List ℕ → Bool) (names : List (List ℕ)) (i : ℕ) (name : List ℕ) → i < length names → name ≡ get_or names i name → (other : List ℕ) →
+    ((done other || holds_name other (take i names)) || bytes_eq name other) ≡ (done other || holds_name other (take (i + 1) names))
+part_step done names i name h e other =
+    together (done other) (holds_name other (take i names)) (bytes_eq name other)
+    ∙ ap (λ m. done other || (holds_name other (take i names) || bytes_eq m other)) e
+    ∙ ap (λ b. done other || b) (sym (list_any_more (λ held. bytes_eq held other) names i name h))
+  where
+    together : (a b c : Bool) → ((a || b) || c) ≡ (a || (b || c))
+    together true b c = refl
+    together false b c = refl

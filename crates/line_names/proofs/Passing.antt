@@ -1,12 +1,13 @@
 -- Lines that pass a test, in order.
-use Rattle.std.proofs.Common.{arith, rules, refl, sym, ap, ◌∙◌, ◌≡◌, ◌≢◌, ℕ, zero, suc, ◌+◌, ◌<◌, ◌≤◌, ℤ, pos, negsuc, ◌+ℤ◌, ◌-ℤ◌, ◌<ℤ◌, ◌≤ℤ◌, Bool, true, false, ◌||◌, ◌&&◌, List, [], ◌∷◌, length, get_or}
-use Rattle.std.specs.Prelude.{filter, insert, int_le}
+use Rattle.std.proofs.Common.{arith, rules, refl, sym, ap, ◌∙◌, ◌≡◌, ◌≢◌, ◌⊎◌, inl, inr, ℕ, zero, suc, ◌+◌, ◌<◌, ◌≤◌, ℤ, pos, negsuc, ◌+ℤ◌, ◌-ℤ◌, ◌<ℤ◌, ◌≤ℤ◌, Bool, true, false, ◌||◌, ◌&&◌, true≢false, List, [], ◌∷◌, ◌++◌, length, get_or}
+use Rattle.std.specs.Prelude.{filter, int_le}
 use Rattle.std.specs.Ordering.{int_eq}
 use Rattle.std.proofs.lemmas.Int.{ints}
-use Rattle.std.proofs.lemmas.List.{get_or_past}
+use Rattle.std.proofs.lemmas.List.{append-nil, get_or_past}
 use Rattle.part_rules.specs.LineNames.{holds_name, lines_by, named_from}
-use Rattle.line_names.specs.Levels.{told_from, within, picked, passing, names_in}
-use Rattle.line_names.proofs.Names.{picked-low, picked-ascends}
+use Rattle.line_names.specs.Levels.{told_from, within, names_in}
+use Rattle.line_names.specs.Passing.{among, passing, picked}
+use Rattle.line_names.proofs.Names.{picked-high, picked-low}
 
 le_from : (a b : ℤ) → int_le a b ≡ true → a ≤ℤ b
 le_from a b h = search rules
@@ -51,7 +52,7 @@ picked_told : (held : Bool) (base line : ℤ) (more : List ℤ) → told_from ba
 picked_told true base line more = refl
 picked_told false base line more = refl
 
-passing_told : (f g : ℤ → Bool) (base line : ℤ) (n : ℕ) → ((l : ℤ) → f l ≡ g (l -ℤ base)) → told_from base (passing f line n) ≡ passing g (line -ℤ base) n
+pub passing_told : (f g : ℤ → Bool) (base line : ℤ) (n : ℕ) → ((l : ℤ) → f l ≡ g (l -ℤ base)) → told_from base (passing f line n) ≡ passing g (line -ℤ base) n
 passing_told f g base line zero h = refl
 passing_told f g base line (suc n) h =
     let next : (line +ℤ pos 1) -ℤ base ≡ (line -ℤ base) +ℤ pos 1 = omega (arith, ints) in
@@ -61,7 +62,7 @@ passing_told f g base line (suc n) h =
 
 -- ---- lines that do not pass
 
-passing_none : (f : ℤ → Bool) (line : ℤ) (n : ℕ) → ((l : ℤ) → line ≤ℤ l → f l ≡ false) → passing f line n ≡ []
+pub passing_none : (f : ℤ → Bool) (line : ℤ) (n : ℕ) → ((l : ℤ) → line ≤ℤ l → f l ≡ false) → passing f line n ≡ []
 passing_none f line zero h = refl
 passing_none f line (suc n) h =
     ap (λ b. picked b line (passing f (line +ℤ pos 1) n)) (h line (omega (arith, ints))) ∙ passing_none f (line +ℤ pos 1) n (λ l a. h l (omega (arith, ints, a)))
@@ -97,7 +98,7 @@ same_range f b c n m first low high last = by (c -ℤ b) refl
 
 -- ---- names
 
-named_passes : (name : List ℕ) (line : ℤ) (xs : List (List (List ℕ))) (f : ℤ → Bool) → ((i : ℕ) → i < length xs → f (line +ℤ pos i) ≡ holds_name name (get_or xs i [])) → named_from name line xs ≡ passing f line (length xs)
+pub named_passes : (name : List ℕ) (line : ℤ) (xs : List (List (List ℕ))) (f : ℤ → Bool) → ((i : ℕ) → i < length xs → f (line +ℤ pos i) ≡ holds_name name (get_or xs i [])) → named_from name line xs ≡ passing f line (length xs)
 named_passes name line [] f h = refl
 named_passes name line (x ∷ xs) f h =
     let first : line +ℤ pos 0 ≡ line = omega (arith, ints) in
@@ -186,75 +187,168 @@ within_again low high start tracks (x ∷ xs) h k =
 
 -- ---- one line more
 
+picked-append : (held : Bool) (line : ℤ) (xs ys : List ℤ) → picked held line (xs ++ ys) ≡ picked held line xs ++ ys
+picked-append true line xs ys = refl
+picked-append false line xs ys = refl
+
+pub passing_split : (f : ℤ → Bool) (line : ℤ) (n m : ℕ) → passing f line (n + m) ≡ passing f line n ++ passing f (line +ℤ pos n) m
+passing_split f line zero m =
+    let at : line ≡ line +ℤ pos 0 = omega (arith, ints) in
+    let count : 0 + m ≡ m = omega arith in
+    ap (λ k. passing f line k) count ∙ ap (λ z. passing f z m) at
+passing_split f line (suc n) m =
+    let count : suc n + m ≡ suc (n + m) = omega arith in
+    let at : line +ℤ pos 1 +ℤ pos n ≡ line +ℤ pos (suc n) = omega (arith, ints) in
+    ap (λ k. passing f line k) count
+    ∙ ap (λ more. picked (f line) line more) (passing_split f (line +ℤ pos 1) n m ∙ ap (λ z. passing f (line +ℤ pos 1) n ++ passing f z m) at)
+    ∙ picked-append (f line) line (passing f (line +ℤ pos 1) n) (passing f (line +ℤ pos (suc n)) m)
+
+pub passing_more : (f : ℤ → Bool) (line : ℤ) (n : ℕ) → passing f line (n + 1) ≡ passing f line n ++ picked (f (line +ℤ pos n)) (line +ℤ pos n) []
+passing_more f line n = passing_split f line n 1
+
 passing_low : (f : ℤ → Bool) (line : ℤ) (n : ℕ) (d : ℤ) (i : ℕ) → i < length (passing f line n) → line ≤ℤ get_or (passing f line n) i d
 passing_low f line zero d i h = absurd (omega arith)
 passing_low f line (suc n) d i h = picked-low (f line) line (passing f (line +ℤ pos 1) n) d (λ k g. passing_low f (line +ℤ pos 1) n d k g) i h
 
--- what passes is told by the test
-pub passing_at : (f : ℤ → Bool) (line : ℤ) (n i : ℕ) (d : ℤ) → i < length (passing f line n) → f (get_or (passing f line n) i d) ≡ true
-passing_at f line zero i d h = absurd (omega arith)
-passing_at f line (suc n) i d h = by (f line) refl i h (λ k g. passing_at f (line +ℤ pos 1) n k d g)
-  where
-    rest : List ℤ
-    rest = passing f (line +ℤ pos 1) n
+pub passing_high : (f : ℤ → Bool) (line : ℤ) (n : ℕ) (d : ℤ) (i : ℕ) → i < length (passing f line n) → get_or (passing f line n) i d <ℤ (line +ℤ pos n)
+passing_high f line zero d i h = absurd (omega arith)
+passing_high f line (suc n) d i h =
+    picked-high (f line) line (line +ℤ pos (suc n)) (passing f (line +ℤ pos 1) n) d (omega (arith, ints))
+    (λ k g. omega (arith, ints, passing_high f (line +ℤ pos 1) n d k g)) i h
 
-    by : (t : Bool) → f line ≡ t → (i : ℕ) → i < length (picked t line rest) → ((k : ℕ) → k < length rest → f (get_or rest k d) ≡ true) → f (get_or (picked t line rest) i d) ≡ true
-    by true e zero h more = e
-    by true e (suc i) h more = more i (omega arith)
-    by false e i h more = more i h
-
--- what passes ascends
-pub passing_ascends : (f : ℤ → Bool) (line : ℤ) (n : ℕ) (d : ℤ) (i j : ℕ) → i ≤ j → j < length (passing f line n) → get_or (passing f line n) i d ≤ℤ get_or (passing f line n) j d
-passing_ascends f line zero d i j h k = absurd (omega arith)
-passing_ascends f line (suc n) d i j h k = picked-ascends (f line) line (passing f (line +ℤ pos 1) n) d (λ m g. passing_low f (line +ℤ pos 1) n d m g) (λ l m g e. passing_ascends f (line +ℤ pos 1) n d l m g e) i j h k
-
-abbrev pub or_this : (ℤ → Bool) → ℤ → ℤ → Bool
-or_this f line l = f l || int_eq l line
-
-pub or_true : (a b : Bool) → b ≡ true → (a || b) ≡ true
-or_true true b e = refl
-or_true false b e = e
+-- ---- whether a line passes
 
 pub or_false : (a b : Bool) → b ≡ false → (a || b) ≡ a
 or_false true b e = refl
 or_false false b e = e
 
--- from a line on that is not the one, the tests agree
-later : (f : ℤ → Bool) (line next : ℤ) (n : ℕ) → line <ℤ next → passing f next n ≡ passing (or_this f line) next n
-later f line next n h = passing_same f (or_this f line) next n (λ l a b. sym (or_false (f l) (int_eq l line) (eq_not l line (λ e. omega (arith, ints, e, a, h)))))
+among_picked : (held : Bool) (line x : ℤ) (more : List ℤ) → among (picked held line more) x ≡ ((held && int_eq line x) || among more x)
+among_picked true line x more = refl
+among_picked false line x more = refl
 
-pub passing_insert : (f : ℤ → Bool) (b : ℤ) (n : ℕ) (place : ℕ) (line : ℤ) → b ≤ℤ line → line <ℤ (b +ℤ pos n) → place ≤ length (passing f b n) →
-    ((i : ℕ) → i < place → get_or (passing f b n) i (pos 0) <ℤ line) → ((i : ℕ) → place ≤ i → i < length (passing f b n) → line <ℤ get_or (passing f b n) i (pos 0)) →
-    insert (passing f b n) place line ≡ passing (or_this f line) b n
-passing_insert f b zero place line low high fits before after = absurd (omega (arith, ints, low, high))
-passing_insert f b (suc n) place line low high fits before after = by (f b) refl place fits before after (λ at some inside less more. passing_insert f (b +ℤ pos 1) n at line (omega (arith, ints, some)) (omega (arith, ints, high)) inside less more)
+-- a line outside of these is none of them
+pub among_outside : (f : ℤ → Bool) (line : ℤ) (n : ℕ) (x : ℤ) → (x <ℤ line) ⊎ ((line +ℤ pos n) ≤ℤ x) → among (passing f line n) x ≡ false
+among_outside f line zero x h = refl
+among_outside f line (suc n) x h =
+    among_picked (f line) line x (passing f (line +ℤ pos 1) n)
+    ∙ ap (λ b. b || among (passing f (line +ℤ pos 1) n) x) (third_fails (f line) (int_eq line x) (eq_not line x (λ e. other e h)))
+    ∙ among_outside f (line +ℤ pos 1) n x (next h)
   where
-    rest : List ℤ
-    rest = passing f (b +ℤ pos 1) n
+    other : line ≡ x → (x <ℤ line) ⊎ ((line +ℤ pos (suc n)) ≤ℤ x) → ⊥
+    other e (inl k) = absurd (omega (arith, ints, e, k))
+    other e (inr k) = absurd (omega (arith, ints, e, k))
 
-    after_it : List ℤ
-    after_it = passing (or_this f line) (b +ℤ pos 1) n
+    next : (x <ℤ line) ⊎ ((line +ℤ pos (suc n)) ≤ℤ x) → (x <ℤ (line +ℤ pos 1)) ⊎ ((line +ℤ pos 1 +ℤ pos n) ≤ℤ x)
+    next (inl k) = inl (omega (arith, ints, k))
+    next (inr k) = inr (omega (arith, ints, k))
 
-    Step : Type 0
-    Step = (at : ℕ) → b <ℤ line → at ≤ length rest → ((i : ℕ) → i < at → get_or rest i (pos 0) <ℤ line) → ((i : ℕ) → at ≤ i → i < length rest → line <ℤ get_or rest i (pos 0)) → insert rest at line ≡ after_it
+held_too : (a b : Bool) → b ≡ true → (a && b) ≡ a
+held_too true b e = e
+held_too false b e = refl
 
-    apart : f b ≡ false → (t : Bool) → int_le line b ≡ t → (at : ℕ) → at ≤ length rest → ((i : ℕ) → i < at → get_or rest i (pos 0) <ℤ line) → ((i : ℕ) → at ≤ i → i < length rest → line <ℤ get_or rest i (pos 0)) → Step → insert rest at line ≡ picked (f b || int_eq b line) b after_it
-    apart e true g zero fits before after step =
-        let same : line ≡ b = omega (arith, ints, low, le_from line b g) in
-        ap (λ z. z ∷ rest) same
-        ∙ ap (λ ls. b ∷ ls) (later f line (b +ℤ pos 1) n (omega (arith, ints, same)))
-        ∙ ap (λ z. picked z b after_it) (sym (or_true (f b) (int_eq b line) (ap (λ z. int_eq b z) same ∙ eq_same b)))
-    apart e true g (suc at) fits before after step = absurd (omega (arith, ints, le_from line b g, passing_low f (b +ℤ pos 1) n (pos 0) 0 (omega arith), before 0 (omega arith)))
-    apart e false g at fits before after step =
-        let less : b <ℤ line = omega (arith, ints, low, not_le line b g) in
-        step at less fits before after
-        ∙ ap (λ z. picked z b after_it) (sym (ap (λ z. z || int_eq b line) e ∙ eq_not b line (λ h. omega (arith, ints, less, h))))
+differ : (a b : ℤ) → int_eq a b ≡ false → a ≢ b
+differ a b e same = true≢false (sym (eq_same b) ∙ ap (λ z. int_eq z b) (sym same) ∙ e)
 
-    by : (t : Bool) → f b ≡ t → (at : ℕ) → at ≤ length (picked t b rest) → ((i : ℕ) → i < at → get_or (picked t b rest) i (pos 0) <ℤ line) →
-        ((i : ℕ) → at ≤ i → i < length (picked t b rest) → line <ℤ get_or (picked t b rest) i (pos 0)) → Step → insert (picked t b rest) at line ≡ picked (f b || int_eq b line) b after_it
-    by true e zero fits before after step = absurd (omega (arith, ints, low, after 0 (omega arith) (omega arith)))
-    by true e (suc at) fits before after step =
-        let less : b <ℤ line = before 0 (omega arith) in
-        ap (λ ls. b ∷ ls) (step at less (omega arith) (λ i h. before (suc i) (omega arith)) (λ i h k. after (suc i) (omega arith) (omega arith)))
-        ∙ ap (λ z. picked (z || int_eq b line) b after_it) (sym e)
-    by false e at fits before after step = apart e (int_le line b) refl at fits before after step
+after_it : (a b : ℤ) → a ≤ℤ b → a ≢ b → (a +ℤ pos 1) ≤ℤ b
+after_it a b h n = omega (arith, ints, h, n)
+
+-- a line among these is one of them if it passes
+pub among_inside : (f : ℤ → Bool) (line : ℤ) (n : ℕ) (x : ℤ) → line ≤ℤ x → x <ℤ (line +ℤ pos n) → among (passing f line n) x ≡ f x
+among_inside f line zero x h k = absurd (omega (arith, ints, h, k))
+among_inside f line (suc n) x h k =
+    among_picked (f line) line x (passing f (line +ℤ pos 1) n)
+    ∙ by (int_eq line x) refl (λ e. among_inside f (line +ℤ pos 1) n x (after_it line x h (differ line x e)) (omega (arith, ints, k)))
+  where
+    by : (b : Bool) → int_eq line x ≡ b → (int_eq line x ≡ false → among (passing f (line +ℤ pos 1) n) x ≡ f x) → ((f line && int_eq line x) || among (passing f (line +ℤ pos 1) n) x) ≡ f x
+    by true e later =
+        let same : line ≡ x = eq_from line x e in
+        ap (λ b. b || among (passing f (line +ℤ pos 1) n) x) (held_too (f line) (int_eq line x) e)
+        ∙ or_false (f line) (among (passing f (line +ℤ pos 1) n) x) (among_outside f (line +ℤ pos 1) n x (inl (omega (arith, ints, same))))
+        ∙ ap f same
+    by false e later = ap (λ b. b || among (passing f (line +ℤ pos 1) n) x) (third_fails (f line) (int_eq line x) e) ∙ later e
+
+-- among lines told from another one
+pub among_told : (base : ℤ) (xs : List ℤ) (x : ℤ) → among (told_from base xs) x ≡ among xs (base +ℤ x)
+among_told base [] x = refl
+among_told base (y ∷ ys) x =
+    ap (λ b. b || among (told_from base ys) x) (moved (int_eq (y -ℤ base) x) refl) ∙ ap (λ b. int_eq y (base +ℤ x) || b) (among_told base ys x)
+  where
+    moved : (b : Bool) → int_eq (y -ℤ base) x ≡ b → int_eq (y -ℤ base) x ≡ int_eq y (base +ℤ x)
+    moved true e =
+        let same : y ≡ base +ℤ x = omega (arith, ints, eq_from (y -ℤ base) x e) in
+        e ∙ sym (ap (λ z. int_eq z (base +ℤ x)) same ∙ eq_same (base +ℤ x))
+    moved false e = e ∙ sym (eq_not y (base +ℤ x) (λ same. true≢false (sym (ap (λ z. int_eq (z -ℤ base) x) same ∙ ap (λ z. int_eq z x) back ∙ eq_same x) ∙ e)))
+      where
+        back : (base +ℤ x) -ℤ base ≡ x
+        back = omega (arith, ints)
+
+-- among the lines of a range
+among_filter : (p : ℤ → Bool) (xs : List ℤ) (x : ℤ) → p x ≡ true → among (filter p xs) x ≡ among xs x
+among_filter p [] x h = refl
+among_filter p (y ∷ ys) x h = among_picked (p y) y x (filter p ys) ∙ by (int_eq y x) refl (among_filter p ys x h)
+  where
+    by : (b : Bool) → int_eq y x ≡ b → among (filter p ys) x ≡ among ys x → ((p y && int_eq y x) || among (filter p ys) x) ≡ (int_eq y x || among ys x)
+    by true e later =
+        let held : p y ≡ true = ap p (eq_from y x e) ∙ h in
+        ap (λ b. (b && int_eq y x) || among (filter p ys) x) held ∙ ap (λ b. int_eq y x || b) later
+    by false e later = ap (λ b. b || among (filter p ys) x) (third_fails (p y) (int_eq y x) e) ∙ later ∙ ap (λ b. b || among ys x) (sym e)
+
+pub among_within : (low high : ℤ) (xs : List ℤ) (x : ℤ) → low ≤ℤ x → x ≤ℤ high → among (within low high xs) x ≡ among xs x
+among_within low high xs x h k =
+    among_filter (λ l. int_le l high) (filter (λ l. int_le low l) xs) x (le_to x high k) ∙ among_filter (λ l. int_le low l) xs x (le_to low x h)
+
+-- what passes a test passes a wider one
+pub passing_fewer : (f g : ℤ → Bool) (line : ℤ) (n : ℕ) → ((l : ℤ) → g l ≡ false → f l ≡ false) → passing g line n ≡ [] → passing f line n ≡ []
+passing_fewer f g line zero h e = refl
+passing_fewer f g line (suc n) h e = by (g line) refl (λ k. passing_fewer f g (line +ℤ pos 1) n h k)
+  where
+    by : (b : Bool) → g line ≡ b → (passing g (line +ℤ pos 1) n ≡ [] → passing f (line +ℤ pos 1) n ≡ []) → passing f line (suc n) ≡ []
+    by true p later =
+        let count : length (line ∷ passing g (line +ℤ pos 1) n) ≡ 0 = ap (λ ls. length ls) (sym (ap (λ b. picked b line (passing g (line +ℤ pos 1) n)) p) ∙ e) in
+        absurd (omega (arith, count))
+    by false p later =
+        ap (λ b. picked b line (passing f (line +ℤ pos 1) n)) (h line p)
+        ∙ later (sym (ap (λ b. picked b line (passing g (line +ℤ pos 1) n)) p) ∙ e)
+
+-- ---- a range cut short
+
+pub cut_front : (f : ℤ → Bool) (low : ℤ) (line : ℤ) (d m : ℕ) → (line +ℤ pos d) ≤ℤ low ⊎ (d ≡ 0) → (low ≤ℤ (line +ℤ pos d)) ⊎ (m ≡ 0) → filter (λ l. int_le low l) (passing f line (d + m)) ≡ passing f (line +ℤ pos d) m
+cut_front f low line d m before after =
+    passing_filter f (λ l. int_le low l) line (d + m)
+    ∙ passing_split (λ l. f l && int_le low l) line d m
+    ∙ ap (λ ls. ls ++ passing (λ l. f l && int_le low l) (line +ℤ pos d) m) (front before)
+    ∙ rest after
+  where
+    front : (line +ℤ pos d) ≤ℤ low ⊎ (d ≡ 0) → passing (λ l. f l && int_le low l) line d ≡ []
+    front (inl h) = passing_same (λ l. f l && int_le low l) (λ l. false) line d (λ l a b. third_fails (f l) (int_le low l) (le_not low l (omega (arith, ints, h, b)))) ∙ passing_none (λ l. false) line d (λ l a. refl)
+    front (inr e) = ap (λ k. passing (λ l. f l && int_le low l) line k) e
+
+    rest : (low ≤ℤ (line +ℤ pos d)) ⊎ (m ≡ 0) → passing (λ l. f l && int_le low l) (line +ℤ pos d) m ≡ passing f (line +ℤ pos d) m
+    rest (inl h) = passing_same (λ l. f l && int_le low l) f (line +ℤ pos d) m (λ l a b. held_too (f l) (int_le low l) (le_to low l (omega (arith, ints, h, a))))
+    rest (inr e) = ap (λ k. passing (λ l. f l && int_le low l) (line +ℤ pos d) k) e ∙ sym (ap (λ k. passing f (line +ℤ pos d) k) e)
+
+pub cut_end : (f : ℤ → Bool) (high : ℤ) (line : ℤ) (m d : ℕ) → ((line +ℤ pos m) ≤ℤ (high +ℤ pos 1)) ⊎ (m ≡ 0) → ((high +ℤ pos 1) ≤ℤ (line +ℤ pos m)) ⊎ (d ≡ 0) → filter (λ l. int_le l high) (passing f line (m + d)) ≡ passing f line m
+cut_end f high line m d before after =
+    passing_filter f (λ l. int_le l high) line (m + d)
+    ∙ passing_split (λ l. f l && int_le l high) line m d
+    ∙ ap (λ ls. ls ++ passing (λ l. f l && int_le l high) (line +ℤ pos m) d) (front before)
+    ∙ ap (λ ls. passing f line m ++ ls) (rest after)
+    ∙ append-nil (passing f line m)
+  where
+    front : ((line +ℤ pos m) ≤ℤ (high +ℤ pos 1)) ⊎ (m ≡ 0) → passing (λ l. f l && int_le l high) line m ≡ passing f line m
+    front (inl h) = passing_same (λ l. f l && int_le l high) f line m (λ l a b. held_too (f l) (int_le l high) (le_to l high (omega (arith, ints, h, b))))
+    front (inr e) = ap (λ k. passing (λ l. f l && int_le l high) line k) e ∙ sym (ap (λ k. passing f line k) e)
+
+    rest : ((high +ℤ pos 1) ≤ℤ (line +ℤ pos m)) ⊎ (d ≡ 0) → passing (λ l. f l && int_le l high) (line +ℤ pos m) d ≡ []
+    rest (inl h) = passing_same (λ l. f l && int_le l high) (λ l. false) (line +ℤ pos m) d (λ l a b. third_fails (f l) (int_le l high) (le_not l high (omega (arith, ints, h, a)))) ∙ passing_none (λ l. false) (line +ℤ pos m) d (λ l a. refl)
+    rest (inr e) = ap (λ k. passing (λ l. f l && int_le l high) (line +ℤ pos m) k) e
+
+-- tests that agree at so many places from one on
+pub passing_places : (f g : ℤ → Bool) (first : ℤ) (start n : ℕ) → ((i : ℕ) → start ≤ i → i < start + n → f (first +ℤ pos i) ≡ g (first +ℤ pos i)) → passing f (first +ℤ pos start) n ≡ passing g (first +ℤ pos start) n
+passing_places f g first start zero h = refl
+passing_places f g first start (suc n) h =
+    let next : first +ℤ pos start +ℤ pos 1 ≡ first +ℤ pos (start + 1) = omega (arith, ints) in
+    ap (λ b. picked b (first +ℤ pos start) (passing f (first +ℤ pos start +ℤ pos 1) n)) (h start (omega arith) (omega arith))
+    ∙ ap (λ z. picked (g (first +ℤ pos start)) (first +ℤ pos start) (passing f z n)) next
+    ∙ ap (λ ls. picked (g (first +ℤ pos start)) (first +ℤ pos start) ls) (passing_places f g first (start + 1) n (λ i a b. h i (omega (arith, a)) (omega (arith, b))))
+    ∙ ap (λ z. picked (g (first +ℤ pos start)) (first +ℤ pos start) (passing g z n)) (sym next)

@@ -1,26 +1,25 @@
 -- The lines of names that levels share.
-use Rattle.std.proofs.Common.{arith, rules, tests, refl, sym, ap, subst, ◌∙◌, ◌≡◌, ◌≢◌, ℕ, zero, suc, ◌+◌, ◌-◌, ◌<◌, ◌≤◌, ℤ, pos, negsuc, neg_ℤ, ◌+ℤ◌, ◌-ℤ◌, ◌<ℤ◌, ◌≤ℤ◌, ◌⊎◌, inl, inr, Bool, true, false, true≢false, ◌==◌, ◌||◌, ◌&&◌, List, [], ◌∷◌, ◌++◌, length, take, drop, get_or}
-use Rattle.std.specs.Prelude.{insert, IsTrue, if◌then◌else◌}
-use Rattle.std.specs.Ordering.{int_eq}
+use Rattle.std.proofs.Common.{arith, rules, tests, refl, sym, ap, subst, ◌∙◌, ◌≡◌, ℕ, zero, suc, ◌+◌, ◌<◌, ◌≤◌, ℤ, pos, negsuc, neg_ℤ, ◌+ℤ◌, ◌-ℤ◌, ◌<ℤ◌, ◌≤ℤ◌, Bool, true, false, ◌==◌, ◌||◌, List, [], ◌∷◌, ◌++◌, length, take, drop, get_or}
+use Rattle.std.specs.Prelude.{IsTrue, if◌then◌else◌}
 use Rattle.std.specs.Str.{bytes_eq}
 use Rattle.std.proofs.Math.Bool.{or_comm}
 use Rattle.std.proofs.lemmas.Int.{ints}
-use Rattle.std.proofs.lemmas.Bool.{cases_eq, cases_lt}
-use Rattle.std.proofs.lemmas.List.{get_or_past, get_or-take}
-use Rattle.std.proofs.lemmas.List.{drop_more, length-take-le}
-use Rattle.std.proofs.lemmas.List.Folds.{list_any-append, list_any_more}
+use Rattle.std.proofs.lemmas.List.{drop_more, take_all}
+use Rattle.std.proofs.lemmas.List.Folds.{list_any-append}
 use Rattle.lunit.specs.declared.geometry.Span.{Span}
 use Rattle.part_rules.specs.LineNames.{NamedSpan, holds_name, lines_by, names_by_areas}
-use Rattle.line_names.specs.Counting.{AreAscending}
-use Rattle.line_names.specs.Indexes.{lines_in, IsIndexOf}
-use Rattle.line_names.specs.Levels.{told_from, within, passing, names_in, lines_under, over, found, seen_in, or_on, or_in, AreOrdered, IsHeld, HoldsMore, HoldsLines, IsAbove, IsSorted, IsSortedAbove, IsAmong, IsGrown}
+use Rattle.line_names.specs.Indexes.{lines_in, IsIndexOf, IsPart}
+use Rattle.line_names.specs.Levels.{told_from, within, names_in, lines_under, own_sets, over, found, seen_in, or_in, either, joined_in, HoldsLines, IsAbove}
+use Rattle.line_names.specs.Passing.{among, passing}
+use Rattle.line_names.specs.SetLists.{has_name, sets_of}
 use Rattle.line_names.specs.Tables.{are_areas, AreLines, IsTableBy}
 use Rattle.line_names.specs.declared.index.NameIndex.{NameIndex}
 use Rattle.line_names.specs.declared.levels.Level.{Level}
 use Rattle.line_names.proofs.Edges.{AddAll, added_names, first_holds, have_names, holds-append, second_holds}
-use Rattle.line_names.proofs.Names.{named_from-ascends}
-use Rattle.line_names.proofs.Told.{told_again, told_insert, told_none, told_over, ascend_over, over_nothing}
-use Rattle.line_names.proofs.Passing.{passing_ascends, passing_same, passing_insert, passing_at, or_this, or_false, third_fails, eq_same, eq_not, eq_from, named_by, names_cut, within_again}
+use Rattle.line_names.proofs.Names.{part_same}
+use Rattle.line_names.proofs.SetLists.{counted, no_name_at}
+use Rattle.line_names.proofs.Told.{told_again, told_none, told_over, over_nothing}
+use Rattle.line_names.proofs.Passing.{among_inside, among_told, among_within, passing_fewer, passing_same, passing_told, or_false, named_by, named_passes, names_cut, within_again}
 
 -- ---- what a subgrid sees of the levels above it
 
@@ -42,32 +41,21 @@ start_above limit base level above start tracks t low high =
     ∙ ap (λ ls. within (pos 0) (pos tracks) (told_from start ls)) (t.lines name)
     ∙ names_cut name (lines_under level above) start tracks
 
-pub sorted_above : (limit : Span) (base : ℤ) (level : Level) (above : List Level) (start : ℤ) (tracks : ℕ) → IsTableBy limit base level above → limit.start ≤ℤ start → (start +ℤ pos tracks) ≤ℤ limit.end → IsSortedAbove (level ∷ above) (base +ℤ start) tracks
-sorted_above limit base level above start tracks t low high = record { test = names_above level above start; passes = start_above limit base level above start tracks t low high }
-
-pub seen_ascends : (limit : Span) (base : ℤ) (level : Level) (above : List Level) → IsTableBy limit base level above → (name : List ℕ) → AreAscending (seen_in level.index above base limit.start limit.end name)
-seen_ascends limit base level above t name = subst (λ ls. AreAscending ls) (sym (t.lines name)) (λ i j h k. named_from-ascends name (pos 0) (lines_under level above) (pos 0) i j h k)
-
-pub ordered_next : (limit : Span) (base : ℤ) (level : Level) (above : List Level) → IsTableBy limit base level above → AreOrdered (level ∷ above)
-ordered_next limit base level above t =
-    λ name. ascend_over base (lines_in level.index.lines name) (found above name) (within limit.start limit.end (told_from base (found above name))) (seen_ascends limit base level above t name) (t.ordered name)
-
 -- ---- tables
 
-pub own_is : (level : Level) (old : List (List (List ℕ))) → level.tracks ≤ 65536 → IsTrue (are_areas level.tracks level.areas) → length old ≡ level.tracks + 1 →
-    AreLines (λ line. get_or old line [] ++ names_by_areas (pos line) level.areas) (length old) level.sets → IsIndexOf level.index.lines level.sets →
+pub own_is : (level : Level) (sets : List (List (List ℕ))) → level.tracks ≤ 65536 → IsTrue (are_areas level.tracks level.areas) →
+    AreLines (λ line. get_or sets line [] ++ names_by_areas (pos line) level.areas) (level.tracks + 1) (own_sets level) → IsIndexOf level.index.lines (own_sets level) →
     IsTableBy (record { start = neg_ℤ (pos 10000); end = pos 10000 }) (pos 0) level []
-own_is level old few areas count own index =
+own_is level sets few areas own index =
     record {
       tracks = few;
       areas = areas;
       fits = record { low = omega (arith, ints); first = omega (arith, ints); some = omega (arith, ints); high = omega (arith, ints) };
       low = omega (arith, ints);
       high = omega (arith, ints);
-      ordered = λ name i j h k. absurd (omega arith);
       named =
-          have_names level.tracks level.areas level.sets areas
-          (λ name line h k. ap (λ ns. holds_name name ns) (own.named line (omega (arith, count))) ∙ holds-append name (get_or old line []) (names_by_areas (pos line) level.areas) ∙ second_holds (holds_name name (get_or old line [])) (holds_name name (names_by_areas (pos line) level.areas)) k);
+          have_names level.tracks level.areas (own_sets level) areas
+          (λ name line h k. ap (λ ns. holds_name name ns) (own.named line (omega (arith, h))) ∙ holds-append name (get_or sets line []) (names_by_areas (pos line) level.areas) ∙ second_holds (holds_name name (get_or sets line [])) (holds_name name (names_by_areas (pos line) level.areas)) k);
       lines = λ name. over_nothing (told_from (pos 0) (lines_in level.index.lines name)) ∙ told_none (lines_in level.index.lines name) ∙ index name;
     }
 
@@ -87,7 +75,7 @@ counted_last name ss ar ih = or_comm (holds_name name ih) (holds_name name (ss +
 
 pub sub_is : (limit : Span) (base : ℤ) (parent : Level) (above : List Level) (level : Level) (sets : List (List (List ℕ))) (added : List NamedSpan) →
     IsTableBy limit base parent above → limit.start ≤ℤ level.over.start → (level.over.start +ℤ pos level.tracks) ≤ℤ limit.end → 0 < level.tracks → level.tracks ≤ 20000 →
-    IsTrue (are_areas level.tracks level.areas) → ((line : ℕ) → line ≤ level.tracks → get_or level.sets line [] ≡ get_or sets line []) →
+    IsTrue (are_areas level.tracks level.areas) → ((line : ℕ) → line ≤ level.tracks → get_or (own_sets level) line [] ≡ get_or sets line []) →
     AddAll (lines_under parent above) level.over.start added level.areas → HoldsLines level.index (parent ∷ above) (base +ℤ level.over.start) level.tracks (lines_by (λ line. get_or sets line [] ++ names_by_areas (pos line) added) (level.tracks + 1) 0) →
     IsTableBy (record { start = pos 0; end = pos level.tracks }) (base +ℤ level.over.start) level (parent ∷ above)
 sub_is limit base parent above level sets added t low high some few areas kept adds held =
@@ -97,7 +85,6 @@ sub_is limit base parent above level sets added t low high some few areas kept a
       fits = record { low = omega (arith, ints); first = omega (arith, ints); some = omega (arith, ints); high = omega (arith, ints) };
       low = omega (arith, ints, low, t.low);
       high = omega (arith, ints, high, t.high);
-      ordered = ordered_next limit base parent above t;
       named = have_names level.tracks level.areas (lines_by all (level.tracks + 1) 0) areas (λ name line h k. named name line h k);
       lines = λ name.
           held (names_above parent above level.over.start) (start_above limit base parent above level.over.start level.tracks t low high) name
@@ -108,11 +95,11 @@ sub_is limit base parent above level sets added t low high some few areas kept a
     own = lines_by (λ line. get_or sets line [] ++ names_by_areas (pos line) added) (level.tracks + 1) 0
 
     all : ℕ → List (List ℕ)
-    all line = get_or level.sets line [] ++ names_by_areas (pos line) level.areas ++ names_in (lines_under parent above) (level.over.start +ℤ pos line)
+    all line = get_or (own_sets level) line [] ++ names_by_areas (pos line) level.areas ++ names_in (lines_under parent above) (level.over.start +ℤ pos line)
 
     named : (name : List ℕ) (line : ℕ) → line ≤ level.tracks → holds_name name (names_by_areas (pos line) level.areas) ≡ true → holds_name name (get_or (lines_by all (level.tracks + 1) 0) line []) ≡ true
     named name line h k =
-        let ss : List (List ℕ) = get_or level.sets line [] in
+        let ss : List (List ℕ) = get_or (own_sets level) line [] in
         let ar : List (List ℕ) = names_by_areas (pos line) level.areas in
         let ih : List (List ℕ) = names_in (lines_under parent above) (level.over.start +ℤ pos line) in
         let at : 0 + line ≡ line = omega arith in
@@ -133,37 +120,6 @@ sub_is limit base parent above level sets added t low high some few areas kept a
 
 -- ---- names that are added
 
-nothing_more : (t e : Bool) → (t || (e && false)) ≡ t
-nothing_more t e = or_false t (e && false) (third_fails e false refl)
-
-pub more_none : (old : NameIndex) (above : List Level) (base : ℤ) (tracks : ℕ) (line : ℤ) → HoldsMore old old above base tracks (λ other. holds_name other []) line
-more_none old above base tracks line =
-    λ test h name. h name ∙ passing_same (test name) (or_on test (λ other. holds_name other []) line name) (pos 0) (tracks + 1) (λ l a b. sym (nothing_more (test name l) (int_eq l line)))
-
-joined : (t e p q : Bool) → ((t || (e && p)) || (e && q)) ≡ (t || (e && (p || q)))
-joined true e p q = refl
-joined false true true q = refl
-joined false true false q = refl
-joined false false p q = refl
-
-pub more_step : (old now next : NameIndex) (above : List Level) (base : ℤ) (tracks : ℕ) (p q r : List ℕ → Bool) (line : ℤ) → HoldsMore old now above base tracks p line →
-    HoldsMore now next above base tracks q line → ((other : List ℕ) → r other ≡ (p other || q other)) → HoldsMore old next above base tracks r line
-more_step old now next above base tracks p q r line f g e =
-    λ test h name.
-    g (or_on test p line) (f test h) name
-    ∙ passing_same (or_on (or_on test p line) q line name) (or_on test r line name) (pos 0) (tracks + 1) (λ l a b. joined (test name l) (int_eq l line) (p name) (q name) ∙ ap (λ z. test name l || (int_eq l line && z)) (sym (e name)))
-
--- a name more of a line
-pub name_step : (old now next : NameIndex) (above : List Level) (base : ℤ) (tracks : ℕ) (names : List (List ℕ)) (i : ℕ) (name : List ℕ) (line : ℤ) → i < length names →
-    name ≡ get_or names i name → HoldsMore old now above base tracks (λ other. holds_name other (take i names)) line → HoldsMore now next above base tracks (bytes_eq name) line →
-    HoldsMore old next above base tracks (λ other. holds_name other (take (i + 1) names)) line
-name_step old now next above base tracks names i name line h e f g =
-    more_step old now next above base tracks (λ other. holds_name other (take i names)) (bytes_eq name) (λ other. holds_name other (take (i + 1) names)) line f g
-    (λ other. list_any_more (λ held. bytes_eq held other) names i name h ∙ ap (λ n. holds_name other (take i names) || bytes_eq n other) (sym e))
-
-pub sorted_next : (old now : NameIndex) (above : List Level) (base : ℤ) (tracks : ℕ) (names : List ℕ → Bool) (line : ℤ) → IsSorted old above base tracks → HoldsMore old now above base tracks names line → IsSorted now above base tracks
-sorted_next old now above base tracks names line s h = record { test = or_on s.test names line; held = h s.test s.held }
-
 names_in_none : (l : ℤ) → names_in [] l ≡ []
 names_in_none (pos n) = refl
 names_in_none (negsuc n) = refl
@@ -175,9 +131,6 @@ lines_without index above base tracks lines empty bare =
     ap (λ own. over (told_from base own) (within (pos 0) (pos tracks) (told_from base (found above name)))) (empty name)
     ∙ h name
     ∙ passing_same (test name) (or_in test lines name) (pos 0) (tracks + 1) (λ l a b. sym (or_false (test name l) (holds_name name (names_in lines l)) (ap (λ ns. holds_name name ns) (bare l))))
-
-pub lines_none : (index : NameIndex) (above : List Level) (base : ℤ) (tracks : ℕ) → ((name : List ℕ) → lines_in index.lines name ≡ []) → HoldsLines index above base tracks []
-lines_none index above base tracks empty = lines_without index above base tracks [] empty names_in_none
 
 bare_at : (n start i : ℕ) → get_or (lines_by (λ line. []) n start) i [] ≡ []
 bare_at zero start i = refl
@@ -206,129 +159,77 @@ lines_bare index above base tracks sets areas no_sets no_areas empty e h f k =
     (subst (λ a. HoldsLines index above base tracks (lines_by (λ line. get_or [] line [] ++ names_by_areas (pos line) a) (tracks + 1) 0)) (sym (none_by areas no_areas f k))
     (lines_without index above base tracks (lines_by (λ line. []) (tracks + 1) 0) empty (bare_lines (tracks + 1))))
 
-line_more : (name : List ℕ) (lines : List (List (List ℕ))) (at : ℕ) (t : Bool) (l : ℤ) → at < length lines → pos 0 ≤ℤ l → ((t || holds_name name (names_in (take at lines) l)) || (int_eq l (pos at) && holds_name name (get_or lines at []))) ≡ (t || holds_name name (names_in (take (at + 1) lines) l))
-line_more name lines at t (negsuc i) h low = absurd (omega (arith, ints, low))
-line_more name lines at t (pos i) h low = by (cases_lt i at) (cases_eq i at)
+-- ---- a name of a subgrid's own lines
+
+over_either : (xs ys : List ℤ) → (xs ≡ [] → ys ≡ []) → over xs ys ≡ xs
+over_either [] ys h = h refl
+over_either (x ∷ xs) ys h = refl
+
+-- the lines of a name in a subgrid, its own and those of the levels above
+joined_passes : (own : NameIndex) (above : List Level) (base : ℤ) (tracks : ℕ) (lines : List (List (List ℕ))) (test : List ℕ → ℤ → Bool) → IsIndexOf own.lines lines → length lines ≡ tracks + 1 → IsAbove above base tracks test → (name : List ℕ) →
+    told_from base (joined_in own above base tracks name) ≡ passing (or_in test lines name) (pos 0) (tracks + 1)
+joined_passes own above base tracks lines test index count held name =
+    let f : ℤ → Bool = either (lines_in own.lines name) (found above name) base in
+    let start : base -ℤ base ≡ pos 0 = omega (arith, ints) in
+    passing_told f (λ l. f (base +ℤ l)) base base (tracks + 1) (λ l. let at : l ≡ base +ℤ (l -ℤ base) = omega (arith, ints) in ap f at)
+    ∙ ap (λ z. passing (λ l. f (base +ℤ l)) z (tracks + 1)) start
+    ∙ passing_same (λ l. f (base +ℤ l)) (or_in test lines name) (pos 0) (tracks + 1) (λ l a b. each l a b)
   where
-    apart : i ≢ at → int_eq (pos i) (pos at) ≡ false
-    apart n = eq_not (pos i) (pos at) (λ e. n (omega (arith, ints, e)))
-
-    few : length (take at lines) ≡ at
-    few = length-take-le at lines (omega arith)
-
-    more : length (take (at + 1) lines) ≡ at + 1
-    more = length-take-le (at + 1) lines (omega arith)
-
-    by : (i < at) ⊎ (at ≤ i) → (i ≡ at) ⊎ (i ≢ at) → ((t || holds_name name (get_or (take at lines) i [])) || (int_eq (pos i) (pos at) && holds_name name (get_or lines at []))) ≡ (t || holds_name name (get_or (take (at + 1) lines) i []))
-    by (inl less) (inl same) = absurd (omega arith)
-    by (inl less) (inr other) =
-        ap (λ z. (t || holds_name name (get_or (take at lines) i [])) || (z && holds_name name (get_or lines at []))) (apart other)
-        ∙ or_false (t || holds_name name (get_or (take at lines) i [])) false refl
-        ∙ ap (λ ns. t || holds_name name ns) (get_or-take at lines i [] less ∙ sym (get_or-take (at + 1) lines i [] (omega arith)))
-    by (inr past) (inl same) =
-        ap (λ ns. (t || holds_name name ns) || (int_eq (pos i) (pos at) && holds_name name (get_or lines at []))) (get_or_past (take at lines) i [] (omega (arith, few)))
-        ∙ ap (λ z. z || (int_eq (pos i) (pos at) && holds_name name (get_or lines at []))) (or_false t false refl)
-        ∙ ap (λ z. t || (z && holds_name name (get_or lines at []))) (ap (λ n. int_eq (pos i) (pos n)) (sym same) ∙ eq_same (pos i))
-        ∙ ap (λ n. t || holds_name name (get_or lines n [])) (sym same)
-        ∙ ap (λ ns. t || holds_name name ns) (sym (get_or-take (at + 1) lines i [] (omega arith)))
-    by (inr past) (inr other) =
-        let after : at < i = omega (arith, other) in
-        ap (λ z. (t || holds_name name (get_or (take at lines) i [])) || (z && holds_name name (get_or lines at []))) (apart other)
-        ∙ or_false (t || holds_name name (get_or (take at lines) i [])) false refl
-        ∙ ap (λ ns. t || holds_name name ns) (get_or_past (take at lines) i [] (omega (arith, few)) ∙ sym (get_or_past (take (at + 1) lines) i [] (omega (arith, more, after))))
-
--- a line more
-pub lines_step : (now next : NameIndex) (above : List Level) (base : ℤ) (tracks : ℕ) (lines : List (List (List ℕ))) (at : ℕ) (names : List (List ℕ)) → at < length lines →
-    names ≡ get_or lines at [] → HoldsLines now above base tracks (take at lines) → HoldsMore now next above base tracks (λ other. holds_name other names) (pos at) →
-    HoldsLines next above base tracks (take (at + 1) lines)
-lines_step now next above base tracks lines at names h e f g =
-    λ test k name.
-    g (or_in test (take at lines)) (f test k) name
-    ∙ passing_same (or_on (or_in test (take at lines)) (λ other. holds_name other names) (pos at) name) (or_in test (take (at + 1) lines) name) (pos 0) (tracks + 1)
-    (λ l a b. ap (λ ns. (test name l || holds_name name (names_in (take at lines) l)) || (int_eq l (pos at) && holds_name name ns)) e ∙ line_more name lines at (test name l) l h a)
-
-pub sorted_lines : (index : NameIndex) (above : List Level) (base : ℤ) (tracks : ℕ) (lines : List (List (List ℕ))) → IsSortedAbove above base tracks → HoldsLines index above base tracks lines → IsSorted index above base tracks
-sorted_lines index above base tracks lines s h = record { test = or_in s.test lines; held = h s.test s.passes }
-
--- ---- a line that is added
-
-names_same : (a b : List ℕ) → bytes_eq a b ≡ true → a ≡ b
-names_same a b h = search rules
-
-passes_already : (f : ℤ → Bool) (n : ℕ) (xs : List ℤ) (line : ℤ) → xs ≡ passing f (pos 0) n → IsAmong xs line → f line ≡ true
-passes_already f n xs line e h =
-    let m : IsAmong (passing f (pos 0) n) line = subst (λ ls. IsAmong ls line) e h in
-    ap f (sym m.is) ∙ passing_at f (pos 0) n m.place (pos 0) m.some
-
-already : (t e b : Bool) → (e ≡ true → b ≡ true → t ≡ true) → t ≡ (t || (e && b))
-already true e b h = refl
-already false true true h = h refl refl
-already false true false h = refl
-already false false b h = refl
-
--- a line that is there already
-pub more_among : (index : NameIndex) (above : List Level) (base : ℤ) (tracks : ℕ) (name : List ℕ) (line : ℤ) → IsAmong (seen_in index above base (pos 0) (pos tracks) name) line → HoldsMore index index above base tracks (bytes_eq name) line
-more_among index above base tracks name line there =
-    λ test h other.
-    h other
-    ∙ passing_same (test other) (or_on test (bytes_eq name) line other) (pos 0) (tracks + 1)
-    (λ l a b. already (test other l) (int_eq l line) (bytes_eq name other) (λ e f.
-    ap (λ z. test other z) (eq_from l line e)
-    ∙ ap (λ n. test n line) (sym (names_same name other f))
-    ∙ passes_already (test name) (tracks + 1) (seen_in index above base (pos 0) (pos tracks) name) line (h name) there))
-
-over_insert : (xs ys : List ℤ) (place : ℕ) (x : ℤ) → place ≤ length xs → over (insert xs place x) ys ≡ insert xs place x
-over_insert [] ys zero x h = refl
-over_insert [] ys (suc n) x h = absurd (omega arith)
-over_insert (y ∷ xs) ys zero x h = refl
-over_insert (y ∷ xs) ys (suc n) x h = refl
-
-grown_passes : (f : ℤ → Bool) (tracks : ℕ) (xs all : List ℤ) (line : ℕ) → line ≤ tracks → xs ≡ passing f (pos 0) (tracks + 1) → ((i : ℕ) → i < length xs → get_or xs i (pos 0) ≢ pos line) → IsGrown xs all (pos line) → all ≡ passing (or_this f (pos line)) (pos 0) (tracks + 1)
-grown_passes f tracks xs all line few e missing grown =
-    let ls : List ℤ = passing f (pos 0) (tracks + 1) in
-    let g : IsGrown ls all (pos line) = subst (λ z. IsGrown z all (pos line)) e grown in
-    let m : (i : ℕ) → i < length ls → get_or ls i (pos 0) ≢ pos line = subst (λ z. (i : ℕ) → i < length z → get_or z i (pos 0) ≢ pos line) e missing in
-    g.is ∙ passing_insert f (pos 0) (tracks + 1) g.place (pos line) (omega (arith, ints)) (omega (arith, ints)) g.inside (λ i h. less (get_or ls i (pos 0)) (pos line) (g.before i h) (m i (omega (arith, g.inside)))) g.after
-  where
-    less : (a b : ℤ) → a ≤ℤ b → a ≢ b → a <ℤ b
-    less a b h n = omega (arith, ints, h, n)
-
--- a line that was not there
-pub more_grown : (old now : NameIndex) (above : List Level) (base : ℤ) (tracks : ℕ) (name : List ℕ) (line : ℕ) (kept : List ℕ → List ℤ) (lines all : List ℤ) → line ≤ tracks →
-    ((i : ℕ) → i < length (seen_in old above base (pos 0) (pos tracks) name) → get_or (seen_in old above base (pos 0) (pos tracks) name) i (pos 0) ≢ pos line) →
-    told_from base lines ≡ seen_in old above base (pos 0) (pos tracks) name → ((other : List ℕ) → bytes_eq name other ≡ false → kept other ≡ lines_in old.lines other) → IsGrown (told_from base lines) (told_from base all) (pos line) →
-    ((other : List ℕ) → lines_in now.lines other ≡ (if bytes_eq name other then all else kept other)) → HoldsMore old now above base tracks (bytes_eq name) (pos line)
-more_grown old now above base tracks name line kept lines all few missing taken others grown put = λ test h other. by test h other (bytes_eq name other) refl
-  where
-    below : List ℕ → List ℤ
-    below other = within (pos 0) (pos tracks) (told_from base (found above other))
-
-    is : (test : List ℕ → ℤ → Bool) → IsHeld old above base tracks test → told_from base all ≡ passing (or_this (test name) (pos line)) (pos 0) (tracks + 1)
-    is test h = grown_passes (test name) tracks (told_from base lines) (told_from base all) line few (taken ∙ h name) (subst (λ z. (i : ℕ) → i < length z → get_or z i (pos 0) ≢ pos line) (sym taken) missing) grown
-
-    stays : (other : List ℕ) → over (told_from base all) (below other) ≡ told_from base all
-    stays other = ap (λ z. over z (below other)) grown.is ∙ over_insert (told_from base lines) (below other) grown.place (pos line) grown.inside ∙ sym grown.is
-
-    by : (test : List ℕ → ℤ → Bool) → IsHeld old above base tracks test → (other : List ℕ) (same : Bool) → bytes_eq name other ≡ same → seen_in now above base (pos 0) (pos tracks) other ≡ passing (or_on test (bytes_eq name) (pos line) other) (pos 0) (tracks + 1)
-    by test h other true e =
-        ap (λ own. over (told_from base own) (below other)) (put other ∙ ap (λ b. if b then all else kept other) e)
-        ∙ stays other
-        ∙ is test h
-        ∙ passing_same (or_this (test name) (pos line)) (or_on test (bytes_eq name) (pos line) other) (pos 0) (tracks + 1)
-        (λ l a b. ap (λ n. test n l || int_eq l (pos line)) (names_same name other e) ∙ ap (λ z. test other l || z) (kept_on (int_eq l (pos line))) ∙ ap (λ z. test other l || (int_eq l (pos line) && z)) (sym e))
+    named : (l : ℤ) → pos 0 ≤ℤ l → l <ℤ (pos 0 +ℤ pos (tracks + 1)) → among (lines_in own.lines name) l ≡ holds_name name (names_in lines l)
+    named l a b =
+        ap (λ ls. among ls l) (index name ∙ named_passes name (pos 0) lines (λ x. holds_name name (names_in lines x)) (λ i h. ap (λ x. holds_name name (names_in lines x)) (zero_more i)))
+        ∙ among_inside (λ x. holds_name name (names_in lines x)) (pos 0) (length lines) l a (omega (arith, ints, b, count))
       where
-        kept_on : (z : Bool) → z ≡ (z && true)
-        kept_on true = refl
-        kept_on false = refl
-    by test h other false e =
-        ap (λ own. over (told_from base own) (below other)) (put other ∙ ap (λ b. if b then all else kept other) e ∙ others other e)
-        ∙ h other
-        ∙ passing_same (test other) (or_on test (bytes_eq name) (pos line) other) (pos 0) (tracks + 1) (λ l a b. sym (nothing_more (test other l) (int_eq l (pos line))) ∙ ap (λ z. test other l || (int_eq l (pos line) && z)) (sym e))
+        zero_more : (i : ℕ) → pos 0 +ℤ pos i ≡ pos i
+        zero_more i = omega (arith, ints)
+
+    over_it : (l : ℤ) → pos 0 ≤ℤ l → l <ℤ (pos 0 +ℤ pos (tracks + 1)) → among (found above name) (base +ℤ l) ≡ test name l
+    over_it l a b =
+        sym (among_told base (found above name) l)
+        ∙ sym (among_within (pos 0) (pos tracks) (told_from base (found above name)) l a (omega (arith, ints, b)))
+        ∙ ap (λ ls. among ls l) (held name)
+        ∙ among_inside (test name) (pos 0) (tracks + 1) l a b
+
+    each : (l : ℤ) → pos 0 ≤ℤ l → l <ℤ (pos 0 +ℤ pos (tracks + 1)) → either (lines_in own.lines name) (found above name) base (base +ℤ l) ≡ or_in test lines name l
+    each l a b =
+        let back : (base +ℤ l) -ℤ base ≡ l = omega (arith, ints) in
+        ap (λ z. among (lines_in own.lines name) z || among (found above name) (base +ℤ l)) back
+        ∙ ap (λ t. t || among (found above name) (base +ℤ l)) (named l a b)
+        ∙ ap (λ t. holds_name name (names_in lines l) || t) (over_it l a b)
+        ∙ or_comm (holds_name name (names_in lines l)) (test name l)
+
+-- an index of the names of all own lines holds these lines
+pub lines_held : (index own : NameIndex) (above : List Level) (base : ℤ) (tracks : ℕ) (lines : List (List (List ℕ))) (done : List ℕ → Bool) → IsIndexOf own.lines lines → length lines ≡ tracks + 1 →
+    IsPart index.lines done (joined_in own above base tracks) → ((name : List ℕ) → done name ≡ false → (l : ℤ) → holds_name name (names_in lines l) ≡ false) → HoldsLines index above base tracks lines
+lines_held index own above base tracks lines done named count part others = λ test held name. by test held name (done name) refl
+  where
+    by : (test : List ℕ → ℤ → Bool) → IsAbove above base tracks test → (name : List ℕ) (b : Bool) → done name ≡ b → seen_in index above base (pos 0) (pos tracks) name ≡ passing (or_in test lines name) (pos 0) (tracks + 1)
+    by test held name true e =
+        ap (λ ls. over (told_from base ls) (within (pos 0) (pos tracks) (told_from base (found above name)))) (part name ∙ ap (λ b. if b then joined_in own above base tracks name else []) e)
+        ∙ ap (λ ls. over ls (within (pos 0) (pos tracks) (told_from base (found above name)))) (joined_passes own above base tracks lines test named count held name)
+        ∙ over_either (passing (or_in test lines name) (pos 0) (tracks + 1)) (within (pos 0) (pos tracks) (told_from base (found above name)))
+        (λ none. held name ∙ passing_fewer (test name) (or_in test lines name) (pos 0) (tracks + 1) (λ l h. or_first_of (test name l) (holds_name name (names_in lines l)) h) none)
+      where
+        or_first_of : (a b : Bool) → (a || b) ≡ false → a ≡ false
+        or_first_of true b h = h
+        or_first_of false b h = refl
+    by test held name false e =
+        ap (λ ls. over (told_from base ls) (within (pos 0) (pos tracks) (told_from base (found above name)))) (part name ∙ ap (λ b. if b then joined_in own above base tracks name else []) e)
+        ∙ held name
+        ∙ passing_same (test name) (or_in test lines name) (pos 0) (tracks + 1) (λ l a b. sym (or_false (test name l) (holds_name name (names_in lines l)) (others name e l)))
+
+pub held_by_sets : (index own : NameIndex) (above : List Level) (base : ℤ) (tracks : ℕ) (sets : List (List (List ℕ))) (kinds : List ℕ) (n : ℕ) → length sets ≤ n → IsIndexOf own.lines (sets_of sets kinds) → length kinds ≡ tracks + 1 →
+    IsPart index.lines (has_name (take n sets)) (joined_in own above base tracks) → HoldsLines index above base tracks (sets_of sets kinds)
+held_by_sets index own above base tracks sets kinds n h named count part =
+    lines_held index own above base tracks (sets_of sets kinds) (has_name sets) named (counted sets kinds ∙ count)
+    (part_same index.lines (has_name (take n sets)) (has_name sets) (joined_in own above base tracks) (λ name. ap (λ ls. has_name ls name) (take_all n sets h)) part)
+    (λ name e l. none_of name l e)
+  where
+    none_of : (name : List ℕ) (l : ℤ) → has_name sets name ≡ false → holds_name name (names_in (sets_of sets kinds) l) ≡ false
+    none_of name (pos i) e = no_name_at name sets kinds i e
+    none_of name (negsuc i) e = refl
 
 -- ---- what is found
-
-pub not_empty : (xs : List ℤ) (empty : Bool) → empty ≡ (length xs == 0) → empty ≡ false → ¬ (xs ≡ [])
-not_empty xs empty e h none = true≢false (sym (ap (λ ys. length ys == 0) none) ∙ sym e ∙ h)
 
 over_some : (xs ys : List ℤ) → ¬ (xs ≡ []) → over xs ys ≡ xs
 over_some [] ys h = absurd (h refl)
@@ -353,7 +254,7 @@ found_here levels name i level h e some =
 pub sub_table : (limit : Span) (base : ℤ) (parent : Level) (above : List Level) (level : Level) (sets : List (List (List ℕ))) (added : List NamedSpan) (own : Span) (first : ℤ) (levels : List Level) →
     own ≡ record { start = pos 0; end = pos level.tracks } → first ≡ base +ℤ level.over.start → levels ≡ parent ∷ above →
     IsTableBy limit base parent above → limit.start ≤ℤ level.over.start → (level.over.start +ℤ pos level.tracks) ≤ℤ limit.end → 0 < level.tracks → level.tracks ≤ 20000 →
-    IsTrue (are_areas level.tracks level.areas) → ((line : ℕ) → line ≤ level.tracks → get_or level.sets line [] ≡ get_or sets line []) →
+    IsTrue (are_areas level.tracks level.areas) → ((line : ℕ) → line ≤ level.tracks → get_or (own_sets level) line [] ≡ get_or sets line []) →
     AddAll (lines_under parent above) level.over.start added level.areas → HoldsLines level.index levels first level.tracks (lines_by (λ line. get_or sets line [] ++ names_by_areas (pos line) added) (level.tracks + 1) 0) → IsTableBy own first level levels
 sub_table limit base parent above level sets added own first levels e f g t low high some few areas kept adds held =
     let all : List (List (List ℕ)) = lines_by (λ line. get_or sets line [] ++ names_by_areas (pos line) added) (level.tracks + 1) 0 in
@@ -363,33 +264,3 @@ sub_table limit base parent above level sets added own first levels e f g t low 
     let at_limit : IsTableBy own (base +ℤ level.over.start) level (parent ∷ above) = subst (λ s. IsTableBy s (base +ℤ level.over.start) level (parent ∷ above)) (sym e) is in
     let at_base : IsTableBy own first level (parent ∷ above) = subst (λ b. IsTableBy own b level (parent ∷ above)) (sym f) at_limit in
     subst (λ ls. IsTableBy own first level ls) (sym g) at_base
-
--- ---- lines that are not there
-
-pub missing_there : (ls xs : List ℤ) (z line : ℤ) → ls ≡ xs → z ≡ line → ((i : ℕ) → i < length ls → get_or ls i (pos 0) ≢ z) → (i : ℕ) → i < length xs → get_or xs i (pos 0) ≢ line
-missing_there ls xs z line e f h = subst (λ zs. (i : ℕ) → i < length zs → get_or zs i (pos 0) ≢ line) e (subst (λ l. (i : ℕ) → i < length ls → get_or ls i (pos 0) ≢ l) f h)
-
-pub missing_by : (xs : List ℤ) (line : ℤ) (n : ℕ) → AreAscending xs → 0 < n → n ≤ length xs → ((i : ℕ) → i < n → get_or xs i (pos 0) ≤ℤ line) → ((i : ℕ) → n ≤ i → i < length xs → line <ℤ get_or xs i (pos 0)) → get_or xs (n - 1) (pos 0) ≢ line → (i : ℕ) → i < length xs → get_or xs i (pos 0) ≢ line
-missing_by xs line n ascend some inside before after last i h = λ e. by e (cases_lt i n)
-  where
-    by : get_or xs i (pos 0) ≡ line → (i < n) ⊎ (n ≤ i) → ⊥
-    by e (inl less) = last (omega (arith, ints, e, ascend i (n - 1) (omega arith) (omega arith), before (n - 1) (omega arith)))
-    by e (inr past) = absurd (omega (arith, ints, e, after i past h))
-
-pub sorted_ascends : (index : NameIndex) (above : List Level) (base : ℤ) (tracks : ℕ) (name : List ℕ) (xs : List ℤ) → IsSorted index above base tracks → xs ≡ seen_in index above base (pos 0) (pos tracks) name → AreAscending xs
-sorted_ascends index above base tracks name xs s e = subst (λ ls. AreAscending ls) (sym (e ∙ s.held name)) (λ i j h k. passing_ascends (s.test name) (pos 0) (tracks + 1) (pos 0) i j h k)
-
--- a line that is put among others
-pub grown_by : (base : ℤ) (xs ls all : List ℤ) (n : ℕ) (z : ℤ) (line : ℕ) → ls ≡ xs → n ≤ length (told_from base ls) → ((i : ℕ) → i < n → get_or (told_from base ls) i (pos 0) ≤ℤ pos line) →
-    ((i : ℕ) → n ≤ i → i < length (told_from base ls) → pos line <ℤ get_or (told_from base ls) i (pos 0)) → all ≡ insert xs n z → z ≡ base +ℤ pos line →
-    IsGrown (told_from base xs) (told_from base all) (pos line)
-grown_by base xs ls all n z line e inside before after is at =
-    let here : z -ℤ base ≡ pos line = omega (arith, ints, at) in
-    let g : IsGrown (told_from base ls) (told_from base all) (pos line) = record {
-      place = n;
-      inside = inside;
-      before = before;
-      after = after;
-      is = ap (λ ls. told_from base ls) is ∙ told_insert base xs n z ∙ ap (λ d. insert (told_from base xs) n d) here ∙ ap (λ ls. insert (told_from base ls) n (pos line)) (sym e);
-    } in
-    subst (λ ls. IsGrown (told_from base ls) (told_from base all) (pos line)) e g

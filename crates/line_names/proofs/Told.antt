@@ -1,10 +1,8 @@
 -- Lines told from another one.
-use Rattle.std.proofs.Common.{arith, refl, sym, ap, ◌∙◌, ◌≡◌, ℕ, zero, suc, ◌+◌, ◌<◌, ◌≤◌, ℤ, pos, ◌+ℤ◌, ◌-ℤ◌, List, [], ◌∷◌, length, get_or, take, drop}
-use Rattle.std.specs.Prelude.{insert}
+use Rattle.std.proofs.Common.{arith, rules, refl, sym, ap, ◌∙◌, ◌≡◌, ℕ, zero, suc, ◌<◌, ℤ, pos, ◌+ℤ◌, ◌-ℤ◌, ◌<ℤ◌, ◌≤ℤ◌, int_lt, Bool, true, false, List, [], ◌∷◌, length, get_or}
+use Rattle.std.specs.Prelude.{filter, int_le, if◌then◌else◌}
 use Rattle.std.proofs.lemmas.Int.{ints}
-use Rattle.std.proofs.lemmas.List.{length-map, drop-map, take-map, get_or-drop}
-use Rattle.std.proofs.lemmas.List.{length-drop}
-use Rattle.line_names.specs.Counting.{AreAscending}
+use Rattle.std.proofs.lemmas.List.{length-map}
 use Rattle.line_names.specs.Levels.{told_from, over}
 
 pub told_count : (base : ℤ) (xs : List ℤ) → length (told_from base xs) ≡ length xs
@@ -33,42 +31,66 @@ pub told_over : (base : ℤ) (xs ys : List ℤ) → told_from base (over xs ys) 
 told_over base [] ys = refl
 told_over base (x ∷ xs) ys = refl
 
-pub told_insert : (base : ℤ) (xs : List ℤ) (i : ℕ) (x : ℤ) → told_from base (insert xs i x) ≡ insert (told_from base xs) i (x -ℤ base)
-told_insert base [] zero x = refl
-told_insert base [] (suc i) x = refl
-told_insert base (y ∷ xs) zero x = refl
-told_insert base (y ∷ xs) (suc i) x = ap (λ zs. (y -ℤ base) ∷ zs) (told_insert base xs i x)
-
-pub told_take : (base : ℤ) (xs : List ℤ) (n : ℕ) → told_from base (take n xs) ≡ take n (told_from base xs)
-told_take base xs n = sym (take-map (λ line. line -ℤ base) n xs)
-
-pub told_drop : (base : ℤ) (xs : List ℤ) (n : ℕ) → told_from base (drop n xs) ≡ drop n (told_from base xs)
-told_drop base xs n = sym (drop-map (λ line. line -ℤ base) n xs)
-
--- ---- lines that ascend
-
-pub ascend_told : (base : ℤ) (xs : List ℤ) → AreAscending xs → AreAscending (told_from base xs)
-ascend_told base xs h =
-    λ i j k l.
-    let n : length (told_from base xs) ≡ length xs = told_count base xs in
-    omega (arith, ints, told_at base xs i (pos 0) (pos 0) (omega (arith, n)), told_at base xs j (pos 0) (pos 0) (omega (arith, n)), h i j k (omega (arith, n)))
-
-pub ascend_back : (base : ℤ) (xs : List ℤ) → AreAscending (told_from base xs) → AreAscending xs
-ascend_back base xs h =
-    λ i j k l.
-    let n : length (told_from base xs) ≡ length xs = told_count base xs in
-    omega (arith, ints, told_at base xs i (pos 0) (pos 0) (omega (arith, n)), told_at base xs j (pos 0) (pos 0) (omega (arith, n)), h i j k (omega (arith, n)))
-
-pub ascend_drop : (n : ℕ) (xs : List ℤ) → n ≤ length xs → AreAscending xs → AreAscending (drop n xs)
-ascend_drop n xs w h =
-    λ i j k l.
-    let m : n + length (drop n xs) ≡ length xs = omega (arith, length-drop n xs) in
-    omega (arith, ints, get_or-drop n xs i (pos 0), get_or-drop n xs j (pos 0), h (n + i) (n + j) (omega arith) (omega (arith, m)))
-
-pub ascend_over : (base : ℤ) (xs ys below : List ℤ) → AreAscending (over (told_from base xs) below) → AreAscending ys → AreAscending (over xs ys)
-ascend_over base [] ys below h g = g
-ascend_over base (x ∷ xs) ys below h g = ascend_back base (x ∷ xs) h
-
 pub over_nothing : (xs : List ℤ) → over xs [] ≡ xs
 over_nothing [] = refl
 over_nothing (x ∷ xs) = refl
+
+-- ---- lines in a range, told from another one
+
+le_from : (a b : ℤ) → int_le a b ≡ true → a ≤ℤ b
+le_from a b h = search rules
+
+le_to : (a b : ℤ) → a ≤ℤ b → int_le a b ≡ true
+le_to a b h = search rules
+
+le_not : (a b : ℤ) → b <ℤ a → int_le a b ≡ false
+le_not a b h = search rules
+
+not_le : (a b : ℤ) → int_le a b ≡ false → b <ℤ a
+not_le a b h = search rules
+
+lt_from : (a b : ℤ) → int_lt a b ≡ true → a <ℤ b
+lt_from a b h = search rules
+
+lt_to : (a b : ℤ) → a <ℤ b → int_lt a b ≡ true
+lt_to a b h = search rules
+
+lt_not : (a b : ℤ) → b ≤ℤ a → int_lt a b ≡ false
+lt_not a b h = search rules
+
+le_moved : (a b c d k : ℤ) → a ≡ c +ℤ k → b ≡ d +ℤ k → int_le a b ≡ int_le c d
+le_moved a b c d k e f = by (int_le a b) refl
+  where
+    by : (t : Bool) → int_le a b ≡ t → int_le a b ≡ int_le c d
+    by true h = h ∙ sym (le_to c d (omega (arith, ints, e, f, le_from a b h)))
+    by false h = h ∙ sym (le_not c d (omega (arith, ints, e, f, not_le a b h)))
+
+lt_moved : (a b c d k : ℤ) → a ≡ (c +ℤ k) +ℤ pos 1 → b ≡ d +ℤ k → int_le a b ≡ int_lt c d
+lt_moved a b c d k e f = by (int_le a b) refl
+  where
+    by : (t : Bool) → int_le a b ≡ t → int_le a b ≡ int_lt c d
+    by true h = h ∙ sym (lt_to c d (omega (arith, ints, e, f, le_from a b h)))
+    by false h = h ∙ sym (lt_not c d (omega (arith, ints, e, f, not_le a b h)))
+
+told_pick : (held : Bool) (base x : ℤ) (more : List ℤ) → told_from base (if held then x ∷ more else more) ≡ (if held then (x -ℤ base) ∷ told_from base more else told_from base more)
+told_pick true base x more = refl
+told_pick false base x more = refl
+
+told_filter : (p q : ℤ → Bool) (base : ℤ) (xs : List ℤ) → ((x : ℤ) → p x ≡ q (x -ℤ base)) → told_from base (filter p xs) ≡ filter q (told_from base xs)
+told_filter p q base [] h = refl
+told_filter p q base (x ∷ xs) h =
+    told_pick (p x) base x (filter p xs)
+    ∙ ap (λ b. if b then (x -ℤ base) ∷ told_from base (filter p xs) else told_from base (filter p xs)) (h x)
+    ∙ ap (λ ls. if q (x -ℤ base) then (x -ℤ base) ∷ ls else ls) (told_filter p q base xs h)
+
+pub told_on : (base : ℤ) (xs : List ℤ) (line z : ℤ) → z ≡ line +ℤ base → told_from base (filter (λ l. int_le z l) xs) ≡ filter (λ l. int_le line l) (told_from base xs)
+told_on base xs line z e = told_filter (λ l. int_le z l) (λ l. int_le line l) base xs (λ x. le_moved z x line (x -ℤ base) base e (omega (arith, ints)))
+
+pub told_back : (base : ℤ) (xs : List ℤ) (line z : ℤ) → z ≡ line +ℤ base → told_from base (filter (λ l. int_le l z) xs) ≡ filter (λ l. int_le l line) (told_from base xs)
+told_back base xs line z e = told_filter (λ l. int_le l z) (λ l. int_le l line) base xs (λ x. le_moved x z (x -ℤ base) line base (omega (arith, ints)) e)
+
+pub told_after : (base : ℤ) (xs : List ℤ) (line z : ℤ) → z ≡ (line +ℤ base) +ℤ pos 1 → told_from base (filter (λ l. int_le z l) xs) ≡ filter (λ l. int_lt line l) (told_from base xs)
+told_after base xs line z e = told_filter (λ l. int_le z l) (λ l. int_lt line l) base xs (λ x. lt_moved z x line (x -ℤ base) base e (omega (arith, ints)))
+
+pub told_before : (base : ℤ) (xs : List ℤ) (line z : ℤ) → z ≡ (line +ℤ base) -ℤ pos 1 → told_from base (filter (λ l. int_le l z) xs) ≡ filter (λ l. int_lt l line) (told_from base xs)
+told_before base xs line z e = told_filter (λ l. int_le l z) (λ l. int_lt l line) base xs (λ x. lt_moved x z (x -ℤ base) line (base -ℤ pos 1) (omega (arith, ints)) (omega (arith, ints, e)))

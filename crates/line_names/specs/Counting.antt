@@ -1,5 +1,5 @@
 -- Numbers of lines as the code counts them.
-use Rattle.std.specs.Prelude.{ℕ, ◌≤◌, ◌<◌, ℤ, pos, neg_ℤ, ◌≤ℤ◌, List, length, get_or}
+use Rattle.std.specs.Prelude.{ℤ, pos, neg_ℤ, ◌≤ℤ◌}
 
 -- a line from which a line value can be counted
 pub record IsNear (line : ℤ) : Type 0 where
@@ -11,6 +11,7 @@ pub record IsFar (line : ℤ) : Type 0 where
   pub low : neg_ℤ (pos 68719476736) ≤ℤ line
   pub high : line ≤ℤ pos 68719476736
 
--- no line comes before an earlier one of the list
-abbrev pub AreAscending : List ℤ → Type 0
-AreAscending lines = (i j : ℕ) → i ≤ j → j < length lines → get_or lines i (pos 0) ≤ℤ get_or lines j (pos 0)
+-- a line that can be looked for
+pub record IsWide (line : ℤ) : Type 0 where
+  pub low : neg_ℤ (pos 1099511627776) ≤ℤ line
+  pub high : line ≤ℤ pos 1099511627776

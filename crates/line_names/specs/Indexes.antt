@@ -1,5 +1,5 @@
 -- An index of the lines by their names.
-use Rattle.std.specs.Prelude.{◌≡◌, ℕ, zero, suc, ◌+◌, ◌-◌, ℤ, pos, Bool, true, List, [], ◌∷◌, ◌++◌, length, Option, Some, None, unwrap_or, slice_get, int_lt, if◌then◌else◌}
+use Rattle.std.specs.Prelude.{◌≡◌, ℕ, ◌-◌, ℤ, pos, Bool, true, List, [], ◌∷◌, ◌++◌, length, Option, Some, None, unwrap_or, slice_get, int_lt, if◌then◌else◌}
 use Rattle.std.specs.Ordering.{nat_cmp}
 use Rattle.std.specs.Cmp.Lexicographic.{slice_cmp}
 use Rattle.std.specs.BTreeMap as tree
@@ -31,11 +31,6 @@ marked held lines line = if held then noted lines line else lines
 abbrev pub IsIndexOf : BTreeMap (List ℕ) (List ℤ) → List (List (List ℕ)) → Type 0
 IsIndexOf index lines = (name : List ℕ) → lines_in index name ≡ named_from name (pos 0) lines
 
--- these lines and so many lines one after another from this one on
-abbrev pub noted_all : List ℤ → ℕ → ℕ → List ℤ
-noted_all lines first zero = lines
-noted_all lines first (suc n) = noted (noted_all lines first n) (pos (first + n))
-
--- the lines of a name with so many lines from one on, where these have the name
-abbrev pub marked_all : Bool → List ℤ → ℕ → ℕ → List ℤ
-marked_all held lines first count = if held then noted_all lines first count else lines
+-- the names that pass a test have these lines, and all others none
+abbrev pub IsPart : BTreeMap (List ℕ) (List ℤ) → (List ℕ → Bool) → (List ℕ → List ℤ) → Type 0
+IsPart index done value = (name : List ℕ) → lines_in index name ≡ (if done name then value name else [])

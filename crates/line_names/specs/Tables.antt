@@ -3,7 +3,7 @@ use Rattle.std.specs.Prelude.{◌≡◌, ℕ, ◌<◌, ◌≤◌, nat_le, ℤ, p
 use Rattle.std.specs.List.{list_all}
 use Rattle.lunit.specs.declared.geometry.Span.{Span}
 use Rattle.part_rules.specs.LineNames.{NamedSpan, Table, holds_name, named_from, names_by_areas}
-use Rattle.line_names.specs.Levels.{lines_under, names_in, seen_in, AreOrdered}
+use Rattle.line_names.specs.Levels.{lines_under, names_in, seen_in}
 use Rattle.line_names.specs.declared.levels.Level.{Level}
 use Rattle.line_names.specs.declared.table.LineTable.TheInside.{Inside}
 
@@ -47,7 +47,6 @@ pub record IsTableBy (limit : Span) (base : ℤ) (level : Level) (above : List L
   pub fits : IsLimit limit
   pub low : neg_ℤ (pos 10000) ≤ℤ (base +ℤ limit.start)
   pub high : (base +ℤ limit.end) ≤ℤ pos 10000
-  pub ordered : AreOrdered above
   pub named : (name : List ℕ) (line : ℤ) → IsTrue (holds_name name (names_by_areas line level.areas)) →
       IsTrue (holds_name name (names_in (lines_under level above) line))
   pub lines : (name : List ℕ) → seen_in level.index above base limit.start limit.end name ≡ named_from name (pos 0) (lines_under level above)

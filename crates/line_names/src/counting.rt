@@ -1,8 +1,8 @@
 //! Lines that are found by counting: the so-manyth one of a name, on from a line or back from it (CSS Grid 2, 8.3).
 
-ghost use Rattle.std.specs.Prelude.{◌≡◌, ◌≤◌, ◌<◌, ◌+◌, ◌-◌, ℕ, pos, length, get_or, slice_get, IfSome, drop, take, filter, int_le, int_lt, ◌+ℤ◌, ◌-ℤ◌, ◌≤ℤ◌, ◌<ℤ◌};
+ghost use Rattle.std.specs.Prelude.{◌≡◌, ◌≤◌, ◌<◌, ◌+◌, ◌-◌, ℕ, pos, length, get_or, slice_get, IfSome, drop, take, filter, int_le, int_lt, ◌+ℤ◌, ◌-ℤ◌, ◌≤ℤ◌, ◌<ℤ◌, neg_ℤ};
 ghost use Rattle.part_rules.specs.LineNames.{going_back, going_on};
-ghost use Rattle.line_names.specs.Counting.{IsNear, IsFar, AreAscending};
+ghost use Rattle.line_names.specs.Counting.{IsFar, IsNear, IsWide};
 ghost use Rattle.line_names.specs.Levels.{told};
 
 use crate::line_list::LinesIn;
@@ -53,7 +53,7 @@ pub(crate) fn line_at(lines: NamedLines, at: usize) -> i64
     ensures value { result ≡ get_or (told lines.entry) at (pos 0) }
     ensures near { IsNear result }
 {
-    i64::from(lines.lines.at(at)) - i64::from(lines.base.line)
+    lines.lines.at(at) - i64::from(lines.base.line)
 }
 
 /// The first of these lines.
@@ -100,84 +100,58 @@ pub(crate) fn going_back(lines: NamedLines, count: u32, first: i64) -> i64
     before(first, left_of(count, count_of(lines)))
 }
 
-/// How many of these lines, which ascend, do not come after this one.
-pub(crate) fn count_up_to(lines: NamedLines, limit: i64) -> usize
-    requires { AreAscending (told lines) }
-    ensures within { result ≤ length (told lines.entry) }
-    ensures before { (i : ℕ) → i < result → get_or (told lines.entry) i (pos 0) ≤ℤ limit }
-    ensures after { (i : ℕ) → result ≤ i → i < length (told lines.entry) →
-        limit <ℤ get_or (told lines.entry) i (pos 0) }
+/// A line as one of the topmost grid.
+fn from_base(lines: NamedLines, line: i64) -> i64
+    requires low { neg_ℤ (pos 68719476737) ≤ℤ line }
+    requires high { line ≤ℤ pos 68719476737 }
+    ensures value { result ≡ line +ℤ lines.entry.base.line }
+    ensures wide { IsWide result }
 {
-    let mut low = 0;
-    let mut high = count_of(lines);
-    while low < high {
-        let middle = low + (high - low) / 2;
-        if line_at(lines, middle) <= limit {
-            low = middle + 1;
-        } else {
-            high = middle;
-        }
-    }
-    low
+    line + i64::from(lines.base.line)
 }
 
-/// These lines without so many at their start.
-fn without(lines: NamedLines<'_>, count: usize) -> NamedLines<'_>
-    requires { count ≤ length (told lines) }
-    ensures value { told result ≡ drop count (told lines.entry) }
-    ensures base { result.base ≡ lines.entry.base }
-{
-    NamedLines {
-        lines: lines.lines.without(count),
-        base: lines.base,
-    }
-}
-
-/// So many of these lines at their start.
-fn first_so_many(lines: NamedLines<'_>, count: usize) -> NamedLines<'_>
-    requires { count ≤ length (told lines) }
-    ensures value { told result ≡ take count (told lines.entry) }
-    ensures base { result.base ≡ lines.entry.base }
-{
-    NamedLines {
-        lines: lines.lines.first_so_many(count),
-        base: lines.base,
-    }
-}
-
-/// Those of these lines, which ascend, that come after a line.
-pub(crate) fn lines_after(lines: NamedLines<'_>, line: i64) -> NamedLines<'_>
-    requires { AreAscending (told lines) }
-    ensures { told result ≡ filter (λ l. int_lt line l) (told lines.entry) }
-{
-    without(lines, count_up_to(lines, line))
-}
-
-/// Those of these lines, which ascend, that come before a line.
-pub(crate) fn lines_before(lines: NamedLines<'_>, line: i64) -> NamedLines<'_>
-    requires far { IsFar line }
-    requires ascending { AreAscending (told lines) }
-    ensures { told result ≡ filter (λ l. int_lt l line) (told lines.entry) }
-{
-    first_so_many(lines, count_up_to(lines, before(line, 1)))
-}
-
-/// Those of these lines, which ascend, that do not come before a line.
+/// Those of these lines that do not come before a line.
 pub(crate) fn lines_from(lines: NamedLines<'_>, line: i64) -> NamedLines<'_>
-    requires far { IsFar line }
-    requires ascending { AreAscending (told lines) }
+    requires { IsFar line }
     ensures value { told result ≡ filter (λ l. int_le line l) (told lines.entry) }
-    ensures ascending { AreAscending (told result) }
     ensures base { result.base ≡ lines.entry.base }
 {
-    without(lines, count_up_to(lines, before(line, 1)))
+    NamedLines {
+        lines: lines.lines.from(from_base(lines, line)),
+        base: lines.base,
+    }
 }
 
-/// Those of these lines, which ascend, that do not come after a line.
+/// Those of these lines that do not come after a line.
 pub(crate) fn lines_up_to(lines: NamedLines<'_>, line: i64) -> NamedLines<'_>
-    requires { AreAscending (told lines) }
+    requires { IsFar line }
     ensures value { told result ≡ filter (λ l. int_le l line) (told lines.entry) }
     ensures base { result.base ≡ lines.entry.base }
 {
-    first_so_many(lines, count_up_to(lines, line))
+    NamedLines {
+        lines: lines.lines.up_to(from_base(lines, line)),
+        base: lines.base,
+    }
+}
+
+/// Those of these lines that come after a line.
+pub(crate) fn lines_after(lines: NamedLines<'_>, line: i64) -> NamedLines<'_>
+    requires { IsFar line }
+    ensures { told result ≡ filter (λ l. int_lt line l) (told lines.entry) }
+{
+    NamedLines {
+        lines: lines.lines.from(from_base(lines, after(line, 1))),
+        base: lines.base,
+    }
+}
+
+/// Those of these lines that come before a line.
+pub(crate) fn lines_before(lines: NamedLines<'_>, line: i64) -> NamedLines<'_>
+    requires { IsFar line }
+    ensures { told result ≡ filter (λ l. int_lt l line) (told lines.entry) }
+{
+    NamedLines {
+        lines: lines.lines.up_to(from_base(lines, before(line, 1))),
+        base: lines.base,
+    }
 }

@@ -1,12 +1,16 @@
-//! The lines of each name.
+//! An index of lines by their names.
 
-ghost use Rattle.std.specs.Prelude.{◌≡◌, ◌<◌, ◌≤◌, ◌+◌, ◌^◌, [], get_or, length, pos, false, List, ℕ, IsTrue, OnOk, IfOk, if◌then◌else◌};
+ghost use Rattle.std.specs.Prelude.{◌≡◌, ◌<◌, ◌≤◌, ◌+◌, ◌^◌, ◌++◌, ◌∷◌, ◌||◌, ◌↔◌, [], List, ℕ, Bool, get_or, length, pos, slice_get, false, if◌then◌else◌, IfOk, IsTrue, OnOk};
+ghost use Rattle.std.specs.Option.{option_copied};
 ghost use Rattle.std.specs.Str.{bytes_eq};
 ghost use Rattle.part_rules.specs.LineNames.{holds_name};
-ghost use Rattle.line_names.specs.Indexes.{ends_before, lines_in, marked_all, noted, noted_all, IsIndexOf};
+ghost use Rattle.line_names.specs.Indexes.{ends_before, lines_in, marked, noted, IsIndexOf, IsPart};
 ghost use Rattle.line_names.specs.LineLists.{listed};
+ghost use Rattle.line_names.specs.Passing.{passing};
+ghost use Rattle.line_names.specs.SetLists.{is_of, named_in, sets_of, AreLists};
 
-use crate::line_list::{LineList, LinesIn, run_of};
+use crate::line_list::{LineList, LinesIn};
+use crate::set_list::SetList;
 use lunit::{Name, NameSet, NoMemory};
 use std::alloc::Global;
 use std::collections::BTreeMap;
@@ -23,73 +27,48 @@ fn ends_before(lines: &LineList, line: u32) -> bool
     ensures { result ≡ ends_before lines.now (pos line) }
 {
     match lines.last() {
-        Some(last) => last < line as i32,
+        Some(last) => last < line as i64,
         None => true,
     }
 }
 
-/// These lines, and a line after them; `count` lines from it on are to be added.
-fn note(lines: LineList, line: u32, count: u32) -> Result<LineList, NoMemory>
-    requires { line < 2 ^ 31 }
-    ensures { IfOk result (λ all. all ≡ noted lines (pos line)) }
+/// Adds a line after those before it.
+fn note(lines: &mut LineList, line: u32) -> Result<(), NoMemory>
+    requires { line + 1 < 2 ^ 31 }
+    ensures { OnOk result (lines.new ≡ noted lines.old (pos line)) }
 {
-    if ends_before(&lines, line) {
-        return lines.with(line as i32, count as usize);
+    if ends_before(lines, line) {
+        lines.push(line as i32)?;
     }
-    Ok(lines)
+    Ok(())
 }
 
-/// These lines, and so many lines, from one on, one by one after them.
-fn note_each(lines: LineList, first: u32, count: u32) -> Result<LineList, NoMemory>
-    requires { first + count ≤ 2 ^ 31 }
-    ensures { IfOk result (λ all. all ≡ noted_all lines first count) }
+/// The list of a kind, if there is one.
+fn list_of<'a>(lists: &'a [LineList], kind: u32) -> Option<&'a LineList>
+    ensures { option_copied result ≡ slice_get lists.now kind }
 {
-    let mut all = lines;
-    for more in 0..count {
-        all = note(all, first + more, count - more)?;
-    }
-    Ok(all)
+    lists.get(kind as usize)
 }
 
-#[tactic(auto, using(crate::proofs::LineLists::noted_run))]
-/// These lines, and so many lines, from one on, after them. Where they are the first ones they are counted at once.
-fn note_all(lines: LineList, first: u32, count: u32) -> Result<LineList, NoMemory>
-    requires { first + count ≤ 2 ^ 31 }
-    ensures { IfOk result (λ all. all ≡ noted_all lines first count) }
+/// The lines that have one of these kinds: those of the kind, where it is one.
+fn lines_by(
+    alloc: Global,
+    lists: &[LineList],
+    lines: &SetList,
+    kinds: LinesIn,
+) -> Result<LineList, NoMemory>
+    requires few { length lines.now.kinds + 1 < 2 ^ 31 }
+    requires lists { AreLists lines.now (length lines.now.kinds) lists.now }
+    ensures { IfOk result
+        (λ all. all ≡
+        passing (is_of (listed kinds.entry) lines.now.kinds) (pos 0) (length lines.now.kinds)) }
 {
-    if lines.is_empty() {
-        if let Some(run) = run_of(first, count) {
-            return Ok(lines.begun(run));
+    if let Some(kind) = kinds.only() {
+        if let Some(list) = list_of(lists, kind) {
+            return list.again(alloc);
         }
     }
-    note_each(lines, first, count)
-}
-
-#[tactic(auto, using(crate::proofs::Names::same_names))]
-/// Whether two lines have the same names in the same order.
-fn have_same_names(a: &NameSet, b: &NameSet) -> bool
-    ensures { IsTrue result → a.now ≡ b.now }
-{
-    a == b
-}
-
-/// How many lines, from one on, have the names that it has.
-fn alike(lines: &[NameSet], first: usize) -> usize
-    requires { first < length lines.now }
-    ensures some { 0 < result }
-    ensures within { first + result ≤ length lines.now }
-    ensures same { (k : ℕ) (d : List (List ℕ)) → k < result →
-        get_or lines.now (first + k) d ≡ get_or lines.now first d }
-{
-    let mut count = 1;
-    while first + count < lines.len() {
-        let next = first + count;
-        if !have_same_names(&lines[next], &lines[first]) {
-            return count;
-        }
-        count += 1;
-    }
-    count
+    lines.lines_of(alloc, kinds)
 }
 
 impl NameIndex {
@@ -114,7 +93,7 @@ impl NameIndex {
 
     #[tactic(auto, using(crate::proofs::Names::found))]
     /// Takes the lines of a name out.
-    pub(crate) fn take(&mut self, alloc: Global, name: &Name) -> LineList
+    fn take(&mut self, alloc: Global, name: &Name) -> LineList
         ensures taken { result ≡ lines_in self.old.lines name.now }
         ensures others { (other : List ℕ) → bytes_eq name.now other ≡ false →
             lines_in self.new.lines other ≡ lines_in self.old.lines other }
@@ -137,49 +116,106 @@ impl NameIndex {
         Ok(())
     }
 
-    /// Adds so many lines, from one on, to those of a name.
-    fn add(&mut self, alloc: Global, name: &Name, first: u32, count: u32) -> Result<(), NoMemory>
-        requires { first + count ≤ 2 ^ 31 }
+    /// Adds a line to those of a name.
+    fn add(&mut self, alloc: Global, name: &Name, line: u32) -> Result<(), NoMemory>
+        requires { line + 1 < 2 ^ 31 }
         ensures { OnOk result
             ((other : List ℕ) →
             lines_in self.new.lines other ≡
-            marked_all (bytes_eq name.now other) (lines_in self.old.lines other) first count) }
+            marked (bytes_eq name.now other) (lines_in self.old.lines other) (pos line)) }
     {
-        let lines = note_all(self.take(alloc, name), first, count)?;
+        let mut lines = self.take(alloc, name);
+        note(&mut lines, line)?;
         self.put(name, lines)
     }
 
-    /// Adds so many lines, from one on, to those of each of these names.
-    fn add_all(
-        &mut self,
-        alloc: Global,
-        names: &[Name],
-        first: u32,
-        count: u32,
-    ) -> Result<(), NoMemory>
-        requires { first + count ≤ 2 ^ 31 }
+    /// Adds a line to those of each of these names.
+    fn add_all(&mut self, alloc: Global, names: &[Name], line: u32) -> Result<(), NoMemory>
+        requires { line + 1 < 2 ^ 31 }
         ensures { OnOk result
             ((other : List ℕ) →
             lines_in self.new.lines other ≡
-            marked_all (holds_name other names.now) (lines_in self.old.lines other) first count) }
+            marked (holds_name other names.now) (lines_in self.old.lines other) (pos line)) }
     {
         for name in names {
-            self.add(alloc, name, first, count)?;
+            self.add(alloc, name, line)?;
         }
         Ok(())
     }
 
-    /// The index of these lines. Lines one after another that have the same names are added at once.
-    pub(crate) fn of(alloc: Global, lines: &[NameSet]) -> Result<NameIndex, NoMemory>
-        requires { length lines.now < 2 ^ 31 }
-        ensures { IfOk result (λ index. IsIndexOf index.lines lines.now) }
+    /// The index of these sets, each as a line.
+    fn of_sets(alloc: Global, sets: &[NameSet]) -> Result<NameIndex, NoMemory>
+        requires { length sets.now < 2 ^ 31 }
+        ensures { IfOk result (λ index. IsIndexOf index.lines sets.now) }
     {
         let mut index = NameIndex::new(alloc);
-        let mut at = 0;
-        while at < lines.len() {
-            let count = alike(lines, at);
-            index.add_all(alloc, lines[at].as_slice(), at as u32, count as u32)?;
-            at += count;
+        for at in 0..sets.len() {
+            index.add_all(alloc, sets[at].as_slice(), at as u32)?;
+        }
+        Ok(index)
+    }
+
+    /// Puts the lines of a name, found by the kinds that have it, unless it has lines already.
+    fn fill(
+        &mut self,
+        alloc: Global,
+        kinds: &NameIndex,
+        lists: &[LineList],
+        lines: &SetList,
+        name: &Name,
+    ) -> Result<(), NoMemory>
+        requires few { length lines.now.kinds + 1 < 2 ^ 31 }
+        requires kinds { IsIndexOf kinds.now.lines lines.now.sets }
+        requires lists { AreLists lines.now (length lines.now.kinds) lists.now }
+        ensures { OnOk result
+            ((done : List ℕ → Bool) → IsPart self.old.lines done (named_in lines.now) →
+            IsPart self.new.lines (λ other. done other || bytes_eq name.now other)
+            (named_in lines.now)) }
+    {
+        if self.lines_of(name).is_empty() {
+            let all = lines_by(alloc, lists, lines, kinds.lines_of(name))?;
+            self.put(name, all)?;
+        }
+        Ok(())
+    }
+
+    /// Puts the lines of each of these names.
+    fn fill_all(
+        &mut self,
+        alloc: Global,
+        kinds: &NameIndex,
+        lists: &[LineList],
+        lines: &SetList,
+        names: &[Name],
+    ) -> Result<(), NoMemory>
+        requires few { length lines.now.kinds + 1 < 2 ^ 31 }
+        requires kinds { IsIndexOf kinds.now.lines lines.now.sets }
+        requires lists { AreLists lines.now (length lines.now.kinds) lists.now }
+        ensures { OnOk result
+            ((done : List ℕ → Bool) → IsPart self.old.lines done (named_in lines.now) →
+            IsPart self.new.lines (λ other. done other || holds_name other names.now)
+            (named_in lines.now)) }
+    {
+        for name in names {
+            self.fill(alloc, kinds, lists, lines, name)?;
+        }
+        Ok(())
+    }
+
+    /// The index of these lines. The lines of a name are found by the kinds that have it, so that a set that stands on many lines is
+    /// read once.
+    pub(crate) fn of(alloc: Global, lines: &SetList) -> Result<NameIndex, NoMemory>
+        requires few { length lines.now.kinds + 1 < 2 ^ 31 }
+        requires kinds { length lines.now.sets < 2 ^ 31 }
+        ensures { IfOk result
+            (λ index. IsIndexOf index.lines (sets_of lines.now.sets lines.now.kinds)) }
+    {
+        let kinds = NameIndex::of_sets(alloc, lines.sets.as_slice())?;
+        let lists = lines.lists(alloc)?;
+        let all = lists.as_slice();
+        let mut index = NameIndex::new(alloc);
+        for names in lines.sets.as_slice() {
+            index.fill_all(alloc, &kinds, all, lines, names.as_slice())?;
         }
         Ok(index)
     }

@@ -1,26 +1,28 @@
 //! The names that a grid gives to its lines, and those that subgrids below it share.
 
-ghost use Rattle.std.specs.Prelude.{◌≡◌, ◌≢◌, ◌<◌, ◌≤◌, ◌+◌, ◌+ℤ◌, ◌∷◌, ◌≤ℤ◌, List, ℕ, length, get_or, pos, neg_ℤ, false, IsTrue, OnOk, IfOk};
+ghost use Rattle.std.specs.Prelude.{◌≡◌, ◌≤◌, ◌+◌, ◌+ℤ◌, ◌∷◌, ◌≤ℤ◌, ◌||◌, Bool, List, ℕ, length, pos, neg_ℤ, OnOk, IfOk};
 ghost use Rattle.std.specs.Str.{bytes_eq};
 ghost use Rattle.part_rules.specs.LineNames.{holds_name};
-ghost use Rattle.line_names.specs.Indexes.{lines_in};
+ghost use Rattle.line_names.specs.Indexes.{IsPart};
 ghost use Rattle.line_names.specs.LineLists.{listed};
-ghost use Rattle.line_names.specs.Levels.{found, seen_in, told, told_from, within, AreOrdered, HoldsLines, HoldsMore, IsAmong, IsGrown, IsLineBelow, IsSorted, IsSortedAbove};
-ghost use Rattle.line_names.specs.Counting.{AreAscending};
+ghost use Rattle.line_names.specs.Levels.{either, found, joined_in, seen_in, told, told_from, within, HoldsLines, IsBelow};
+ghost use Rattle.line_names.specs.Passing.{passing};
+ghost use Rattle.line_names.specs.SetLists.{sets_of};
 
-use crate::counting::{Base, NamedLines, count_up_to, line_at, lines_from, lines_up_to};
+use crate::counting::{Base, NamedLines, lines_from, lines_up_to};
 use crate::index::NameIndex;
 use crate::line_list::{LineList, LinesIn};
-use lunit::{Name, NameSet, NoMemory, Sequence, Span};
+use crate::set_list::SetList;
+use lunit::{Name, NoMemory, Sequence, Span};
 use std::alloc::Global;
 use std::marker::Model;
 use std::rc::Rc;
 
 /// What one grid has of its own along an axis: of a grid that is no subgrid the sets of its lines have the names by its areas too,
-/// of a subgrid they have not, and its index has only the names whose lines differ from those that the grid above has.
+/// of a subgrid they have not, and its index has only the names of its own lines.
 #[derive(Drop)]
 pub(crate) struct Level {
-    pub(crate) sets: Sequence<NameSet>,
+    pub(crate) sets: SetList,
     pub(crate) areas: Sequence<(Name, Span)>,
     /// The lines of the grid above over which it lies.
     pub(crate) over: Span,
@@ -104,7 +106,6 @@ fn found<'a>(levels: &'a [SharedLevel], name: &Name) -> LinesIn<'a>
 
 /// Those of these lines that lie in a limit.
 fn cut_to<'a>(lines: NamedLines<'a>, limit: Span) -> NamedLines<'a>
-    requires { AreAscending (told lines) }
     ensures value { told result ≡ within limit.start limit.end (told lines.entry) }
     ensures base { result.base ≡ lines.entry.base }
 {
@@ -116,7 +117,6 @@ fn cut_to<'a>(lines: NamedLines<'a>, limit: Span) -> NamedLines<'a>
 
 /// The lines of a name in the levels above a subgrid that lie in its limit.
 fn above_in<'a>(above: &'a [SharedLevel], base: Base, limit: Span, name: &Name) -> NamedLines<'a>
-    requires { AreOrdered above.now }
     ensures value { told result ≡
         within limit.start limit.end (told_from base.line (found above.now name.now)) }
     ensures base { result.base ≡ base }
@@ -133,7 +133,6 @@ pub(crate) fn seen<'a>(
     limit: Span,
     name: &Name,
 ) -> NamedLines<'a>
-    requires { AreOrdered above.now }
     ensures { told result ≡ seen_in index.now above.now base.line limit.start limit.end name.now }
 {
     let lines = index.lines_of(name);
@@ -141,24 +140,6 @@ pub(crate) fn seen<'a>(
         return above_in(above, base, limit, name);
     }
     NamedLines { lines, base }
-}
-
-/// Whether a line is among these, which ascend.
-fn has_line(lines: NamedLines, line: i64) -> bool
-    requires { AreAscending (told lines) }
-    ensures there { IsTrue result → IsAmong (told lines.entry) line }
-    ensures missing { result ≡ false →
-        ((i : ℕ) → i < length (told lines.entry) →
-        get_or (told lines.entry) i (pos 0) ≢ line) }
-{
-    let count = count_up_to(lines, line);
-    if count == 0 {
-        return false;
-    }
-    if line_at(lines, count - 1) == line {
-        return true;
-    }
-    false
 }
 
 /// The lines of a subgrid.
@@ -170,24 +151,6 @@ pub(crate) fn all_lines(tracks: u32) -> Span
         start: 0,
         end: tracks as i32,
     }
-}
-
-/// The lines of a name that the index of a subgrid has, or else those of the levels above in its tracks.
-fn seen_below<'a>(
-    index: &'a NameIndex,
-    above: &'a [SharedLevel],
-    base: Base,
-    tracks: u32,
-    name: &Name,
-) -> NamedLines<'a>
-    requires few { tracks ≤ 20000 }
-    requires ordered { AreOrdered above.now }
-    requires sorted { IsSorted index.now above.now base.line tracks }
-    ensures value { told result ≡
-        seen_in index.now above.now base.line (pos 0) (pos tracks) name.now }
-    ensures ascending { AreAscending (told result) }
-{
-    seen(index, above, base, all_lines(tracks), name)
 }
 
 /// The line of the topmost grid that is line 0 of a subgrid over these lines.
@@ -211,106 +174,86 @@ fn line_of(base: Base, line: u32) -> i32
     base.line + line as i32
 }
 
-/// Takes the lines of a name out of the index; where it has none, those of the levels above.
-fn take_seen(
-    index: &mut NameIndex,
-    alloc: Global,
-    above: &[SharedLevel],
-    base: Base,
-    tracks: u32,
-    name: &Name,
-) -> Result<LineList, NoMemory>
-    requires few { tracks ≤ 20000 }
-    requires ordered { AreOrdered above.now }
-    ensures taken { IfOk result
-        (λ lines. told_from base.line lines ≡
-        seen_in index.old above.now base.line (pos 0) (pos tracks) name.now) }
-    ensures others { (other : List ℕ) → bytes_eq name.now other ≡ false →
-        lines_in index.new.lines other ≡ lines_in index.old.lines other }
-{
-    let own = index.take(alloc, name);
-    if !own.is_empty() {
-        return Ok(own);
-    }
-    let there = above_in(above, base, all_lines(tracks), name);
-    there.lines.copied(alloc)
-}
-
-/// These lines and one more, which is not among them.
-fn with_line(lines: LineList, alloc: Global, base: Base, line: u32) -> Result<LineList, NoMemory>
+/// Whether a line of a subgrid is among these lines of its own, or among those of the levels above.
+fn is_either(own: LinesIn, above: LinesIn, base: Base, line: u32) -> bool
     requires low { neg_ℤ (pos 10000) ≤ℤ base.line }
     requires high { base.line ≤ℤ pos 10000 }
     requires few { line ≤ 20000 }
-    requires ascending { AreAscending (told_from base.line lines) }
-    ensures { IfOk result
-        (λ all. IsGrown (told_from base.line lines) (told_from base.line all) (pos line)) }
+    ensures { result ≡
+        either (listed own.entry) (listed above.entry) base.line (base.line +ℤ pos line) }
 {
-    let there = lines.seen();
-    let at = count_up_to(NamedLines { lines: there, base }, i64::from(line));
-    lines.inserted(alloc, at, line_of(base, line))
+    if own.has(i64::from(line)) {
+        return true;
+    }
+    above.has(i64::from(line_of(base, line)))
 }
 
-/// Adds a line to those of a name.
-fn grow(
-    index: &mut NameIndex,
+/// The lines of a subgrid, as lines of the topmost grid, that have a name in its own sets or in the levels above.
+fn joined(
     alloc: Global,
-    above: &[SharedLevel],
+    own: LinesIn,
+    above: LinesIn,
     base: Base,
     tracks: u32,
-    name: &Name,
-    line: u32,
-) -> Result<(), NoMemory>
-    requires here { IsLineBelow index.old above.now base.line tracks line }
-    requires missing { (i : ℕ) →
-        i < length (seen_in index.old above.now base.line (pos 0) (pos tracks) name.now) →
-        get_or (seen_in index.old above.now base.line (pos 0) (pos tracks) name.now) i (pos 0) ≢
-        pos line }
-    ensures { OnOk result
-        (HoldsMore index.old index.new above.now base.line tracks (bytes_eq name.now) (pos line)) }
+) -> Result<LineList, NoMemory>
+    requires few { tracks ≤ 20000 }
+    requires low { neg_ℤ (pos 10000) ≤ℤ base.line }
+    requires high { base.line ≤ℤ pos 10000 }
+    ensures { IfOk result
+        (λ lines. lines ≡
+        passing (either (listed own.entry) (listed above.entry) base.line) base.line (tracks + 1)) }
 {
-    let lines = take_seen(index, alloc, above, base, tracks, name)?;
-    let lines = with_line(lines, alloc, base, line)?;
-    index.put(name, lines)
+    let mut lines = LineList::new(alloc);
+    for at in 0..tracks + 1 {
+        let line = line_of(base, at);
+        lines.push_if(is_either(own, above, base, at), line)?;
+    }
+    Ok(lines)
 }
 
-/// Adds a line to those of a name, if it is not among them.
+/// Puts the lines of a name of a subgrid's own lines, unless it has lines already.
 fn add(
     index: &mut NameIndex,
     alloc: Global,
+    own: &NameIndex,
     above: &[SharedLevel],
     base: Base,
     tracks: u32,
     name: &Name,
-    line: u32,
 ) -> Result<(), NoMemory>
-    requires { IsLineBelow index.old above.now base.line tracks line }
+    requires { IsBelow base.line tracks }
     ensures { OnOk result
-        (HoldsMore index.old index.new above.now base.line tracks (bytes_eq name.now) (pos line)) }
+        ((done : List ℕ → Bool) →
+        IsPart index.old.lines done (joined_in own.now above.now base.line tracks) →
+        IsPart index.new.lines (λ other. done other || bytes_eq name.now other)
+        (joined_in own.now above.now base.line tracks)) }
 {
-    let there = seen_below(index, above, base, tracks, name);
-    if has_line(there, i64::from(line)) {
-        return Ok(());
+    if index.lines_of(name).is_empty() {
+        let lines = joined(alloc, own.lines_of(name), found(above, name), base, tracks)?;
+        index.put(name, lines)?;
     }
-    grow(index, alloc, above, base, tracks, name, line)
+    Ok(())
 }
 
-/// Adds a line to those of each of these names.
+/// Puts the lines of each of these names.
 fn add_all(
     index: &mut NameIndex,
     alloc: Global,
+    own: &NameIndex,
     above: &[SharedLevel],
     base: Base,
     tracks: u32,
     names: &[Name],
-    line: u32,
 ) -> Result<(), NoMemory>
-    requires { IsLineBelow index.old above.now base.line tracks line }
+    requires { IsBelow base.line tracks }
     ensures { OnOk result
-        (HoldsMore index.old index.new above.now base.line tracks (λ other. holds_name other names.now)
-        (pos line)) }
+        ((done : List ℕ → Bool) →
+        IsPart index.old.lines done (joined_in own.now above.now base.line tracks) →
+        IsPart index.new.lines (λ other. done other || holds_name other names.now)
+        (joined_in own.now above.now base.line tracks)) }
 {
     for name in names {
-        add(index, alloc, above, base, tracks, name, line)?;
+        add(index, alloc, own, above, base, tracks, name)?;
     }
     Ok(())
 }
@@ -322,26 +265,26 @@ pub(crate) fn index_below(
     above: &[SharedLevel],
     base: Base,
     tracks: u32,
-    lines: &[NameSet],
+    lines: &SetList,
 ) -> Result<NameIndex, NoMemory>
-    requires few { tracks ≤ 20000 }
-    requires low { neg_ℤ (pos 10000) ≤ℤ base.line }
-    requires high { base.line ≤ℤ pos 10000 }
-    requires lines { length lines.now ≡ tracks + 1 }
-    requires ordered { AreOrdered above.now }
-    requires sorted { IsSortedAbove above.now base.line tracks }
-    ensures { IfOk result (λ index. HoldsLines index above.now base.line tracks lines.now) }
+    requires below { IsBelow base.line tracks }
+    requires lines { length lines.now.kinds ≡ tracks + 1 }
+    requires sets { length lines.now.sets ≤ tracks + 1 }
+    ensures { IfOk result
+        (λ index. HoldsLines index above.now base.line tracks
+        (sets_of lines.now.sets lines.now.kinds)) }
 {
+    let own = NameIndex::of(alloc, lines)?;
     let mut index = NameIndex::new(alloc);
-    for at in 0..lines.len() {
+    for names in lines.sets.as_slice() {
         add_all(
             &mut index,
             alloc,
+            &own,
             above,
             base,
             tracks,
-            lines[at].as_slice(),
-            at as u32,
+            names.as_slice(),
         )?;
     }
     Ok(index)

@@ -10,6 +10,7 @@ mod line_list;
 mod naming;
 mod places;
 mod repetition;
+mod set_list;
 mod side;
 mod table;
 

@@ -1,309 +1,279 @@
 //! The lines of one name.
 
-ghost use Rattle.std.specs.Prelude.{◌≡◌, ◌<◌, ◌≤◌, ◌+◌, ◌-◌, ◌*◌, ◌^◌, ◌++◌, ◌∷◌, ◌↔◌, ◌==◌, [], drop, get_or, insert, length, pos, slice_get, take, IfOk, IfSome, IsTrue};
-ghost use Rattle.line_names.specs.LineLists.{listed, stepped, steps};
+ghost use Rattle.std.specs.Prelude.{◌≡◌, ◌<◌, ◌≤◌, ◌+◌, ◌-◌, ◌^◌, ◌++◌, ◌∷◌, ◌↔◌, ◌||◌, ◌==◌, [], ℕ, pos, neg_ℤ, ◌+ℤ◌, ◌-ℤ◌, ◌≤ℤ◌, ◌<ℤ◌, int_le, filter, get_or, max, length, slice_get, IfOk, IfSome, IsTrue, OnErr, OnOk};
+ghost use Rattle.line_names.specs.Counting.{IsWide};
+ghost use Rattle.line_names.specs.Indexes.{ends_before};
+ghost use Rattle.line_names.specs.LineLists.{has_bit, listed};
+ghost use Rattle.line_names.specs.Passing.{among, picked};
 
 use lunit::{NoMemory, Sequence};
 use std::alloc::Global;
 use std::marker::Model;
 
-// ---- steps
+// ---- bits
 
-/// So many lines, each so far after the one before it. The numbers are so narrow that no line of them is past 32 bits.
-#[derive(Clone, Copy)]
-pub(crate) struct Steps {
-    first: u16,
-    step: u8,
-    count: u16,
-}
-
-#[tactic(auto, using(crate::proofs::LineLists::small))]
-/// So many steps.
-fn distance(step: u8, count: u16) -> u32
-    ensures value { result ≡ count * step }
-    ensures small { result < 2 ^ 24 }
+/// Whether the bit at a place is set.
+fn has_bit(words: &[u64], place: usize) -> bool
+    ensures { result ≡ has_bit words.now place }
 {
-    count as u32 * step as u32
-}
-
-/// The line so many steps after the first one.
-fn line_after(steps: Steps, count: u16) -> i32
-    ensures { result ≡ pos (steps.first + count * steps.step) }
-{
-    (steps.first as u32 + distance(steps.step, count)) as i32
-}
-
-/// No lines.
-fn no_steps() -> Steps
-    ensures { result.count ≡ 0 }
-{
-    Steps {
-        first: 0,
-        step: 0,
-        count: 0,
+    match words.get(place / 64) {
+        Some(word) => (*word >> (place % 64)) & 1 == 1,
+        None => false,
     }
 }
 
-/// The number of a line, where it is narrow.
-fn narrow(line: i32) -> Option<u16>
-    ensures { IfSome result (λ number. pos number ≡ line) }
+/// Adds words of no bits until there are more than so many.
+fn grow(words: &mut Sequence<u64>, at: usize) -> Result<(), NoMemory>
+    ensures same { (place : ℕ) → has_bit words.new place ≡ has_bit words.old place }
+    ensures enough { OnOk result (at < length words.new) }
 {
-    if line < 0 || line > 65535 {
-        return None;
+    while words.len() <= at {
+        words.push(0)?;
     }
-    Some(line as u16)
+    Ok(())
 }
 
-#[tactic(auto, using(crate::proofs::LineLists::first_line))]
-/// This line alone.
-fn one_line(line: i32) -> Option<Steps>
-    ensures { IfSome result (λ one. stepped one ≡ line ∷ []) }
+/// Sets the bit at a place.
+fn set_bit(words: &mut Sequence<u64>, place: usize) -> Result<(), NoMemory>
+    ensures set { OnOk result
+        ((other : ℕ) → has_bit words.new other ≡ (has_bit words.old other || (other == place))) }
+    ensures same { OnErr result ((other : ℕ) → has_bit words.new other ≡ has_bit words.old other) }
 {
-    match narrow(line) {
-        Some(first) => Some(Steps {
-            first,
-            step: 0,
-            count: 1,
-        }),
-        None => None,
+    grow(words, place / 64)?;
+    match words.get_mut(place / 64) {
+        Some(word) => *word |= 1u64 << (place % 64),
+        None => {}
     }
+    Ok(())
 }
 
-/// How far a line is after another one, where that is narrow.
-fn step_to(first: u16, line: i32) -> Option<u8>
-    ensures { IfSome result (λ step. pos (first + step) ≡ line) }
+// ---- places
+
+/// The line at a place, where the first bit is that of this line.
+fn place_line(first: i32, place: u32) -> i64
+    ensures { result ≡ first +ℤ pos place }
 {
-    let from = first as i32;
-    if line < from || line - from > 255 {
-        return None;
-    }
-    Some((line - from) as u8)
+    first as i64 + place as i64
 }
 
-#[tactic(auto, using(crate::proofs::LineLists::second_line))]
-/// A line after one that stands alone.
-fn two_lines(steps: Steps, line: i32) -> Option<Steps>
-    requires { steps.count ≡ 1 }
-    ensures { IfSome result (λ two. stepped two ≡ stepped steps ++ line ∷ []) }
+/// The place of a line that does not come before the first one.
+fn place_at(first: i32, line: i32) -> u32
+    requires { first ≤ℤ line }
+    ensures { pos result ≡ line -ℤ first }
 {
-    match step_to(steps.first, line) {
-        Some(step) => Some(Steps {
-            first: steps.first,
-            step,
-            count: 2,
-        }),
-        None => None,
-    }
+    (line as i64 - first as i64) as u32
 }
 
-#[tactic(auto, using(crate::proofs::LineLists::line_more))]
-/// A line one step after the last one.
-fn next_line(steps: Steps, line: i32) -> Option<Steps>
-    ensures { IfSome result (λ more. stepped more ≡ stepped steps ++ line ∷ []) }
+/// The later one of two places.
+fn later(one: u32, other: u32) -> u32
+    ensures { result ≡ max one other }
 {
-    if steps.count == u16::MAX || line != line_after(steps, steps.count) {
-        return None;
-    }
-    Some(Steps {
-        first: steps.first,
-        step: steps.step,
-        count: steps.count + 1,
-    })
+    one.max(other)
 }
 
-#[tactic(auto, using(crate::proofs::LineLists::no_lines))]
-/// A line behind these, where they all are such lines.
-fn followed_by(steps: Steps, line: i32) -> Option<Steps>
-    ensures { IfSome result (λ more. stepped more ≡ stepped steps ++ line ∷ []) }
+/// A number of a line.
+pub(crate) fn line_number(line: usize) -> i32
+    requires { line < 2 ^ 31 }
+    ensures { result ≡ pos line }
 {
-    match steps.count {
-        0 => one_line(line),
-        1 => two_lines(steps, line),
-        _ => next_line(steps, line),
-    }
-}
-
-/// So many lines one after another, where they are narrow.
-pub(crate) fn run_of(first: u32, count: u32) -> Option<Steps>
-    ensures { IfSome result (λ run. stepped run ≡ steps first 1 count) }
-{
-    if first > 65535 || count > 65535 {
-        return None;
-    }
-    Some(Steps {
-        first: first as u16,
-        step: 1,
-        count: count as u16,
-    })
+    line as i32
 }
 
 // ---- a part of the lines
 
-/// The lines of a name, or a part of them: those of steps but for so many at their start, and others behind them.
+/// Those lines of a name whose bits are set, from one place to before another one.
 #[derive(Clone, Copy)]
 pub(crate) struct LinesIn<'a> {
-    steps: Steps,
-    skip: u16,
-    more: &'a [i32],
+    /// The line of the first bit.
+    first: i32,
+    words: &'a [u64],
+    start: u32,
+    end: u32,
 }
 
 impl<'a> LinesIn<'a> {
-    #[tactic(auto, using(crate::proofs::LineLists::unstepped))]
     /// No lines.
     pub(crate) fn none() -> LinesIn<'a>
         ensures { listed result ≡ [] }
     {
         LinesIn {
-            steps: no_steps(),
-            skip: 0,
-            more: &[],
+            first: 0,
+            words: &[],
+            start: 0,
+            end: 0,
         }
     }
 
-    /// How many lines of steps there are.
-    fn counted(self) -> usize
-        ensures { result ≡ self.entry.steps.count - self.entry.skip }
-    {
-        (self.steps.count as usize).saturating_sub(self.skip as usize)
-    }
-
-    #[tactic(auto, using(crate::proofs::LineLists::listed_count))]
     /// How many lines there are.
     pub(crate) fn len(self) -> usize
         ensures { result ≡ length (listed self.entry) }
     {
-        self.counted() + self.more.len()
+        let mut count = 0;
+        for place in self.start..self.end {
+            if has_bit(self.words, place as usize) {
+                count += 1;
+            }
+        }
+        count
+    }
+
+    /// The line at an index.
+    pub(crate) fn at(self, index: usize) -> i64
+        requires { index < length (listed self) }
+        ensures value { result ≡ get_or (listed self.entry) index (pos 0) }
+        ensures low { neg_ℤ (pos 2147483648) ≤ℤ result }
+        ensures high { result ≤ℤ pos 8589934592 }
+    {
+        let mut left = index;
+        for place in self.start..self.end {
+            if has_bit(self.words, place as usize) {
+                if left == 0 {
+                    return place_line(self.first, place);
+                }
+                left -= 1;
+            }
+        }
+        place_line(self.first, self.end)
     }
 
     /// Whether there are none.
     pub(crate) fn is_empty(self) -> bool
-        ensures { result ≡ (length (listed self.entry) == 0) }
+        ensures { IsTrue result ↔ (listed self.entry ≡ []) }
     {
-        self.len() == 0
+        for place in self.start..self.end {
+            if has_bit(self.words, place as usize) {
+                return false;
+            }
+        }
+        true
     }
 
-    #[tactic(auto, using(crate::proofs::LineLists::reading))]
-    /// The line at an index.
-    pub(crate) fn at(self, place: usize) -> i32
-        requires { place < length (listed self) }
-        ensures { result ≡ get_or (listed self.entry) place (pos 0) }
+    /// The number of the line that is here alone.
+    pub(crate) fn only(self) -> Option<u32>
+        ensures { IfSome result (λ line. listed self.entry ≡ pos line ∷ []) }
     {
-        let counted = self.counted();
-        if place < counted {
-            return line_after(self.steps, self.skip + place as u16);
+        if self.len() != 1 {
+            return None;
         }
-        self.more[place - counted]
+        let line = self.at(0);
+        if line < 0 || line > 4294967295 {
+            return None;
+        }
+        Some(line as u32)
     }
 
-    #[tactic(auto, using(crate::proofs::LineLists::leaving_out))]
-    /// These lines without so many at their start.
-    pub(crate) fn without(self, count: usize) -> LinesIn<'a>
-        requires { count ≤ length (listed self) }
-        ensures { listed result ≡ drop count (listed self.entry) }
+    /// Whether a line is one of these.
+    pub(crate) fn has(self, line: i64) -> bool
+        requires { IsWide line }
+        ensures { result ≡ among (listed self.entry) line }
     {
-        let counted = self.counted();
-        if count <= counted {
-            return LinesIn {
-                steps: self.steps,
-                skip: self.skip + count as u16,
-                more: self.more,
-            };
+        let place = self.place_of(line);
+        if place < self.start || place >= self.end || place_line(self.first, place) != line {
+            return false;
         }
+        has_bit(self.words, place as usize)
+    }
+
+    /// The place of a line: 0 for one before the first bit, and the end for one past these lines.
+    fn place_of(self, line: i64) -> u32
+        requires low { neg_ℤ (pos 1099511627776) ≤ℤ line }
+        requires high { line ≤ℤ pos 1099511627777 }
+        ensures within { result ≤ self.entry.end }
+        ensures not_after { 0 < result → pos result ≤ℤ (line -ℤ self.entry.first) }
+        ensures not_before { result < self.entry.end → (line -ℤ self.entry.first) ≤ℤ pos result }
+    {
+        let place = line - self.first as i64;
+        if place <= 0 {
+            return 0;
+        }
+        if place >= self.end as i64 {
+            return self.end;
+        }
+        place as u32
+    }
+
+    /// Those of these lines that do not come before this one.
+    pub(crate) fn from(self, low: i64) -> LinesIn<'a>
+        requires { IsWide low }
+        ensures { listed result ≡ filter (λ line. int_le low line) (listed self.entry) }
+    {
         LinesIn {
-            steps: self.steps,
-            skip: self.steps.count,
-            more: &self.more[count - counted..],
+            first: self.first,
+            words: self.words,
+            start: later(self.start, self.place_of(low)),
+            end: self.end,
         }
     }
 
-    #[tactic(auto, using(crate::proofs::LineLists::taking))]
-    /// So many of these lines at their start.
-    pub(crate) fn first_so_many(self, count: usize) -> LinesIn<'a>
-        requires { count ≤ length (listed self) }
-        ensures { listed result ≡ take count (listed self.entry) }
+    /// Those of these lines that do not come after this one.
+    pub(crate) fn up_to(self, high: i64) -> LinesIn<'a>
+        requires { IsWide high }
+        ensures { listed result ≡ filter (λ line. int_le line high) (listed self.entry) }
     {
-        let counted = self.counted();
-        if count <= counted {
-            return LinesIn {
-                steps: Steps {
-                    first: self.steps.first,
-                    step: self.steps.step,
-                    count: self.skip + count as u16,
-                },
-                skip: self.skip,
-                more: &[],
-            };
-        }
         LinesIn {
-            steps: self.steps,
-            skip: self.skip,
-            more: &self.more[..count - counted],
+            first: self.first,
+            words: self.words,
+            start: self.start,
+            end: self.place_of(high + 1),
         }
-    }
-
-    /// These lines, each written out.
-    fn written(self, alloc: Global) -> Result<Sequence<i32>, NoMemory>
-        ensures { IfOk result (λ all. all ≡ listed self.entry) }
-    {
-        let mut all = Sequence::from_vec(Vec::with_capacity(alloc, self.len())?);
-        for place in 0..self.len() {
-            all.push(self.at(place))?;
-        }
-        Ok(all)
-    }
-
-    /// A list of these lines.
-    pub(crate) fn copied(self, alloc: Global) -> Result<LineList, NoMemory>
-        ensures { IfOk result (λ all. all ≡ listed self.entry) }
-    {
-        let mut all = LineList::new(alloc);
-        for place in 0..self.len() {
-            all = all.with(self.at(place), self.len() - place)?;
-        }
-        Ok(all)
     }
 }
 
 // ---- lists of lines
 
-/// These lines and one more. Room is made for so many, of which it is the first, since a list that grows by itself may take twice
-/// what it holds.
-fn pushed(lines: Sequence<i32>, line: i32, room: usize) -> Result<Sequence<i32>, NoMemory>
-    ensures { IfOk result (λ all. all ≡ lines ++ line ∷ []) }
+/// The first line of so many, or this one where there are none.
+fn first_line(first: i32, count: u32, line: i32) -> i32
+    ensures none { count ≡ 0 → result ≡ line }
+    ensures some { 0 < count → result ≡ first }
 {
-    let mut items = lines.into_vec();
-    items.reserve(room)?;
-    items.push(line)?;
-    Ok(Sequence::from_vec(items))
+    if count == 0 {
+        return line;
+    }
+    first
 }
 
-/// The lines of a name. Contracts see the list. Those at its front that stand at equal distances take no memory.
+/// The lines of a name, ascending. Contracts see the list. In memory each line from the first to the last one has a bit.
 #[derive(Drop)]
 pub(crate) struct LineList {
-    steps: Steps,
-    more: Sequence<i32>,
+    first: i32,
+    /// How many lines lie from the first to the last one; 0 where there are none.
+    count: u32,
+    words: Sequence<u64>,
 }
 
 impl Model for LineList {
-    ghost use Rattle.std.specs.Prelude.{List, ℤ, ◌++◌};
+    ghost use Rattle.std.specs.Prelude.{List, ℤ};
 
     ghost Value = { List ℤ };
 
-    ghost use Rattle.line_names.specs.LineLists.{stepped};
+    ghost use Rattle.line_names.specs.LineLists.{bits_in, IsLineList};
 
-    ghost view = { λ a. stepped a.steps ++ a.more };
+    ghost view = { λ a. bits_in a.words a.first a.count };
+
+    ghost invariant = { λ a. IsLineList a.words a.count };
 }
 
 impl LineList {
-    #[tactic(auto, using(crate::proofs::LineLists::unstepped))]
     /// No lines.
     pub(crate) fn new(alloc: Global) -> LineList
         ensures { result ≡ [] }
     {
         LineList {
-            steps: no_steps(),
-            more: Sequence::new(alloc),
+            first: 0,
+            count: 0,
+            words: Sequence::new(alloc),
         }
+    }
+
+    /// The list once more.
+    pub(crate) fn again(&self, alloc: Global) -> Result<LineList, NoMemory>
+        ensures { IfOk result (λ other. other ≡ self.now) }
+    {
+        Ok(LineList {
+            first: self.first,
+            count: self.count,
+            words: Sequence::from_slice(alloc, self.words.as_slice())?,
+        })
     }
 
     /// The lines, to be read.
@@ -311,91 +281,45 @@ impl LineList {
         ensures { listed result ≡ self.now }
     {
         LinesIn {
-            steps: self.steps,
-            skip: 0,
-            more: self.more.as_slice(),
+            first: self.first,
+            words: self.words.as_slice(),
+            start: 0,
+            end: self.count,
         }
-    }
-
-    /// Whether there are none.
-    pub(crate) fn is_empty(&self) -> bool
-        ensures { IsTrue result ↔ (self.now ≡ []) }
-    {
-        self.seen().is_empty()
     }
 
     /// The last line.
-    pub(crate) fn last(&self) -> Option<i32>
+    pub(crate) fn last(&self) -> Option<i64>
         ensures { result ≡ slice_get self.now (length self.now - 1) }
     {
-        let lines = self.seen();
-        if lines.is_empty() {
+        if self.count == 0 {
             return None;
         }
-        Some(lines.at(lines.len() - 1))
+        Some(place_line(self.first, self.count - 1))
     }
 
-    #[tactic(auto, using(crate::proofs::LineLists::adding))]
-    /// These lines and one more. Where it is not counted, room is made for so many, of which it is the first.
-    pub(crate) fn with(self, line: i32, room: usize) -> Result<LineList, NoMemory>
-        ensures { IfOk result (λ all. all ≡ self ++ line ∷ []) }
+    /// Adds a line after all others.
+    pub(crate) fn push(&mut self, line: i32) -> Result<(), NoMemory>
+        requires near { line <ℤ pos 2147483647 }
+        requires last { IsTrue (ends_before self.old line) }
+        ensures { OnOk result (self.new ≡ self.old ++ line ∷ []) }
     {
-        let LineList { steps, more } = self;
-        if more.is_empty() {
-            if let Some(longer) = followed_by(steps, line) {
-                return Ok(LineList {
-                    steps: longer,
-                    more,
-                });
-            }
+        self.first = first_line(self.first, self.count, line);
+        let place = place_at(self.first, line);
+        set_bit(&mut self.words, place as usize)?;
+        self.count = place + 1;
+        Ok(())
+    }
+
+    /// Adds a line after all others, if it is held.
+    pub(crate) fn push_if(&mut self, held: bool, line: i32) -> Result<(), NoMemory>
+        requires near { line <ℤ pos 2147483647 }
+        requires last { IsTrue (ends_before self.old line) }
+        ensures { OnOk result (self.new ≡ self.old ++ picked held line []) }
+    {
+        if held {
+            self.push(line)?;
         }
-        Ok(LineList {
-            steps,
-            more: pushed(more, line, room)?,
-        })
-    }
-
-    #[tactic(auto, using(crate::proofs::LineLists::nothing_more))]
-    /// The lines of steps, put into a list of none.
-    pub(crate) fn begun(self, run: Steps) -> LineList
-        requires { self ≡ [] }
-        ensures { result ≡ stepped run }
-    {
-        let LineList { steps: _, more } = self;
-        LineList { steps: run, more }
-    }
-
-    #[tactic(auto, using(crate::proofs::LineLists::unstepped))]
-    /// The lines, each written out. Takes no memory where they are.
-    fn written(self, alloc: Global) -> Result<Sequence<i32>, NoMemory>
-        ensures { IfOk result (λ all. all ≡ self) }
-    {
-        if self.steps.count > 0 {
-            return self.seen().written(alloc);
-        }
-        let LineList { steps: _, more } = self;
-        Ok(more)
-    }
-
-    #[tactic(auto, using(crate::proofs::LineLists::inserting))]
-    /// These lines with one more before the one at an index.
-    pub(crate) fn inserted(
-        self,
-        alloc: Global,
-        place: usize,
-        line: i32,
-    ) -> Result<LineList, NoMemory>
-        requires { place ≤ length self }
-        ensures { IfOk result (λ all. all ≡ insert self place line) }
-    {
-        if place == self.seen().len() {
-            return self.with(line, 1);
-        }
-        let mut more = self.written(alloc)?;
-        more.insert(place, line)?;
-        Ok(LineList {
-            steps: no_steps(),
-            more,
-        })
+        Ok(())
     }
 }

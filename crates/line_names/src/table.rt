@@ -1,11 +1,12 @@
-ghost use Rattle.std.specs.Prelude.{◌≡◌, ◌+◌, ◌≤◌, ◌++◌, [], get_or, ℕ, pos, neg_ℤ, ◌+ℤ◌, ◌≤ℤ◌, ◌<ℤ◌, IsTrue, IfOk};
+ghost use Rattle.std.specs.Prelude.{◌≡◌, ◌+◌, ◌≤◌, ◌++◌, [], get_or, length, ℕ, pos, neg_ℤ, ◌+ℤ◌, ◌≤ℤ◌, ◌<ℤ◌, IsTrue, IfOk};
 ghost use Rattle.lunit.specs.declared.geometry.Span.{Span};
 ghost use Rattle.lunit.specs.declared.geometry.Spot.TheVariants.{Free};
 ghost use Rattle.part_rules.specs.LineNames.{cut_areas, cut_spot, lines_by, named_lines, names_by_areas, own_table, resolved, subgrid_table};
-ghost use Rattle.line_names.specs.Levels.{told, AreOrdered, HoldsLines, IsSortedAbove};
+ghost use Rattle.line_names.specs.Levels.{told, HoldsLines, IsBelow};
 ghost use Rattle.line_names.specs.Parts.{cut_parts};
+ghost use Rattle.line_names.specs.SetLists.{sets_of};
 ghost use Rattle.line_names.specs.Sides.{has_edges};
-ghost use Rattle.line_names.specs.Tables.{are_areas};
+ghost use Rattle.line_names.specs.Tables.{are_areas, AreLines};
 
 use crate::counting::{Base, NamedLines};
 use crate::cutting::{cut_all, cut_parts, tracks_within};
@@ -13,6 +14,7 @@ use crate::index::NameIndex;
 use crate::levels::{Level, SharedLevel, all_lines, base_of, index_below, seen, with_level};
 use crate::naming::{add_areas, own_lines};
 use crate::places::{free, place};
+use crate::set_list::SetList;
 use crate::side::side_of;
 use lunit::{LineValue, Name, NameSet, NoMemory, Sequence, Span, Spot};
 use std::alloc::Global;
@@ -43,11 +45,36 @@ impl Model for LineTable {
 }
 
 /// The sets of the lines of a subgrid; spare ones are left out.
-fn kept_sets(alloc: Global, sets: &[NameSet], tracks: u32) -> Result<Sequence<NameSet>, NoMemory>
+fn kept_sets(alloc: Global, sets: &[NameSet], tracks: u32) -> Result<SetList, NoMemory>
+    requires { tracks ≤ 20000 }
     ensures { IfOk result
-        (λ kept. (line : ℕ) → line ≤ tracks → get_or kept line [] ≡ get_or sets.now line []) }
+        (λ kept. (line : ℕ) → line ≤ tracks →
+        get_or (sets_of kept.sets kept.kinds) line [] ≡ get_or sets.now line []) }
 {
-    own_lines(alloc, sets, sets.len().min(tracks as usize + 1))
+    SetList::of(alloc, sets, sets.len().min(tracks as usize + 1))
+}
+
+/// The sets of so many lines of their own, with the names by these areas.
+fn all_sets(
+    alloc: Global,
+    sets: &[NameSet],
+    tracks: u32,
+    areas: &[(Name, Span)],
+) -> Result<SetList, NoMemory>
+    requires few { tracks ≤ 65536 }
+    requires areas { IsTrue (are_areas tracks areas.now) }
+    ensures lines { IfOk result
+        (λ list. AreLines (λ line. get_or sets.now line [] ++ names_by_areas (pos line) areas.now)
+        (tracks + 1) (sets_of list.sets list.kinds)) }
+    ensures few { IfOk result (λ list. length list.sets ≤ tracks + 1) }
+{
+    let count = tracks as usize + 1;
+    if areas.is_empty() {
+        return SetList::of(alloc, sets, count);
+    }
+    let mut lines = own_lines(alloc, sets, count)?;
+    add_areas(&mut lines, areas)?;
+    SetList::of(alloc, lines.as_slice(), count)
 }
 
 /// The index of a subgrid with these sets and areas.
@@ -59,12 +86,8 @@ fn index_with(
     sets: &[NameSet],
     areas: &[(Name, Span)],
 ) -> Result<NameIndex, NoMemory>
-    requires few { tracks ≤ 20000 }
-    requires low { neg_ℤ (pos 10000) ≤ℤ base.line }
-    requires high { base.line ≤ℤ pos 10000 }
+    requires below { IsBelow base.line tracks }
     requires areas { IsTrue (are_areas tracks areas.now) }
-    requires ordered { AreOrdered above.now }
-    requires sorted { IsSortedAbove above.now base.line tracks }
     ensures { IfOk result
         (λ index. HoldsLines index above.now base.line tracks
         (lines_by (λ line. get_or sets.now line [] ++ names_by_areas (pos line) areas.now)
@@ -73,9 +96,8 @@ fn index_with(
     if sets.is_empty() && areas.is_empty() {
         return Ok(NameIndex::new(alloc));
     }
-    let mut lines = own_lines(alloc, sets, tracks as usize + 1)?;
-    add_areas(&mut lines, areas)?;
-    index_below(alloc, above, base, tracks, lines.as_slice())
+    let lines = all_sets(alloc, sets, tracks, areas)?;
+    index_below(alloc, above, base, tracks, &lines)
 }
 
 impl LineTable {
@@ -114,10 +136,9 @@ impl LineTable {
         requires areas { IsTrue (are_areas tracks areas.now) }
         ensures { IfOk result (λ table. table ≡ own_table sets.now tracks areas.now) }
     {
-        let mut lines = own_lines(alloc, sets, tracks as usize + 1)?;
-        add_areas(&mut lines, areas)?;
+        let lines = all_sets(alloc, sets, tracks, areas)?;
         let areas = Sequence::from_slice(alloc, areas)?;
-        let index = NameIndex::of(alloc, lines.as_slice())?;
+        let index = NameIndex::of(alloc, &lines)?;
         let limit = Span {
             start: -10_000,
             end: 10_000,

@@ -3,12 +3,7 @@ use Rattle.std.specs.Prelude.{filter}
 use Rattle.std.specs.Int.{int_min}
 use Rattle.std.proofs.lemmas.Int.{to_z-of_z}
 use Rattle.part_rules.specs.LineNames.{going_back, named_lines}
-use Rattle.line_names.specs.Levels.{told}
-use Rattle.line_names.proofs.Counted.{named_ascend}
 use Rattle.line_names.proofs.places.named_back.Goals as goal
-
-pub lines_before-requires-clause-ascending : goal.lines_before-requires-clause-ascending
-lines_before-requires-clause-ascending c = named_ascend c.args.table.now c.args.name.now (told c.lines_of.result) c.lines_of.ensures
 
 pub returns : goal.returns
 returns c =

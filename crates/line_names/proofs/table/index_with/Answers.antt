@@ -1,19 +1,22 @@
-use Rattle.std.proofs.Common.{ap, subst, ◌∙◌, length}
+use Rattle.std.proofs.Common.{sym, subst, ◌∙◌, ◌++◌, ◌+◌, [], get_or, pos}
 use Rattle.std.proofs.lemmas.Result.{IfOk-weaker}
+use Rattle.part_rules.specs.LineNames.{names_by_areas}
 use Rattle.line_names.specs.Levels.{HoldsLines}
-use Rattle.line_names.proofs.Made.{own_lines_made}
+use Rattle.line_names.specs.SetLists.{sets_of}
+use Rattle.line_names.proofs.Made.{lines_made}
+use Rattle.line_names.proofs.SetLists.{counted}
 use Rattle.line_names.proofs.Shared.{lines_bare}
 use Rattle.line_names.proofs.table.index_with.Goals as goal
 
 pub index_below-requires-clause-lines : goal.index_below-requires-clause-lines
-index_below-requires-clause-lines c = ap length c.as_slice.ensures ∙ c.in_ok-add_areas.ensures.counted ∙ c.in_ok-lines.ensures.counted
+index_below-requires-clause-lines c = sym (counted c.in_ok-lines.lines.sets c.in_ok-lines.lines.kinds) ∙ c.in_ok-lines.ensures.lines.counted
 
 pub returns : goal.returns
 returns c =
     IfOk-weaker c.index_below.result _ _
     (λ index h.
     subst (λ ls. HoldsLines index c.args.above.now c.args.base.line c.args.tracks ls)
-    (c.as_slice.ensures ∙ own_lines_made c.args.sets.now c.args.tracks c.args.areas.now c.in_ok-lines.lines c.add_areas.new.lines c.in_ok-lines.ensures c.in_ok-add_areas.ensures)
+    (lines_made (λ line. get_or c.args.sets.now line [] ++ names_by_areas (pos line) c.args.areas.now) (c.args.tracks + 1) (sets_of c.in_ok-lines.lines.sets c.in_ok-lines.lines.kinds) c.in_ok-lines.ensures.lines)
     h)
     c.index_below.ensures
 

@@ -1,15 +1,18 @@
-use Rattle.std.proofs.Common.{◌∙◌, ap, sym, get_or, pos}
-use Rattle.std.proofs.lemmas.List.{take_all}
-use Rattle.part_rules.specs.LineNames.{named_from}
-use Rattle.line_names.proofs.Names.{index_step}
+use Rattle.std.proofs.Common.{arith, ap, sym, ◌∙◌, ◌≡◌, length, get_or, take}
+use Rattle.line_names.specs.SetLists.{has_name, named_in}
+use Rattle.line_names.proofs.Names.{part_same}
+use Rattle.line_names.proofs.SetLists.{has_more, whole_part}
 use Rattle.line_names.proofs.index.NameIndex.of.Goals as goal
 
-pub loop-at-preserved : goal.loop-at-preserved
-loop-at-preserved c = record {
-  within = c.alike-count.ensures.within;
-  found = λ other. c.in_ok-add_all.ensures other ∙ index_step other c.args.lines.now c.loop-at.at c.alike-count.result c.as_slice.result.now _ c.alike-count.ensures.within
-      (c.as_slice.ensures ∙ c.index-lines-at.is ∙ ap (λ d. get_or c.args.lines.now c.loop-at.at d) (sym c.as_slice.ensures)) c.alike-count.ensures.same (c.loop-at.invariant.found other);
-}
+pub loop-names-preserved : goal.loop-names-preserved
+loop-names-preserved c =
+    let items : length c.as_slice-names-items.result.now ≡ length c.args.lines.now.sets = ap (λ ls. length ls) c.as_slice-names-items.ensures in
+    part_same c.fill_all.new.self.lines _ _ (named_in c.args.lines.now)
+    (has_more c.args.lines.now.sets c.loop-names.names-index c.as_slice-in-loop-names.result.now (omega (arith, items, c.loop-names-test.true))
+    (c.as_slice-in-loop-names.ensures ∙ c.names-item.is ∙ ap (λ ls. get_or ls c.loop-names.names-index c.names-item.result) c.as_slice-names-items.ensures ∙ ap (λ d. get_or c.args.lines.now.sets c.loop-names.names-index d) (sym c.as_slice-in-loop-names.ensures)))
+    (c.in_ok-fill_all.ensures (has_name (take c.loop-names.names-index c.args.lines.now.sets)) c.loop-names.invariant)
 
 pub returns : goal.returns
-returns c = λ other. c.loop-at.invariant.found other ∙ ap (λ lines. named_from other (pos 0) lines) (take_all c.loop-at.at c.args.lines.now c.loop-at-test.false)
+returns c =
+    let items : length c.as_slice-names-items.result.now ≡ length c.args.lines.now.sets = ap (λ ls. length ls) c.as_slice-names-items.ensures in
+    whole_part c.loop-names.index.lines c.args.lines.now.sets c.args.lines.now.kinds c.loop-names.names-index (omega (arith, items, c.loop-names-test.false)) c.loop-names.invariant

@@ -3,13 +3,13 @@ use Rattle.std.proofs.lemmas.Int.{ints}
 use Rattle.std.proofs.lemmas.Result.{IfOk-weaker}
 use Rattle.lunit.specs.declared.geometry.Span.{Span}
 use Rattle.part_rules.specs.LineNames.{Table, cut_areas, lines_by, names_by_areas, subgrid_table}
-use Rattle.line_names.specs.Levels.{lines_under, AreOrdered, HoldsLines, IsSortedAbove}
+use Rattle.line_names.specs.Levels.{lines_under, HoldsLines}
 use Rattle.line_names.specs.Tables.{are_areas, table_by}
 use Rattle.line_names.specs.declared.levels.Level.{Level}
 use Rattle.line_names.proofs.Cut.{all_fit}
 use Rattle.line_names.proofs.Edges.{added_fit, parts_add_all, HaveNames}
 use Rattle.line_names.proofs.Made.{subgrid_made}
-use Rattle.line_names.proofs.Shared.{sub_table, sorted_above, ordered_next}
+use Rattle.line_names.proofs.Shared.{sub_table}
 use Rattle.line_names.proofs.table.LineTable.inherit.Goals as goal
 
 pub base_of-base-requires-clause-low : goal.base_of-base-requires-clause-low
@@ -25,18 +25,6 @@ index_with-requires-clause-areas c =
     let P : Table → Type 0 = λ t. are_areas t.tracks t.areas ≡ true in
     added_fit c.tracks_within-tracks.result 65536 c.args.parent.now.tracks whole c.args.span c.args.areas.now c.args.parent.now.areas _ all c.tracks_within-tracks.ensures.value c.requires.areas (subst P c.parent.view_is c.parent.invariant.areas)
     (c.as_slice-3.ensures ∙ c.in_ok-added.ensures)
-
-pub index_with-requires-clause-ordered : goal.index_with-requires-clause-ordered
-index_with-requires-clause-ordered c =
-    subst (λ ls. AreOrdered ls) (sym (c.as_slice-2.ensures ∙ c.in_ok-above.ensures ∙ ap (λ ls. c.parent.inside.level ∷ ls) c.as_slice.ensures)) (ordered_next c.parent.inside.limit c.parent.inside.base.line c.parent.inside.level c.parent.inside.above c.parent.invariant)
-
-pub index_with-requires-clause-sorted : goal.index_with-requires-clause-sorted
-index_with-requires-clause-sorted c =
-    let low : c.parent.inside.limit.start ≤ℤ c.args.span.start = omega (arith, ints, ap (λ t. t.low) c.parent.view_is, c.requires.low) in
-    let high : (c.args.span.start +ℤ pos c.tracks_within-tracks.result) ≤ℤ c.parent.inside.limit.end = omega (arith, ints, ap (λ t. t.high) c.parent.view_is, c.requires.high, c.tracks_within-tracks.ensures.value) in
-    subst (λ ls. IsSortedAbove ls c.base_of-base.result.line c.tracks_within-tracks.result) (sym (c.as_slice-2.ensures ∙ c.in_ok-above.ensures ∙ ap (λ ls. c.parent.inside.level ∷ ls) c.as_slice.ensures))
-    (subst (λ b. IsSortedAbove (c.parent.inside.level ∷ c.parent.inside.above) b c.tracks_within-tracks.result) (sym c.base_of-base.ensures)
-    (sorted_above c.parent.inside.limit c.parent.inside.base.line c.parent.inside.level c.parent.inside.above c.args.span.start c.tracks_within-tracks.result c.parent.invariant low high))
 
 pub of-requires : goal.of-requires
 of-requires c =

@@ -1,8 +1,0 @@
-use Rattle.std.proofs.Common.{ap, ◌∙◌}
-use Rattle.line_names.specs.Levels.{told_from}
-use Rattle.line_names.specs.LineLists.{listed}
-use Rattle.line_names.proofs.Told.{told_drop}
-use Rattle.line_names.proofs.counting.without.Goals as goal
-
-pub returns-clause-value : goal.returns-clause-value
-returns-clause-value c = ap (λ ls. told_from c.args.lines.base.line ls) c.without.ensures ∙ told_drop c.args.lines.base.line (listed c.args.lines.lines) c.args.count
