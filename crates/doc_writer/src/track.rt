@@ -470,8 +470,9 @@ pub(crate) fn write_template(
         Template::Absent => line.word(b"none"),
         Template::Tracks(list) => write_list(line, alloc, list, &Units::new(units)),
         Template::Subgrid(lines) => {
+            let sets = lines.written(alloc)?;
             line.word(b"subgrid")?;
-            write_subgrid(line, lines.as_slice())
+            write_subgrid(line, sets.as_slice())
         }
     }
 }

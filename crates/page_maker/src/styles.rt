@@ -122,7 +122,7 @@ fn lent_style(alloc: Global) -> Result<Declared, NoMemory>
     style.set(Prop::GridColumnStart, start)?;
     let end = plain_value(alloc, Value::Line(LineValue::Auto));
     style.set(Prop::GridColumnEnd, end)?;
-    let columns = Value::Template(Template::Subgrid(Sequence::new(alloc)));
+    let columns = Value::Template(Template::Subgrid(Runs::new(alloc)));
     style.set(Prop::GridTemplateColumns, plain_value(alloc, columns))?;
     Ok(style)
 }

@@ -1,9 +1,9 @@
 //! The context of a grid in its seat: its lines, its gaps, and the subgrids from it up (CSS Grid 2, sections 7 and 9).
 
 ghost use Rattle.std.specs.Prelude.{◌≡◌, ◌≤◌, ◌∷◌, ◌++◌, ◌+ℤ◌, [], List, ℤ, pos, map, Option, None, Some, IfOk, IsTrue, length, insert, reverse};
-ghost use Rattle.std.specs.Option.{option_copied};
+ghost use Rattle.std.specs.Option.{option_copied, unwrap_or};
 ghost use Rattle.line_names.specs.Tables.{are_areas};
-ghost use Rattle.part_rules.specs.LineNames.{NamedSpan};
+ghost use Rattle.part_rules.specs.LineNames.{NamedSpan, subgrid_table};
 ghost use Rattle.tree_rules.specs.Answers.{Pair};
 ghost use Rattle.tree_rules.specs.Contexts.{level_of, lower_context, top_context};
 ghost use Rattle.tree_rules.specs.Labels.{grid_of, length_or_zero};
@@ -25,8 +25,9 @@ use crate::style::{
 };
 use crate::template::{TrackSizes, lines};
 use line_names::LineTable;
-use lunit::{Area, Lu, Name, NoMemory, Sequence, Span};
+use lunit::{Area, Lu, Name, NameSet, NoMemory, Sequence, Span};
 use part_rules::Level;
+use runs::Runs;
 use std::alloc::Global;
 use style_types::{Areas, Size, Style};
 
@@ -161,6 +162,29 @@ fn own_axis<const AXIS: u8>(
     })
 }
 
+/// The lines of a subgrid with these name sets over a span of its parent's lines.
+fn table_under(
+    alloc: Global,
+    parent: &LineTable,
+    span: Span,
+    sets: Option<&Runs<NameSet>>,
+    areas: &[(Name, Span)],
+) -> Result<LineTable, NoMemory>
+    requires span { IsWithin parent.now.low parent.now.high span }
+    requires areas { IsTrue (are_areas 65536 areas.now) }
+    ensures { IfOk result
+        (λ table. table ≡
+        subgrid_table parent.now span (unwrap_or (option_copied sets.entry) []) areas.now) }
+{
+    match sets {
+        Some(sets) => {
+            let written = sets.written(alloc)?;
+            LineTable::inherit(alloc, parent, span, written.as_slice(), areas)
+        }
+        None => LineTable::inherit(alloc, parent, span, &[], areas),
+    }
+}
+
 /// The context of a grid along an axis in which it has the tracks of its parent over a span.
 fn shared_axis<const AXIS: u8>(
     alloc: Global,
@@ -176,7 +200,7 @@ fn shared_axis<const AXIS: u8>(
 {
     let sets = subgrid_sets::<AXIS>(style);
     let named = named::<AXIS>(alloc, style)?;
-    let table = LineTable::inherit(alloc, &parent.table, span, sets, &named)?;
+    let table = table_under(alloc, &parent.table, span, sets, &named)?;
     let gap = lent_gap(parent.gap, gap::<AXIS>(style));
     let level = level::<AXIS>(style, span, gap, parent.gap);
     Ok(AxisContext {

@@ -3,7 +3,7 @@
 //!
 //! Axis 0 is the inline axis, along which the columns lie, and axis 1 the block axis, along which the rows lie.
 
-ghost use Rattle.std.specs.Prelude.{◌≡◌, ◌∷◌, [], Some, None, false, pos};
+ghost use Rattle.std.specs.Prelude.{◌≡◌, ◌∷◌, [], length, Some, None, false, pos};
 ghost use Rattle.std.specs.Option.{option_copied, unwrap_or};
 ghost use Rattle.lunit.specs.declared.line_value.LineValue.TheVariants as line;
 ghost use Rattle.style_types.specs.Styles.{value_of};
@@ -16,6 +16,7 @@ ghost use Rattle.placing.specs.Axes.{content_axis, grid_axis, listed};
 ghost use Rattle.placing.specs.Glances.{IsLineGlance};
 
 use lunit::{LineValue, Lu, NameSet};
+use runs::Runs;
 use style_types::{
     Align, AlignMode, Areas, Glance, Prop, Scroll, Size, Style, Template, TrackFn, TrackList, Value,
 };
@@ -33,14 +34,22 @@ fn list_of(style: &Style, p: Prop) -> Option<&TrackList>
     }
 }
 
-/// The name sets that a property has with `subgrid`; none where it has another value.
-fn sets_of(style: &Style, p: Prop) -> &[NameSet]
+/// Name sets; `None` where there are none.
+fn some_sets(sets: &Runs<NameSet>) -> Option<&Runs<NameSet>>
+    ensures { unwrap_or (option_copied result) [] ≡ sets.now }
+{
+    if sets.is_empty() { None } else { Some(sets) }
+}
+
+/// The name sets that a property has with `subgrid`; `None` where it has none.
+fn sets_of(style: &Style, p: Prop) -> Option<&Runs<NameSet>>
     requires { template_in (initial p) ≡ template.Absent }
-    ensures { result.now ≡ subgrid_sets (template_in (value_of style.now p)) }
+    ensures { unwrap_or (option_copied result) [] ≡
+        subgrid_sets (template_in (value_of style.now p)) }
 {
     match style.get(p) {
-        Some(Value::Template(Template::Subgrid(sets))) => sets.as_slice(),
-        _ => &[],
+        Some(Value::Template(Template::Subgrid(sets))) => some_sets(sets),
+        _ => None,
     }
 }
 
@@ -165,15 +174,33 @@ pub fn is_subgrid<const AXIS: u8>(style: &Style) -> bool
     }
 }
 
-/// The name sets of the template `subgrid`; none for another template (CSS Grid 2, section 9).
-pub fn subgrid_sets<const AXIS: u8>(style: &Style) -> &[NameSet]
-    ensures { result.now ≡ subgrid_sets (grid_axis AXIS (grid_of style.now)).template }
+/// The name sets of the template `subgrid`; `None` where it has none, as another template (CSS Grid 2, section 9).
+pub fn subgrid_sets<const AXIS: u8>(style: &Style) -> Option<&Runs<NameSet>>
+    ensures { unwrap_or (option_copied result) [] ≡
+        subgrid_sets (grid_axis AXIS (grid_of style.now)).template }
 {
     if AXIS == 0 {
         sets_of(style, Prop::GridTemplateColumns)
     } else {
         sets_of(style, Prop::GridTemplateRows)
     }
+}
+
+/// How many name sets there are.
+fn count_of(sets: Option<&Runs<NameSet>>) -> usize
+    ensures { result ≡ length (unwrap_or (option_copied sets.entry) []) }
+{
+    match sets {
+        Some(sets) => sets.len(),
+        None => 0,
+    }
+}
+
+/// How many name sets the template `subgrid` has; none for another template.
+pub fn set_count<const AXIS: u8>(style: &Style) -> usize
+    ensures { result ≡ length (subgrid_sets (grid_axis AXIS (grid_of style.now)).template) }
+{
+    count_of(subgrid_sets::<AXIS>(style))
 }
 
 /// The sizes of the tracks outside the template; `None` where they are not set, and are the one size `auto` (CSS Grid 2, section 7.6).

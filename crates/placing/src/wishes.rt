@@ -20,7 +20,7 @@ ghost use Rattle.placing.specs.Wishes.{spot_along, wish_by, IsLimitOf, IsOpen, I
 use crate::contexts::Context;
 use crate::node::Node;
 use crate::sight::{child_among, node_at};
-use crate::style::{end_glance, end_line, start_glance, start_line, subgrid_sets};
+use crate::style::{end_glance, end_line, set_count, start_glance, start_line};
 use line_names::LineTable;
 use lunit::{LineValue, NoMemory, Spot};
 use node_arena::{Arena, NodeId};
@@ -48,7 +48,7 @@ fn automatic_span<const AXIS: u8>(kind: &NodeKind, style: &Style) -> u32
     ensures { result ≡
         automatic_span (is_grid_kind kind.now) (grid_axis AXIS (grid_of style.now)).template }
 {
-    let sets = subgrid_sets::<AXIS>(style).len();
+    let sets = set_count::<AXIS>(style);
     if sets <= 2 {
         return 1;
     }

@@ -69,8 +69,8 @@ pub enum Template {
     Absent,
     /// A track list.
     Tracks(TrackList),
-    /// `subgrid` with the name sets of its lines (section 9).
-    Subgrid(Sequence<NameSet>),
+    /// `subgrid` with the name sets of its lines (section 9), in which repeats are written out as in a track list.
+    Subgrid(Runs<NameSet>),
 }
 
 impl Copied for TrackFn {

@@ -1,6 +1,6 @@
 -- The tracks and lines of parts, as they are listed: what stands many times is listed once, with how often it stands.
 use Rattle.std.proofs.Common.{◌≡◌, ℕ, zero, suc, ◌+◌, ◌-◌, ◌≤◌, ◌<◌, true, false, Result, Ok, Err, IfOk, List, [], ◌∷◌, ◌++◌, map, take, drop, length, ap, refl, sym, ◌∙◌, arith, length-take}
-use Rattle.std.proofs.lemmas.List.{append-nil, append_assoc, drop_all}
+use Rattle.std.proofs.lemmas.List.{append-nil, append_assoc, drop_all, take-append-le}
 use Rattle.std.proofs.lemmas.Bool.{true≢false}
 use Rattle.runs.specs.Times.{times as runs_times}
 use Rattle.runs.proofs.Times.{times_once}
@@ -10,10 +10,11 @@ use Rattle.track_text.specs.declared.entry.Entry.TheVariants as entry
 use Rattle.track_text.specs.declared.entry.Filling.{Filling}
 use Rattle.track_text.specs.declared.entry.Part.{Part}
 use Rattle.track_text.specs.declared.entry.Part.TheVariants as part
+use Rattle.track_text.specs.declared.entry.Sets.{Sets}
 use Rattle.track_text.specs.Words.{Word}
 use Rattle.track_text.specs.NameSets.{distinct}
 use Rattle.track_text.specs.Repeats.{times, has_track}
-use Rattle.track_text.specs.Templates.{tracks_of, lines_of}
+use Rattle.track_text.specs.Templates.{tracks_of, lines_of, sets_of}
 use Rattle.track_text.specs.Kept.{entries_of}
 use Rattle.track_text.specs.Lines.{closed_by, open_after}
 use Rattle.track_text.proofs.Holding.{from_there, seam, seam_name, seam_first}
@@ -75,6 +76,27 @@ tracks_skip n held all filling body left rest x e k h = ap (λ (ps : List Part).
 pub tracks_last : (n : ℕ) (held all : List Track) (parts : List Part) (i : ℕ) → length parts ≤ i → length held ≤ n → take n (held ++ tracks_of (entries_of (drop i parts))) ≡ all → held ≡ all
 tracks_last n held all parts i p f h =
     sym (kept_all n held f) ∙ ap (λ (ps : List Part). take n (held ++ tracks_of (entries_of ps))) (sym (drop_all i parts p)) ∙ h
+
+-- ---- sets after `subgrid`
+
+sets-times : (count : ℕ) (body : List (List Word)) → times count body ≡ runs_times count body
+sets-times zero body = refl
+sets-times (suc count) body = ap (λ (sets : List (List Word)). body ++ sets) (sets-times count body)
+
+-- the sets of one part more
+pub sets_next : (n : ℕ) (held next all more : List (List Word)) (left rest : List Sets) (x : Sets) → left ≡ x ∷ rest → more ≡ x.sets → next ≡ take n (held ++ runs_times x.count more)
+    → take n (held ++ sets_of left) ≡ all → take n (next ++ sets_of rest) ≡ all
+sets_next n held next all more left rest x e s m h =
+    kept_more n held next (times x.count x.sets) (sets_of rest) (m ∙ ap (λ (sets : List (List Word)). take n (held ++ sets)) (ap (runs_times x.count) s ∙ sym (sets-times x.count x.sets)))
+    ∙ ap (λ (parts : List Sets). take n (held ++ sets_of parts)) (sym e)
+    ∙ h
+
+pub sets_last : (n : ℕ) (held all : List (List Word)) (parts : List Sets) (i : ℕ) → length parts ≤ i → length held ≤ n → take n (held ++ sets_of (drop i parts)) ≡ all → held ≡ all
+sets_last n held all parts i p f h = sym (kept_all n held f) ∙ ap (λ (ps : List Sets). take n (held ++ sets_of ps)) (sym (drop_all i parts p)) ∙ h
+
+-- sets past the last that has room
+pub sets_full : (n : ℕ) (held all : List (List Word)) (left : List Sets) → n ≤ length held → length held ≤ n → take n (held ++ sets_of left) ≡ all → held ≡ all
+sets_full n held all left f k h = sym (take-few n held k) ∙ sym (take-append-le n held (sets_of left) f) ∙ h
 
 -- ---- the lines that entries close
 

@@ -1,11 +1,9 @@
 -- Sets of names after `subgrid`.
-use Rattle.std.proofs.Common.{◌≡◌, ℕ, zero, suc, ◌-◌, ◌≤◌, ◌<◌, true, false, List, [], ◌∷◌, ◌++◌, take, drop, length, ap, refl, sym, ◌∙◌, arith, Option, Some, None, codes}
-use Rattle.std.proofs.lemmas.List.{take-append-le}
+use Rattle.std.proofs.Common.{◌≡◌, ℕ, zero, suc, ◌≤◌, true, false, List, [], ◌∷◌, ◌++◌, take, drop, length, ap, refl, arith, Option, Some, None, codes}
 use Rattle.std.specs.Option.{option_map}
 use Rattle.std.specs.Str.{bytes_eq}
 use Rattle.track_text.specs.Words.{Word, bind, past, front, up_to, rest_up_to, all_from}
 use Rattle.track_text.specs.NameSets.{name_first, names_after}
-use Rattle.track_text.specs.Repeats.{times}
 use Rattle.track_text.specs.Templates.{distinct_read, set_first, sets_or_none, sets_after, set_repeat_after, set_once, sets_first, sets_of, subgrid_of}
 
 -- ---- forms
@@ -62,18 +60,6 @@ pub take-behind : {A : Type 0} (n : ℕ) (xs ys : List A) → take n (take n xs 
 take-behind zero xs ys = refl
 take-behind (suc n) [] ys = refl
 take-behind (suc n) (x ∷ xs) ys = ap (λ (zs : List _). x ∷ zs) (take-behind n xs ys)
-
-pub take-same : {A : Type 0} (n : ℕ) (xs ys more : List A) → take n xs ≡ take n ys → take n (xs ++ more) ≡ take n (ys ++ more)
-take-same n xs ys more e = sym (take-behind n xs more) ∙ ap (λ (zs : List _). take n (zs ++ more)) e ∙ take-behind n ys more
-
-pub take-full : {A : Type 0} (n : ℕ) (xs more : List A) → n ≤ length xs → take n (xs ++ more) ≡ take n xs
-take-full n xs more h = take-append-le n xs more h
-
-pub sets-first : (count : ℕ) (sets : List (List Word)) → 0 < count → times count sets ≡ sets ++ times (count - 1) sets
-sets-first zero sets h = let wrong : ⊥ = omega arith in elim wrong [ ]
-sets-first (suc count) sets h =
-    let n : count ≡ suc count - 1 = omega arith in
-    ap (λ (n : ℕ). sets ++ times n sets) n
 
 pub some-none : (sets : List (List Word)) (words : List Word) → sets ≡ [] → sets_or_none (sets, words) ≡ None
 some-none [] words e = refl

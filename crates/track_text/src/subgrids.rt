@@ -1,9 +1,8 @@
 //! Sets of names after `subgrid` (CSS Grid 2, section 9).
 
-ghost use Rattle.std.specs.Prelude.{◌≡◌, ◌≤◌, ◌++◌, ◌∷◌, codes, length, take, IfOk, OnOk};
+ghost use Rattle.std.specs.Prelude.{◌≡◌, ◌∷◌, codes, take, IfOk};
 ghost use Rattle.std.specs.Option.{option_map};
 ghost use Rattle.track_text.specs.Words.{past, front, rest_up_to, all_from};
-ghost use Rattle.track_text.specs.Repeats.{times};
 ghost use Rattle.track_text.specs.Templates.{set_first, sets_after, set_repeat_after, sets_first, sets_of, subgrid_of};
 ghost use Rattle.track_text.specs.Gives.{Gives};
 
@@ -14,6 +13,7 @@ use crate::name_sets::names_after;
 use crate::parts::count_of;
 use crate::words::Words;
 use lunit::{Copied, NameSet, NoMemory, Sequence};
+use runs::Runs;
 use std::alloc::Global;
 
 /// How many sets are kept.
@@ -101,54 +101,22 @@ fn parts_of(alloc: Global, words: Words) -> Result<Sequence<Sets>, Stop>
     Ok(parts)
 }
 
-/// Puts copies of the sets behind those that are held, as far as they are kept.
-fn add_all(alloc: Global, held: &mut Sequence<NameSet>, sets: &[NameSet]) -> Result<(), NoMemory>
-    requires { length held.old ≤ 20001 }
-    ensures few { OnOk result (length held.new ≤ 20001) }
-    ensures sets { OnOk result (take 20001 held.new ≡ take 20001 (held.old ++ sets.now)) }
-{
-    for set in sets {
-        if held.len() >= MOST_SETS {
-            return Ok(());
-        }
-        held.push(set.copy(alloc)?)?;
-    }
-    Ok(())
-}
-
-/// Puts copies of the sets so many times behind those that are held, as far as they are kept.
-fn add_times(
-    alloc: Global,
-    held: &mut Sequence<NameSet>,
-    count: u32,
-    sets: &[NameSet],
-) -> Result<(), NoMemory>
-    requires { length held.old ≤ 20001 }
-    ensures few { OnOk result (length held.new ≤ 20001) }
-    ensures sets { OnOk result
-        (take 20001 held.new ≡ take 20001 (held.old ++ times count sets.now)) }
-{
-    let mut left = count;
-    while left > 0 && held.len() < MOST_SETS {
-        add_all(alloc, held, sets)?;
-        left -= 1;
-    }
-    Ok(())
-}
-
-/// The kept sets.
-fn sets_of(alloc: Global, parts: &[Sets]) -> Result<Sequence<NameSet>, NoMemory>
+/// The kept sets. What stands many times is held once.
+fn sets_of(alloc: Global, parts: &[Sets]) -> Result<Runs<NameSet>, NoMemory>
     ensures { IfOk result (λ held. held ≡ take 20001 (sets_of parts.now)) }
 {
-    let mut held = Sequence::new(alloc);
+    let mut held = Runs::new(alloc);
     for part in parts {
-        add_times(alloc, &mut held, part.count, part.sets.as_slice())?;
+        if held.len() >= MOST_SETS {
+            return Ok(held);
+        }
+        held = held.with_times(alloc, MOST_SETS, part.count, part.sets.copy(alloc)?)?;
     }
     Ok(held)
 }
 
 /// The sets of names that the words after `subgrid` are.
-pub(crate) fn subgrid_of(alloc: Global, words: Words) -> Result<Sequence<NameSet>, Stop>
+pub(crate) fn subgrid_of(alloc: Global, words: Words) -> Result<Runs<NameSet>, Stop>
     ensures { Gives result (subgrid_of words.entry) }
 {
     let parts = parts_of(alloc, words)?;

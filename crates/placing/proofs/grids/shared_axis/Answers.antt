@@ -7,8 +7,8 @@ use Rattle.placing.specs.Along.{cells_along, named_along}
 use Rattle.placing.proofs.Named.{areas_more, few_cells, in_cells}
 use Rattle.placing.proofs.grids.shared_axis.Goals as goal
 
-pub inherit-requires-clause-areas : goal.inherit-requires-clause-areas
-inherit-requires-clause-areas g c =
+pub table_under-requires-clause-areas : goal.table_under-requires-clause-areas
+table_under-requires-clause-areas g c =
     let areas = (grid_of c.args.style.now).areas in
     subst (λ (l : List NamedSpan). IsTrue (are_areas 65536 l)) (sym (c.deref.ensures.value ∙ c.in_ok-named.ensures))
     (areas_more (cells_along g.row.AXIS areas) 65536 (named_along g.row.AXIS areas) (few_cells g.row.AXIS areas c.requires.style.areas) (in_cells g.row.AXIS areas c.requires.style.areas))
