@@ -32,6 +32,10 @@ use std::alloc::Global;
 use std::sync::ledger::Ledger;
 use style_types::Style;
 
+/// The most rows that a grid holds beside its answer (own rule): the list of where they lie takes 16 bytes a row, and to size them
+/// once more takes one pass over them.
+const MOST_ROWS: usize = 8192;
+
 /// Where rows of these sizes lie in a content box that is as great as they are. `NoMemory` where memory is wanting.
 fn rows_at(alloc: Global, style: &Style, size: Lu, tracks: &SizedTracks) -> Result<RowsAt, NoMemory>
     requires few { length tracks.now.rules ≤ 131072 }
@@ -64,7 +68,8 @@ fn rows_at(alloc: Global, style: &Style, size: Lu, tracks: &SizedTracks) -> Resu
 }
 
 /// The block size of the content of a grid that sizes its rows, the total of the rows under a max-content space (CSS Grid 2, 5.2), and
-/// where these lie in a content box of that size, if it is known at once. It makes one step. `NoMemory` where memory is wanting.
+/// where these lie in a content box of that size, if it is known at once and they are not too many. It makes one step. `NoMemory` where
+/// memory is wanting.
 fn rows_total<L: Ledger>(
     alloc: Global,
     tree: &Arena<Node>,
@@ -103,7 +108,7 @@ fn rows_total<L: Ledger>(
         items: wide.items.as_slice(),
     };
     let made = lasting_for::<1, L>(alloc, &input, passes)?;
-    if !made.lasting {
+    if !made.lasting || made.tracks.rules.len() > MOST_ROWS {
         return Ok((made.total, None));
     }
     let rows = rows_at(alloc, style, made.total, &made.tracks)?;
