@@ -11,6 +11,7 @@ use crate::words::words_of;
 use lunit::Steps;
 use outside::{StdSink, StdSource, WordRuler};
 use session::{Status, run};
+use std::alloc::{AllocError, Global};
 use std::io;
 use std::marker::Brand;
 use std::process::ExitCode;
@@ -50,6 +51,16 @@ fn status<R: Input + Print + Env + AllocGlobal, L: Ledger>(
     )
 }
 
+/// Bytes of one block, just below the greatest that counts for `keep_blocks` (32 MiB).
+const BLOCK: usize = 31 << 20;
+
+/// Takes one great block of memory and gives it back at once. From then on the allocator of the system (glibc's) keeps what is
+/// given back for the next request. Otherwise it hands each list of some ten thousand tracks to the kernel and takes it anew, page
+/// by page: up to half of the time of a document of many such grids. With another allocator, or no such block, nothing changes.
+fn keep_blocks(alloc: Global) {
+    let _: Result<Vec<u8>, AllocError> = Vec::with_capacity(alloc, BLOCK);
+}
+
 /// The number of a status, as the system takes it.
 fn code_for(status: Status) -> ExitCode
     ensures { exit_status result ≡ code_of status }
@@ -58,6 +69,7 @@ fn code_for(status: Status) -> ExitCode
 }
 
 fn main(rt: HostRuntime) -> ExitCode {
+    keep_blocks(rt.alloc());
     let words = words_of(&rt, rt.alloc());
     code_for(status::<HostRuntime, Brand>(&rt, words, Blank::new(1)))
 }
