@@ -1,6 +1,6 @@
 -- What a grid asks of a child, and what the child answers.
 use Rattle.std.proofs.Common.{◌≡◌, ℕ, ◌+◌, ◌∷◌, ◌++◌, [], List, Bool, true, false, ◌&&◌, if◌then◌else◌, length, refl, sym, ap, ◌∙◌, subst, arith, ℤ, pos, Some, inl}
-use Rattle.std.specs.Prelude.{not, OnOk, Result, Ok, Err, IfSome, IfNone, Option, None}
+use Rattle.std.specs.Prelude.{not, OnErr, OnOk, Result, Ok, Err, IfSome, IfNone, Option, None}
 use Rattle.std.proofs.lemmas.Bool.{false≢true}
 use Rattle.lunit.specs.declared.item.Item.{Item}
 use Rattle.node_arena.specs.Numbers.{child_at}
@@ -11,7 +11,7 @@ use Rattle.placing.specs.Children.{IsNext, IsParent, IsTree}
 use Rattle.placing.specs.Insides.{IsInside}
 use Rattle.placing.specs.Nodes.{BareTrees, IsLive, above_at, kid_at, sight_at}
 use Rattle.placing.specs.Seats.{IsSeat, context_at, context_of}
-use Rattle.placing.specs.Walks.{State, Stopped, Walked}
+use Rattle.placing.specs.Walks.{State, Stopped, Walked, WalkedBelow}
 use Rattle.placing.specs.declared.contexts.Above.{Above}
 use Rattle.placing.specs.declared.contexts.Above.TheVariants as above
 use Rattle.placing.specs.declared.contexts.Context.{Context}
@@ -43,6 +43,22 @@ walked_stopped n q s t w = record { more = 0; rest = []; walk = w.walk; within =
 pub on_ok : {T E : Type 0} (r : Result T E) (P : Type 0) → P → OnOk r P
 on_ok (Ok x) P p = p
 on_ok (Err e) P p = tt
+
+-- A walk that came to the children of a node, and then to its end: by what the end says of every walk that came so far.
+module _ {T E : Type 0} (r : Result T E) (n : NodeId) (q : Query) (more : ℕ) (s mid t : State) (w : WalkedBelow n q more s mid) where
+  pub ok_walked : OnOk r ((old : State) → WalkedBelow n q more old mid → Walked n q old t) → OnOk r (Walked n q s t)
+  ok_walked = at r
+    where
+      at : (x : Result T E) → OnOk x ((old : State) → WalkedBelow n q more old mid → Walked n q old t) → OnOk x (Walked n q s t)
+      at (Ok a) f = f s w
+      at (Err e) f = tt
+
+  pub err_stopped : OnErr r ((old : State) → WalkedBelow n q more old mid → Stopped n q old t) → OnErr r (Stopped n q s t)
+  err_stopped = at r
+    where
+      at : (x : Result T E) → OnErr x ((old : State) → WalkedBelow n q more old mid → Stopped n q old t) → OnErr x (Stopped n q s t)
+      at (Ok a) f = tt
+      at (Err e) f = f s w
 
 -- ---- answers, out of their constructors
 

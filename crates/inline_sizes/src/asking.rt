@@ -19,8 +19,8 @@ ghost use Rattle.tree_rules.specs.declared.query.Query.{Query};
 ghost use Rattle.walker.specs.Walkers.{nodes, seen, HasSeat, SameParts, Stands};
 ghost use Rattle.inline_sizes.specs.Grids.{HaveTold, IsEntry, IsGrid, IsLaid, LeadsOn, asked_of, items_seen, sizes_seen};
 
-use crate::children::{own_item, shares_columns};
-use crate::columns::{append, with_room};
+use crate::children::{add_entry, no_entries, own_item, shares_columns};
+use crate::columns::append;
 use crate::grid::shared_base;
 use crate::laws::items_lie_in_their_tracks;
 use crate::queries::kept_sizes;
@@ -201,14 +201,11 @@ fn ask_children<R: Ruler, L: Ledger>(
     root(walk.tree);
     items_lie_in_their_tracks(walk.tree, id);
     let count = base.placed.areas.len();
-    let mut inlines = with_room(walk.alloc, count)?;
-    let mut items = with_room(walk.alloc, count)?;
-    let mut ends = with_room(walk.alloc, count)?;
+    let (mut inlines, mut items, mut ends) = no_entries(walk.alloc, count)?;
     for index in 0..count {
         let entry = entry(walk.tree, id, &base.placed, index);
         let sizes = ask_child(walk, id, base, entry, &mut items)?;
-        inlines.push(sizes)?;
-        ends.push(items.len())?;
+        add_entry(&mut inlines, &mut ends, sizes, items.len())?;
     }
     Ok((inlines, items, ends))
 }

@@ -1,7 +1,7 @@
 //! The children of a grid along its columns: whether a child is a subgrid in them, which item another child is, and what the children
 //! told, kept.
 
-ghost use Rattle.std.specs.Prelude.{◌≡◌, ◌&&◌, ℕ};
+ghost use Rattle.std.specs.Prelude.{◌≡◌, ◌∷◌, ◌++◌, ◌&&◌, [], ℕ, IfOk, OnOk};
 ghost use Rattle.placing.specs.Bases.{HoldsPlaces};
 ghost use Rattle.placing.specs.Nodes.{bare, children_at, kid_at, sight_at, IsLive};
 ghost use Rattle.placing.specs.Ranges.{AreReadable};
@@ -14,13 +14,15 @@ ghost use Rattle.walker.specs.Walkers.{nodes, seen, SameParts, Stands};
 ghost use Rattle.inline_sizes.specs.Grids.{column_levels, has_subgrid_kind};
 ghost use Rattle.inline_sizes.specs.Lifted.{IsLifted};
 
+use crate::columns::with_room;
 use crate::grid::column_levels;
 use crate::sized::child_item;
-use lunit::{Item, Lu, NoMemory};
+use lunit::{Item, Lu, NoMemory, Sequence};
 use node_arena::{Arena, NodeId};
 use outside::Ruler;
 use placing::style::is_subgrid;
 use placing::{ChildArea, GridBase, MANY, Node, NodeKind, ToldColumns, node_at};
+use std::alloc::Global;
 use std::sync::ledger::Ledger;
 use walker::Walker;
 
@@ -71,6 +73,38 @@ pub(crate) fn own_item(
         entry.area.columns,
         (low, high),
     )
+}
+
+/// Nothing told by the children of a grid, with room for this many: no sizes, no items and no ends. `NoMemory` where memory is
+/// wanting.
+pub(crate) fn no_entries(
+    alloc: Global,
+    count: usize,
+) -> Result<(Sequence<(Lu, Lu)>, Sequence<Item>, Sequence<usize>), NoMemory>
+    ensures inlines { IfOk result (λ told. told.0 ≡ []) }
+    ensures items { IfOk result (λ told. told.1 ≡ []) }
+    ensures ends { IfOk result (λ told. told.2 ≡ []) }
+{
+    let inlines = with_room(alloc, count)?;
+    let items = with_room(alloc, count)?;
+    let ends = with_room(alloc, count)?;
+    Ok((inlines, items, ends))
+}
+
+/// Puts the two inline sizes of one more child, and where its items end, after those of the children before it. `NoMemory` where
+/// memory is wanting.
+pub(crate) fn add_entry(
+    inlines: &mut Sequence<(Lu, Lu)>,
+    ends: &mut Sequence<usize>,
+    sizes: (Lu, Lu),
+    end: usize,
+) -> Result<(), NoMemory>
+    ensures inlines { OnOk result (inlines.new ≡ inlines.old ++ sizes ∷ []) }
+    ensures ends { OnOk result (ends.new ≡ ends.old ++ end ∷ []) }
+{
+    inlines.push(sizes)?;
+    ends.push(end)?;
+    Ok(())
 }
 
 /// Keeps what the children of a grid told for its inline sizes, where they are many. A walk goes on after it as before it. `NoMemory`

@@ -30,7 +30,7 @@ fn sizes_under<R: Ruler, L: Ledger>(
     id: NodeId,
     query: Query,
     reps: &[(u32, u32)],
-    above: &Above,
+    above: Above,
     area: Area,
 ) -> Result<(Lu, Lu), NoMemory>
     requires stands { Stands walk.old }
@@ -38,7 +38,7 @@ fn sizes_under<R: Ruler, L: Ledger>(
     requires query { query ≡ inline_query false reps.now }
     requires fits { Fits (sight_at (nodes walk.old) id) query }
     requires absent { IsAbsent query (kept walk.old id) }
-    requires seat { IsSeat (sight_at (nodes walk.old) id) reps.now above.now area }
+    requires seat { IsSeat (sight_at (nodes walk.old) id) reps.now above area }
     ensures value { IfOk result
         (λ sizes. inline_sizes sizes ≡ answer_of (sight_at (nodes walk.old) id) query) }
     ensures stands { Stands walk.new }
@@ -51,7 +51,11 @@ fn sizes_under<R: Ruler, L: Ledger>(
         (λ sizes. kept walk.new id ≡
         kept_with (kept walk.old id) ((query, answer.Sizes sizes.0 sizes.1) ∷ [])) }
 {
-    let seat = Seat { reps, above, area };
+    let seat = Seat {
+        reps,
+        above: &above,
+        area,
+    };
     sizes_anew(walk, id, query, &seat)
 }
 
@@ -61,7 +65,7 @@ fn columns_under<R: Ruler, L: Ledger>(
     id: NodeId,
     query: Query,
     reps: &[(u32, u32)],
-    above: &Above,
+    above: Above,
     area: Area,
 ) -> Result<Sequence<Item>, NoMemory>
     requires stands { Stands walk.old }
@@ -69,7 +73,7 @@ fn columns_under<R: Ruler, L: Ledger>(
     requires query { query ≡ inline_query true reps.now }
     requires fits { Fits (sight_at (nodes walk.old) id) query }
     requires absent { IsAbsent query (kept walk.old id) }
-    requires seat { IsSeat (sight_at (nodes walk.old) id) reps.now above.now area }
+    requires seat { IsSeat (sight_at (nodes walk.old) id) reps.now above area }
     ensures value { IfOk result
         (λ items. lent_items items ≡ answer_of (sight_at (nodes walk.old) id) query) }
     ensures stands { Stands walk.new }
@@ -82,7 +86,11 @@ fn columns_under<R: Ruler, L: Ledger>(
         (λ items. kept walk.new id ≡
         kept_with (kept walk.old id) ((query, answer.Lent items) ∷ [])) }
 {
-    let seat = Seat { reps, above, area };
+    let seat = Seat {
+        reps,
+        above: &above,
+        area,
+    };
     columns_anew(walk, id, query, &seat)
 }
 
@@ -128,8 +136,8 @@ pub fn inline_of<R: Ruler, L: Ledger>(
     if let Some(sizes) = kept_sizes(tree, id, reps) {
         return Ok(sizes);
     }
-    let (above, area) = seat(alloc, tree, id, reps)?;
     let query = inline_query(alloc, false, reps)?;
+    let (above, area) = seat(alloc, tree, id, reps)?;
     let mut walk = Walker {
         alloc,
         tree,
@@ -137,7 +145,7 @@ pub fn inline_of<R: Ruler, L: Ledger>(
         tally,
         passes,
     };
-    sizes_under(&mut walk, id, query, reps, &above, area)
+    sizes_under(&mut walk, id, query, reps, above, area)
 }
 
 /// The items that a subgrid in the columns lends to the grid that sizes them, spans in that grid's lines and lengths in units of
@@ -182,8 +190,8 @@ pub fn lend_columns<R: Ruler, L: Ledger>(
     if let Some(items) = kept_items(tree, id, reps) {
         return Sequence::from_slice(alloc, items.as_slice());
     }
-    let (above, area) = seat(alloc, tree, id, reps)?;
     let query = inline_query(alloc, true, reps)?;
+    let (above, area) = seat(alloc, tree, id, reps)?;
     let mut walk = Walker {
         alloc,
         tree,
@@ -191,5 +199,5 @@ pub fn lend_columns<R: Ruler, L: Ledger>(
         tally,
         passes,
     };
-    columns_under(&mut walk, id, query, reps, &above, area)
+    columns_under(&mut walk, id, query, reps, above, area)
 }

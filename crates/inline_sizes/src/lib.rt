@@ -4,6 +4,7 @@
 //! block axis, along which the rows lie.
 #![tactic(auto)]
 
+mod answered;
 mod asking;
 mod bounds;
 mod children;

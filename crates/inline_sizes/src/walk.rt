@@ -19,17 +19,17 @@ ghost use Rattle.walker.specs.Walkers.{kept, nodes, seen, HasSeat, SameParts, St
 ghost use Rattle.inline_sizes.specs.Calls.{Found, Keeps};
 ghost use Rattle.inline_sizes.specs.Flexes.{AreMembers};
 
+use crate::answered::{columns_answered, flex_answered, grid_answered};
 use crate::asking::{ask_alone, grid_in};
-use crate::children::{is_grid, keep_told};
-use crate::columns::{grid_inline, grid_lends, with_room};
-use crate::flex::{FlexParts, flex_inline, keep_members, known, last_members, members_of, told_by};
-use crate::laws::items_lie_in_their_tracks;
+use crate::children::is_grid;
+use crate::columns::with_room;
+use crate::flex::{FlexParts, keep_members, known, last_members, members_of, told_by};
 use crate::queries::{inline_query, kept_items, kept_sizes};
 use layout_cache::Query;
 use lunit::{Area, Item, Lu, NoMemory, Sequence, Span};
 use node_arena::{Arena, NodeId};
 use outside::Ruler;
-use placing::{Answer, Node, NodeKind, ToldMember, node_at, parent, root};
+use placing::{Node, NodeKind, ToldMember, node_at, parent, root};
 use std::sync::ledger::Ledger;
 use walker::{Seat, Walker};
 
@@ -61,30 +61,6 @@ fn subgrids_are_grids(tree: &Arena<Node>, id: NodeId)
 // ---- the children of a flex container
 
 #[cycle(walk)]
-/// A child of a flex container with what it tells for the inline sizes of the container: it is asked.
-fn ask_member<R: Ruler, L: Ledger>(
-    walk: &mut Walker<R, L>,
-    last: &ToldMember,
-) -> Result<ToldMember, NoMemory>
-    requires stands { Stands walk.old }
-    requires live { IsLive (nodes walk.old) last.now.member.child }
-    requires alone { (sight_at (nodes walk.old) last.now.member.child).chain ≡ [] }
-    ensures place { IfOk result (λ told. place_of told ≡ place_of last.now) }
-    ensures told { IfOk result (Tells (kid_at (nodes walk.old) last.now.member.child)) }
-    ensures stands { Stands walk.new }
-    ensures parts { SameParts walk.old walk.new }
-    ensures walked { OnOk result
-        (Walked last.now.member.child (inline_query false [])
-        (seen R.log walk.old) (seen R.log walk.new)) }
-    ensures stopped { OnErr result
-        (Stopped last.now.member.child (inline_query false [])
-        (seen R.log walk.old) (seen R.log walk.new)) }
-{
-    let inline = ask_alone(walk, last.member.child, NO_AREA)?;
-    Ok(told_by(walk.tree, last, inline))
-}
-
-#[cycle(walk)]
 /// A child of a flex container with what it tells for the inline sizes of the container: it is asked where that is not known.
 fn tell_member<R: Ruler, L: Ledger>(
     walk: &mut Walker<R, L>,
@@ -109,7 +85,8 @@ fn tell_member<R: Ruler, L: Ledger>(
     if let Some(told) = known(last) {
         return Ok(told);
     }
-    ask_member(walk, last)
+    let inline = ask_alone(walk, last.member.child, NO_AREA)?;
+    Ok(told_by(walk.tree, last, inline))
 }
 
 #[cycle(walk)]
@@ -196,38 +173,8 @@ pub fn flex_in<R: Ruler, L: Ledger>(
 // ---- the two inline sizes of a node
 
 #[cycle(walk)]
-/// The two inline sizes of a grid in its seat: a child that told it before is asked only where its answers went since. What the
-/// children told is kept, where they are many; no answer is kept for the grid itself.
-fn grid_sizes<R: Ruler, L: Ledger>(
-    walk: &mut Walker<R, L>,
-    id: NodeId,
-    query: &Query,
-    seat: &Seat,
-) -> Result<(Lu, Lu), NoMemory>
-    requires stands { Stands walk.old }
-    requires live { IsLive (nodes walk.old) id }
-    requires grid { (sight_at (nodes walk.old) id).label.kind ≡ kind.Grid }
-    requires query { query.now ≡ inline_query false seat.now.reps.now }
-    requires fits { Fits (sight_at (nodes walk.old) id) query.now }
-    requires seat { HasSeat (sight_at (nodes walk.old) id) seat.now }
-    ensures value { IfOk result
-        (λ sizes. inline_sizes sizes ≡ answer_of (sight_at (nodes walk.old) id) query.now) }
-    ensures stands { Stands walk.new }
-    ensures parts { SameParts walk.old walk.new }
-    ensures below { OnOk result
-        (WalkedBelow id query.now 2 (seen R.log walk.old) (seen R.log walk.new)) }
-    ensures stopped { OnErr result
-        (Stopped id query.now (seen R.log walk.old) (seen R.log walk.new)) }
-{
-    let past = walk.take_columns(id)?;
-    let told = grid_in(walk, id, seat, &query.inline, past)?;
-    let sizes = grid_inline(walk.alloc, walk.tree, id, &told.parts, walk.passes)?;
-    keep_told(walk, id, told)?;
-    Ok(sizes)
-}
-
-#[cycle(walk)]
-/// The two inline sizes of a grid that keeps none for this question.
+/// The two inline sizes of a grid that keeps none for this question: a child that told it before is asked only where its answers went
+/// since.
 fn grid_anew<R: Ruler, L: Ledger>(
     walk: &mut Walker<R, L>,
     id: NodeId,
@@ -253,40 +200,14 @@ fn grid_anew<R: Ruler, L: Ledger>(
         (λ sizes. kept walk.new id ≡
         kept_with (kept walk.old id) ((query, answer.Sizes sizes.0 sizes.1) ∷ [])) }
 {
-    let (low, high) = grid_sizes(walk, id, &query, seat)?;
-    walk.put(id, query, Answer::Sizes(low, high))?;
-    Ok((low, high))
+    let past = walk.take_columns(id)?;
+    let told = grid_in(walk, id, seat, &query.inline, past)?;
+    grid_answered(walk, id, query, told)
 }
 
 #[cycle(walk)]
-/// The two inline sizes of a flex container: a child that told it before is asked only where its answers went since. What the children
-/// tell is kept, where they are many; no answer is kept for the container itself.
-fn flex_sizes<R: Ruler, L: Ledger>(
-    walk: &mut Walker<R, L>,
-    id: NodeId,
-    query: &Query,
-) -> Result<(Lu, Lu), NoMemory>
-    requires stands { Stands walk.old }
-    requires live { IsLive (nodes walk.old) id }
-    requires flex { (sight_at (nodes walk.old) id).label.kind ≡ kind.Flex }
-    requires ask { query.now.ask ≡ ask.Inline }
-    ensures value { IfOk result
-        (λ sizes. inline_sizes sizes ≡ answer_of (sight_at (nodes walk.old) id) query.now) }
-    ensures stands { Stands walk.new }
-    ensures parts { SameParts walk.old walk.new }
-    ensures below { OnOk result
-        (WalkedBelow id query.now 0 (seen R.log walk.old) (seen R.log walk.new)) }
-    ensures stopped { OnErr result
-        (Stopped id query.now (seen R.log walk.old) (seen R.log walk.new)) }
-{
-    let told = told_members(walk, id)?;
-    let sizes = flex_inline(walk.alloc, walk.tree, id, told.as_slice())?;
-    keep_members(walk, id, told.as_slice())?;
-    Ok(sizes)
-}
-
-#[cycle(walk)]
-/// The two inline sizes of a flex container that keeps none for this question.
+/// The two inline sizes of a flex container that keeps none for this question: a child that told it before is asked only where its
+/// answers went since.
 fn flex_anew<R: Ruler, L: Ledger>(
     walk: &mut Walker<R, L>,
     id: NodeId,
@@ -310,9 +231,8 @@ fn flex_anew<R: Ruler, L: Ledger>(
         (λ sizes. kept walk.new id ≡
         kept_with (kept walk.old id) ((query, answer.Sizes sizes.0 sizes.1) ∷ [])) }
 {
-    let (low, high) = flex_sizes(walk, id, &query)?;
-    walk.put(id, query, Answer::Sizes(low, high))?;
-    Ok((low, high))
+    let told = told_members(walk, id)?;
+    flex_answered(walk, id, query, told.as_slice())
 }
 
 #[cycle(walk)]
@@ -416,12 +336,8 @@ pub(crate) fn columns_anew<R: Ruler, L: Ledger>(
         kept_with (kept walk.old id) ((query, answer.Lent items) ∷ [])) }
 {
     subgrids_are_grids(walk.tree, id);
-    items_lie_in_their_tracks(walk.tree, id);
     let told = grid_in(walk, id, seat, &query.inline, None)?;
-    let items = grid_lends(walk.alloc, &told.parts)?;
-    let lent = Sequence::from_slice(walk.alloc, items.as_slice())?;
-    walk.put(id, query, Answer::Lent(items))?;
-    Ok(lent)
+    columns_answered(walk, id, query, &told.parts)
 }
 
 #[cycle(walk)]

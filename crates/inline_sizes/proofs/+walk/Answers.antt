@@ -1,5 +1,5 @@
 use Rattle.std.proofs.Common.{Option, drop, rules, arith, refl, sym, ap, subst, ◌≡◌, ◌∙◌, ◌+◌, ◌*◌, ◌<◌, ◌∷◌, ◌++◌, [], List, true, false, length, map, pos, ◌&&◌, Bool}
-use Rattle.std.specs.Prelude.{All, IfSome, get_or}
+use Rattle.std.specs.Prelude.{All, IfOk, IfSome, get_or}
 use Rattle.placing.specs.Areas.{HasChildren}
 use Rattle.placing.specs.Bases.{HoldsPlaces, same_pairs}
 use Rattle.placing.specs.Children.{IsTree}
@@ -12,33 +12,31 @@ use Rattle.placing.specs.Seats.{IsSeat, context_at}
 use Rattle.placing.specs.Counted.{IsGivenSize}
 use Rattle.placing.specs.Walks.{Stopped, Walked, kept_with}
 use Rattle.placing.specs.declared.contexts.Above.TheVariants as above
+use Rattle.placing.specs.declared.node.Answer.{Answer}
 use Rattle.placing.specs.declared.node.Answer.TheVariants as answer
 use Rattle.placing.proofs.Entries.{alone_there}
 use Rattle.placing.proofs.Leaves.{on_err}
 use Rattle.placing.proofs.Tellings.{ends_length, has_parts}
-use Rattle.placing.proofs.Walks.{found_walked, stopped, ticked, walked_none}
+use Rattle.placing.proofs.Walks.{found_walked, stopped, walked_none}
 use Rattle.tree_rules.specs.Answers.{Pair}
 use Rattle.tree_rules.specs.AskedQueries.{inline_query}
 use Rattle.tree_rules.specs.Chains.{has_chain, has_subgrid, is_grid_kind}
 use Rattle.tree_rules.specs.Labels.{GridStyle}
 use Rattle.tree_rules.specs.KeptAnswers.{IsAbsent}
-use Rattle.tree_rules.specs.Queries.{Fits, answer_of, inline_sizes, lent_items, sees_columns}
+use Rattle.tree_rules.specs.Queries.{Fits, answer_of, inline_sizes, lent_items}
 use Rattle.tree_rules.specs.declared.kind.NodeKind.TheVariants as kind
 use Rattle.tree_rules.specs.declared.kind.NodeKind.{NodeKind}
 use Rattle.tree_rules.specs.declared.query.Given.TheVariants as given
 use Rattle.tree_rules.specs.declared.query.Given.{Given}
 use Rattle.tree_rules.specs.declared.query.Query.{Query}
-use Rattle.inline_sizes.proofs.Anew.{flex_answer, flex_quiet, grid_answer, grid_quiet, lent_answer}
-use Rattle.inline_sizes.proofs.Asked.{chain_in_flex, entry_here, fits_no_chain, lent_fit, levels_above, on_ok, pairs_all, rows_fits, shared_asked, shared_chain, shared_fits, sizes_answered, sizes_are, sizes_fit, walked_stopped}
+use Rattle.inline_sizes.proofs.Asked.{chain_in_flex, entry_here, err_stopped, fits_no_chain, lent_fit, ok_walked, on_ok, pairs_all, rows_fits, shared_asked, shared_chain, shared_fits, sizes_answered, sizes_are, walked_stopped}
 use Rattle.inline_sizes.proofs.FlexTold.{all_told, asks_at, last_at, next_at, places_next, tells_in, tells_there, told_more}
 use Rattle.inline_sizes.proofs.Grids.{below_then, grid_there, leads_there, stops_then}
-use Rattle.inline_sizes.proofs.Held.{places_held}
 use Rattle.inline_sizes.proofs.Tellings.{answers_there, columns_there, counted_again, counted_then, laid_there, next_stale, none_stale, past_stale, past_told, places_there, told_again, told_empty, told_then}
 use Rattle.inline_sizes.specs.Grids.{HaveTold, IsEntry, IsGrid, IsLaid, LeadsOn, items_seen}
 use Rattle.inline_sizes.specs.GridsSeen.{HasLines}
-use Rattle.inline_sizes.specs.Lifted.{IsSelfLifted}
 use Rattle.walker.proofs.Parts.{parts_then, same_parts}
-use Rattle.walker.specs.Walkers.{nodes, seen}
+use Rattle.walker.specs.Walkers.{kept, nodes, seen}
 use Rattle.inline_sizes.proofs.+walk.Goals as goal
 
 abbrev has_kind : NodeKind → GridStyle → Bool
@@ -51,24 +49,12 @@ asking::ask_children-loop-index-init g t c =
       parts = same_parts c.args.walk.now;
       same = refl;
       walked = λ q leads. walked_none c.args.id q (seen g.R.Ruler.log c.args.walk.now) c.requires.stands.right;
-      counted = (ap length c.in_ok-inlines.ensures, omega arith);
-      told = told_empty (TellsColumns (sight_at (nodes c.args.walk.now) c.args.id) (kid_at (nodes c.args.walk.now)) c.args.base.now) c.in_ok-inlines.inlines c.in_ok-items.items c.in_ok-ends.ends c.in_ok-inlines.ensures c.in_ok-items.ensures c.in_ok-ends.ensures;
+      counted = (ap length c.in_ok-inlines.ensures.inlines, omega arith);
+      told = told_empty (TellsColumns (sight_at (nodes c.args.walk.now) c.args.id) (kid_at (nodes c.args.walk.now)) c.args.base.now) c.in_ok-inlines.inlines c.in_ok-inlines.items c.in_ok-inlines.ends c.in_ok-inlines.ensures.inlines c.in_ok-inlines.ensures.items c.in_ok-inlines.ensures.ends;
     }
 
 pub asking::ask_children-returns-in_err-inlines-clause-stopped : goal.asking::ask_children-returns-in_err-inlines-clause-stopped
 asking::ask_children-returns-in_err-inlines-clause-stopped g t c =
-    let all : (q : Query) → LeadsOn (nodes c.args.walk.now) c.args.id c.args.base.now q → Stopped c.args.id q (seen g.R.Ruler.log c.args.walk.now) (seen g.R.Ruler.log c.args.walk.now) =
-    λ q leads. stopped c.args.id q 0 _ _ (walked_none c.args.id q (seen g.R.Ruler.log c.args.walk.now) c.requires.stands.right) in
-    on_err _ _ all
-
-pub asking::ask_children-returns-in_err-items-clause-stopped : goal.asking::ask_children-returns-in_err-items-clause-stopped
-asking::ask_children-returns-in_err-items-clause-stopped g t c =
-    let all : (q : Query) → LeadsOn (nodes c.args.walk.now) c.args.id c.args.base.now q → Stopped c.args.id q (seen g.R.Ruler.log c.args.walk.now) (seen g.R.Ruler.log c.args.walk.now) =
-    λ q leads. stopped c.args.id q 0 _ _ (walked_none c.args.id q (seen g.R.Ruler.log c.args.walk.now) c.requires.stands.right) in
-    on_err _ _ all
-
-pub asking::ask_children-returns-in_err-ends-clause-stopped : goal.asking::ask_children-returns-in_err-ends-clause-stopped
-asking::ask_children-returns-in_err-ends-clause-stopped g t c =
     let all : (q : Query) → LeadsOn (nodes c.args.walk.now) c.args.id c.args.base.now q → Stopped c.args.id q (seen g.R.Ruler.log c.args.walk.now) (seen g.R.Ruler.log c.args.walk.now) =
     λ q leads. stopped c.args.id q 0 _ _ (walked_none c.args.id q (seen g.R.Ruler.log c.args.walk.now) c.requires.stands.right) in
     on_err _ _ all
@@ -100,16 +86,8 @@ asking::ask_children-returns-in_err-sizes-clause-stopped g t c =
     c.root.ensures.steps c.entry-entry.ensures.child q leads _ _ _ refl (c.loop-index.invariant.walked q leads) c.in_err-sizes.ensures.stopped in
     on_err _ _ all
 
-pub asking::ask_children-returns-in_err-push-clause-stopped : goal.asking::ask_children-returns-in_err-push-clause-stopped
-asking::ask_children-returns-in_err-push-clause-stopped g t c =
-    let all : (q : Query) → LeadsOn (nodes c.args.walk.now) c.args.id c.args.base.now q →
-    Stopped c.args.id q (seen g.R.Ruler.log c.args.walk.now) (seen g.R.Ruler.log c.ask_child.new.walk) =
-    λ q leads. stopped c.args.id q 0 _ _ (below_then (nodes c.args.walk.now) (nodes c.loop-index.walk) c.loop-index.invariant.same c.args.id c.args.base.now c.entry-entry.result c.loop-index.index c.entry-entry.ensures.next
-    c.root.ensures.steps c.entry-entry.ensures.child q leads _ _ _ refl (c.loop-index.invariant.walked q leads) c.in_ok-sizes.ensures.walked) in
-    on_err _ _ all
-
-pub asking::ask_children-returns-in_err-push-2-clause-stopped : goal.asking::ask_children-returns-in_err-push-2-clause-stopped
-asking::ask_children-returns-in_err-push-2-clause-stopped g t c =
+pub asking::ask_children-returns-in_err-add_entry-clause-stopped : goal.asking::ask_children-returns-in_err-add_entry-clause-stopped
+asking::ask_children-returns-in_err-add_entry-clause-stopped g t c =
     let all : (q : Query) → LeadsOn (nodes c.args.walk.now) c.args.id c.args.base.now q →
     Stopped c.args.id q (seen g.R.Ruler.log c.args.walk.now) (seen g.R.Ruler.log c.ask_child.new.walk) =
     λ q leads. stopped c.args.id q 0 _ _ (below_then (nodes c.args.walk.now) (nodes c.loop-index.walk) c.loop-index.invariant.same c.args.id c.args.base.now c.entry-entry.result c.loop-index.index c.entry-entry.ensures.next
@@ -124,9 +102,9 @@ asking::ask_children-loop-index-preserved g t c =
       same = c.in_ok-sizes.ensures.walked.walk.bare_same ∙ c.loop-index.invariant.same;
       walked = λ q leads. below_then (nodes c.args.walk.now) (nodes c.loop-index.walk) c.loop-index.invariant.same c.args.id c.args.base.now c.entry-entry.result c.loop-index.index c.entry-entry.ensures.next
           c.root.ensures.steps c.entry-entry.ensures.child q leads _ _ _ refl (c.loop-index.invariant.walked q leads) c.in_ok-sizes.ensures.walked;
-      counted = counted_then c.loop-index.inlines _ c.in_ok-sizes.sizes c.loop-index.index (length c.args.base.now.placed.areas) c.in_ok-push.ensures.ok c.loop-index.invariant.counted.0 (omega (arith, c.len-count.ensures));
+      counted = counted_then c.loop-index.inlines _ c.in_ok-sizes.sizes c.loop-index.index (length c.args.base.now.placed.areas) c.in_ok-add_entry.ensures.inlines c.loop-index.invariant.counted.0 (omega (arith, c.len-count.ensures));
       told = told_then (nodes c.args.walk.now) (nodes c.loop-index.walk) c.loop-index.invariant.same c.args.id c.args.base.now c.entry-entry.result c.loop-index.index c.entry-entry.ensures.told _ _ _ _ _ _ c.in_ok-sizes.sizes _ c.loop-index.invariant.counted.0
-          c.loop-index.invariant.told c.in_ok-sizes.ensures.sizes c.in_ok-sizes.ensures.items c.in_ok-push.ensures.ok c.len.ensures c.in_ok-push-2.ensures.ok;
+          c.loop-index.invariant.told c.in_ok-sizes.ensures.sizes c.in_ok-sizes.ensures.items c.in_ok-add_entry.ensures.inlines c.len.ensures c.in_ok-add_entry.ensures.ends;
     }
 
 pub asking::ask_children-returns-clause-told : goal.asking::ask_children-returns-clause-told
@@ -284,127 +262,67 @@ pub asking::grid_in-returns-clause-below : goal.asking::grid_in-returns-clause-b
 asking::grid_in-returns-clause-below g t c = λ q r w. c.in_ok-base.ensures.below q 0 _
     (c.in_ok-inlines.ensures.below q (leads_there (nodes c.args.walk.now) (nodes c.shared_base.new.walk) c.in_ok-base.ensures.same c.args.id c.args.seat.now.reps.now c.args.width.now c.in_ok-base.base c.grid.result.now c.grid.ensures c.in_ok-base.ensures.value c.requires.grid q r w))
 
-pub walk::grid_anew-put-requires-clause-live : goal.walk::grid_anew-put-requires-clause-live
-walk::grid_anew-put-requires-clause-live g t c = subst (λ (z : BareTrees). IsLive z c.args.id) (sym c.in_ok-low.ensures.below.walk.bare_same) c.requires.live
-
-pub walk::grid_anew-put-requires-clause-absent : goal.walk::grid_anew-put-requires-clause-absent
-walk::grid_anew-put-requires-clause-absent g t c = subst (IsAbsent c.args.query) (sym c.in_ok-low.ensures.below.own) c.requires.absent
-
-pub walk::grid_anew-put-requires-clause-fits : goal.walk::grid_anew-put-requires-clause-fits
-walk::grid_anew-put-requires-clause-fits g t c = subst (λ (z : BareTrees). Fits (sight_at z c.args.id) c.args.query) (sym c.in_ok-low.ensures.below.walk.bare_same) c.requires.fits
-
-pub walk::grid_anew-put-requires-clause-value : goal.walk::grid_anew-put-requires-clause-value
-walk::grid_anew-put-requires-clause-value g t c = c.in_ok-low.ensures.value ∙ ap (λ (z : BareTrees). answer_of (sight_at z c.args.id) c.args.query) (sym c.in_ok-low.ensures.below.walk.bare_same)
-
-pub walk::grid_anew-put-requires-clause-quiet : goal.walk::grid_anew-put-requires-clause-quiet
-walk::grid_anew-put-requires-clause-quiet g t c = grid_quiet (nodes c.grid_sizes.new.walk) c.args.id c.args.query (subst (λ (z : BareTrees). (sight_at z c.args.id).label.kind ≡ kind.Grid) (sym c.in_ok-low.ensures.below.walk.bare_same) c.requires.grid)
-
-pub walk::grid_anew-returns-clause-walked : goal.walk::grid_anew-returns-clause-walked
-walk::grid_anew-returns-clause-walked g t c = c.in_ok-put.ensures.joins _ 2 (omega arith) c.in_ok-low.ensures.below
-
-pub walk::grid_anew-returns-in_err-put-clause-stopped : goal.walk::grid_anew-returns-in_err-put-clause-stopped
-walk::grid_anew-returns-in_err-put-clause-stopped g t c = on_err _ _ (c.in_err-put.ensures.stopped _ 2 c.in_ok-low.ensures.below)
-
-pub walk::grid_anew-returns-clause-own : goal.walk::grid_anew-returns-clause-own
-walk::grid_anew-returns-clause-own g t c = c.in_ok-put.ensures.own ∙ ap (λ l. kept_with l ((c.args.query, answer.Sizes c.in_ok-low.low c.in_ok-low.high) ∷ [])) c.in_ok-low.ensures.below.own
-
-pub walk::grid_sizes-returns-in_err-past-clause-stopped : goal.walk::grid_sizes-returns-in_err-past-clause-stopped
-walk::grid_sizes-returns-in_err-past-clause-stopped g t c =
+pub walk::grid_anew-returns-in_err-past-clause-stopped : goal.walk::grid_anew-returns-in_err-past-clause-stopped
+walk::grid_anew-returns-in_err-past-clause-stopped g t c =
     on_err _ _
-    (c.take_columns.ensures.stopped c.args.query.now (seen g.R.Ruler.log c.take_columns.new.self) (stopped c.args.id c.args.query.now 0 _ _ (walked_none c.args.id c.args.query.now (seen g.R.Ruler.log c.take_columns.new.self) c.take_columns.ensures.stands.right)))
+    (c.take_columns.ensures.stopped c.args.query (seen g.R.Ruler.log c.take_columns.new.self) (stopped c.args.id c.args.query 0 _ _ (walked_none c.args.id c.args.query (seen g.R.Ruler.log c.take_columns.new.self) c.take_columns.ensures.stands.right)))
 
-pub walk::grid_sizes-grid_in-requires : goal.walk::grid_sizes-grid_in-requires
-walk::grid_sizes-grid_in-requires g t c =
+pub walk::grid_anew-grid_in-requires : goal.walk::grid_anew-grid_in-requires
+walk::grid_anew-grid_in-requires g t c =
     let back = sym c.take_columns.ensures.bare in
     let live : IsLive (nodes c.take_columns.new.self) c.args.id = subst (λ (z : BareTrees). IsLive z c.args.id) back c.requires.live in
     let grid : (sight_at (nodes c.take_columns.new.self) c.args.id).label.kind ≡ kind.Grid = subst (λ (z : BareTrees). (sight_at z c.args.id).label.kind ≡ kind.Grid) back c.requires.grid in
     let counts : length c.args.seat.now.reps.now ≡ length (sight_at (nodes c.take_columns.new.self) c.args.id).chain = ap length (sym (ap (λ (z : Query). z.reps) c.requires.query)) ∙ c.requires.fits.reps ∙ ap (λ (z : BareTrees). length (sight_at z c.args.id).chain) back in
     let seat : IsSeat (sight_at (nodes c.take_columns.new.self) c.args.id) c.args.seat.now.reps.now c.args.seat.now.above.now c.args.seat.now.area = subst (λ (z : BareTrees). IsSeat (sight_at z c.args.id) c.args.seat.now.reps.now c.args.seat.now.above.now c.args.seat.now.area) back
     c.requires.seat in
-    let width : IsGivenSize c.args.query.now.inline = subst IsGivenSize (sym (ap (λ (z : Query). z.inline) c.requires.query)) tt in
+    let width : IsGivenSize c.args.query.inline = subst IsGivenSize (sym (ap (λ (z : Query). z.inline) c.requires.query)) tt in
     let past : IfSome c.in_ok-past.past (IsPastColumns (nodes c.take_columns.new.self) c.args.id) = subst (λ (z : BareTrees). IfSome c.in_ok-past.past (IsPastColumns z c.args.id)) back c.in_ok-past.ensures.told in
     search rules
 
-pub walk::grid_sizes-returns-in_err-told-clause-stopped : goal.walk::grid_sizes-returns-in_err-told-clause-stopped
-walk::grid_sizes-returns-in_err-told-clause-stopped g t c =
+pub walk::grid_anew-returns-in_err-told-clause-stopped : goal.walk::grid_anew-returns-in_err-told-clause-stopped
+walk::grid_anew-returns-in_err-told-clause-stopped g t c =
     on_err _ _
-    (c.take_columns.ensures.stopped c.args.query.now (seen g.R.Ruler.log c.grid_in.new.walk) (c.in_err-told.ensures.stopped c.args.query.now (ap (λ (z : Query). z.reps) c.requires.query) refl))
+    (c.take_columns.ensures.stopped c.args.query (seen g.R.Ruler.log c.grid_in.new.walk) (c.in_err-told.ensures.stopped c.args.query (ap (λ (z : Query). z.reps) c.requires.query) refl))
 
-pub walk::grid_sizes-grid_inline-requires-clause-live : goal.walk::grid_sizes-grid_inline-requires-clause-live
-walk::grid_sizes-grid_inline-requires-clause-live g t c =
-    subst (λ (z : BareTrees). IsLive z c.args.id)
-    (sym
-    (c.take_columns.ensures.below c.args.query.now 0 (seen g.R.Ruler.log c.grid_in.new.walk) (c.in_ok-told.ensures.below c.args.query.now (ap (λ (z : Query). z.reps) c.requires.query) refl)).walk.bare_same)
-    c.requires.live
-
-pub walk::grid_sizes-grid_inline-requires-clause-own : goal.walk::grid_sizes-grid_inline-requires-clause-own
-walk::grid_sizes-grid_inline-requires-clause-own g t c =
-    subst (λ (z : BareTrees). sees_columns (sight_at z c.args.id) ≡ false)
-    (sym
-    (c.take_columns.ensures.below c.args.query.now 0 (seen g.R.Ruler.log c.grid_in.new.walk) (c.in_ok-told.ensures.below c.args.query.now (ap (λ (z : Query). z.reps) c.requires.query) refl)).walk.bare_same)
-    (sizes_fit (sight_at (nodes c.args.walk.now) c.args.id) c.args.query.now (ap (λ (z : Query). z.ask) c.requires.query) c.requires.fits)
-
-pub walk::grid_sizes-grid_inline-requires-clause-grid : goal.walk::grid_sizes-grid_inline-requires-clause-grid
-walk::grid_sizes-grid_inline-requires-clause-grid g t c =
+pub walk::grid_anew-grid_answered-requires : goal.walk::grid_anew-grid_answered-requires
+walk::grid_anew-grid_answered-requires g t c =
+    let reps = ap (λ (z : Query). z.reps) c.requires.query in
+    let mid = c.in_ok-told.ensures.below c.args.query reps refl in
+    let below = c.take_columns.ensures.below c.args.query 0 (seen g.R.Ruler.log c.grid_in.new.walk) mid in
+    let back = sym below.walk.bare_same in
     record {
-      outer = c.args.query.now.reps;
-      width = given.None;
+      stands = c.grid_in.ensures.stands;
+      live = subst (λ (z : BareTrees). IsLive z c.args.id) back c.requires.live;
+      kind = subst (λ (z : BareTrees). (sight_at z c.args.id).label.kind ≡ kind.Grid) back c.requires.grid;
+      ask = ap (λ (z : Query). z.ask) c.requires.query;
+      fits = subst (λ (z : BareTrees). Fits (sight_at z c.args.id) c.args.query) back c.requires.fits;
+      absent = subst (IsAbsent c.args.query) (sym below.own) c.requires.absent;
       grid =
-          subst (λ (z : BareTrees). IsGrid z c.args.id c.args.query.now.reps given.None c.in_ok-told.told.parts) (sym (c.in_ok-told.ensures.below c.args.query.now (ap (λ (z : Query). z.reps) c.requires.query) refl).walk.bare_same)
-          (subst (λ (o : List Pair). IsGrid (nodes c.take_columns.new.self) c.args.id o given.None c.in_ok-told.told.parts) (sym (ap (λ (z : Query). z.reps) c.requires.query))
+          subst (λ (z : BareTrees). IsGrid z c.args.id c.args.query.reps given.None c.in_ok-told.told.parts) (sym mid.walk.bare_same)
+          (subst (λ (o : List Pair). IsGrid (nodes c.take_columns.new.self) c.args.id o given.None c.in_ok-told.told.parts) (sym reps)
           (subst (λ (w : Given). IsGrid (nodes c.take_columns.new.self) c.args.id c.args.seat.now.reps.now w c.in_ok-told.told.parts) (ap (λ (z : Query). z.inline) c.requires.query) c.in_ok-told.ensures.value));
+      columns = subst (λ (z : BareTrees). AreColumns (sight_at z c.args.id) (kid_at z) Each c.in_ok-told.told) (sym mid.walk.bare_same) c.in_ok-told.ensures.told;
     }
 
-pub walk::grid_sizes-returns-in_err-sizes-clause-stopped : goal.walk::grid_sizes-returns-in_err-sizes-clause-stopped
-walk::grid_sizes-returns-in_err-sizes-clause-stopped g t c =
-    on_err _ _
-    (stopped c.args.id c.args.query.now 2 _ _
-    (ticked c.args.id c.args.query.now 0 2 _ _ c.grid_inline.new.passes c.in_err-sizes.ensures.stopped.1
-    (c.take_columns.ensures.below c.args.query.now 0 (seen g.R.Ruler.log c.grid_in.new.walk) (c.in_ok-told.ensures.below c.args.query.now (ap (λ (z : Query). z.reps) c.requires.query) refl))))
+pub walk::grid_anew-returns-clause-value : goal.walk::grid_anew-returns-clause-value
+walk::grid_anew-returns-clause-value g t c =
+    subst (λ (z : BareTrees). IfOk c.grid_answered.result (λ sizes. inline_sizes sizes ≡ answer_of (sight_at z c.args.id) c.args.query))
+    (c.take_columns.ensures.below c.args.query 0 (seen g.R.Ruler.log c.grid_in.new.walk) (c.in_ok-told.ensures.below c.args.query (ap (λ (z : Query). z.reps) c.requires.query) refl)).walk.bare_same c.grid_answered.ensures.value
 
-pub walk::grid_sizes-keep_told-requires-clause-live : goal.walk::grid_sizes-keep_told-requires-clause-live
-walk::grid_sizes-keep_told-requires-clause-live g t c =
-    subst (λ (z : BareTrees). IsLive z c.args.id)
-    (sym
-    (c.take_columns.ensures.below c.args.query.now 0 (seen g.R.Ruler.log c.grid_in.new.walk) (c.in_ok-told.ensures.below c.args.query.now (ap (λ (z : Query). z.reps) c.requires.query) refl)).walk.bare_same)
-    c.requires.live
+pub walk::grid_anew-returns-clause-own : goal.walk::grid_anew-returns-clause-own
+walk::grid_anew-returns-clause-own g t c =
+    subst (λ (l : List (Query × Answer)). IfOk c.grid_answered.result (λ sizes. kept c.grid_answered.new.walk c.args.id ≡ kept_with l ((c.args.query, answer.Sizes sizes.0 sizes.1) ∷ [])))
+    (c.take_columns.ensures.below c.args.query 0 (seen g.R.Ruler.log c.grid_in.new.walk) (c.in_ok-told.ensures.below c.args.query (ap (λ (z : Query). z.reps) c.requires.query) refl)).own c.grid_answered.ensures.own
 
-pub walk::grid_sizes-keep_told-requires-clause-places : goal.walk::grid_sizes-keep_told-requires-clause-places
-walk::grid_sizes-keep_told-requires-clause-places g t c =
-    places_held (nodes c.grid_in.new.walk) c.args.id c.args.query.now.reps given.None c.in_ok-told.told.parts.base
-    (subst (λ (z : BareTrees). IsGrid z c.args.id c.args.query.now.reps given.None c.in_ok-told.told.parts) (sym (c.in_ok-told.ensures.below c.args.query.now (ap (λ (z : Query). z.reps) c.requires.query) refl).walk.bare_same)
-    (subst (λ (o : List Pair). IsGrid (nodes c.take_columns.new.self) c.args.id o given.None c.in_ok-told.told.parts) (sym (ap (λ (z : Query). z.reps) c.requires.query))
-    (subst (λ (w : Given). IsGrid (nodes c.take_columns.new.self) c.args.id c.args.seat.now.reps.now w c.in_ok-told.told.parts) (ap (λ (z : Query). z.inline) c.requires.query) c.in_ok-told.ensures.value))).base
+pub walk::grid_anew-returns-clause-walked : goal.walk::grid_anew-returns-clause-walked
+walk::grid_anew-returns-clause-walked g t c =
+    ok_walked _ c.args.id c.args.query 0 _ _ _
+    (c.take_columns.ensures.below c.args.query 0 (seen g.R.Ruler.log c.grid_in.new.walk) (c.in_ok-told.ensures.below c.args.query (ap (λ (z : Query). z.reps) c.requires.query) refl)) c.grid_answered.ensures.walked
 
-pub walk::grid_sizes-keep_told-requires-clause-told : goal.walk::grid_sizes-keep_told-requires-clause-told
-walk::grid_sizes-keep_told-requires-clause-told g t c = subst (λ (z : BareTrees). AreColumns (sight_at z c.args.id) (kid_at z) Each c.in_ok-told.told) (sym (c.in_ok-told.ensures.below c.args.query.now (ap (λ (z : Query). z.reps) c.requires.query) refl).walk.bare_same) c.in_ok-told.ensures.told
-
-pub walk::grid_sizes-returns-clause-value : goal.walk::grid_sizes-returns-clause-value
-walk::grid_sizes-returns-clause-value g t c =
-    ap inline_sizes
-    (c.in_ok-sizes.ensures.value c.args.query.now.reps given.None
-    (subst (λ (z : BareTrees). IsGrid z c.args.id c.args.query.now.reps given.None c.in_ok-told.told.parts) (sym (c.in_ok-told.ensures.below c.args.query.now (ap (λ (z : Query). z.reps) c.requires.query) refl).walk.bare_same)
-    (subst (λ (o : List Pair). IsGrid (nodes c.take_columns.new.self) c.args.id o given.None c.in_ok-told.told.parts) (sym (ap (λ (z : Query). z.reps) c.requires.query))
-    (subst (λ (w : Given). IsGrid (nodes c.take_columns.new.self) c.args.id c.args.seat.now.reps.now w c.in_ok-told.told.parts) (ap (λ (z : Query). z.inline) c.requires.query) c.in_ok-told.ensures.value)))) ∙
-    grid_answer (nodes c.grid_in.new.walk) c.args.id c.args.query.now (subst (λ (z : BareTrees). (sight_at
-    z c.args.id).label.kind ≡ kind.Grid) (sym (c.take_columns.ensures.below c.args.query.now 0 (seen g.R.Ruler.log c.grid_in.new.walk) (c.in_ok-told.ensures.below c.args.query.now (ap (λ (z : Query). z.reps) c.requires.query) refl)).walk.bare_same) c.requires.grid) (ap (λ (z :
-    Query). z.ask) c.requires.query)
-    ∙ ap (λ (z : BareTrees). answer_of (sight_at z c.args.id) c.args.query.now)
-    (c.take_columns.ensures.below c.args.query.now 0 (seen g.R.Ruler.log c.grid_in.new.walk) (c.in_ok-told.ensures.below c.args.query.now (ap (λ (z : Query). z.reps) c.requires.query) refl)).walk.bare_same
-
-pub walk::grid_sizes-returns-clause-below : goal.walk::grid_sizes-returns-clause-below
-walk::grid_sizes-returns-clause-below g t c =
-    c.keep_told.ensures.below c.args.query.now 2 _
-    (ticked c.args.id c.args.query.now 0 2 _ _ c.grid_inline.new.passes (omega (arith, c.in_ok-sizes.ensures.step))
-    (c.take_columns.ensures.below c.args.query.now 0 (seen g.R.Ruler.log c.grid_in.new.walk) (c.in_ok-told.ensures.below c.args.query.now (ap (λ (z : Query). z.reps) c.requires.query) refl)))
-
-pub walk::grid_sizes-returns-in_err-keep_told-clause-stopped : goal.walk::grid_sizes-returns-in_err-keep_told-clause-stopped
-walk::grid_sizes-returns-in_err-keep_told-clause-stopped g t c =
-    on_err _ _
-    (stopped c.args.id c.args.query.now 2 _ _
-    (c.keep_told.ensures.below c.args.query.now 2 _
-    (ticked c.args.id c.args.query.now 0 2 _ _ c.grid_inline.new.passes (omega (arith, c.in_ok-sizes.ensures.step))
-    (c.take_columns.ensures.below c.args.query.now 0 (seen g.R.Ruler.log c.grid_in.new.walk) (c.in_ok-told.ensures.below c.args.query.now (ap (λ (z : Query). z.reps) c.requires.query) refl)))))
+pub walk::grid_anew-returns-clause-stopped : goal.walk::grid_anew-returns-clause-stopped
+walk::grid_anew-returns-clause-stopped g t c =
+    err_stopped _ c.args.id c.args.query 0 _ _ _
+    (c.take_columns.ensures.below c.args.query 0 (seen g.R.Ruler.log c.grid_in.new.walk) (c.in_ok-told.ensures.below c.args.query (ap (λ (z : Query). z.reps) c.requires.query) refl)) c.grid_answered.ensures.stopped
 
 pub asking::ask_shared-lend_columns_at-requires : goal.asking::ask_shared-lend_columns_at-requires
 asking::ask_shared-lend_columns_at-requires g t c =
@@ -466,57 +384,45 @@ walk::columns_anew-grid_in-requires g t c =
     let width : IsGivenSize c.args.query.inline = subst IsGivenSize (sym (ap (λ (q : Query). q.inline) c.requires.query)) tt in
     search rules
 
-pub walk::columns_anew-grid_lends-requires : goal.walk::columns_anew-grid_lends-requires
-walk::columns_anew-grid_lends-requires g t c =
+pub walk::columns_anew-returns-in_err-told-clause-stopped : goal.walk::columns_anew-returns-in_err-told-clause-stopped
+walk::columns_anew-returns-in_err-told-clause-stopped g t c =
+    on_err _ _ (c.in_err-told.ensures.stopped c.args.query (ap (λ (z : Query). z.reps) c.requires.query) refl)
+
+pub walk::columns_anew-columns_answered-requires : goal.walk::columns_anew-columns_answered-requires
+walk::columns_anew-columns_answered-requires g t c =
+    let reps = ap (λ (z : Query). z.reps) c.requires.query in
+    let lends = ap (λ (q : Query). q.ask) c.requires.query in
+    let below = c.in_ok-told.ensures.below c.args.query reps refl in
+    let back = sym below.walk.bare_same in
+    let grid : (sight_at (nodes c.args.walk.now) c.args.id).label.kind ≡ kind.Grid = c.subgrids_are_grids.ensures (lent_fit (sight_at (nodes c.args.walk.now) c.args.id) c.args.query lends c.requires.fits) in
     record {
-      lifted = subst IsSelfLifted (sym (levels_above (context_at (sight_at (nodes c.args.walk.now) c.args.id) c.in_ok-told.told.parts.base.pairs) c.in_ok-told.told.parts.base.above c.in_ok-told.ensures.value.base.laid.context))
-          (c.items_lie_in_their_tracks.ensures.lines c.in_ok-told.told.parts.base.pairs).column_self;
+      stands = c.grid_in.ensures.stands;
+      live = subst (λ (z : BareTrees). IsLive z c.args.id) back c.requires.live;
+      kind = subst (λ (z : BareTrees). (sight_at z c.args.id).label.kind ≡ kind.Grid) back grid;
+      ask = lends;
+      fits = subst (λ (z : BareTrees). Fits (sight_at z c.args.id) c.args.query) back c.requires.fits;
+      absent = subst (IsAbsent c.args.query) (sym below.own) c.requires.absent;
+      grid =
+          subst (λ (z : BareTrees). IsGrid z c.args.id c.args.query.reps given.None c.in_ok-told.told.parts) back
+          (subst (λ (o : List Pair). IsGrid (nodes c.args.walk.now) c.args.id o given.None c.in_ok-told.told.parts) (sym reps)
+          (subst (λ (w : Given). IsGrid (nodes c.args.walk.now) c.args.id c.args.seat.now.reps.now w c.in_ok-told.told.parts) (ap (λ (q : Query). q.inline) c.requires.query) c.in_ok-told.ensures.value));
     }
-
-pub walk::columns_anew-returns-in_err-items-clause-stopped : goal.walk::columns_anew-returns-in_err-items-clause-stopped
-walk::columns_anew-returns-in_err-items-clause-stopped g t c = on_err _ _ (stopped c.args.id c.args.query 0 _ _ (c.in_ok-told.ensures.below c.args.query (ap (λ (z : Query). z.reps) c.requires.query) refl))
-
-pub walk::columns_anew-returns-in_err-lent-clause-stopped : goal.walk::columns_anew-returns-in_err-lent-clause-stopped
-walk::columns_anew-returns-in_err-lent-clause-stopped g t c = on_err _ _ (stopped c.args.id c.args.query 0 _ _ (c.in_ok-told.ensures.below c.args.query (ap (λ (z : Query). z.reps) c.requires.query) refl))
-
-pub walk::columns_anew-put-requires-clause-live : goal.walk::columns_anew-put-requires-clause-live
-walk::columns_anew-put-requires-clause-live g t c = subst (λ (z : BareTrees). IsLive z c.args.id) (sym (c.in_ok-told.ensures.below c.args.query (ap (λ (z : Query). z.reps) c.requires.query) refl).walk.bare_same) c.requires.live
-
-pub walk::columns_anew-put-requires-clause-absent : goal.walk::columns_anew-put-requires-clause-absent
-walk::columns_anew-put-requires-clause-absent g t c = subst (IsAbsent c.args.query) (sym (c.in_ok-told.ensures.below c.args.query (ap (λ (z : Query). z.reps) c.requires.query) refl).own) c.requires.absent
-
-pub walk::columns_anew-put-requires-clause-fits : goal.walk::columns_anew-put-requires-clause-fits
-walk::columns_anew-put-requires-clause-fits g t c = subst (λ (z : BareTrees). Fits (sight_at z c.args.id) c.args.query) (sym (c.in_ok-told.ensures.below c.args.query (ap (λ (z : Query). z.reps) c.requires.query) refl).walk.bare_same) c.requires.fits
-
-pub walk::columns_anew-put-requires-clause-value : goal.walk::columns_anew-put-requires-clause-value
-walk::columns_anew-put-requires-clause-value g t c =
-    ap lent_items (c.in_ok-items.ensures (nodes c.args.walk.now) c.args.id c.args.query.reps given.None (subst (λ (o : List Pair). IsGrid (nodes c.args.walk.now) c.args.id o given.None c.in_ok-told.told.parts) (sym (ap (λ (z : Query). z.reps) c.requires.query))
-    (subst (λ (w : Given). IsGrid (nodes c.args.walk.now) c.args.id c.args.seat.now.reps.now w c.in_ok-told.told.parts) (ap (λ (q : Query). q.inline) c.requires.query) c.in_ok-told.ensures.value))) ∙ lent_answer (nodes c.args.walk.now) c.args.id c.args.query (c.subgrids_are_grids.ensures (lent_fit
-    (sight_at (nodes c.args.walk.now) c.args.id) c.args.query (ap (λ (q : Query). q.ask) c.requires.query) c.requires.fits)) (ap (λ (q : Query). q.ask) c.requires.query)
-    ∙ ap (λ (z : BareTrees). answer_of (sight_at z c.args.id) c.args.query) (sym (c.in_ok-told.ensures.below c.args.query (ap (λ (z : Query). z.reps) c.requires.query) refl).walk.bare_same)
 
 pub walk::columns_anew-returns-clause-value : goal.walk::columns_anew-returns-clause-value
 walk::columns_anew-returns-clause-value g t c =
-    ap lent_items (c.in_ok-lent.ensures ∙ c.as_slice.ensures) ∙
-    ap lent_items (c.in_ok-items.ensures (nodes c.args.walk.now) c.args.id c.args.query.reps given.None (subst (λ (o : List Pair). IsGrid (nodes c.args.walk.now) c.args.id o given.None c.in_ok-told.told.parts) (sym (ap (λ (z : Query). z.reps) c.requires.query))
-    (subst (λ (w : Given). IsGrid (nodes c.args.walk.now) c.args.id c.args.seat.now.reps.now w c.in_ok-told.told.parts) (ap (λ (q : Query). q.inline) c.requires.query) c.in_ok-told.ensures.value))) ∙ lent_answer (nodes c.args.walk.now) c.args.id c.args.query (c.subgrids_are_grids.ensures (lent_fit
-    (sight_at (nodes c.args.walk.now) c.args.id) c.args.query (ap (λ (q : Query). q.ask) c.requires.query) c.requires.fits)) (ap (λ (q : Query). q.ask) c.requires.query)
-
-pub walk::columns_anew-returns-clause-walked : goal.walk::columns_anew-returns-clause-walked
-walk::columns_anew-returns-clause-walked g t c = c.in_ok-put.ensures.joins _ 0 (omega arith) (c.in_ok-told.ensures.below c.args.query (ap (λ (z : Query). z.reps) c.requires.query) refl)
-
-pub walk::columns_anew-returns-in_err-put-clause-stopped : goal.walk::columns_anew-returns-in_err-put-clause-stopped
-walk::columns_anew-returns-in_err-put-clause-stopped g t c = on_err _ _ (c.in_err-put.ensures.stopped _ 0 (c.in_ok-told.ensures.below c.args.query (ap (λ (z : Query). z.reps) c.requires.query) refl))
+    subst (λ (z : BareTrees). IfOk c.columns_answered.result (λ items. lent_items items ≡ answer_of (sight_at z c.args.id) c.args.query))
+    (c.in_ok-told.ensures.below c.args.query (ap (λ (z : Query). z.reps) c.requires.query) refl).walk.bare_same c.columns_answered.ensures.value
 
 pub walk::columns_anew-returns-clause-own : goal.walk::columns_anew-returns-clause-own
 walk::columns_anew-returns-clause-own g t c =
-    c.in_ok-put.ensures.own ∙ (λ i. kept_with ((c.in_ok-told.ensures.below c.args.query (ap (λ (z : Query). z.reps) c.requires.query) refl).own i) ((c.args.query, answer.Lent (sym (c.in_ok-lent.ensures ∙ c.as_slice.ensures) i)) ∷ []))
+    subst (λ (l : List (Query × Answer)). IfOk c.columns_answered.result (λ items. kept c.columns_answered.new.walk c.args.id ≡ kept_with l ((c.args.query, answer.Lent items) ∷ [])))
+    (c.in_ok-told.ensures.below c.args.query (ap (λ (z : Query). z.reps) c.requires.query) refl).own c.columns_answered.ensures.own
 
-pub walk::columns_anew-put-requires-clause-quiet : goal.walk::columns_anew-put-requires-clause-quiet
-walk::columns_anew-put-requires-clause-quiet g t c =
-    grid_quiet (nodes c.grid_in.new.walk) c.args.id c.args.query
-    (subst (λ (z : BareTrees). (sight_at z c.args.id).label.kind ≡ kind.Grid) (sym (c.in_ok-told.ensures.below c.args.query (ap (λ (z : Query). z.reps) c.requires.query) refl).walk.bare_same)
-    (c.subgrids_are_grids.ensures (lent_fit (sight_at (nodes c.args.walk.now) c.args.id) c.args.query (ap (λ (q : Query). q.ask) c.requires.query) c.requires.fits)))
+pub walk::columns_anew-returns-clause-walked : goal.walk::columns_anew-returns-clause-walked
+walk::columns_anew-returns-clause-walked g t c = ok_walked _ c.args.id c.args.query 0 _ _ _ (c.in_ok-told.ensures.below c.args.query (ap (λ (z : Query). z.reps) c.requires.query) refl) c.columns_answered.ensures.walked
+
+pub walk::columns_anew-returns-clause-stopped : goal.walk::columns_anew-returns-clause-stopped
+walk::columns_anew-returns-clause-stopped g t c = err_stopped _ c.args.id c.args.query 0 _ _ _ (c.in_ok-told.ensures.below c.args.query (ap (λ (z : Query). z.reps) c.requires.query) refl) c.columns_answered.ensures.stopped
 
 pub walk::inline_at-returns-in_err-query-clause-stopped : goal.walk::inline_at-returns-in_err-query-clause-stopped
 walk::inline_at-returns-in_err-query-clause-stopped g t c = on_err _ _ (stopped c.args.id _ 0 _ _ (walked_none c.args.id (inline_query false c.args.seat.now.reps.now) (seen g.R.Ruler.log c.args.walk.now) c.requires.stands.right))
@@ -534,8 +440,8 @@ pub walk::lend_columns_at-returns-in-Some-clause-stopped : goal.walk::lend_colum
 walk::lend_columns_at-returns-in-Some-clause-stopped g t c = on_err _ _ (stopped c.args.id _ 0 _ _ (walked_none c.args.id (inline_query true c.args.seat.now.reps.now) (seen g.R.Ruler.log c.args.walk.now) c.requires.stands.right))
 
 -- ---- the children of a flex container
-pub walk::ask_member-ask_alone-requires : goal.walk::ask_member-ask_alone-requires
-walk::ask_member-ask_alone-requires g t c =
+pub walk::tell_member-ask_alone-requires : goal.walk::tell_member-ask_alone-requires
+walk::tell_member-ask_alone-requires g t c =
     let none = c.requires.alone in
     let live : IsLive (nodes c.args.walk.now) c.args.last.now.member.child = c.requires.live in
     let fits : Fits (sight_at (nodes c.args.walk.now) c.args.last.now.member.child) (inline_query false []) = fits_no_chain (sight_at (nodes c.args.walk.now) c.args.last.now.member.child) none in
@@ -544,22 +450,22 @@ walk::ask_member-ask_alone-requires g t c =
     let small : 16 * size_at (nodes c.args.walk.now) c.args.last.now.member.child + 8 < 16 * size_at (nodes c.args.walk.now) c.args.last.now.member.child + 9 = omega arith in
     search rules
 
-pub walk::ask_member-told_by-requires-clause-live : goal.walk::ask_member-told_by-requires-clause-live
-walk::ask_member-told_by-requires-clause-live g t c = subst (λ (z : BareTrees). IsLive z c.args.last.now.member.child) (sym c.in_ok-inline.ensures.walked.walk.bare_same) c.requires.live
+pub walk::tell_member-told_by-requires-clause-live : goal.walk::tell_member-told_by-requires-clause-live
+walk::tell_member-told_by-requires-clause-live g t c = subst (λ (z : BareTrees). IsLive z c.args.last.now.member.child) (sym c.in_ok-inline.ensures.walked.walk.bare_same) c.requires.live
 
-pub walk::ask_member-told_by-requires-clause-readable : goal.walk::ask_member-told_by-requires-clause-readable
-walk::ask_member-told_by-requires-clause-readable g t c = c.ask_alone.ensures.stands.readable
+pub walk::tell_member-told_by-requires-clause-readable : goal.walk::tell_member-told_by-requires-clause-readable
+walk::tell_member-told_by-requires-clause-readable g t c = c.ask_alone.ensures.stands.readable
 
-pub walk::ask_member-told_by-requires-clause-inline : goal.walk::ask_member-told_by-requires-clause-inline
-walk::ask_member-told_by-requires-clause-inline g t c =
+pub walk::tell_member-told_by-requires-clause-inline : goal.walk::tell_member-told_by-requires-clause-inline
+walk::tell_member-told_by-requires-clause-inline g t c =
     sizes_are c.in_ok-inline.inline ((kid_at (nodes c.args.walk.now) c.args.last.now.member.child).answers.inline []) c.in_ok-inline.ensures.value
     ∙ ap (λ (z : BareTrees). (kid_at z c.args.last.now.member.child).answers.inline []) (sym c.in_ok-inline.ensures.walked.walk.bare_same)
 
-pub walk::ask_member-returns-clause-place : goal.walk::ask_member-returns-clause-place
-walk::ask_member-returns-clause-place g t c = c.told_by.ensures.place
+pub walk::tell_member-returns-clause-place : goal.walk::tell_member-returns-clause-place
+walk::tell_member-returns-clause-place g t c = c.told_by.ensures.place
 
-pub walk::ask_member-returns-clause-told : goal.walk::ask_member-returns-clause-told
-walk::ask_member-returns-clause-told g t c = subst (λ (z : BareTrees). Tells (kid_at z c.args.last.now.member.child) c.told_by.result) c.in_ok-inline.ensures.walked.walk.bare_same c.told_by.ensures.told
+pub walk::tell_member-returns-clause-told : goal.walk::tell_member-returns-clause-told
+walk::tell_member-returns-clause-told g t c = subst (λ (z : BareTrees). Tells (kid_at z c.args.last.now.member.child) c.told_by.result) c.in_ok-inline.ensures.walked.walk.bare_same c.told_by.ensures.told
 
 pub walk::tell_member-returns-in-Some-clause-place : goal.walk::tell_member-returns-in-Some-clause-place
 walk::tell_member-returns-in-Some-clause-place g t c = ap place_of c.in-Some.ensures.same
@@ -672,76 +578,52 @@ walk::told_members-returns-clause-told g t c = subst (λ (z : BareTrees). AreTol
 pub walk::told_members-returns-clause-below : goal.walk::told_members-returns-clause-below
 walk::told_members-returns-clause-below g t c = λ q. c.last_members.ensures.below q 0 (seen g.R.Ruler.log c.tell_members.new.walk) (c.in_ok-told.ensures.below q)
 
-pub walk::flex_sizes-returns-in_err-told-clause-stopped : goal.walk::flex_sizes-returns-in_err-told-clause-stopped
-walk::flex_sizes-returns-in_err-told-clause-stopped g t c = on_err _ _ (c.in_err-told.ensures.stopped c.args.query.now)
+pub walk::flex_anew-returns-in_err-told-clause-stopped : goal.walk::flex_anew-returns-in_err-told-clause-stopped
+walk::flex_anew-returns-in_err-told-clause-stopped g t c = on_err _ _ (c.in_err-told.ensures.stopped c.args.query)
 
-pub walk::flex_sizes-flex_inline-requires-clause-live : goal.walk::flex_sizes-flex_inline-requires-clause-live
-walk::flex_sizes-flex_inline-requires-clause-live g t c = subst (λ (z : BareTrees). IsLive z c.args.id) (sym (c.in_ok-told.ensures.below c.args.query.now).walk.bare_same) c.requires.live
+pub walk::flex_anew-flex_answered-requires : goal.walk::flex_anew-flex_answered-requires
+walk::flex_anew-flex_answered-requires g t c =
+    let below = c.in_ok-told.ensures.below c.args.query in
+    let back = sym below.walk.bare_same in
+    record {
+      stands = c.told_members.ensures.stands;
+      live = subst (λ (z : BareTrees). IsLive z c.args.id) back c.requires.live;
+      kind = subst (λ (z : BareTrees). (sight_at z c.args.id).label.kind ≡ kind.Flex) back c.requires.flex;
+      ask = c.requires.ask;
+      fits = subst (λ (z : BareTrees). Fits (sight_at z c.args.id) c.args.query) back c.requires.fits;
+      absent = subst (IsAbsent c.args.query) (sym below.own) c.requires.absent;
+      told =
+          subst (λ (z : BareTrees). AreToldMembers z c.args.id c.as_slice.result.now) back
+          (subst (AreToldMembers (nodes c.args.walk.now) c.args.id) (sym c.as_slice.ensures) c.in_ok-told.ensures.told);
+    }
 
-pub walk::flex_sizes-flex_inline-requires-clause-told : goal.walk::flex_sizes-flex_inline-requires-clause-told
-walk::flex_sizes-flex_inline-requires-clause-told g t c =
-    subst (λ (z : BareTrees). AreToldMembers z c.args.id c.as_slice.result.now) (sym (c.in_ok-told.ensures.below c.args.query.now).walk.bare_same)
-    (subst (AreToldMembers (nodes c.args.walk.now) c.args.id) (sym c.as_slice.ensures) c.in_ok-told.ensures.told)
-
-pub walk::flex_sizes-returns-in_err-sizes-clause-stopped : goal.walk::flex_sizes-returns-in_err-sizes-clause-stopped
-walk::flex_sizes-returns-in_err-sizes-clause-stopped g t c = on_err _ _ (stopped c.args.id c.args.query.now 0 _ _ (c.in_ok-told.ensures.below c.args.query.now))
-
-pub walk::flex_sizes-keep_members-requires-clause-live : goal.walk::flex_sizes-keep_members-requires-clause-live
-walk::flex_sizes-keep_members-requires-clause-live g t c = subst (λ (z : BareTrees). IsLive z c.args.id) (sym (c.in_ok-told.ensures.below c.args.query.now).walk.bare_same) c.requires.live
-
-pub walk::flex_sizes-keep_members-requires-clause-told : goal.walk::flex_sizes-keep_members-requires-clause-told
-walk::flex_sizes-keep_members-requires-clause-told g t c =
-    subst (λ (z : BareTrees). AreToldMembers z c.args.id c.as_slice-2.result.now) (sym (c.in_ok-told.ensures.below c.args.query.now).walk.bare_same)
-    (subst (AreToldMembers (nodes c.args.walk.now) c.args.id) (sym c.as_slice-2.ensures) c.in_ok-told.ensures.told)
-
-pub walk::flex_sizes-returns-in_err-keep_members-clause-stopped : goal.walk::flex_sizes-returns-in_err-keep_members-clause-stopped
-walk::flex_sizes-returns-in_err-keep_members-clause-stopped g t c =
-    on_err _ _ (stopped c.args.id c.args.query.now 0 _ _ (c.keep_members.ensures.below c.args.query.now 0 _ (c.in_ok-told.ensures.below c.args.query.now)))
-
-pub walk::flex_sizes-returns-clause-value : goal.walk::flex_sizes-returns-clause-value
-walk::flex_sizes-returns-clause-value g t c =
-    ap inline_sizes c.in_ok-sizes.ensures
-    ∙ flex_answer (nodes c.told_members.new.walk) c.args.id c.args.query.now (subst (λ (z : BareTrees). (sight_at z c.args.id).label.kind ≡ kind.Flex) (sym (c.in_ok-told.ensures.below c.args.query.now).walk.bare_same) c.requires.flex) c.requires.ask
-    ∙ ap (λ (z : BareTrees). answer_of (sight_at z c.args.id) c.args.query.now) (c.in_ok-told.ensures.below c.args.query.now).walk.bare_same
-
-pub walk::flex_sizes-returns-clause-below : goal.walk::flex_sizes-returns-clause-below
-walk::flex_sizes-returns-clause-below g t c = c.keep_members.ensures.below c.args.query.now 0 _ (c.in_ok-told.ensures.below c.args.query.now)
-
-pub walk::flex_anew-put-requires-clause-live : goal.walk::flex_anew-put-requires-clause-live
-walk::flex_anew-put-requires-clause-live g t c = subst (λ (z : BareTrees). IsLive z c.args.id) (sym c.in_ok-low.ensures.below.walk.bare_same) c.requires.live
-
-pub walk::flex_anew-put-requires-clause-absent : goal.walk::flex_anew-put-requires-clause-absent
-walk::flex_anew-put-requires-clause-absent g t c = subst (IsAbsent c.args.query) (sym c.in_ok-low.ensures.below.own) c.requires.absent
-
-pub walk::flex_anew-put-requires-clause-fits : goal.walk::flex_anew-put-requires-clause-fits
-walk::flex_anew-put-requires-clause-fits g t c = subst (λ (z : BareTrees). Fits (sight_at z c.args.id) c.args.query) (sym c.in_ok-low.ensures.below.walk.bare_same) c.requires.fits
-
-pub walk::flex_anew-put-requires-clause-value : goal.walk::flex_anew-put-requires-clause-value
-walk::flex_anew-put-requires-clause-value g t c = c.in_ok-low.ensures.value ∙ ap (λ (z : BareTrees). answer_of (sight_at z c.args.id) c.args.query) (sym c.in_ok-low.ensures.below.walk.bare_same)
-
-pub walk::flex_anew-put-requires-clause-quiet : goal.walk::flex_anew-put-requires-clause-quiet
-walk::flex_anew-put-requires-clause-quiet g t c = flex_quiet (nodes c.flex_sizes.new.walk) c.args.id c.args.query (subst (λ (z : BareTrees). (sight_at z c.args.id).label.kind ≡ kind.Flex) (sym c.in_ok-low.ensures.below.walk.bare_same) c.requires.flex)
-
-pub walk::flex_anew-returns-clause-walked : goal.walk::flex_anew-returns-clause-walked
-walk::flex_anew-returns-clause-walked g t c = c.in_ok-put.ensures.joins _ 0 (omega arith) c.in_ok-low.ensures.below
-
-pub walk::flex_anew-returns-in_err-put-clause-stopped : goal.walk::flex_anew-returns-in_err-put-clause-stopped
-walk::flex_anew-returns-in_err-put-clause-stopped g t c = on_err _ _ (c.in_err-put.ensures.stopped _ 0 c.in_ok-low.ensures.below)
+pub walk::flex_anew-returns-clause-value : goal.walk::flex_anew-returns-clause-value
+walk::flex_anew-returns-clause-value g t c =
+    subst (λ (z : BareTrees). IfOk c.flex_answered.result (λ sizes. inline_sizes sizes ≡ answer_of (sight_at z c.args.id) c.args.query))
+    (c.in_ok-told.ensures.below c.args.query).walk.bare_same c.flex_answered.ensures.value
 
 pub walk::flex_anew-returns-clause-own : goal.walk::flex_anew-returns-clause-own
-walk::flex_anew-returns-clause-own g t c = c.in_ok-put.ensures.own ∙ ap (λ l. kept_with l ((c.args.query, answer.Sizes c.in_ok-low.low c.in_ok-low.high) ∷ [])) c.in_ok-low.ensures.below.own
+walk::flex_anew-returns-clause-own g t c =
+    subst (λ (l : List (Query × Answer)). IfOk c.flex_answered.result (λ sizes. kept c.flex_answered.new.walk c.args.id ≡ kept_with l ((c.args.query, answer.Sizes sizes.0 sizes.1) ∷ [])))
+    (c.in_ok-told.ensures.below c.args.query).own c.flex_answered.ensures.own
 
-pub walk::ask_member-returns-in_err-inline-clause-parts : goal.walk::ask_member-returns-in_err-inline-clause-parts
-walk::ask_member-returns-in_err-inline-clause-parts g t c = c.ask_alone.ensures.parts
+pub walk::flex_anew-returns-clause-walked : goal.walk::flex_anew-returns-clause-walked
+walk::flex_anew-returns-clause-walked g t c = ok_walked _ c.args.id c.args.query 0 _ _ _ (c.in_ok-told.ensures.below c.args.query) c.flex_answered.ensures.walked
 
-pub walk::ask_member-returns-in_err-inline-clause-stands : goal.walk::ask_member-returns-in_err-inline-clause-stands
-walk::ask_member-returns-in_err-inline-clause-stands g t c = c.ask_alone.ensures.stands
+pub walk::flex_anew-returns-clause-stopped : goal.walk::flex_anew-returns-clause-stopped
+walk::flex_anew-returns-clause-stopped g t c = err_stopped _ c.args.id c.args.query 0 _ _ _ (c.in_ok-told.ensures.below c.args.query) c.flex_answered.ensures.stopped
 
-pub walk::ask_member-returns-clause-parts : goal.walk::ask_member-returns-clause-parts
-walk::ask_member-returns-clause-parts g t c = c.ask_alone.ensures.parts
+pub walk::tell_member-returns-in_err-inline-clause-parts : goal.walk::tell_member-returns-in_err-inline-clause-parts
+walk::tell_member-returns-in_err-inline-clause-parts g t c = c.ask_alone.ensures.parts
 
-pub walk::ask_member-returns-clause-stands : goal.walk::ask_member-returns-clause-stands
-walk::ask_member-returns-clause-stands g t c = c.ask_alone.ensures.stands
+pub walk::tell_member-returns-in_err-inline-clause-stands : goal.walk::tell_member-returns-in_err-inline-clause-stands
+walk::tell_member-returns-in_err-inline-clause-stands g t c = c.ask_alone.ensures.stands
+
+pub walk::tell_member-returns-clause-parts : goal.walk::tell_member-returns-clause-parts
+walk::tell_member-returns-clause-parts g t c = c.ask_alone.ensures.parts
+
+pub walk::tell_member-returns-clause-stands : goal.walk::tell_member-returns-clause-stands
+walk::tell_member-returns-clause-stands g t c = c.ask_alone.ensures.stands
 
 pub walk::tell_member-returns-in-Some-clause-parts : goal.walk::tell_member-returns-in-Some-clause-parts
 walk::tell_member-returns-in-Some-clause-parts g t c = same_parts c.args.walk.now
@@ -790,27 +672,3 @@ walk::told_members-returns-clause-parts g t c = parts_then _ _ _ c.last_members.
 
 pub walk::told_members-returns-clause-stands : goal.walk::told_members-returns-clause-stands
 walk::told_members-returns-clause-stands g t c = c.tell_members.ensures.stands
-
-pub walk::flex_sizes-returns-in_err-told-clause-parts : goal.walk::flex_sizes-returns-in_err-told-clause-parts
-walk::flex_sizes-returns-in_err-told-clause-parts g t c = c.told_members.ensures.parts
-
-pub walk::flex_sizes-returns-in_err-told-clause-stands : goal.walk::flex_sizes-returns-in_err-told-clause-stands
-walk::flex_sizes-returns-in_err-told-clause-stands g t c = c.told_members.ensures.stands
-
-pub walk::flex_sizes-returns-in_err-sizes-clause-parts : goal.walk::flex_sizes-returns-in_err-sizes-clause-parts
-walk::flex_sizes-returns-in_err-sizes-clause-parts g t c = c.told_members.ensures.parts
-
-pub walk::flex_sizes-returns-in_err-sizes-clause-stands : goal.walk::flex_sizes-returns-in_err-sizes-clause-stands
-walk::flex_sizes-returns-in_err-sizes-clause-stands g t c = c.told_members.ensures.stands
-
-pub walk::flex_sizes-returns-in_err-keep_members-clause-parts : goal.walk::flex_sizes-returns-in_err-keep_members-clause-parts
-walk::flex_sizes-returns-in_err-keep_members-clause-parts g t c = parts_then _ _ _ c.told_members.ensures.parts c.keep_members.ensures.parts
-
-pub walk::flex_sizes-returns-in_err-keep_members-clause-stands : goal.walk::flex_sizes-returns-in_err-keep_members-clause-stands
-walk::flex_sizes-returns-in_err-keep_members-clause-stands g t c = c.keep_members.ensures.stands
-
-pub walk::flex_sizes-returns-clause-parts : goal.walk::flex_sizes-returns-clause-parts
-walk::flex_sizes-returns-clause-parts g t c = parts_then _ _ _ c.told_members.ensures.parts c.keep_members.ensures.parts
-
-pub walk::flex_sizes-returns-clause-stands : goal.walk::flex_sizes-returns-clause-stands
-walk::flex_sizes-returns-clause-stands g t c = c.keep_members.ensures.stands

@@ -38,9 +38,6 @@ decreases-asking::ask_needed g l = 16 * size_at (nodes l.walk.now) l.id + 2
 abbrev pub decreases-asking::grid_in : goal.decreases-asking::grid_in
 decreases-asking::grid_in g l = 16 * size_at (nodes l.walk.now) l.id + 3
 
-abbrev pub decreases-walk::ask_member : goal.decreases-walk::ask_member
-decreases-walk::ask_member g l = 16 * size_at (nodes l.walk.now) l.last.now.member.child + 9
-
 abbrev pub decreases-walk::tell_member : goal.decreases-walk::tell_member
 decreases-walk::tell_member g l = 16 * size_at (nodes l.walk.now) l.last.now.member.child + 10
 
@@ -50,14 +47,8 @@ decreases-walk::tell_members g l = 16 * size_at (nodes l.walk.now) l.id
 abbrev pub decreases-walk::told_members : goal.decreases-walk::told_members
 decreases-walk::told_members g l = 16 * size_at (nodes l.walk.now) l.id + 1
 
-abbrev pub decreases-walk::grid_sizes : goal.decreases-walk::grid_sizes
-decreases-walk::grid_sizes g l = 16 * size_at (nodes l.walk.now) l.id + 4
-
 abbrev pub decreases-walk::grid_anew : goal.decreases-walk::grid_anew
 decreases-walk::grid_anew g l = 16 * size_at (nodes l.walk.now) l.id + 5
-
-abbrev pub decreases-walk::flex_sizes : goal.decreases-walk::flex_sizes
-decreases-walk::flex_sizes g l = 16 * size_at (nodes l.walk.now) l.id + 4
 
 abbrev pub decreases-walk::flex_anew : goal.decreases-walk::flex_anew
 decreases-walk::flex_anew g l = 16 * size_at (nodes l.walk.now) l.id + 5
