@@ -15,7 +15,7 @@ use Rattle.tree_rules.specs.declared.query.Given.{Given}
 use Rattle.tree_rules.specs.declared.query.Query.{Query}
 use Rattle.inline_sizes.proofs.Held.{places_held}
 use Rattle.inline_sizes.specs.GridsSeen.{grid_seen}
-use Rattle.block_sizes.proofs.Answered.{grid_answer}
+use Rattle.block_sizes.proofs.NodeAnswers.{grid_answer}
 use Rattle.block_sizes.specs.Told.{IsToldWide}
 use Rattle.block_sizes.specs.Wides.{rows_seen}
 use Rattle.block_sizes.specs.declared.again.ToldWide.{ToldWide}

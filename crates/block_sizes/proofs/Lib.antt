@@ -1,4 +1,4 @@
-mod Answered
+mod NodeAnswers
 pub mod AskMembers
 mod Blocks
 mod Fitting

@@ -4,7 +4,7 @@
 ghost use Rattle.std.specs.Prelude.{◌≡◌, ◌++◌, ◌-ℤ◌, ◌≤ℤ◌, true, false, length, pos, IfOk, IfSome, OnOk, OnErr};
 ghost use Rattle.lunit.specs.Units.{IsUnits};
 ghost use Rattle.placing.specs.Nodes.{kid_at, level_at, sight_at, IsLive};
-ghost use Rattle.placing.specs.Told.{AreRowsFor, Each, IsPastColumns, IsPastRows};
+ghost use Rattle.placing.specs.Told.{AreRowsFor, Each};
 ghost use Rattle.placing.specs.Walks.{Stopped, Walked, WalkedBelow};
 ghost use Rattle.tree_rules.specs.AskedQueries.{block_query};
 ghost use Rattle.tree_rules.specs.GridSizes.{shares_rows};
@@ -18,13 +18,11 @@ ghost use Rattle.block_sizes.specs.Wides.{IsChildIn, IsWide, LeadsDown, asked_of
 ghost use Rattle.block_sizes.specs.Told.{AreIn, AreLaid, ArePastIn, IsToldWide};
 ghost use Rattle.placing.specs.Wides.{child_of};
 
-use crate::again::{ToldWide, past_for, take_past};
+use crate::again::ToldWide;
+use crate::begun::{BegunWide, add_child, begin_wide, lists_for};
 use crate::queries::kept_rows;
 use crate::walk::{block_in, lend_rows_at};
-use crate::wide::{
-    append, child_in, columns_of, items_room, row_item, shares, sizes_at, wide_child,
-};
-use inline_sizes::{grid_in, with_room};
+use crate::wide::{append, child_in, row_item, shares, sizes_at, wide_child};
 use layout_cache::Given;
 use lunit::{Item, Lu, NoMemory, Sequence};
 use node_arena::NodeId;
@@ -32,8 +30,8 @@ use outside::Ruler;
 use part_rules::View;
 use placing::style::items;
 use placing::{
-    Above, ChildArea, GridBase, GridParts, GridWide, PastColumns, PastRows, RowsAt, ToldColumns,
-    ToldRows, WideChild, has_subgrid, node_at, put_items, root,
+    Above, ChildArea, GridBase, GridParts, GridWide, PastRows, RowsAt, ToldColumns, ToldRows,
+    WideChild, has_subgrid, node_at, put_items, root,
 };
 use std::sync::ledger::Ledger;
 use walker::{Seat, Walker};
@@ -253,16 +251,14 @@ fn ask_children<R: Ruler, L: Ledger>(
     let align = items::<0>(&node_at(walk.tree, id).style);
     let base = parts.base.grid();
     let count = base.placed.areas.len();
-    let mut children = with_room(walk.alloc, count)?;
-    let room = items_room(walk.tree, id, reps, width, parts);
-    let mut items = with_room(walk.alloc, room)?;
-    let mut ends = with_room(walk.alloc, count)?;
+    let (mut children, mut items, mut ends) = lists_for(
+        walk.alloc, walk.tree, id, reps, width, parts,
+    )?;
     for index in 0..count {
         let entry = child_in(walk.tree, id, reps, width, parts, index);
         let sizes = sizes_at(parts, index);
         let child = ask_child(walk, id, base, &columns, entry, sizes, &mut items)?;
-        children.push(child)?;
-        ends.push(items.len())?;
+        add_child(&mut children, &mut ends, child, items.len())?;
     }
     Ok(ToldRows {
         columns,
@@ -344,7 +340,7 @@ fn ask_stale<R: Ruler, L: Ledger>(
 
 #[cycle(walk)]
 /// The children of a grid in its columns: those are asked whose answers went since they told it last, or all of them where it is
-/// not known what they told in these columns. Its rows come with them, where they are known still.
+/// not known what they told there. Its rows come with them, where they are known still.
 fn told_rows<R: Ruler, L: Ledger>(
     walk: &mut Walker<R, L>,
     id: NodeId,
@@ -359,7 +355,7 @@ fn told_rows<R: Ruler, L: Ledger>(
     requires kind { (sight_at (nodes walk.old) id).label.kind ≡ kind.Grid }
     requires grid { IsGrid (nodes walk.old) id reps.now width.now parts.now }
     requires columns { AreLaid (nodes walk.old) id reps.now width.now parts.now.base columns }
-    requires past { IfSome past (IsPastRows (nodes walk.old) id) }
+    requires past { IfSome past (ArePastIn (nodes walk.old) id parts.now.base columns) }
     ensures told { IfOk result
         (λ told. AreIn (nodes walk.old) id parts.now.base columns Each told.0) }
     ensures rows { IfOk result
@@ -374,72 +370,11 @@ fn told_rows<R: Ruler, L: Ledger>(
         ((q : Query) → LeadsDown (nodes walk.old) id reps.now width.now q →
         Stopped id q (seen R.log walk.old) (seen R.log walk.new)) }
 {
-    if let Some(past) = past_for(walk.tree, id, reps, width, parts, &columns, past) {
+    if let Some(past) = past {
         return ask_stale(walk, id, reps, width, parts, &columns, past);
     }
     let told = ask_children(walk, id, reps, width, parts, columns)?;
     Ok((told, None))
-}
-
-#[cycle(walk)]
-/// A grid in its seat with its columns placed and its children in them, where these children told this last, if they did: then only
-/// those are asked whose answers went.
-fn told_wide_by<R: Ruler, L: Ledger>(
-    walk: &mut Walker<R, L>,
-    id: NodeId,
-    seat: &Seat,
-    width: &Given,
-    past: (Option<PastColumns>, Option<PastRows>),
-) -> Result<ToldWide, NoMemory>
-    requires stands { Stands walk.old }
-    requires live { IsLive (nodes walk.old) id }
-    requires grid { (sight_at (nodes walk.old) id).label.kind ≡ kind.Grid }
-    requires reps { length seat.now.reps.now ≡ length (sight_at (nodes walk.old) id).chain }
-    requires seat { HasSeat (sight_at (nodes walk.old) id) seat.now }
-    requires inline { IsGivenFor true (sees_columns (sight_at (nodes walk.old) id))
-        (outer_context (sight_at (nodes walk.old) id) seat.now.reps.now).columns.table.tracks
-        width.now }
-    requires spread { IsSpread (farthest (level_at (nodes walk.old) id)) width.now }
-    requires past_columns { IfSome past.0 (IsPastColumns (nodes walk.old) id) }
-    requires past_rows { IfSome past.1 (IsPastRows (nodes walk.old) id) }
-    ensures value { IfOk result (IsToldWide (nodes walk.old) id seat.now.reps.now width.now) }
-    ensures stands { Stands walk.new }
-    ensures parts { SameParts walk.old walk.new }
-    ensures below { OnOk result
-        ((q : Query) → q.reps ≡ seat.now.reps.now → q.inline ≡ width.now →
-        needs_inline q.ask ≡ true →
-        WalkedBelow id q 1 (seen R.log walk.old) (seen R.log walk.new)) }
-    ensures stopped { OnErr result
-        ((q : Query) → q.reps ≡ seat.now.reps.now → q.inline ≡ width.now →
-        needs_inline q.ask ≡ true →
-        Stopped id q (seen R.log walk.old) (seen R.log walk.new)) }
-{
-    root(walk.tree);
-    let (past_columns, past_rows) = past;
-    let reps = seat.reps;
-    let told = grid_in(walk, id, seat, width, past_columns)?;
-    let ToldColumns { parts, ends } = told;
-    let columns = columns_of(walk.alloc, walk.tree, id, reps, width, &parts, walk.passes)?;
-    let (asked, rows) = told_rows(walk, id, reps, width, &parts, columns, past_rows)?;
-    let ToldRows {
-        columns,
-        align: _,
-        children,
-        items,
-        ends: row_ends,
-    } = asked;
-    let wide = GridWide {
-        parts,
-        columns,
-        children,
-        items,
-        rows,
-    };
-    Ok(ToldWide {
-        wide,
-        column_ends: ends,
-        row_ends,
-    })
 }
 
 #[cycle(walk)]
@@ -471,12 +406,35 @@ pub(crate) fn told_wide_at<R: Ruler, L: Ledger>(
         needs_inline q.ask ≡ true →
         Stopped id q (seen R.log walk.old) (seen R.log walk.new)) }
 {
-    let past = take_past(walk, id)?;
-    let told = told_wide_by(walk, id, seat, width, past)?;
-    Ok(told)
+    root(walk.tree);
+    let begun = begin_wide(walk, id, seat, width)?;
+    let BegunWide {
+        told: ToldColumns { parts, ends },
+        columns,
+        past,
+    } = begun;
+    let (asked, rows) = told_rows(walk, id, seat.reps, width, &parts, columns, past)?;
+    let ToldRows {
+        columns,
+        align: _,
+        children,
+        items,
+        ends: row_ends,
+    } = asked;
+    let wide = GridWide {
+        parts,
+        columns,
+        children,
+        items,
+        rows,
+    };
+    Ok(ToldWide {
+        wide,
+        column_ends: ends,
+        row_ends,
+    })
 }
 
-#[cycle(walk)]
 /// A grid in its seat, by the counts of the repetitions above it and what it is given in the inline axis, with its columns placed:
 /// each child has its inline size or the columns as it sees them, and is asked for its block size or its lent rows there (CSS Grid
 /// 2, 12.1). Nothing is kept for the grid itself. It makes one step, or none where it is given its columns. The edges of tracks

@@ -33,7 +33,7 @@ fn size_under<R: Ruler, L: Ledger>(
     id: NodeId,
     query: Query,
     reps: &[(u32, u32)],
-    above: &Above,
+    above: Above,
     area: Area,
 ) -> Result<Lu, NoMemory>
     requires stands { Stands walk.old }
@@ -41,7 +41,7 @@ fn size_under<R: Ruler, L: Ledger>(
     requires query { query ≡ block_query false reps.now query.inline }
     requires fits { Fits (sight_at (nodes walk.old) id) query }
     requires absent { IsAbsent query (kept walk.old id) }
-    requires seat { IsSeat (sight_at (nodes walk.old) id) reps.now above.now area }
+    requires seat { IsSeat (sight_at (nodes walk.old) id) reps.now above area }
     requires spread { IsSpread (farthest (level_at (nodes walk.old) id)) query.inline }
     ensures value { IfOk result
         (λ size. block_size size ≡ answer_of (sight_at (nodes walk.old) id) query) }
@@ -54,7 +54,11 @@ fn size_under<R: Ruler, L: Ledger>(
     ensures own { IfOk result
         (λ size. GrowsBy (kept walk.old id) query size (kept walk.new id)) }
 {
-    let seat = Seat { reps, above, area };
+    let seat = Seat {
+        reps,
+        above: &above,
+        area,
+    };
     block_anew(walk, id, query, &seat)
 }
 
@@ -64,7 +68,7 @@ fn rows_under<R: Ruler, L: Ledger>(
     id: NodeId,
     query: Query,
     reps: &[(u32, u32)],
-    above: &Above,
+    above: Above,
     area: Area,
 ) -> Result<Sequence<Item>, NoMemory>
     requires stands { Stands walk.old }
@@ -72,7 +76,7 @@ fn rows_under<R: Ruler, L: Ledger>(
     requires query { query ≡ block_query true reps.now query.inline }
     requires fits { Fits (sight_at (nodes walk.old) id) query }
     requires absent { IsAbsent query (kept walk.old id) }
-    requires seat { IsSeat (sight_at (nodes walk.old) id) reps.now above.now area }
+    requires seat { IsSeat (sight_at (nodes walk.old) id) reps.now above area }
     requires spread { IsSpread (farthest (level_at (nodes walk.old) id)) query.inline }
     ensures value { IfOk result
         (λ items. lent_items items ≡ answer_of (sight_at (nodes walk.old) id) query) }
@@ -86,7 +90,11 @@ fn rows_under<R: Ruler, L: Ledger>(
         (λ items. kept walk.new id ≡
         kept_with (kept walk.old id) ((query, answer.Lent items) ∷ [])) }
 {
-    let seat = Seat { reps, above, area };
+    let seat = Seat {
+        reps,
+        above: &above,
+        area,
+    };
     rows_anew(walk, id, query, &seat)
 }
 
@@ -144,7 +152,7 @@ pub fn block_of<R: Ruler, L: Ledger>(
         tally,
         passes,
     };
-    size_under(&mut walk, id, query, reps, &above, area)
+    size_under(&mut walk, id, query, reps, above, area)
 }
 
 /// The items that a subgrid in the rows lends to the grid that sizes them, spans in that grid's lines and lengths in units of
@@ -200,5 +208,5 @@ pub fn lend_rows<R: Ruler, L: Ledger>(
         tally,
         passes,
     };
-    rows_under(&mut walk, id, query, reps, &above, area)
+    rows_under(&mut walk, id, query, reps, above, area)
 }

@@ -5,7 +5,9 @@
 #![tactic(auto)]
 
 mod again;
+mod answered;
 mod asking;
+mod begun;
 mod block;
 mod children;
 mod edges;

@@ -25,18 +25,13 @@ ghost use Rattle.tree_rules.specs.FlexSizes as rules;
 ghost use Rattle.tree_rules.specs.Frames.{given_size};
 ghost use Rattle.tree_rules.specs.NodeSizes.{inner};
 
-use crate::again::{ToldWide, keep_told};
-use crate::asking::{told_wide_at, wide_at};
+use crate::answered::{column_answered, grid_answered, row_answered, rows_answered};
+use crate::asking::told_wide_at;
+use crate::begun::{begin_column, begin_row};
 use crate::children::given_box;
-use crate::flex::{
-    box_at, boxes_in_column, column_size, items_in_row, keep_column, keep_row, known_block,
-    known_of, last_along, member_at, row_size, size_of,
-};
-use crate::flexes::row_lines;
+use crate::flex::{box_at, known_block, known_of, last_along, member_at, size_of};
 use crate::queries::{block_query, kept_block, kept_rows};
-use crate::row_sizes::laid_rows;
-use crate::wide::lent_of;
-use inline_sizes::{flex_in, with_room};
+use inline_sizes::with_room;
 use layout_cache::{Given, Query};
 use lunit::{Area, Item, Lu, NoMemory, Sequence, Span};
 use node_arena::{Arena, NodeId};
@@ -44,8 +39,7 @@ use outside::Ruler;
 use part_rules::FlexItem;
 use placing::style::is_column;
 use placing::{
-    Above, Answer, ColumnParts, Member, Node, NodeKind, RowParts, SharedColumnParts,
-    SharedRowParts, SharedWide, ToldAlong, node_at, parent, root,
+    Above, ColumnParts, Member, Node, NodeKind, RowParts, ToldAlong, node_at, parent, root,
 };
 use std::sync::ledger::Ledger;
 use walker::{Seat, Walker};
@@ -197,24 +191,9 @@ fn row_told<R: Ruler, L: Ledger>(
         ((q : Query) → given_size q.inline ≡ width → needs_inline q.ask ≡ true →
         Stopped id q (seen R.log walk.old) (seen R.log walk.new)) }
 {
-    let parts = flex_in(walk, id)?;
-    let members = parts.members;
-    let items = items_in_row(walk.alloc, walk.tree, id, width, members.as_slice(), past)?;
-    let lines = row_lines(
-        walk.alloc,
-        &node_at(walk.tree, id).style,
-        width,
-        &items,
-        walk.passes,
-    )?;
-    let blocks = ask_members(
-        walk,
-        id,
-        width,
-        members.as_slice(),
-        lines.mains.as_slice(),
-        past,
-    )?;
+    let (members, items, lines) = begin_row(walk, id, width, past)?;
+    let mains = lines.mains.as_slice();
+    let blocks = ask_members(walk, id, width, members.as_slice(), mains, past)?;
     let row = RowParts {
         members,
         lines,
@@ -272,9 +251,7 @@ fn column_told<R: Ruler, L: Ledger>(
         ((q : Query) → given_size q.inline ≡ width → needs_inline q.ask ≡ true →
         Stopped id q (seen R.log walk.old) (seen R.log walk.new)) }
 {
-    let parts = flex_in(walk, id)?;
-    let members = parts.members;
-    let boxes = boxes_in_column(walk.alloc, walk.tree, id, width, members.as_slice(), past)?;
+    let (members, boxes) = begin_column(walk, id, width, past)?;
     let blocks = ask_members(walk, id, width, members.as_slice(), boxes.as_slice(), past)?;
     Ok(ColumnParts {
         members,
@@ -337,26 +314,8 @@ fn grid_anew<R: Ruler, L: Ledger>(
     ensures own { IfOk result
         (λ size. GrowsBy (kept walk.old id) query size (kept walk.new id)) }
 {
-    let width = &query.inline;
-    let told = told_wide_at(walk, id, seat, width)?;
-    let ToldWide {
-        wide,
-        column_ends,
-        row_ends,
-    } = told;
-    let (size, laid) = laid_rows(
-        walk.alloc,
-        walk.tree,
-        id,
-        seat.reps,
-        width,
-        wide,
-        walk.passes,
-    )?;
-    let held = SharedWide::new(walk.alloc, laid)?;
-    keep_told(walk, id, &held, column_ends, row_ends)?;
-    walk.put(id, query, Answer::Laid(size, held))?;
-    Ok(size)
+    let told = told_wide_at(walk, id, seat, &query.inline)?;
+    grid_answered(walk, id, query, seat.reps, told)
 }
 
 #[cycle(walk)]
@@ -386,15 +345,10 @@ fn column_anew<R: Ruler, L: Ledger>(
     ensures own { IfOk result
         (λ size. GrowsBy (kept walk.old id) query size (kept walk.new id)) }
 {
-    root(walk.tree);
     let width = size_of(&query.inline);
     let past = last_along(walk, id, width)?;
     let parts = column_told(walk, id, width, past.as_slice())?;
-    let (size, items) = column_size(walk.alloc, walk.tree, id, width, &parts, past.as_slice())?;
-    keep_column(walk, id, width, &parts, &items)?;
-    let held = SharedColumnParts::new(walk.alloc, parts)?;
-    walk.put(id, query, Answer::Column(size, held))?;
-    Ok(size)
+    column_answered(walk, id, query, parts, past.as_slice())
 }
 
 #[cycle(walk)]
@@ -424,15 +378,10 @@ fn row_anew<R: Ruler, L: Ledger>(
     ensures own { IfOk result
         (λ size. GrowsBy (kept walk.old id) query size (kept walk.new id)) }
 {
-    root(walk.tree);
     let width = size_of(&query.inline);
     let past = last_along(walk, id, width)?;
     let (parts, items) = row_told(walk, id, width, past.as_slice())?;
-    let size = row_size(walk.alloc, walk.tree, id, width, &parts)?;
-    keep_row(walk, id, width, &parts, &items)?;
-    let held = SharedRowParts::new(walk.alloc, parts)?;
-    walk.put(id, query, Answer::Row(size, held))?;
-    Ok(size)
+    row_answered(walk, id, query, parts, &items)
 }
 
 #[cycle(walk)]
@@ -544,12 +493,8 @@ pub(crate) fn rows_anew<R: Ruler, L: Ledger>(
         kept_with (kept walk.old id) ((query, answer.Lent items) ∷ [])) }
 {
     subgrids_are_grids(walk.tree, id);
-    let width = &query.inline;
-    let wide = wide_at(walk, id, seat, width)?;
-    let items = lent_of(walk.alloc, walk.tree, id, seat.reps, width, wide)?;
-    let lent = Sequence::from_slice(walk.alloc, items.as_slice())?;
-    walk.put(id, query, Answer::Lent(items))?;
-    Ok(lent)
+    let told = told_wide_at(walk, id, seat, &query.inline)?;
+    rows_answered(walk, id, query, seat.reps, told)
 }
 
 #[cycle(walk)]

@@ -1,75 +1,61 @@
 use Rattle.std.proofs.Common.{rules, arith, drop, refl, sym, ap, subst, ◌≡◌, ◌∙◌, ◌+◌, ◌*◌, ◌<◌, ◌∷◌, ◌++◌, [], List, ℕ, ℤ, true, false, length, map, pos, ◌≤◌, ◌&&◌, Bool}
 use Rattle.lunit.specs.declared.item.Item.{Item}
-use Rattle.placing.specs.Counted.{IsGivenSize}
 use Rattle.placing.specs.Nodes.{BareTrees, IsLive, kid_at, level_at, sight_at, size_at}
 use Rattle.placing.specs.Ranges.{AreReadable}
 use Rattle.placing.specs.Seats.{IsSeat}
-use Rattle.placing.specs.Walks.{Stopped, Walked, kept_with, state}
+use Rattle.placing.specs.Walks.{Stopped, Walked, kept_with}
 use Rattle.placing.specs.declared.contexts.Above.TheVariants as above
 use Rattle.placing.specs.declared.node.Answer.TheVariants as answer
 use Rattle.placing.proofs.Leaves.{on_err}
-use Rattle.placing.proofs.Walks.{found_walked, stopped, ticked, walked_none}
+use Rattle.placing.proofs.Walks.{found_walked, stopped, walked_none}
 use Rattle.tree_rules.specs.Answers.{Pair}
 use Rattle.tree_rules.specs.AskedQueries.{block_query}
 use Rattle.tree_rules.specs.Chains.{has_chain, has_subgrid, is_grid_kind}
 use Rattle.tree_rules.specs.Labels.{GridStyle}
 use Rattle.tree_rules.specs.GridSizes.{shares_rows}
 use Rattle.tree_rules.specs.KeptAnswers.{IsAbsent}
-use Rattle.tree_rules.specs.Queries.{Fits, IsGivenFor, answer_of, block_size, lent_items, needs_inline, outer_context, sees_columns, sees_rows}
+use Rattle.tree_rules.specs.Queries.{Fits, IsGivenFor, answer_of, block_size, lent_items, needs_inline, outer_context, sees_columns}
 use Rattle.tree_rules.specs.declared.kind.NodeKind.TheVariants as kind
 use Rattle.tree_rules.specs.declared.kind.NodeKind.{NodeKind}
 use Rattle.tree_rules.specs.declared.query.Given.{Given}
 use Rattle.tree_rules.specs.declared.query.Query.{Query}
-use Rattle.inline_sizes.proofs.Asked.{walked_stopped}
+use Rattle.inline_sizes.proofs.Asked.{err_stopped, ok_walked, on_ok, walked_stopped}
 use Rattle.inline_sizes.specs.Grids.{IsGrid, pairs_seen}
-use Rattle.block_sizes.proofs.Answered.{column_answer, flex_quiet, grid_quiet, items_are, lent_answer, row_answer, size_is}
-use Rattle.block_sizes.proofs.Fitting.{given_some, asked_as, block_fit, block_own, lent_fit, pairs_all, rows_told, shared_chain}
-use Rattle.block_sizes.proofs.HeldWide.{grows_by_block, on_ok_by, some_or_none, wide_held}
-use Rattle.placing.specs.Nodes.{children_at}
-use Rattle.placing.specs.Wides.{HoldsWide}
+use Rattle.block_sizes.proofs.NodeAnswers.{items_are, size_is}
+use Rattle.block_sizes.proofs.Fitting.{asked_as, block_own, lent_fit, pairs_all, rows_told, shared_chain}
+use Rattle.block_sizes.proofs.HeldWide.{grows_by_block, on_ok_by, some_or_none}
 use Rattle.block_sizes.proofs.KnownAlong.{block_known, known_blocks}
 use Rattle.block_sizes.proofs.KnownRows.{rows_last, rows_lost}
-use Rattle.block_sizes.proofs.KeptGrids.{keepable, laid_answer, IsKeepable}
 use Rattle.block_sizes.proofs.Turns.{member_below, member_ends, member_stops, stops_at_once, turn_below, turn_ends, turn_stops}
 use Rattle.block_sizes.proofs.Joined.{joined_below, joined_stopped}
 use Rattle.block_sizes.proofs.Leading.{leads_down}
 use Rattle.block_sizes.proofs.Widths.{all_there, sizes_there}
 use Rattle.placing.specs.Spread.{AreSpread, IsSpread}
-use Rattle.block_sizes.specs.Wides.{IsWide, LeadsDown, asked_of, block_seen, farthest, items_seen, wide_in}
+use Rattle.block_sizes.specs.Wides.{LeadsDown, asked_of, block_seen, farthest, items_seen, wide_in}
 use Rattle.placing.specs.declared.wide.GridBase.{GridBase}
 use Rattle.placing.specs.declared.wide.WideChild.{WideChild}
-use Rattle.std.specs.Prelude.{IfSome, Some, get_or, ◌-ℤ◌, ◌≤ℤ◌}
+use Rattle.std.specs.Prelude.{IfOk, IfSome, Some, get_or, ◌-ℤ◌, ◌≤ℤ◌}
 use Rattle.lunit.specs.Units.{IsUnits}
 use Rattle.placing.proofs.Tellings.{ends_length, has_parts}
-use Rattle.placing.specs.Told.{AllBut, AreRowsFor, AreTold, Each, HasParts, IsPastColumns, IsPastRows, TellsRows}
+use Rattle.placing.specs.Told.{AllBut, AreRowsFor, AreTold, Each, HasParts, TellsRows}
 use Rattle.tree_rules.specs.Labels.{ContentStyle}
 use Rattle.block_sizes.proofs.ToldRows.{length_more, length_set, rows_from, rows_in, stale_within, tells_now, told_again, told_end, told_made, told_more, told_start}
-use Rattle.block_sizes.specs.Told.{AreIn, AreLaid, IsToldWide}
-use Rattle.part_rules.specs.declared.flex.FlexItem.{FlexItem}
-use Rattle.flex_lines.specs.Lines.{AreRanges}
+use Rattle.block_sizes.specs.Told.{AreIn, AreLaid, ArePastIn, IsToldWide}
+use Rattle.block_sizes.specs.Keeping.{GrowsBy}
+use Rattle.placing.specs.declared.node.Answer.{Answer}
 use Rattle.placing.proofs.Entries.{alone_there}
 use Rattle.placing.specs.Ranges.{IsGridAxis}
-use Rattle.tree_rules.specs.AskedQueries.{inline_query}
 use Rattle.tree_rules.specs.FlexSizes as rules
 use Rattle.tree_rules.specs.FlexSizes.{settled_at}
 use Rattle.tree_rules.specs.Frames.{given_size}
-use Rattle.tree_rules.specs.GridSizes.{grid_lends_rows}
 use Rattle.tree_rules.specs.Labels.{grid_of}
 use Rattle.tree_rules.specs.NodeSizes.{inner}
-use Rattle.inline_sizes.proofs.Asked.{on_ok}
 use Rattle.inline_sizes.specs.Flexes.{AreMembers, IsChild, flex_seen, member_of}
 use Rattle.placing.specs.Members.{member_in}
-use Rattle.inline_sizes.specs.GridsSeen.{grid_seen}
 use Rattle.block_sizes.proofs.AskMembers.{asked_turn, block_width, blocks_more, boxes_counted, fits_block, spread_none, IsAsked}
 use Rattle.block_sizes.proofs.FlexLeading.{column_leads, row_leads}
-use Rattle.block_sizes.proofs.FlexMade.{items_few, lines_made}
-use Rattle.block_sizes.proofs.Settled.{covering_roomy, map_length, seen_length, settled_length}
-use Rattle.block_sizes.specs.Flexes.{AreCovering, HaveInner}
-use Rattle.placing.specs.Lined.{HoldsColumn, HoldsRow}
-use Rattle.placing.specs.Children.{IsTree}
-use Rattle.block_sizes.proofs.HeldLines.{column_held, row_held}
+use Rattle.block_sizes.proofs.Settled.{settled_length}
 use Rattle.block_sizes.specs.Settling.{AreKnown, AreRoomy, IsColumn, IsRow, LeadsTo, TellsBlock, block_of, column_boxes_seen, row_items_seen, settled_seen}
-use Rattle.block_sizes.specs.Wides.{rows_seen}
 use Rattle.walker.proofs.Parts.{parts_then, same_parts}
 use Rattle.walker.specs.Walkers.{kept, nodes, seen}
 use Rattle.block_sizes.proofs.+walk.Goals as goal
@@ -228,20 +214,14 @@ asking::ask_children-loop-index-init g t c =
       parts = same_parts c.args.walk.now;
       same = refl;
       walked = λ q leads. walked_none c.args.id q (seen g.R.Ruler.log c.args.walk.now) c.requires.stands.right;
-      counted = ap length c.in_ok-children.ensures;
+      counted = ap length c.in_ok-children.ensures.children;
       told =
-          told_start (TellsRows (sight_at (nodes c.args.walk.now) c.args.id) (kid_at (nodes c.args.walk.now)) c.args.parts.now.base c.args.columns (sight_at (nodes c.args.walk.now) c.args.id).label.content.inline.items) _ _ _ c.in_ok-children.ensures c.in_ok-items.ensures
-          c.in_ok-ends.ensures;
+          told_start (TellsRows (sight_at (nodes c.args.walk.now) c.args.id) (kid_at (nodes c.args.walk.now)) c.args.parts.now.base c.args.columns (sight_at (nodes c.args.walk.now) c.args.id).label.content.inline.items) _ _ _ c.in_ok-children.ensures.children c.in_ok-children.ensures.items
+          c.in_ok-children.ensures.ends;
     }
 
 pub asking::ask_children-returns-in_err-children-clause-stopped : goal.asking::ask_children-returns-in_err-children-clause-stopped
 asking::ask_children-returns-in_err-children-clause-stopped g t c = on_err _ _ (stops_at_once c.args.id (seen g.R.Ruler.log c.args.walk.now) (LeadsDown (nodes c.args.walk.now) c.args.id c.args.reps.now c.args.width.now) c.requires.stands.right)
-
-pub asking::ask_children-returns-in_err-items-clause-stopped : goal.asking::ask_children-returns-in_err-items-clause-stopped
-asking::ask_children-returns-in_err-items-clause-stopped g t c = on_err _ _ (stops_at_once c.args.id (seen g.R.Ruler.log c.args.walk.now) (LeadsDown (nodes c.args.walk.now) c.args.id c.args.reps.now c.args.width.now) c.requires.stands.right)
-
-pub asking::ask_children-returns-in_err-ends-clause-stopped : goal.asking::ask_children-returns-in_err-ends-clause-stopped
-asking::ask_children-returns-in_err-ends-clause-stopped g t c = on_err _ _ (stops_at_once c.args.id (seen g.R.Ruler.log c.args.walk.now) (LeadsDown (nodes c.args.walk.now) c.args.id c.args.reps.now c.args.width.now) c.requires.stands.right)
 
 pub asking::ask_children-child_in-entry-requires : goal.asking::ask_children-child_in-entry-requires
 asking::ask_children-child_in-entry-requires g t c =
@@ -277,14 +257,8 @@ asking::ask_children-returns-in_err-child-clause-stopped g t c =
     (turn_stops (nodes c.args.walk.now) (nodes c.loop-index.walk) c.loop-index.invariant.same c.args.id c.args.reps.now c.args.width.now c.args.parts.now c.requires.grid c.root.ensures.steps c.grid-base.result.now c.grid-base.ensures c.args.columns c.requires.columns.seen
     c.child_in-entry.result c.sizes_at-sizes.result c.loop-index.index c.child_in-entry.ensures.next c.sizes_at-sizes.ensures c.child_in-entry.ensures.child.entry.number _ _ _ refl c.loop-index.invariant.walked c.in_err-child.ensures.stopped)
 
-pub asking::ask_children-returns-in_err-push-clause-stopped : goal.asking::ask_children-returns-in_err-push-clause-stopped
-asking::ask_children-returns-in_err-push-clause-stopped g t c =
-    on_err _ _
-    (turn_ends (nodes c.args.walk.now) (nodes c.loop-index.walk) c.loop-index.invariant.same c.args.id c.args.reps.now c.args.width.now c.args.parts.now c.requires.grid c.root.ensures.steps c.grid-base.result.now c.grid-base.ensures c.args.columns c.requires.columns.seen
-    c.child_in-entry.result c.sizes_at-sizes.result c.loop-index.index c.child_in-entry.ensures.next c.sizes_at-sizes.ensures c.child_in-entry.ensures.child.entry.number _ _ _ refl c.loop-index.invariant.walked c.in_ok-child.ensures.walked)
-
-pub asking::ask_children-returns-in_err-push-2-clause-stopped : goal.asking::ask_children-returns-in_err-push-2-clause-stopped
-asking::ask_children-returns-in_err-push-2-clause-stopped g t c =
+pub asking::ask_children-returns-in_err-add_child-clause-stopped : goal.asking::ask_children-returns-in_err-add_child-clause-stopped
+asking::ask_children-returns-in_err-add_child-clause-stopped g t c =
     on_err _ _
     (turn_ends (nodes c.args.walk.now) (nodes c.loop-index.walk) c.loop-index.invariant.same c.args.id c.args.reps.now c.args.width.now c.args.parts.now c.requires.grid c.root.ensures.steps c.grid-base.result.now c.grid-base.ensures c.args.columns c.requires.columns.seen
     c.child_in-entry.result c.sizes_at-sizes.result c.loop-index.index c.child_in-entry.ensures.next c.sizes_at-sizes.ensures c.child_in-entry.ensures.child.entry.number _ _ _ refl c.loop-index.invariant.walked c.in_ok-child.ensures.walked)
@@ -303,12 +277,12 @@ asking::ask_children-loop-index-preserved g t c =
       walked =
           turn_below (nodes c.args.walk.now) (nodes c.loop-index.walk) c.loop-index.invariant.same c.args.id c.args.reps.now c.args.width.now c.args.parts.now c.requires.grid c.root.ensures.steps c.grid-base.result.now c.grid-base.ensures c.args.columns c.requires.columns.seen
           c.child_in-entry.result c.sizes_at-sizes.result c.loop-index.index c.child_in-entry.ensures.next c.sizes_at-sizes.ensures c.child_in-entry.ensures.child.entry.number _ _ _ refl c.loop-index.invariant.walked c.in_ok-child.ensures.walked;
-      counted = ap length c.in_ok-push.ensures.ok ∙ length_more c.loop-index.children c.in_ok-child.child c.loop-index.index c.loop-index.invariant.counted;
+      counted = ap length c.in_ok-add_child.ensures.children ∙ length_more c.loop-index.children c.in_ok-child.child c.loop-index.index c.loop-index.invariant.counted;
       told =
           told_more (TellsRows (sight_at (nodes c.args.walk.now) c.args.id) (kid_at (nodes c.args.walk.now)) c.args.parts.now.base c.args.columns (sight_at (nodes c.args.walk.now) c.args.id).label.content.inline.items) c.loop-index.children c.loop-index.items
           c.loop-index.ends c.loop-index.index c.in_ok-child.child
           (items_seen (nodes c.loop-index.walk) c.args.id c.grid-base.result.now c.child_in-entry.result (wide_in (nodes c.loop-index.walk) c.args.id c.grid-base.result.now c.args.columns c.child_in-entry.result c.sizes_at-sizes.result).inline) _ _ _ c.len.result
-          c.loop-index.invariant.counted c.in_ok-push.ensures.ok c.in_ok-child.ensures.items c.len.ensures c.in_ok-push-2.ensures.ok c.loop-index.invariant.told own;
+          c.loop-index.invariant.counted c.in_ok-add_child.ensures.children c.in_ok-child.ensures.items c.len.ensures c.in_ok-add_child.ensures.ends c.loop-index.invariant.told own;
     }
 
 pub asking::ask_children-returns-clause-told : goal.asking::ask_children-returns-clause-told
@@ -436,119 +410,60 @@ asking::ask_stale-returns-clause-told g t c =
 pub asking::ask_stale-returns-clause-below : goal.asking::ask_stale-returns-clause-below
 asking::ask_stale-returns-clause-below g t c = c.loop-index.invariant.walked
 
-pub asking::told_wide_by-grid_in-requires : goal.asking::told_wide_by-grid_in-requires
-asking::told_wide_by-grid_in-requires g t c =
-    let width : IsGivenSize c.args.width.now = given_some (sees_columns (sight_at (nodes c.args.walk.now) c.args.id)) _ c.args.width.now c.requires.inline in
-    let past : IfSome c.args.past.0 (IsPastColumns (nodes c.args.walk.now) c.args.id) = c.requires.past_columns in
+pub asking::told_wide_at-told_rows-requires : goal.asking::told_wide_at-told_rows-requires
+asking::told_wide_at-told_rows-requires g t c =
+    let back = sym c.in_ok-begun.ensures.same in
+    let live : IsLive (nodes c.begin_wide.new.walk) c.args.id = subst (λ (z : BareTrees). IsLive z c.args.id) back c.requires.live in
+    let grid : (sight_at (nodes c.begin_wide.new.walk) c.args.id).label.kind ≡ kind.Grid = subst (λ (z : BareTrees). (sight_at z c.args.id).label.kind ≡ kind.Grid) back c.requires.grid in
+    let made : IsGrid (nodes c.begin_wide.new.walk) c.args.id c.args.seat.now.reps.now c.args.width.now c.in_ok-begun.begun.told.parts = subst (λ (z : BareTrees). IsGrid z c.args.id c.args.seat.now.reps.now c.args.width.now c.in_ok-begun.begun.told.parts) back c.in_ok-begun.ensures.value.grid in
+    let laid : AreLaid (nodes c.begin_wide.new.walk) c.args.id c.args.seat.now.reps.now c.args.width.now c.in_ok-begun.begun.told.parts.base c.in_ok-begun.begun.columns =
+    subst (λ (z : BareTrees). AreLaid z c.args.id c.args.seat.now.reps.now c.args.width.now c.in_ok-begun.begun.told.parts.base c.in_ok-begun.begun.columns) back c.in_ok-begun.ensures.value.laid in
+    let past : IfSome c.in_ok-begun.begun.past (ArePastIn (nodes c.begin_wide.new.walk) c.args.id c.in_ok-begun.begun.told.parts.base c.in_ok-begun.begun.columns) =
+    subst (λ (z : BareTrees). IfSome c.in_ok-begun.begun.past (ArePastIn z c.args.id c.in_ok-begun.begun.told.parts.base c.in_ok-begun.begun.columns)) back c.in_ok-begun.ensures.value.past in
+    let small : 16 * size_at (nodes c.begin_wide.new.walk) c.args.id + 1 < 16 * size_at (nodes c.args.walk.now) c.args.id + 3 = omega (arith, ap (λ (z : BareTrees). size_at z c.args.id) c.in_ok-begun.ensures.same) in
     search rules
 
-pub asking::told_wide_by-columns_of-requires : goal.asking::told_wide_by-columns_of-requires
-asking::told_wide_by-columns_of-requires g t c =
-    let back = sym (c.in_ok-told.ensures.below (block_query false c.args.seat.now.reps.now c.args.width.now) refl refl).walk.bare_same in
-    let live : IsLive (nodes c.grid_in.new.walk) c.args.id = subst (λ (z : BareTrees). IsLive z c.args.id) back c.requires.live in
-    let readable : AreReadable (nodes c.grid_in.new.walk) = c.grid_in.ensures.stands.readable in
-    let grid : (sight_at (nodes c.grid_in.new.walk) c.args.id).label.kind ≡ kind.Grid = subst (λ (z : BareTrees). (sight_at z c.args.id).label.kind ≡ kind.Grid) back c.requires.grid in
-    let made : IsGrid (nodes c.grid_in.new.walk) c.args.id c.args.seat.now.reps.now c.args.width.now c.in_ok-told.told.parts = subst (λ (z : BareTrees). IsGrid z c.args.id c.args.seat.now.reps.now c.args.width.now c.in_ok-told.told.parts) back c.in_ok-told.ensures.value in
-    let inline : IsGivenFor true (sees_columns (sight_at (nodes c.grid_in.new.walk) c.args.id)) (outer_context (sight_at (nodes c.grid_in.new.walk) c.args.id) c.args.seat.now.reps.now).columns.table.tracks c.args.width.now = subst
-    (λ (z : BareTrees). IsGivenFor true (sees_columns (sight_at z c.args.id)) (outer_context (sight_at z c.args.id) c.args.seat.now.reps.now).columns.table.tracks c.args.width.now) back c.requires.inline in
-    let apart : IsSpread (farthest (level_at (nodes c.grid_in.new.walk) c.args.id)) c.args.width.now = subst (λ (z : BareTrees). IsSpread (farthest (level_at z c.args.id)) c.args.width.now) back c.requires.spread in
-    search rules
-
-pub asking::told_wide_by-told_rows-requires : goal.asking::told_wide_by-told_rows-requires
-asking::told_wide_by-told_rows-requires g t c =
-    let back = sym (c.in_ok-told.ensures.below (block_query false c.args.seat.now.reps.now c.args.width.now) refl refl).walk.bare_same in
-    let live : IsLive (nodes c.grid_in.new.walk) c.args.id = subst (λ (z : BareTrees). IsLive z c.args.id) back c.requires.live in
-    let readable : AreReadable (nodes c.grid_in.new.walk) = c.grid_in.ensures.stands.readable in
-    let grid : (sight_at (nodes c.grid_in.new.walk) c.args.id).label.kind ≡ kind.Grid = subst (λ (z : BareTrees). (sight_at z c.args.id).label.kind ≡ kind.Grid) back c.requires.grid in
-    let made : IsGrid (nodes c.grid_in.new.walk) c.args.id c.args.seat.now.reps.now c.args.width.now c.in_ok-told.told.parts = subst (λ (z : BareTrees). IsGrid z c.args.id c.args.seat.now.reps.now c.args.width.now c.in_ok-told.told.parts) back c.in_ok-told.ensures.value in
-    let laid : AreLaid (nodes c.grid_in.new.walk) c.args.id c.args.seat.now.reps.now c.args.width.now c.in_ok-told.told.parts.base c.in_ok-columns.columns = record
-    { seen = c.in_ok-columns.ensures.value; counted = c.in_ok-columns.ensures.counted; gap = c.in_ok-columns.ensures.gap; range = c.in_ok-columns.ensures.range; spread = c.in_ok-columns.ensures.spread } in
-    let past : IfSome c.args.past.1 (IsPastRows (nodes c.grid_in.new.walk) c.args.id) = subst (λ (z : BareTrees). IfSome c.args.past.1 (IsPastRows z c.args.id)) back c.requires.past_rows in
-    let small : 16 * size_at (nodes c.grid_in.new.walk) c.args.id + 1 < 16 * size_at (nodes c.args.walk.now) c.args.id +
-    2 = omega (arith, ap (λ (z : BareTrees). size_at z c.args.id) (c.in_ok-told.ensures.below (block_query false c.args.seat.now.reps.now c.args.width.now) refl refl).walk.bare_same) in
-    search rules
-
-pub asking::told_wide_by-returns-in_err-told-clause-stopped : goal.asking::told_wide_by-returns-in_err-told-clause-stopped
-asking::told_wide_by-returns-in_err-told-clause-stopped g t c =
-    let all : (q : Query) → q.reps ≡ c.args.seat.now.reps.now → q.inline ≡ c.args.width.now → needs_inline q.ask ≡ true →
-    Stopped c.args.id q (seen g.R.Ruler.log c.args.walk.now) (seen g.R.Ruler.log c.grid_in.new.walk) = λ q r w needs. c.in_err-told.ensures.stopped q r w in
+pub asking::told_wide_at-returns-in_err-begun-clause-stopped : goal.asking::told_wide_at-returns-in_err-begun-clause-stopped
+asking::told_wide_at-returns-in_err-begun-clause-stopped g t c =
+    let all : (q : Query) → q.reps ≡ c.args.seat.now.reps.now → q.inline ≡ c.args.width.now → needs_inline q.ask ≡ true → Stopped c.args.id q (seen g.R.Ruler.log c.args.walk.now) (seen g.R.Ruler.log c.begin_wide.new.walk) = λ q r w needs. c.in_err-begun.ensures.stopped q r w in
     on_err _ _ all
 
-pub asking::told_wide_by-returns-in_err-columns-clause-stopped : goal.asking::told_wide_by-returns-in_err-columns-clause-stopped
-asking::told_wide_by-returns-in_err-columns-clause-stopped g t c =
-    let all : (q : Query) → q.reps ≡ c.args.seat.now.reps.now → q.inline ≡ c.args.width.now → needs_inline q.ask ≡ true →
-    Stopped c.args.id q (seen g.R.Ruler.log c.args.walk.now) (state c.grid_in.new.walk.tree.now c.grid_in.new.walk.tally.now c.columns_of.new.passes (g.R.Ruler.log c.grid_in.new.walk.ruler.now)) = λ q r w needs. stopped c.args.id q 1 _ _
-    (ticked c.args.id q 0 1 _ _ c.columns_of.new.passes c.columns_of.ensures.ticks (c.in_ok-told.ensures.below q r w)) in
+pub asking::told_wide_at-returns-in_err-begun-clause-parts : goal.asking::told_wide_at-returns-in_err-begun-clause-parts
+asking::told_wide_at-returns-in_err-begun-clause-parts g t c = c.begin_wide.ensures.parts
+
+pub asking::told_wide_at-returns-in_err-begun-clause-stands : goal.asking::told_wide_at-returns-in_err-begun-clause-stands
+asking::told_wide_at-returns-in_err-begun-clause-stands g t c = c.begin_wide.ensures.stands
+
+pub asking::told_wide_at-returns-in_err-asked-clause-stopped : goal.asking::told_wide_at-returns-in_err-asked-clause-stopped
+asking::told_wide_at-returns-in_err-asked-clause-stopped g t c =
+    let all : (q : Query) → q.reps ≡ c.args.seat.now.reps.now → q.inline ≡ c.args.width.now → needs_inline q.ask ≡ true → Stopped c.args.id q (seen g.R.Ruler.log c.args.walk.now) (seen g.R.Ruler.log c.told_rows.new.walk) =
+    λ q r w needs. joined_stopped c.args.id q 1 (seen g.R.Ruler.log c.args.walk.now) (seen g.R.Ruler.log c.begin_wide.new.walk) _ (c.in_ok-begun.ensures.below q r w) (c.in_err-asked.ensures.stopped q
+    (leads_down (nodes c.begin_wide.new.walk) c.args.id c.args.seat.now.reps.now c.args.width.now q (subst (λ (z : BareTrees). (sight_at z c.args.id).label.kind ≡ kind.Grid) (sym c.in_ok-begun.ensures.same) c.requires.grid) r w needs)) in
     on_err _ _ all
 
-pub asking::told_wide_by-returns-in_err-asked-clause-stopped : goal.asking::told_wide_by-returns-in_err-asked-clause-stopped
-asking::told_wide_by-returns-in_err-asked-clause-stopped g t c =
-    let all : (q : Query) → q.reps ≡ c.args.seat.now.reps.now → q.inline ≡ c.args.width.now → needs_inline q.ask ≡ true →
-    Stopped c.args.id q (seen g.R.Ruler.log c.args.walk.now) (seen g.R.Ruler.log c.told_rows.new.walk) =
-    λ q r w needs. joined_stopped c.args.id q 1 (seen g.R.Ruler.log c.args.walk.now) (state c.grid_in.new.walk.tree.now c.grid_in.new.walk.tally.now c.columns_of.new.passes (g.R.Ruler.log c.grid_in.new.walk.ruler.now)) _
-    (ticked c.args.id q 0 1 _ _ c.columns_of.new.passes c.columns_of.ensures.ticks (c.in_ok-told.ensures.below q r w))
-    (c.in_err-asked.ensures.stopped q
-    (leads_down (nodes c.grid_in.new.walk) c.args.id c.args.seat.now.reps.now c.args.width.now q
-    (subst (λ (z : BareTrees). (sight_at z c.args.id).label.kind ≡ kind.Grid) (sym (c.in_ok-told.ensures.below (block_query false c.args.seat.now.reps.now c.args.width.now) refl refl).walk.bare_same) c.requires.grid) r w needs)) in
-    on_err _ _ all
+pub asking::told_wide_at-returns-in_err-asked-clause-parts : goal.asking::told_wide_at-returns-in_err-asked-clause-parts
+asking::told_wide_at-returns-in_err-asked-clause-parts g t c = parts_then _ _ _ c.begin_wide.ensures.parts c.told_rows.ensures.parts
 
-pub asking::told_wide_by-returns-clause-below : goal.asking::told_wide_by-returns-clause-below
-asking::told_wide_by-returns-clause-below g t c =
-    λ q r w needs. joined_below c.args.id q 1 (seen g.R.Ruler.log c.args.walk.now) (state c.grid_in.new.walk.tree.now c.grid_in.new.walk.tally.now c.columns_of.new.passes (g.R.Ruler.log c.grid_in.new.walk.ruler.now)) _
-    (ticked c.args.id q 0 1 _ _ c.columns_of.new.passes c.columns_of.ensures.ticks (c.in_ok-told.ensures.below q r w))
-    (c.in_ok-asked.ensures.below q
-    (leads_down (nodes c.grid_in.new.walk) c.args.id c.args.seat.now.reps.now c.args.width.now q
-    (subst (λ (z : BareTrees). (sight_at z c.args.id).label.kind ≡ kind.Grid) (sym (c.in_ok-told.ensures.below (block_query false c.args.seat.now.reps.now c.args.width.now) refl refl).walk.bare_same) c.requires.grid) r w needs))
+pub asking::told_wide_at-returns-in_err-asked-clause-stands : goal.asking::told_wide_at-returns-in_err-asked-clause-stands
+asking::told_wide_at-returns-in_err-asked-clause-stands g t c = c.told_rows.ensures.stands
 
-pub asking::told_wide_by-returns-clause-value : goal.asking::told_wide_by-returns-clause-value
-asking::told_wide_by-returns-clause-value g t c =
-    let same = (c.in_ok-told.ensures.below (block_query false c.args.seat.now.reps.now c.args.width.now) refl refl).walk.bare_same in
-    let laid : AreLaid (nodes c.args.walk.now) c.args.id c.args.seat.now.reps.now c.args.width.now c.in_ok-told.told.parts.base c.in_ok-columns.columns = subst (λ (z : BareTrees). AreLaid z c.args.id c.args.seat.now.reps.now c.args.width.now c.in_ok-told.told.parts.base c.in_ok-columns.columns) same
-    (record { seen = c.in_ok-columns.ensures.value; counted = c.in_ok-columns.ensures.counted; gap = c.in_ok-columns.ensures.gap; range = c.in_ok-columns.ensures.range; spread = c.in_ok-columns.ensures.spread }) in
-    told_made (nodes c.args.walk.now) c.args.id c.args.seat.now.reps.now c.args.width.now c.in_ok-told.told.parts c.in_ok-told.ensures.value c.root.ensures.tree c.in_ok-columns.columns c.in_ok-asked.asked c.in_ok-asked.rows c.in_ok-told.told.ends c.in_ok-told.ensures.told laid
-    c.in_ok-columns.ensures.far
-    (subst (λ (z : BareTrees). AreIn z c.args.id c.in_ok-told.told.parts.base c.in_ok-columns.columns Each c.in_ok-asked.asked) same c.in_ok-asked.ensures.told)
-    (subst (λ (z : BareTrees). IfSome c.in_ok-asked.rows (AreRowsFor (sight_at z c.args.id) c.in_ok-told.told.parts.base c.in_ok-asked.asked.items)) same c.in_ok-asked.ensures.rows)
+pub asking::told_wide_at-returns-clause-parts : goal.asking::told_wide_at-returns-clause-parts
+asking::told_wide_at-returns-clause-parts g t c = parts_then _ _ _ c.begin_wide.ensures.parts c.told_rows.ensures.parts
 
-pub asking::told_wide_at-told_wide_by-requires : goal.asking::told_wide_at-told_wide_by-requires
-asking::told_wide_at-told_wide_by-requires g t c =
-    let back = sym c.take_past.ensures.bare in
-    let live : IsLive (nodes c.take_past.new.walk) c.args.id = subst (λ (z : BareTrees). IsLive z c.args.id) back c.requires.live in
-    let readable : AreReadable (nodes c.take_past.new.walk) = c.take_past.ensures.stands.readable in
-    let grid : (sight_at (nodes c.take_past.new.walk) c.args.id).label.kind ≡ kind.Grid = subst (λ (z : BareTrees). (sight_at z c.args.id).label.kind ≡ kind.Grid) back c.requires.grid in
-    let counts : length c.args.seat.now.reps.now ≡ length (sight_at (nodes c.take_past.new.walk) c.args.id).chain = subst (λ (z : BareTrees). length c.args.seat.now.reps.now ≡ length (sight_at z c.args.id).chain) back c.requires.reps in
-    let seat : IsSeat (sight_at (nodes c.take_past.new.walk) c.args.id) c.args.seat.now.reps.now c.args.seat.now.above.now c.args.seat.now.area = subst (λ (z : BareTrees). IsSeat (sight_at z c.args.id) c.args.seat.now.reps.now c.args.seat.now.above.now c.args.seat.now.area) back c.requires.seat in
-    let inline : IsGivenFor true (sees_columns (sight_at (nodes c.take_past.new.walk) c.args.id)) (outer_context (sight_at (nodes c.take_past.new.walk) c.args.id) c.args.seat.now.reps.now).columns.table.tracks c.args.width.now = subst
-    (λ (z : BareTrees). IsGivenFor true (sees_columns (sight_at z c.args.id)) (outer_context (sight_at z c.args.id) c.args.seat.now.reps.now).columns.table.tracks c.args.width.now) back c.requires.inline in
-    let apart : IsSpread (farthest (level_at (nodes c.take_past.new.walk) c.args.id)) c.args.width.now = subst (λ (z : BareTrees). IsSpread (farthest (level_at z c.args.id)) c.args.width.now) back c.requires.spread in
-    let columns : IfSome c.in_ok-past.past.0 (IsPastColumns (nodes c.take_past.new.walk) c.args.id) = subst (λ (z : BareTrees). IfSome c.in_ok-past.past.0 (IsPastColumns z c.args.id)) back c.in_ok-past.ensures.columns in
-    let rows : IfSome c.in_ok-past.past.1 (IsPastRows (nodes c.take_past.new.walk) c.args.id) = subst (λ (z : BareTrees). IfSome c.in_ok-past.past.1 (IsPastRows z c.args.id)) back c.in_ok-past.ensures.rows in
-    let small : 16 * size_at (nodes c.take_past.new.walk) c.args.id + 2 < 16 * size_at (nodes c.args.walk.now) c.args.id + 3 = omega (arith, ap (λ (z : BareTrees). size_at z c.args.id) c.take_past.ensures.bare) in
-    search rules
-
-pub asking::told_wide_at-returns-in_err-past-clause-stopped : goal.asking::told_wide_at-returns-in_err-past-clause-stopped
-asking::told_wide_at-returns-in_err-past-clause-stopped g t c =
-    let all : (q : Query) → q.reps ≡ c.args.seat.now.reps.now → q.inline ≡ c.args.width.now → needs_inline q.ask ≡ true →
-    Stopped c.args.id q (seen g.R.Ruler.log c.args.walk.now) (seen g.R.Ruler.log c.take_past.new.walk) =
-    λ q r w needs. c.take_past.ensures.stopped q (seen g.R.Ruler.log c.take_past.new.walk) (stopped c.args.id q 0 _ _ (walked_none c.args.id q (seen g.R.Ruler.log c.take_past.new.walk) c.take_past.ensures.stands.right)) in
-    on_err _ _ all
-
-pub asking::told_wide_at-returns-in_err-told-clause-stopped : goal.asking::told_wide_at-returns-in_err-told-clause-stopped
-asking::told_wide_at-returns-in_err-told-clause-stopped g t c =
-    let all : (q : Query) → q.reps ≡ c.args.seat.now.reps.now → q.inline ≡ c.args.width.now → needs_inline q.ask ≡ true →
-    Stopped c.args.id q (seen g.R.Ruler.log c.args.walk.now) (seen g.R.Ruler.log c.told_wide_by.new.walk) = λ q r w needs. c.take_past.ensures.stopped q (seen g.R.Ruler.log c.told_wide_by.new.walk)
-    (c.in_err-told.ensures.stopped q r w needs) in
-    on_err _ _ all
+pub asking::told_wide_at-returns-clause-stands : goal.asking::told_wide_at-returns-clause-stands
+asking::told_wide_at-returns-clause-stands g t c = c.told_rows.ensures.stands
 
 pub asking::told_wide_at-returns-clause-below : goal.asking::told_wide_at-returns-clause-below
 asking::told_wide_at-returns-clause-below g t c =
-    λ q r w needs. c.take_past.ensures.below q 1 (seen g.R.Ruler.log c.told_wide_by.new.walk) (c.in_ok-told.ensures.below q r w needs)
+    λ q r w needs. joined_below c.args.id q 1 (seen g.R.Ruler.log c.args.walk.now) (seen g.R.Ruler.log c.begin_wide.new.walk) _ (c.in_ok-begun.ensures.below q r w) (c.in_ok-asked.ensures.below q
+    (leads_down (nodes c.begin_wide.new.walk) c.args.id c.args.seat.now.reps.now c.args.width.now q (subst (λ (z : BareTrees). (sight_at z c.args.id).label.kind ≡ kind.Grid) (sym c.in_ok-begun.ensures.same) c.requires.grid) r w needs))
 
 pub asking::told_wide_at-returns-clause-value : goal.asking::told_wide_at-returns-clause-value
-asking::told_wide_at-returns-clause-value g t c = subst (λ (z : BareTrees). IsToldWide z c.args.id c.args.seat.now.reps.now c.args.width.now c.in_ok-told.told) c.take_past.ensures.bare c.in_ok-told.ensures.value
-
-pub asking::wide_at-returns-clause-value : goal.asking::wide_at-returns-clause-value
-asking::wide_at-returns-clause-value g t c = c.in_ok-told.ensures.value.wide
+asking::told_wide_at-returns-clause-value g t c =
+    told_made (nodes c.args.walk.now) c.args.id c.args.seat.now.reps.now c.args.width.now c.in_ok-begun.begun.told.parts c.in_ok-begun.ensures.value.grid c.root.ensures.tree
+    c.in_ok-begun.begun.columns c.in_ok-asked.asked c.in_ok-asked.rows c.in_ok-begun.begun.told.ends c.in_ok-begun.ensures.value.told c.in_ok-begun.ensures.value.laid c.in_ok-begun.ensures.value.far
+    (subst (λ (z : BareTrees). AreIn z c.args.id c.in_ok-begun.begun.told.parts.base c.in_ok-begun.begun.columns Each c.in_ok-asked.asked) c.in_ok-begun.ensures.same c.in_ok-asked.ensures.told)
+    (subst (λ (z : BareTrees). IfSome c.in_ok-asked.rows (AreRowsFor (sight_at z c.args.id) c.in_ok-begun.begun.told.parts.base c.in_ok-asked.asked.items)) c.in_ok-begun.ensures.same c.in_ok-asked.ensures.rows)
 
 pub walk::grid_anew-told_wide_at-requires : goal.walk::grid_anew-told_wide_at-requires
 walk::grid_anew-told_wide_at-requires g t c =
@@ -563,95 +478,42 @@ walk::grid_anew-told_wide_at-requires g t c =
     let small : 16 * size_at (nodes c.args.walk.now) c.args.id + 3 < 16 * size_at (nodes c.args.walk.now) c.args.id + 4 = omega arith in
     search rules
 
-pub walk::grid_anew-laid_rows-requires : goal.walk::grid_anew-laid_rows-requires
-walk::grid_anew-laid_rows-requires g t c =
-    let back = sym (c.in_ok-told.ensures.below c.args.query (ap (λ (q : Query). q.reps) c.requires.query) refl (ap (λ (q : Query). needs_inline q.ask) c.requires.query)).walk.bare_same in
-    let told : IsToldWide (nodes c.told_wide_at.new.walk) c.args.id c.args.seat.now.reps.now c.args.query.inline c.in_ok-told.told = subst (λ (z : BareTrees). IsToldWide z c.args.id c.args.seat.now.reps.now c.args.query.inline c.in_ok-told.told) back c.in_ok-told.ensures.value in
+pub walk::grid_anew-grid_answered-requires : goal.walk::grid_anew-grid_answered-requires
+walk::grid_anew-grid_answered-requires g t c =
+    let below = c.in_ok-told.ensures.below c.args.query (ap (λ (q : Query). q.reps) c.requires.query) refl (ap (λ (q : Query). needs_inline q.ask) c.requires.query) in
+    let back = sym below.walk.bare_same in
     record {
+      stands = c.told_wide_at.ensures.stands;
       live = subst (λ (z : BareTrees). IsLive z c.args.id) back c.requires.live;
-      readable = c.told_wide_at.ensures.stands.readable;
       kind = subst (λ (z : BareTrees). (sight_at z c.args.id).label.kind ≡ kind.Grid) back c.requires.grid;
-      own = subst (λ (z : BareTrees). sees_rows (sight_at z c.args.id) ≡ false) back (block_fit (sight_at (nodes c.args.walk.now) c.args.id) c.args.query (ap (λ (q : Query). q.ask) c.requires.query) c.requires.fits);
-      wide = told.wide;
-      laid = told.laid;
-    }
-
-pub walk::grid_anew-keep_told-requires : goal.walk::grid_anew-keep_told-requires
-walk::grid_anew-keep_told-requires g t c =
-    let back = sym (c.in_ok-told.ensures.below c.args.query (ap (λ (q : Query). q.reps) c.requires.query) refl (ap (λ (q : Query). needs_inline q.ask) c.requires.query)).walk.bare_same in
-    let told : IsToldWide (nodes c.told_wide_at.new.walk) c.args.id c.args.seat.now.reps.now c.args.query.inline c.in_ok-told.told = subst (λ (z : BareTrees). IsToldWide z c.args.id c.args.seat.now.reps.now c.args.query.inline c.in_ok-told.told) back c.in_ok-told.ensures.value in
-    let kept : IsKeepable (nodes c.told_wide_at.new.walk) c.args.id c.in_ok-held.held c.in_ok-told.told.column_ends c.in_ok-told.told.row_ends =
-    keepable (nodes c.told_wide_at.new.walk) c.args.id c.args.seat.now.reps.now c.args.query.inline c.in_ok-told.told c.in_ok-size.laid c.in_ok-held.held told c.in_ok-held.ensures c.in_ok-size.ensures.same c.in_ok-size.ensures.laid in
-    record { live = subst (λ (z : BareTrees). IsLive z c.args.id) back c.requires.live; stands = c.told_wide_at.ensures.stands; places = kept.places; columns = kept.columns; rows = kept.rows; laid = kept.laid }
-
-pub walk::grid_anew-put-requires : goal.walk::grid_anew-put-requires
-walk::grid_anew-put-requires g t c =
-    let walked = c.in_ok-told.ensures.below c.args.query (ap (λ (q : Query). q.reps) c.requires.query) refl (ap (λ (q : Query). needs_inline q.ask) c.requires.query) in
-    let kept = c.keep_told.ensures.below c.args.query 2 (seen g.R.Ruler.log c.args.walk.now)
-    (ticked c.args.id c.args.query 1 1 _ _ c.laid_rows.new.passes c.laid_rows.ensures.ticks walked) in
-    let back = sym kept.walk.bare_same in
-    let laid : IsWide (nodes c.args.walk.now) c.args.id c.args.seat.now.reps.now c.args.query.inline c.in_ok-size.laid = subst (λ (z : BareTrees). IsWide z c.args.id c.args.seat.now.reps.now c.args.query.inline c.in_ok-size.laid) walked.walk.bare_same c.in_ok-size.ensures.wide in
-    let held : IsWide (nodes c.args.walk.now) c.args.id c.args.query.reps c.args.query.inline c.in_ok-held.held = subst (IsWide (nodes c.args.walk.now) c.args.id c.args.query.reps c.args.query.inline) (sym c.in_ok-held.ensures)
-    (subst (λ (r : List Pair). IsWide (nodes c.args.walk.now) c.args.id r c.args.query.inline c.in_ok-size.laid) (sym (ap (λ (q : Query). q.reps) c.requires.query)) laid) in
-    record {
-      live = subst (λ (z : BareTrees). IsLive z c.args.id) back c.requires.live;
-      stands = c.keep_told.ensures.stands;
-      absent = subst (IsAbsent c.args.query) (sym kept.own) c.requires.absent;
+      query = c.requires.query;
       fits = subst (λ (z : BareTrees). Fits (sight_at z c.args.id) c.args.query) back c.requires.fits;
-      value = subst (λ (z : BareTrees). block_size c.in_ok-size.size ≡ answer_of (sight_at z c.args.id) c.args.query) back
-          (laid_answer (nodes c.args.walk.now) (nodes c.told_wide_at.new.walk) walked.walk.bare_same c.args.id c.args.query c.args.seat.now.reps.now c.in_ok-size.size
-          (sym (ap (λ (q : Query). q.reps) c.requires.query)) c.requires.grid (ap (λ (q : Query). q.ask) c.requires.query) c.in_ok-size.ensures.value);
-      children = subst (λ (z : BareTrees). HoldsWide (sight_at z c.args.id) (children_at z c.args.id) c.args.query.reps c.args.query.inline c.in_ok-held.held) back (wide_held (nodes c.args.walk.now) c.args.id c.args.query.reps c.args.query.inline c.in_ok-held.held held);
-      quiet = grid_quiet (nodes c.keep_told.new.walk) c.args.id c.args.query (subst (λ (z : BareTrees). (sight_at z c.args.id).label.kind ≡ kind.Grid) back c.requires.grid);
+      absent = subst (IsAbsent c.args.query) (sym below.own) c.requires.absent;
+      told = subst (λ (z : BareTrees). IsToldWide z c.args.id c.args.seat.now.reps.now c.args.query.inline c.in_ok-told.told) back c.in_ok-told.ensures.value;
     }
+
+pub walk::grid_anew-returns-clause-walked : goal.walk::grid_anew-returns-clause-walked
+walk::grid_anew-returns-clause-walked g t c = ok_walked _ c.args.id c.args.query 1 _ _ _ (c.in_ok-told.ensures.below c.args.query (ap (λ (q : Query). q.reps) c.requires.query) refl (ap (λ (q : Query). needs_inline q.ask) c.requires.query)) c.grid_answered.ensures.walked
+
+pub walk::grid_anew-returns-clause-stopped : goal.walk::grid_anew-returns-clause-stopped
+walk::grid_anew-returns-clause-stopped g t c = err_stopped _ c.args.id c.args.query 1 _ _ _ (c.in_ok-told.ensures.below c.args.query (ap (λ (q : Query). q.reps) c.requires.query) refl (ap (λ (q : Query). needs_inline q.ask) c.requires.query)) c.grid_answered.ensures.stopped
 
 pub walk::grid_anew-returns-clause-value : goal.walk::grid_anew-returns-clause-value
-walk::grid_anew-returns-clause-value g t c =
-    laid_answer (nodes c.args.walk.now) (nodes c.told_wide_at.new.walk) (c.in_ok-told.ensures.below c.args.query (ap (λ (q : Query). q.reps) c.requires.query) refl (ap (λ (q : Query). needs_inline q.ask) c.requires.query)).walk.bare_same c.args.id c.args.query c.args.seat.now.reps.now
-    c.in_ok-size.size (sym (ap (λ (q : Query). q.reps) c.requires.query)) c.requires.grid (ap (λ (q : Query). q.ask) c.requires.query) c.in_ok-size.ensures.value
+walk::grid_anew-returns-clause-value g t c = subst (λ (z : BareTrees). IfOk c.grid_answered.result (λ size. block_size size ≡ answer_of (sight_at z c.args.id) c.args.query)) (c.in_ok-told.ensures.below c.args.query
+    (ap (λ (q : Query). q.reps) c.requires.query) refl (ap (λ (q : Query). needs_inline q.ask) c.requires.query)).walk.bare_same c.grid_answered.ensures.value
+
+pub walk::grid_anew-returns-clause-own : goal.walk::grid_anew-returns-clause-own
+walk::grid_anew-returns-clause-own g t c = subst (λ (l : List (Query × Answer)). IfOk c.grid_answered.result (λ size. GrowsBy l c.args.query size (kept c.grid_answered.new.walk c.args.id)))
+    (c.in_ok-told.ensures.below c.args.query (ap (λ (q : Query). q.reps) c.requires.query) refl (ap (λ (q : Query). needs_inline q.ask) c.requires.query)).own c.grid_answered.ensures.own
+
+pub walk::grid_anew-returns-clause-parts : goal.walk::grid_anew-returns-clause-parts
+walk::grid_anew-returns-clause-parts g t c = parts_then _ _ _ c.told_wide_at.ensures.parts c.grid_answered.ensures.parts
+
+pub walk::grid_anew-returns-clause-stands : goal.walk::grid_anew-returns-clause-stands
+walk::grid_anew-returns-clause-stands g t c = c.grid_answered.ensures.stands
 
 pub walk::grid_anew-returns-in_err-told-clause-stopped : goal.walk::grid_anew-returns-in_err-told-clause-stopped
 walk::grid_anew-returns-in_err-told-clause-stopped g t c = on_err _ _ (c.in_err-told.ensures.stopped c.args.query (ap (λ (q : Query). q.reps) c.requires.query) refl (ap (λ (q : Query). needs_inline q.ask) c.requires.query))
-
-pub walk::grid_anew-returns-in_err-size-clause-stopped : goal.walk::grid_anew-returns-in_err-size-clause-stopped
-walk::grid_anew-returns-in_err-size-clause-stopped g t c =
-    on_err _ _ (stopped c.args.id c.args.query 2 _ _ (ticked c.args.id c.args.query 1 1 _ _ c.laid_rows.new.passes c.laid_rows.ensures.ticks (c.in_ok-told.ensures.below c.args.query (ap (λ (q : Query). q.reps) c.requires.query) refl (ap (λ (q : Query). needs_inline q.ask) c.requires.query))))
-
-pub walk::grid_anew-returns-in_err-held-clause-stopped : goal.walk::grid_anew-returns-in_err-held-clause-stopped
-walk::grid_anew-returns-in_err-held-clause-stopped g t c =
-    on_err _ _ (stopped c.args.id c.args.query 2 _ _ (ticked c.args.id c.args.query 1 1 _ _ c.laid_rows.new.passes c.laid_rows.ensures.ticks (c.in_ok-told.ensures.below c.args.query (ap (λ (q : Query). q.reps) c.requires.query) refl (ap (λ (q : Query). needs_inline q.ask) c.requires.query))))
-
-pub walk::grid_anew-returns-in_err-keep_told-clause-stopped : goal.walk::grid_anew-returns-in_err-keep_told-clause-stopped
-walk::grid_anew-returns-in_err-keep_told-clause-stopped g t c =
-    on_err _ _
-    (stopped c.args.id c.args.query 2 _ _
-    (c.keep_told.ensures.below c.args.query 2 (seen g.R.Ruler.log c.args.walk.now)
-    (ticked c.args.id c.args.query 1 1 _ _ c.laid_rows.new.passes c.laid_rows.ensures.ticks (c.in_ok-told.ensures.below c.args.query (ap (λ (q : Query). q.reps) c.requires.query) refl (ap (λ (q : Query). needs_inline q.ask) c.requires.query)))))
-
-pub walk::grid_anew-returns-in_err-put-clause-stopped : goal.walk::grid_anew-returns-in_err-put-clause-stopped
-walk::grid_anew-returns-in_err-put-clause-stopped g t c =
-    on_err _ _
-    (c.in_err-put.ensures.stopped _ 2
-    (c.keep_told.ensures.below c.args.query 2 (seen g.R.Ruler.log c.args.walk.now)
-    (ticked c.args.id c.args.query 1 1 _ _ c.laid_rows.new.passes c.laid_rows.ensures.ticks (c.in_ok-told.ensures.below c.args.query (ap (λ (q : Query). q.reps) c.requires.query) refl (ap (λ (q : Query). needs_inline q.ask) c.requires.query)))))
-
-pub walk::grid_anew-returns-clause-walked : goal.walk::grid_anew-returns-clause-walked
-walk::grid_anew-returns-clause-walked g t c =
-    c.in_ok-put.ensures.joins _ 2 (omega arith)
-    (c.keep_told.ensures.below c.args.query 2 (seen g.R.Ruler.log c.args.walk.now)
-    (ticked c.args.id c.args.query 1 1 _ _ c.laid_rows.new.passes c.laid_rows.ensures.ticks (c.in_ok-told.ensures.below c.args.query (ap (λ (q : Query). q.reps) c.requires.query) refl (ap (λ (q : Query). needs_inline q.ask) c.requires.query))))
-
-pub walk::grid_anew-returns-clause-own : goal.walk::grid_anew-returns-clause-own
-walk::grid_anew-returns-clause-own g t c = (
-  answer.Laid c.in_ok-size.size c.in_ok-held.held,
-  (
-    refl,
-    c.in_ok-put.ensures.own ∙
-        ap (λ l. kept_with l ((c.args.query, answer.Laid c.in_ok-size.size c.in_ok-held.held) ∷ []))
-        (c.keep_told.ensures.below c.args.query 2 (seen g.R.Ruler.log c.args.walk.now)
-        (ticked c.args.id c.args.query 1 1 _ _ c.laid_rows.new.passes c.laid_rows.ensures.ticks (c.in_ok-told.ensures.below c.args.query (ap (λ (q : Query). q.reps) c.requires.query) refl (ap (λ (q : Query). needs_inline q.ask) c.requires.query)))).own,
-  ),
-)
 
 pub walk::block_anew-returns-then-is_leaf-clause-own : goal.walk::block_anew-returns-then-is_leaf-clause-own
 walk::block_anew-returns-then-is_leaf-clause-own g t c = grows_by_block c.leaf_height.result (kept c.args.walk.now c.args.id) (kept c.leaf_height.new.self c.args.id) c.args.query c.leaf_height.ensures.own
@@ -662,8 +524,8 @@ walk::block_anew-returns-then-is_column-clause-own g t c = c.column_anew.ensures
 pub walk::block_anew-returns-clause-own : goal.walk::block_anew-returns-clause-own
 walk::block_anew-returns-clause-own g t c = c.row_anew.ensures.own
 
-pub walk::rows_anew-wide_at-requires : goal.walk::rows_anew-wide_at-requires
-walk::rows_anew-wide_at-requires g t c =
+pub walk::rows_anew-told_wide_at-requires : goal.walk::rows_anew-told_wide_at-requires
+walk::rows_anew-told_wide_at-requires g t c =
     let grid : (sight_at (nodes c.args.walk.now) c.args.id).label.kind ≡ kind.Grid = c.subgrids_are_grids.ensures (lent_fit (sight_at (nodes c.args.walk.now) c.args.id) c.args.query (ap (λ (q : Query). q.ask) c.requires.query) c.requires.fits) in
     let counts : length c.args.seat.now.reps.now ≡ length (sight_at (nodes c.args.walk.now) c.args.id).chain = ap length (sym (ap (λ (q : Query). q.reps) c.requires.query)) ∙ c.requires.fits.reps in
     let seat : IsSeat (sight_at (nodes c.args.walk.now) c.args.id) c.args.seat.now.reps.now c.args.seat.now.above.now c.args.seat.now.area = c.requires.seat in
@@ -672,72 +534,51 @@ walk::rows_anew-wide_at-requires g t c =
     (subst (λ (t : Bool). IsGivenFor t (sees_columns (sight_at (nodes c.args.walk.now) c.args.id)) (outer_context (sight_at (nodes c.args.walk.now) c.args.id) c.args.query.reps).columns.table.tracks c.args.query.inline) (ap (λ (q : Query). needs_inline q.ask) c.requires.query)
     c.requires.fits.inline) in
     let spread : IsSpread (farthest (level_at (nodes c.args.walk.now) c.args.id)) c.args.query.inline = c.requires.spread in
-    let small : 16 * size_at (nodes c.args.walk.now) c.args.id + 4 < 16 * size_at (nodes c.args.walk.now) c.args.id + 5 = omega arith in
+    let small : 16 * size_at (nodes c.args.walk.now) c.args.id + 3 < 16 * size_at (nodes c.args.walk.now) c.args.id + 5 = omega arith in
     search rules
 
-pub walk::rows_anew-lent_of-requires-clause-live : goal.walk::rows_anew-lent_of-requires-clause-live
-walk::rows_anew-lent_of-requires-clause-live g t c = subst (λ (z : BareTrees). IsLive z c.args.id) (sym (c.in_ok-wide.ensures.below c.args.query (ap (λ (q : Query). q.reps) c.requires.query) refl (ap (λ (q : Query). needs_inline q.ask) c.requires.query)).walk.bare_same) c.requires.live
-
-pub walk::rows_anew-lent_of-requires-clause-kind : goal.walk::rows_anew-lent_of-requires-clause-kind
-walk::rows_anew-lent_of-requires-clause-kind g t c =
-    subst (λ (z : BareTrees). (sight_at z c.args.id).label.kind ≡ kind.Grid) (sym (c.in_ok-wide.ensures.below c.args.query (ap (λ (q : Query). q.reps) c.requires.query) refl (ap (λ (q : Query). needs_inline q.ask) c.requires.query)).walk.bare_same)
-    (c.subgrids_are_grids.ensures (lent_fit (sight_at (nodes c.args.walk.now) c.args.id) c.args.query (ap (λ (q : Query). q.ask) c.requires.query) c.requires.fits))
-
-pub walk::rows_anew-lent_of-requires-clause-wide : goal.walk::rows_anew-lent_of-requires-clause-wide
-walk::rows_anew-lent_of-requires-clause-wide g t c =
-    subst (λ (z : BareTrees). IsWide z c.args.id c.args.seat.now.reps.now c.args.query.inline c.in_ok-wide.wide) (sym (c.in_ok-wide.ensures.below c.args.query (ap (λ (q : Query). q.reps) c.requires.query) refl (ap (λ (q : Query). needs_inline q.ask) c.requires.query)).walk.bare_same)
-    c.in_ok-wide.ensures.value
-
-pub walk::rows_anew-put-requires-clause-quiet : goal.walk::rows_anew-put-requires-clause-quiet
-walk::rows_anew-put-requires-clause-quiet g t c =
-    grid_quiet (nodes c.wide_at.new.walk) c.args.id c.args.query
-    (subst (λ (z : BareTrees). (sight_at z c.args.id).label.kind ≡ kind.Grid) (sym (c.in_ok-wide.ensures.below c.args.query (ap (λ (q : Query). q.reps) c.requires.query) refl (ap (λ (q : Query). needs_inline q.ask) c.requires.query)).walk.bare_same)
-    (c.subgrids_are_grids.ensures (lent_fit (sight_at (nodes c.args.walk.now) c.args.id) c.args.query (ap (λ (q : Query). q.ask) c.requires.query) c.requires.fits)))
-
-pub walk::rows_anew-put-requires-clause-live : goal.walk::rows_anew-put-requires-clause-live
-walk::rows_anew-put-requires-clause-live g t c = subst (λ (z : BareTrees). IsLive z c.args.id) (sym (c.in_ok-wide.ensures.below c.args.query (ap (λ (q : Query). q.reps) c.requires.query) refl (ap (λ (q : Query). needs_inline q.ask) c.requires.query)).walk.bare_same) c.requires.live
-
-pub walk::rows_anew-put-requires-clause-absent : goal.walk::rows_anew-put-requires-clause-absent
-walk::rows_anew-put-requires-clause-absent g t c = subst (IsAbsent c.args.query) (sym (c.in_ok-wide.ensures.below c.args.query (ap (λ (q : Query). q.reps) c.requires.query) refl (ap (λ (q : Query). needs_inline q.ask) c.requires.query)).own) c.requires.absent
-
-pub walk::rows_anew-put-requires-clause-fits : goal.walk::rows_anew-put-requires-clause-fits
-walk::rows_anew-put-requires-clause-fits g t c =
-    subst (λ (z : BareTrees). Fits (sight_at z c.args.id) c.args.query) (sym (c.in_ok-wide.ensures.below c.args.query (ap (λ (q : Query). q.reps) c.requires.query) refl (ap (λ (q : Query). needs_inline q.ask) c.requires.query)).walk.bare_same) c.requires.fits
-
-pub walk::rows_anew-put-requires-clause-value : goal.walk::rows_anew-put-requires-clause-value
-walk::rows_anew-put-requires-clause-value g t c =
-    ap lent_items (c.in_ok-items.ensures ∙ ap (λ (r : List Pair). grid_lends_rows (grid_seen (nodes c.wide_at.new.walk) c.args.id r c.args.query.inline) (rows_seen (nodes c.wide_at.new.walk) c.args.id r c.args.query.inline)) (sym (ap (λ (q : Query). q.reps) c.requires.query)))
-    ∙ lent_answer (nodes c.wide_at.new.walk) c.args.id c.args.query
-    (subst (λ (z : BareTrees). (sight_at z c.args.id).label.kind ≡ kind.Grid) (sym (c.in_ok-wide.ensures.below c.args.query (ap (λ (q : Query). q.reps) c.requires.query) refl (ap (λ (q : Query). needs_inline q.ask) c.requires.query)).walk.bare_same)
-    (c.subgrids_are_grids.ensures (lent_fit (sight_at (nodes c.args.walk.now) c.args.id) c.args.query (ap (λ (q : Query). q.ask) c.requires.query) c.requires.fits))) (ap (λ (q : Query). q.ask) c.requires.query)
-
-pub walk::rows_anew-returns-clause-value : goal.walk::rows_anew-returns-clause-value
-walk::rows_anew-returns-clause-value g t c =
-    ap lent_items (c.in_ok-lent.ensures ∙ c.as_slice.ensures) ∙
-    ap lent_items (c.in_ok-items.ensures ∙ ap (λ (r : List Pair). grid_lends_rows (grid_seen (nodes c.wide_at.new.walk) c.args.id r c.args.query.inline) (rows_seen (nodes c.wide_at.new.walk) c.args.id r c.args.query.inline)) (sym (ap (λ (q : Query). q.reps) c.requires.query)))
-    ∙ lent_answer (nodes c.wide_at.new.walk) c.args.id c.args.query
-    (subst (λ (z : BareTrees). (sight_at z c.args.id).label.kind ≡ kind.Grid) (sym (c.in_ok-wide.ensures.below c.args.query (ap (λ (q : Query). q.reps) c.requires.query) refl (ap (λ (q : Query). needs_inline q.ask) c.requires.query)).walk.bare_same)
-    (c.subgrids_are_grids.ensures (lent_fit (sight_at (nodes c.args.walk.now) c.args.id) c.args.query (ap (λ (q : Query). q.ask) c.requires.query) c.requires.fits))) (ap (λ (q : Query). q.ask) c.requires.query)
-    ∙ ap (λ (z : BareTrees). answer_of (sight_at z c.args.id) c.args.query) (c.in_ok-wide.ensures.below c.args.query (ap (λ (q : Query). q.reps) c.requires.query) refl (ap (λ (q : Query). needs_inline q.ask) c.requires.query)).walk.bare_same
-
-pub walk::rows_anew-returns-in_err-wide-clause-stopped : goal.walk::rows_anew-returns-in_err-wide-clause-stopped
-walk::rows_anew-returns-in_err-wide-clause-stopped g t c = on_err _ _ (c.in_err-wide.ensures.stopped c.args.query (ap (λ (q : Query). q.reps) c.requires.query) refl (ap (λ (q : Query). needs_inline q.ask) c.requires.query))
-
-pub walk::rows_anew-returns-in_err-items-clause-stopped : goal.walk::rows_anew-returns-in_err-items-clause-stopped
-walk::rows_anew-returns-in_err-items-clause-stopped g t c = on_err _ _ (stopped c.args.id c.args.query 1 _ _ (c.in_ok-wide.ensures.below c.args.query (ap (λ (q : Query). q.reps) c.requires.query) refl (ap (λ (q : Query). needs_inline q.ask) c.requires.query)))
-
-pub walk::rows_anew-returns-in_err-lent-clause-stopped : goal.walk::rows_anew-returns-in_err-lent-clause-stopped
-walk::rows_anew-returns-in_err-lent-clause-stopped g t c = on_err _ _ (stopped c.args.id c.args.query 1 _ _ (c.in_ok-wide.ensures.below c.args.query (ap (λ (q : Query). q.reps) c.requires.query) refl (ap (λ (q : Query). needs_inline q.ask) c.requires.query)))
+pub walk::rows_anew-rows_answered-requires : goal.walk::rows_anew-rows_answered-requires
+walk::rows_anew-rows_answered-requires g t c =
+    let below = c.in_ok-told.ensures.below c.args.query (ap (λ (q : Query). q.reps) c.requires.query) refl (ap (λ (q : Query). needs_inline q.ask) c.requires.query) in
+    let back = sym below.walk.bare_same in
+    record {
+      stands = c.told_wide_at.ensures.stands;
+      live = subst (λ (z : BareTrees). IsLive z c.args.id) back c.requires.live;
+      kind = subst (λ (z : BareTrees). (sight_at z c.args.id).label.kind ≡ kind.Grid) back (c.subgrids_are_grids.ensures (lent_fit (sight_at (nodes c.args.walk.now) c.args.id) c.args.query (ap (λ (q : Query). q.ask) c.requires.query) c.requires.fits));
+      query = c.requires.query;
+      fits = subst (λ (z : BareTrees). Fits (sight_at z c.args.id) c.args.query) back c.requires.fits;
+      absent = subst (IsAbsent c.args.query) (sym below.own) c.requires.absent;
+      told = subst (λ (z : BareTrees). IsToldWide z c.args.id c.args.seat.now.reps.now c.args.query.inline c.in_ok-told.told) back c.in_ok-told.ensures.value;
+    }
 
 pub walk::rows_anew-returns-clause-walked : goal.walk::rows_anew-returns-clause-walked
-walk::rows_anew-returns-clause-walked g t c = c.in_ok-put.ensures.joins _ 1 (omega arith) (c.in_ok-wide.ensures.below c.args.query (ap (λ (q : Query). q.reps) c.requires.query) refl (ap (λ (q : Query). needs_inline q.ask) c.requires.query))
+walk::rows_anew-returns-clause-walked g t c = ok_walked _ c.args.id c.args.query 1 _ _ _ (c.in_ok-told.ensures.below c.args.query (ap (λ (q : Query). q.reps) c.requires.query) refl (ap (λ (q : Query). needs_inline q.ask) c.requires.query)) c.rows_answered.ensures.walked
 
-pub walk::rows_anew-returns-in_err-put-clause-stopped : goal.walk::rows_anew-returns-in_err-put-clause-stopped
-walk::rows_anew-returns-in_err-put-clause-stopped g t c = on_err _ _ (c.in_err-put.ensures.stopped _ 1 (c.in_ok-wide.ensures.below c.args.query (ap (λ (q : Query). q.reps) c.requires.query) refl (ap (λ (q : Query). needs_inline q.ask) c.requires.query)))
+pub walk::rows_anew-returns-clause-stopped : goal.walk::rows_anew-returns-clause-stopped
+walk::rows_anew-returns-clause-stopped g t c = err_stopped _ c.args.id c.args.query 1 _ _ _ (c.in_ok-told.ensures.below c.args.query (ap (λ (q : Query). q.reps) c.requires.query) refl (ap (λ (q : Query). needs_inline q.ask) c.requires.query)) c.rows_answered.ensures.stopped
+
+pub walk::rows_anew-returns-clause-value : goal.walk::rows_anew-returns-clause-value
+walk::rows_anew-returns-clause-value g t c = subst (λ (z : BareTrees). IfOk c.rows_answered.result (λ items. lent_items items ≡ answer_of (sight_at z c.args.id) c.args.query)) (c.in_ok-told.ensures.below c.args.query
+    (ap (λ (q : Query). q.reps) c.requires.query) refl (ap (λ (q : Query). needs_inline q.ask) c.requires.query)).walk.bare_same c.rows_answered.ensures.value
 
 pub walk::rows_anew-returns-clause-own : goal.walk::rows_anew-returns-clause-own
-walk::rows_anew-returns-clause-own g t c =
-    c.in_ok-put.ensures.own ∙ (λ i. kept_with ((c.in_ok-wide.ensures.below c.args.query (ap (λ (q : Query). q.reps) c.requires.query) refl (ap (λ (q : Query). needs_inline q.ask) c.requires.query)).own i) ((c.args.query, answer.Lent (sym (c.in_ok-lent.ensures ∙ c.as_slice.ensures) i)) ∷ []))
+walk::rows_anew-returns-clause-own g t c = subst (λ (l : List (Query × Answer)). IfOk c.rows_answered.result (λ items. kept c.rows_answered.new.walk c.args.id ≡ kept_with l ((c.args.query, answer.Lent items) ∷ [])))
+    (c.in_ok-told.ensures.below c.args.query (ap (λ (q : Query). q.reps) c.requires.query) refl (ap (λ (q : Query). needs_inline q.ask) c.requires.query)).own c.rows_answered.ensures.own
+
+pub walk::rows_anew-returns-clause-parts : goal.walk::rows_anew-returns-clause-parts
+walk::rows_anew-returns-clause-parts g t c = parts_then _ _ _ c.told_wide_at.ensures.parts c.rows_answered.ensures.parts
+
+pub walk::rows_anew-returns-clause-stands : goal.walk::rows_anew-returns-clause-stands
+walk::rows_anew-returns-clause-stands g t c = c.rows_answered.ensures.stands
+
+pub walk::rows_anew-returns-in_err-told-clause-stopped : goal.walk::rows_anew-returns-in_err-told-clause-stopped
+walk::rows_anew-returns-in_err-told-clause-stopped g t c = on_err _ _ (c.in_err-told.ensures.stopped c.args.query (ap (λ (q : Query). q.reps) c.requires.query) refl (ap (λ (q : Query). needs_inline q.ask) c.requires.query))
+
+pub walk::rows_anew-returns-in_err-told-clause-parts : goal.walk::rows_anew-returns-in_err-told-clause-parts
+walk::rows_anew-returns-in_err-told-clause-parts g t c = c.told_wide_at.ensures.parts
+
+pub walk::rows_anew-returns-in_err-told-clause-stands : goal.walk::rows_anew-returns-in_err-told-clause-stands
+walk::rows_anew-returns-in_err-told-clause-stands g t c = c.told_wide_at.ensures.stands
 
 pub walk::block_in-returns-in_err-query-clause-stopped : goal.walk::block_in-returns-in_err-query-clause-stopped
 walk::block_in-returns-in_err-query-clause-stopped g t c = on_err _ _ (stopped c.args.id _ 0 _ _ (walked_none c.args.id (block_query false c.args.seat.now.reps.now c.args.width.now) (seen g.R.Ruler.log c.args.walk.now) c.requires.stands.right))
@@ -763,17 +604,11 @@ asking::ask_children-returns-in_err-child-clause-parts g t c = parts_then _ _ _ 
 pub asking::ask_children-returns-in_err-child-clause-stands : goal.asking::ask_children-returns-in_err-child-clause-stands
 asking::ask_children-returns-in_err-child-clause-stands g t c = c.ask_child.ensures.stands
 
-pub asking::ask_children-returns-in_err-push-clause-parts : goal.asking::ask_children-returns-in_err-push-clause-parts
-asking::ask_children-returns-in_err-push-clause-parts g t c = parts_then _ _ _ c.loop-index.invariant.parts c.ask_child.ensures.parts
+pub asking::ask_children-returns-in_err-add_child-clause-parts : goal.asking::ask_children-returns-in_err-add_child-clause-parts
+asking::ask_children-returns-in_err-add_child-clause-parts g t c = parts_then _ _ _ c.loop-index.invariant.parts c.ask_child.ensures.parts
 
-pub asking::ask_children-returns-in_err-push-clause-stands : goal.asking::ask_children-returns-in_err-push-clause-stands
-asking::ask_children-returns-in_err-push-clause-stands g t c = c.ask_child.ensures.stands
-
-pub asking::ask_children-returns-in_err-push-2-clause-parts : goal.asking::ask_children-returns-in_err-push-2-clause-parts
-asking::ask_children-returns-in_err-push-2-clause-parts g t c = parts_then _ _ _ c.loop-index.invariant.parts c.ask_child.ensures.parts
-
-pub asking::ask_children-returns-in_err-push-2-clause-stands : goal.asking::ask_children-returns-in_err-push-2-clause-stands
-asking::ask_children-returns-in_err-push-2-clause-stands g t c = c.ask_child.ensures.stands
+pub asking::ask_children-returns-in_err-add_child-clause-stands : goal.asking::ask_children-returns-in_err-add_child-clause-stands
+asking::ask_children-returns-in_err-add_child-clause-stands g t c = c.ask_child.ensures.stands
 
 pub asking::ask_children-returns-clause-parts : goal.asking::ask_children-returns-clause-parts
 asking::ask_children-returns-clause-parts g t c = c.loop-index.invariant.parts
@@ -799,258 +634,56 @@ asking::ask_stale-returns-clause-parts g t c = c.loop-index.invariant.parts
 pub asking::ask_stale-returns-clause-stands : goal.asking::ask_stale-returns-clause-stands
 asking::ask_stale-returns-clause-stands g t c = c.loop-index.invariant.stands
 
-pub asking::told_wide_by-returns-in_err-told-clause-parts : goal.asking::told_wide_by-returns-in_err-told-clause-parts
-asking::told_wide_by-returns-in_err-told-clause-parts g t c = c.grid_in.ensures.parts
-
-pub asking::told_wide_by-returns-in_err-told-clause-stands : goal.asking::told_wide_by-returns-in_err-told-clause-stands
-asking::told_wide_by-returns-in_err-told-clause-stands g t c = c.grid_in.ensures.stands
-
-pub asking::told_wide_by-returns-in_err-columns-clause-parts : goal.asking::told_wide_by-returns-in_err-columns-clause-parts
-asking::told_wide_by-returns-in_err-columns-clause-parts g t c =
-    record {
-      tree = c.grid_in.ensures.parts.tree;
-      ruler = c.grid_in.ensures.parts.ruler;
-      tally = c.grid_in.ensures.parts.tally;
-      passes = c.grid_in.ensures.parts.passes;
-    }
-
-pub asking::told_wide_by-returns-in_err-columns-clause-stands : goal.asking::told_wide_by-returns-in_err-columns-clause-stands
-asking::told_wide_by-returns-in_err-columns-clause-stands g t c = c.grid_in.ensures.stands
-
-pub asking::told_wide_by-returns-in_err-asked-clause-parts : goal.asking::told_wide_by-returns-in_err-asked-clause-parts
-asking::told_wide_by-returns-in_err-asked-clause-parts g t c =
-    record {
-      tree = c.told_rows.ensures.parts.tree ∙ c.grid_in.ensures.parts.tree;
-      ruler = c.told_rows.ensures.parts.ruler ∙ c.grid_in.ensures.parts.ruler;
-      tally = c.told_rows.ensures.parts.tally ∙ c.grid_in.ensures.parts.tally;
-      passes = c.told_rows.ensures.parts.passes ∙ c.grid_in.ensures.parts.passes;
-    }
-
-pub asking::told_wide_by-returns-in_err-asked-clause-stands : goal.asking::told_wide_by-returns-in_err-asked-clause-stands
-asking::told_wide_by-returns-in_err-asked-clause-stands g t c = c.told_rows.ensures.stands
-
-pub asking::told_wide_by-returns-clause-parts : goal.asking::told_wide_by-returns-clause-parts
-asking::told_wide_by-returns-clause-parts g t c =
-    record {
-      tree = c.told_rows.ensures.parts.tree ∙ c.grid_in.ensures.parts.tree;
-      ruler = c.told_rows.ensures.parts.ruler ∙ c.grid_in.ensures.parts.ruler;
-      tally = c.told_rows.ensures.parts.tally ∙ c.grid_in.ensures.parts.tally;
-      passes = c.told_rows.ensures.parts.passes ∙ c.grid_in.ensures.parts.passes;
-    }
-
-pub asking::told_wide_by-returns-clause-stands : goal.asking::told_wide_by-returns-clause-stands
-asking::told_wide_by-returns-clause-stands g t c = c.told_rows.ensures.stands
-
-pub asking::told_wide_at-returns-in_err-past-clause-parts : goal.asking::told_wide_at-returns-in_err-past-clause-parts
-asking::told_wide_at-returns-in_err-past-clause-parts g t c = c.take_past.ensures.parts
-
-pub asking::told_wide_at-returns-in_err-past-clause-stands : goal.asking::told_wide_at-returns-in_err-past-clause-stands
-asking::told_wide_at-returns-in_err-past-clause-stands g t c = c.take_past.ensures.stands
-
-pub asking::told_wide_at-returns-in_err-told-clause-parts : goal.asking::told_wide_at-returns-in_err-told-clause-parts
-asking::told_wide_at-returns-in_err-told-clause-parts g t c = parts_then _ _ _ c.take_past.ensures.parts c.told_wide_by.ensures.parts
-
-pub asking::told_wide_at-returns-in_err-told-clause-stands : goal.asking::told_wide_at-returns-in_err-told-clause-stands
-asking::told_wide_at-returns-in_err-told-clause-stands g t c = c.told_wide_by.ensures.stands
-
-pub asking::told_wide_at-returns-clause-parts : goal.asking::told_wide_at-returns-clause-parts
-asking::told_wide_at-returns-clause-parts g t c = parts_then _ _ _ c.take_past.ensures.parts c.told_wide_by.ensures.parts
-
-pub asking::told_wide_at-returns-clause-stands : goal.asking::told_wide_at-returns-clause-stands
-asking::told_wide_at-returns-clause-stands g t c = c.told_wide_by.ensures.stands
-
 pub walk::grid_anew-returns-in_err-told-clause-parts : goal.walk::grid_anew-returns-in_err-told-clause-parts
 walk::grid_anew-returns-in_err-told-clause-parts g t c = c.told_wide_at.ensures.parts
 
 pub walk::grid_anew-returns-in_err-told-clause-stands : goal.walk::grid_anew-returns-in_err-told-clause-stands
 walk::grid_anew-returns-in_err-told-clause-stands g t c = c.told_wide_at.ensures.stands
 
-pub walk::grid_anew-returns-in_err-size-clause-parts : goal.walk::grid_anew-returns-in_err-size-clause-parts
-walk::grid_anew-returns-in_err-size-clause-parts g t c =
-    record {
-      tree = c.told_wide_at.ensures.parts.tree;
-      ruler = c.told_wide_at.ensures.parts.ruler;
-      tally = c.told_wide_at.ensures.parts.tally;
-      passes = c.told_wide_at.ensures.parts.passes;
-    }
-
-pub walk::grid_anew-returns-in_err-size-clause-stands : goal.walk::grid_anew-returns-in_err-size-clause-stands
-walk::grid_anew-returns-in_err-size-clause-stands g t c = c.told_wide_at.ensures.stands
-
-pub walk::grid_anew-returns-in_err-held-clause-parts : goal.walk::grid_anew-returns-in_err-held-clause-parts
-walk::grid_anew-returns-in_err-held-clause-parts g t c =
-    record {
-      tree = c.told_wide_at.ensures.parts.tree;
-      ruler = c.told_wide_at.ensures.parts.ruler;
-      tally = c.told_wide_at.ensures.parts.tally;
-      passes = c.told_wide_at.ensures.parts.passes;
-    }
-
-pub walk::grid_anew-returns-in_err-held-clause-stands : goal.walk::grid_anew-returns-in_err-held-clause-stands
-walk::grid_anew-returns-in_err-held-clause-stands g t c = c.told_wide_at.ensures.stands
-
-pub walk::grid_anew-returns-in_err-keep_told-clause-parts : goal.walk::grid_anew-returns-in_err-keep_told-clause-parts
-walk::grid_anew-returns-in_err-keep_told-clause-parts g t c =
-    record {
-      tree = c.keep_told.ensures.parts.tree ∙ c.told_wide_at.ensures.parts.tree;
-      ruler = c.keep_told.ensures.parts.ruler ∙ c.told_wide_at.ensures.parts.ruler;
-      tally = c.keep_told.ensures.parts.tally ∙ c.told_wide_at.ensures.parts.tally;
-      passes = c.keep_told.ensures.parts.passes ∙ c.told_wide_at.ensures.parts.passes;
-    }
-
-pub walk::grid_anew-returns-in_err-keep_told-clause-stands : goal.walk::grid_anew-returns-in_err-keep_told-clause-stands
-walk::grid_anew-returns-in_err-keep_told-clause-stands g t c = c.keep_told.ensures.stands
-
-pub walk::grid_anew-returns-in_err-put-clause-parts : goal.walk::grid_anew-returns-in_err-put-clause-parts
-walk::grid_anew-returns-in_err-put-clause-parts g t c =
-    record {
-      tree = c.put.ensures.parts.tree ∙ c.keep_told.ensures.parts.tree ∙ c.told_wide_at.ensures.parts.tree;
-      ruler = c.put.ensures.parts.ruler ∙ c.keep_told.ensures.parts.ruler ∙ c.told_wide_at.ensures.parts.ruler;
-      tally = c.put.ensures.parts.tally ∙ c.keep_told.ensures.parts.tally ∙ c.told_wide_at.ensures.parts.tally;
-      passes = c.put.ensures.parts.passes ∙ c.keep_told.ensures.parts.passes ∙ c.told_wide_at.ensures.parts.passes;
-    }
-
-pub walk::grid_anew-returns-in_err-put-clause-stands : goal.walk::grid_anew-returns-in_err-put-clause-stands
-walk::grid_anew-returns-in_err-put-clause-stands g t c = c.put.ensures.stands
-
-pub walk::grid_anew-returns-clause-parts : goal.walk::grid_anew-returns-clause-parts
-walk::grid_anew-returns-clause-parts g t c =
-    record {
-      tree = c.put.ensures.parts.tree ∙ c.keep_told.ensures.parts.tree ∙ c.told_wide_at.ensures.parts.tree;
-      ruler = c.put.ensures.parts.ruler ∙ c.keep_told.ensures.parts.ruler ∙ c.told_wide_at.ensures.parts.ruler;
-      tally = c.put.ensures.parts.tally ∙ c.keep_told.ensures.parts.tally ∙ c.told_wide_at.ensures.parts.tally;
-      passes = c.put.ensures.parts.passes ∙ c.keep_told.ensures.parts.passes ∙ c.told_wide_at.ensures.parts.passes;
-    }
-
-pub walk::grid_anew-returns-clause-stands : goal.walk::grid_anew-returns-clause-stands
-walk::grid_anew-returns-clause-stands g t c = c.put.ensures.stands
-
-pub walk::rows_anew-returns-in_err-wide-clause-parts : goal.walk::rows_anew-returns-in_err-wide-clause-parts
-walk::rows_anew-returns-in_err-wide-clause-parts g t c = c.wide_at.ensures.parts
-
-pub walk::rows_anew-returns-in_err-wide-clause-stands : goal.walk::rows_anew-returns-in_err-wide-clause-stands
-walk::rows_anew-returns-in_err-wide-clause-stands g t c = c.wide_at.ensures.stands
-
-pub walk::rows_anew-returns-in_err-items-clause-parts : goal.walk::rows_anew-returns-in_err-items-clause-parts
-walk::rows_anew-returns-in_err-items-clause-parts g t c = c.wide_at.ensures.parts
-
-pub walk::rows_anew-returns-in_err-items-clause-stands : goal.walk::rows_anew-returns-in_err-items-clause-stands
-walk::rows_anew-returns-in_err-items-clause-stands g t c = c.wide_at.ensures.stands
-
-pub walk::rows_anew-returns-in_err-lent-clause-parts : goal.walk::rows_anew-returns-in_err-lent-clause-parts
-walk::rows_anew-returns-in_err-lent-clause-parts g t c = c.wide_at.ensures.parts
-
-pub walk::rows_anew-returns-in_err-lent-clause-stands : goal.walk::rows_anew-returns-in_err-lent-clause-stands
-walk::rows_anew-returns-in_err-lent-clause-stands g t c = c.wide_at.ensures.stands
-
-pub walk::rows_anew-returns-in_err-put-clause-parts : goal.walk::rows_anew-returns-in_err-put-clause-parts
-walk::rows_anew-returns-in_err-put-clause-parts g t c = parts_then _ _ _ c.wide_at.ensures.parts c.put.ensures.parts
-
-pub walk::rows_anew-returns-in_err-put-clause-stands : goal.walk::rows_anew-returns-in_err-put-clause-stands
-walk::rows_anew-returns-in_err-put-clause-stands g t c = c.put.ensures.stands
-
-pub walk::rows_anew-returns-clause-parts : goal.walk::rows_anew-returns-clause-parts
-walk::rows_anew-returns-clause-parts g t c = parts_then _ _ _ c.wide_at.ensures.parts c.put.ensures.parts
-
-pub walk::rows_anew-returns-clause-stands : goal.walk::rows_anew-returns-clause-stands
-walk::rows_anew-returns-clause-stands g t c = c.put.ensures.stands
-
-pub walk::row_anew-row_size-requires-clause-live : goal.walk::row_anew-row_size-requires-clause-live
-walk::row_anew-row_size-requires-clause-live g t c = subst (λ (z : BareTrees). IsLive z c.args.id)
-    (sym (c.last_along.ensures.below c.args.query 1 (seen g.R.Ruler.log c.row_told.new.walk) (c.in_ok-parts.ensures.below c.args.query (sym c.size_of-width.ensures) (ap needs_inline c.requires.ask))).walk.bare_same) c.requires.live
-
-pub walk::row_anew-row_size-requires-clause-row : goal.walk::row_anew-row_size-requires-clause-row
-walk::row_anew-row_size-requires-clause-row g t c = subst (λ (z : BareTrees). IsRow z c.args.id c.size_of-width.result c.in_ok-parts.parts) (sym (c.in_ok-parts.ensures.below c.args.query (sym c.size_of-width.ensures) (ap needs_inline c.requires.ask)).walk.bare_same) c.in_ok-parts.ensures.value
-
-pub walk::row_anew-put-requires-clause-value : goal.walk::row_anew-put-requires-clause-value
-walk::row_anew-put-requires-clause-value g t c =
-    ap block_size
-    (c.in_ok-size.ensures ∙
-    ap
-    (λ (w : ℤ). rules.row_block (flex_seen (nodes c.row_told.new.walk) c.args.id) (rules.row_lines (flex_seen (nodes c.row_told.new.walk) c.args.id) w)
-    (rules.row_settled (flex_seen (nodes c.row_told.new.walk) c.args.id) (rules.row_lines (flex_seen (nodes c.row_told.new.walk) c.args.id) w))) c.size_of-width.ensures)
-    ∙ row_answer (nodes c.row_told.new.walk) c.args.id c.args.query
-    (subst (λ (z : BareTrees). (sight_at z c.args.id).label.kind ≡ kind.Flex)
-    (sym (c.last_along.ensures.below c.args.query 1 (seen g.R.Ruler.log c.row_told.new.walk) (c.in_ok-parts.ensures.below c.args.query (sym c.size_of-width.ensures) (ap needs_inline c.requires.ask))).walk.bare_same) c.requires.flex)
-    (subst (λ (z : BareTrees). (sight_at z c.args.id).label.content.column ≡ false)
-    (sym (c.last_along.ensures.below c.args.query 1 (seen g.R.Ruler.log c.row_told.new.walk) (c.in_ok-parts.ensures.below c.args.query (sym c.size_of-width.ensures) (ap needs_inline c.requires.ask))).walk.bare_same) c.requires.direction)
-    c.requires.ask
-    ∙ ap (λ (z : BareTrees). answer_of (sight_at z c.args.id) c.args.query) (sym c.keep_row.ensures.bare)
-
-pub walk::row_anew-put-requires-clause-quiet : goal.walk::row_anew-put-requires-clause-quiet
-walk::row_anew-put-requires-clause-quiet g t c =
-    flex_quiet (nodes c.keep_row.new.walk) c.args.id c.args.query
-    (subst (λ (z : BareTrees). (sight_at z c.args.id).label.kind ≡ kind.Flex)
-    (sym (c.keep_row.ensures.below c.args.query 1 _ (c.last_along.ensures.below c.args.query 1 (seen g.R.Ruler.log c.row_told.new.walk) (c.in_ok-parts.ensures.below c.args.query (sym c.size_of-width.ensures) (ap needs_inline c.requires.ask)))).walk.bare_same) c.requires.flex)
-
-pub walk::row_anew-put-requires-clause-live : goal.walk::row_anew-put-requires-clause-live
-walk::row_anew-put-requires-clause-live g t c = subst (λ (z : BareTrees). IsLive z c.args.id)
-    (sym (c.keep_row.ensures.below c.args.query 1 _ (c.last_along.ensures.below c.args.query 1 (seen g.R.Ruler.log c.row_told.new.walk) (c.in_ok-parts.ensures.below c.args.query (sym c.size_of-width.ensures) (ap needs_inline c.requires.ask)))).walk.bare_same) c.requires.live
-
-pub walk::row_anew-put-requires-clause-absent : goal.walk::row_anew-put-requires-clause-absent
-walk::row_anew-put-requires-clause-absent g t c = subst (IsAbsent c.args.query)
-    (sym (c.keep_row.ensures.below c.args.query 1 _ (c.last_along.ensures.below c.args.query 1 (seen g.R.Ruler.log c.row_told.new.walk) (c.in_ok-parts.ensures.below c.args.query (sym c.size_of-width.ensures) (ap needs_inline c.requires.ask)))).own) c.requires.absent
-
-pub walk::row_anew-put-requires-clause-fits : goal.walk::row_anew-put-requires-clause-fits
-walk::row_anew-put-requires-clause-fits g t c = subst (λ (z : BareTrees). Fits (sight_at z c.args.id) c.args.query)
-    (sym (c.keep_row.ensures.below c.args.query 1 _ (c.last_along.ensures.below c.args.query 1 (seen g.R.Ruler.log c.row_told.new.walk) (c.in_ok-parts.ensures.below c.args.query (sym c.size_of-width.ensures) (ap needs_inline c.requires.ask)))).walk.bare_same) c.requires.fits
-
-pub walk::row_anew-returns-clause-value : goal.walk::row_anew-returns-clause-value
-walk::row_anew-returns-clause-value g t c =
-    ap block_size
-    (c.in_ok-size.ensures ∙
-    ap
-    (λ (w : ℤ). rules.row_block (flex_seen (nodes c.row_told.new.walk) c.args.id) (rules.row_lines (flex_seen (nodes c.row_told.new.walk) c.args.id) w)
-    (rules.row_settled (flex_seen (nodes c.row_told.new.walk) c.args.id) (rules.row_lines (flex_seen (nodes c.row_told.new.walk) c.args.id) w))) c.size_of-width.ensures)
-    ∙ row_answer (nodes c.row_told.new.walk) c.args.id c.args.query
-    (subst (λ (z : BareTrees). (sight_at z c.args.id).label.kind ≡ kind.Flex)
-    (sym (c.last_along.ensures.below c.args.query 1 (seen g.R.Ruler.log c.row_told.new.walk) (c.in_ok-parts.ensures.below c.args.query (sym c.size_of-width.ensures) (ap needs_inline c.requires.ask))).walk.bare_same) c.requires.flex)
-    (subst (λ (z : BareTrees). (sight_at z c.args.id).label.content.column ≡ false)
-    (sym (c.last_along.ensures.below c.args.query 1 (seen g.R.Ruler.log c.row_told.new.walk) (c.in_ok-parts.ensures.below c.args.query (sym c.size_of-width.ensures) (ap needs_inline c.requires.ask))).walk.bare_same) c.requires.direction)
-    c.requires.ask
-    ∙ ap (λ (z : BareTrees). answer_of (sight_at z c.args.id) c.args.query) (c.last_along.ensures.below c.args.query 1 (seen g.R.Ruler.log c.row_told.new.walk) (c.in_ok-parts.ensures.below c.args.query (sym c.size_of-width.ensures) (ap needs_inline c.requires.ask))).walk.bare_same
-
 pub walk::row_anew-returns-in_err-parts-clause-stopped : goal.walk::row_anew-returns-in_err-parts-clause-stopped
 walk::row_anew-returns-in_err-parts-clause-stopped g t c =
     on_err _ _ (c.last_along.ensures.stopped c.args.query (seen g.R.Ruler.log c.row_told.new.walk) (c.in_err-parts.ensures.stopped c.args.query (sym c.size_of-width.ensures) (ap needs_inline c.requires.ask)))
 
-pub walk::row_anew-returns-in_err-size-clause-stopped : goal.walk::row_anew-returns-in_err-size-clause-stopped
-walk::row_anew-returns-in_err-size-clause-stopped g t c = on_err _ _ (stopped c.args.id c.args.query 1 _ _ (c.last_along.ensures.below c.args.query 1 (seen g.R.Ruler.log c.row_told.new.walk) (c.in_ok-parts.ensures.below c.args.query (sym c.size_of-width.ensures) (ap needs_inline c.requires.ask))))
+pub walk::row_anew-row_answered-requires : goal.walk::row_anew-row_answered-requires
+walk::row_anew-row_answered-requires g t c =
+    let mid = c.in_ok-parts.ensures.below c.args.query (sym c.size_of-width.ensures) (ap needs_inline c.requires.ask) in
+    let below = c.last_along.ensures.below c.args.query 1 (seen g.R.Ruler.log c.row_told.new.walk) mid in
+    let back = sym below.walk.bare_same in
+    record {
+      stands = c.row_told.ensures.stands;
+      live = subst (λ (z : BareTrees). IsLive z c.args.id) back c.requires.live;
+      kind = subst (λ (z : BareTrees). (sight_at z c.args.id).label.kind ≡ kind.Flex) back c.requires.flex;
+      direction = subst (λ (z : BareTrees). (sight_at z c.args.id).label.content.column ≡ false) back c.requires.direction;
+      ask = c.requires.ask;
+      fits = subst (λ (z : BareTrees). Fits (sight_at z c.args.id) c.args.query) back c.requires.fits;
+      absent = subst (IsAbsent c.args.query) (sym below.own) c.requires.absent;
+      row =
+          subst (λ (w : ℤ). IsRow (nodes c.row_told.new.walk) c.args.id w c.in_ok-parts.parts) c.size_of-width.ensures
+          (subst (λ (z : BareTrees). IsRow z c.args.id c.size_of-width.result c.in_ok-parts.parts) (sym mid.walk.bare_same) c.in_ok-parts.ensures.value);
+      items = c.deref.ensures.value ∙ c.in_ok-parts.ensures.items ∙ ap (λ (z : BareTrees). row_items_seen z c.args.id c.size_of-width.result) (sym mid.walk.bare_same) ∙ ap (λ (w : ℤ). row_items_seen (nodes c.row_told.new.walk) c.args.id w) c.size_of-width.ensures;
+    }
 
 pub walk::row_anew-returns-clause-walked : goal.walk::row_anew-returns-clause-walked
-walk::row_anew-returns-clause-walked g t c = c.in_ok-put.ensures.joins _ 1 (omega arith)
-    (c.keep_row.ensures.below c.args.query 1 _ (c.last_along.ensures.below c.args.query 1 (seen g.R.Ruler.log c.row_told.new.walk) (c.in_ok-parts.ensures.below c.args.query (sym c.size_of-width.ensures) (ap needs_inline c.requires.ask))))
+walk::row_anew-returns-clause-walked g t c = ok_walked _ c.args.id c.args.query 1 _ _ _ (c.last_along.ensures.below c.args.query 1 (seen g.R.Ruler.log c.row_told.new.walk)
+    (c.in_ok-parts.ensures.below c.args.query (sym c.size_of-width.ensures) (ap needs_inline c.requires.ask))) c.row_answered.ensures.walked
 
-pub walk::row_anew-returns-in_err-put-clause-stopped : goal.walk::row_anew-returns-in_err-put-clause-stopped
-walk::row_anew-returns-in_err-put-clause-stopped g t c = on_err _ _
-    (c.in_err-put.ensures.stopped _ 1 (c.keep_row.ensures.below c.args.query 1 _ (c.last_along.ensures.below c.args.query 1 (seen g.R.Ruler.log c.row_told.new.walk) (c.in_ok-parts.ensures.below c.args.query (sym c.size_of-width.ensures) (ap needs_inline c.requires.ask)))))
+pub walk::row_anew-returns-clause-stopped : goal.walk::row_anew-returns-clause-stopped
+walk::row_anew-returns-clause-stopped g t c = err_stopped _ c.args.id c.args.query 1 _ _ _ (c.last_along.ensures.below c.args.query 1 (seen g.R.Ruler.log c.row_told.new.walk)
+    (c.in_ok-parts.ensures.below c.args.query (sym c.size_of-width.ensures) (ap needs_inline c.requires.ask))) c.row_answered.ensures.stopped
+
+pub walk::row_anew-returns-clause-value : goal.walk::row_anew-returns-clause-value
+walk::row_anew-returns-clause-value g t c = subst (λ (z : BareTrees). IfOk c.row_answered.result (λ size. block_size size ≡ answer_of (sight_at z c.args.id) c.args.query)) (c.last_along.ensures.below c.args.query 1
+    (seen g.R.Ruler.log c.row_told.new.walk) (c.in_ok-parts.ensures.below c.args.query (sym c.size_of-width.ensures) (ap needs_inline c.requires.ask))).walk.bare_same c.row_answered.ensures.value
 
 pub walk::row_anew-returns-clause-own : goal.walk::row_anew-returns-clause-own
-walk::row_anew-returns-clause-own g t c = (
-  answer.Row c.in_ok-size.size c.in_ok-held.held,
-  (
-    refl,
-    c.in_ok-put.ensures.own ∙
-        ap (λ l. kept_with l ((c.args.query, answer.Row c.in_ok-size.size c.in_ok-held.held) ∷ []))
-        (c.keep_row.ensures.below c.args.query 1 _ (c.last_along.ensures.below c.args.query 1 (seen g.R.Ruler.log c.row_told.new.walk) (c.in_ok-parts.ensures.below c.args.query (sym c.size_of-width.ensures) (ap needs_inline c.requires.ask)))).own,
-  ),
-)
+walk::row_anew-returns-clause-own g t c = subst (λ (l : List (Query × Answer)). IfOk c.row_answered.result (λ size. GrowsBy l c.args.query size (kept c.row_answered.new.walk c.args.id)))
+    (c.last_along.ensures.below c.args.query 1 (seen g.R.Ruler.log c.row_told.new.walk) (c.in_ok-parts.ensures.below c.args.query (sym c.size_of-width.ensures) (ap needs_inline c.requires.ask))).own c.row_answered.ensures.own
 
-pub walk::row_anew-put-requires-clause-children : goal.walk::row_anew-put-requires-clause-children
-walk::row_anew-put-requires-clause-children g t c =
-    let b = nodes c.keep_row.new.walk in
-    let is : IsRow b c.args.id c.size_of-width.result c.in_ok-parts.parts =
-    subst (λ (z : BareTrees). IsRow z c.args.id c.size_of-width.result c.in_ok-parts.parts) (sym c.keep_row.ensures.bare)
-    (subst (λ (z : BareTrees). IsRow z c.args.id c.size_of-width.result c.in_ok-parts.parts) (sym (c.in_ok-parts.ensures.below c.args.query (sym c.size_of-width.ensures) (ap needs_inline c.requires.ask)).walk.bare_same) c.in_ok-parts.ensures.value) in
-    subst (HoldsRow (sight_at b c.args.id) (children_at b c.args.id) (given_size c.args.query.inline)) (sym c.in_ok-held.ensures)
-    (subst (λ (w : ℤ). HoldsRow (sight_at b c.args.id) (children_at b c.args.id) w c.in_ok-parts.parts) c.size_of-width.ensures
-    (row_held b c.args.id
-    (subst IsTree (sym (c.keep_row.ensures.below c.args.query 1 _ (c.last_along.ensures.below c.args.query 1 (seen g.R.Ruler.log c.row_told.new.walk) (c.in_ok-parts.ensures.below c.args.query (sym c.size_of-width.ensures) (ap needs_inline c.requires.ask)))).walk.bare_same) c.root.ensures.tree)
-    c.size_of-width.result c.in_ok-parts.parts is))
+pub walk::row_anew-returns-clause-parts : goal.walk::row_anew-returns-clause-parts
+walk::row_anew-returns-clause-parts g t c = parts_then _ _ _ (parts_then _ _ _ c.last_along.ensures.parts c.row_told.ensures.parts) c.row_answered.ensures.parts
 
-pub walk::row_anew-returns-in_err-held-clause-stopped : goal.walk::row_anew-returns-in_err-held-clause-stopped
-walk::row_anew-returns-in_err-held-clause-stopped g t c = on_err _ _
-    (stopped c.args.id c.args.query 1 _ _ (c.keep_row.ensures.below c.args.query 1 _ (c.last_along.ensures.below c.args.query 1 (seen g.R.Ruler.log c.row_told.new.walk) (c.in_ok-parts.ensures.below c.args.query (sym c.size_of-width.ensures) (ap needs_inline c.requires.ask)))))
+pub walk::row_anew-returns-clause-stands : goal.walk::row_anew-returns-clause-stands
+walk::row_anew-returns-clause-stands g t c = c.row_answered.ensures.stands
 
 pub walk::row_anew-returns-in_err-past-clause-stopped : goal.walk::row_anew-returns-in_err-past-clause-stopped
 walk::row_anew-returns-in_err-past-clause-stopped g t c =
@@ -1067,115 +700,52 @@ walk::row_anew-row_told-requires g t c =
     let small : 16 * size_at (nodes c.last_along.new.walk) c.args.id + 1 < 16 * size_at (nodes c.args.walk.now) c.args.id + 4 = omega (arith, ap (λ (z : BareTrees). size_at z c.args.id) c.last_along.ensures.bare) in
     search rules
 
-pub walk::row_anew-keep_row-requires-clause-live : goal.walk::row_anew-keep_row-requires-clause-live
-walk::row_anew-keep_row-requires-clause-live g t c = subst (λ (z : BareTrees). IsLive z c.args.id)
-    (sym (c.last_along.ensures.below c.args.query 1 (seen g.R.Ruler.log c.row_told.new.walk) (c.in_ok-parts.ensures.below c.args.query (sym c.size_of-width.ensures) (ap needs_inline c.requires.ask))).walk.bare_same) c.requires.live
-
-pub walk::row_anew-keep_row-requires-clause-direction : goal.walk::row_anew-keep_row-requires-clause-direction
-walk::row_anew-keep_row-requires-clause-direction g t c = subst (λ (z : BareTrees). (sight_at z c.args.id).label.content.column ≡ false)
-    (sym (c.last_along.ensures.below c.args.query 1 (seen g.R.Ruler.log c.row_told.new.walk) (c.in_ok-parts.ensures.below c.args.query (sym c.size_of-width.ensures) (ap needs_inline c.requires.ask))).walk.bare_same) c.requires.direction
-
-pub walk::row_anew-keep_row-requires-clause-row : goal.walk::row_anew-keep_row-requires-clause-row
-walk::row_anew-keep_row-requires-clause-row g t c = subst (λ (z : BareTrees). IsRow z c.args.id c.size_of-width.result c.in_ok-parts.parts) (sym (c.in_ok-parts.ensures.below c.args.query (sym c.size_of-width.ensures) (ap needs_inline c.requires.ask)).walk.bare_same) c.in_ok-parts.ensures.value
-
-pub walk::row_anew-returns-in_err-keep_row-clause-stopped : goal.walk::row_anew-returns-in_err-keep_row-clause-stopped
-walk::row_anew-returns-in_err-keep_row-clause-stopped g t c = on_err _ _
-    (stopped c.args.id c.args.query 1 _ _ (c.keep_row.ensures.below c.args.query 1 _ (c.last_along.ensures.below c.args.query 1 (seen g.R.Ruler.log c.row_told.new.walk) (c.in_ok-parts.ensures.below c.args.query (sym c.size_of-width.ensures) (ap needs_inline c.requires.ask)))))
-
-pub walk::row_anew-keep_row-requires-clause-items : goal.walk::row_anew-keep_row-requires-clause-items
-walk::row_anew-keep_row-requires-clause-items g t c =
-    c.deref.ensures.value ∙ c.in_ok-parts.ensures.items ∙ ap (λ (z : BareTrees). row_items_seen z c.args.id c.size_of-width.result) (sym (c.in_ok-parts.ensures.below c.args.query (sym c.size_of-width.ensures) (ap needs_inline c.requires.ask)).walk.bare_same)
-
-pub walk::column_anew-column_size-requires-clause-live : goal.walk::column_anew-column_size-requires-clause-live
-walk::column_anew-column_size-requires-clause-live g t c = subst (λ (z : BareTrees). IsLive z c.args.id)
-    (sym (c.last_along.ensures.below c.args.query 0 (seen g.R.Ruler.log c.column_told.new.walk) (c.in_ok-parts.ensures.below c.args.query (sym c.size_of-width.ensures) (ap needs_inline c.requires.ask))).walk.bare_same) c.requires.live
-
-pub walk::column_anew-column_size-requires-clause-column : goal.walk::column_anew-column_size-requires-clause-column
-walk::column_anew-column_size-requires-clause-column g t c = subst (λ (z : BareTrees). IsColumn z c.args.id c.size_of-width.result c.in_ok-parts.parts)
-    (sym (c.in_ok-parts.ensures.below c.args.query (sym c.size_of-width.ensures) (ap needs_inline c.requires.ask)).walk.bare_same) c.in_ok-parts.ensures.value
-
-pub walk::column_anew-put-requires-clause-value : goal.walk::column_anew-put-requires-clause-value
-walk::column_anew-put-requires-clause-value g t c =
-    ap block_size (c.in_ok-size.ensures.value ∙ ap (λ (w : ℤ). rules.column_block (flex_seen (nodes c.column_told.new.walk) c.args.id) (rules.column_settled (flex_seen (nodes c.column_told.new.walk) c.args.id) w)) c.size_of-width.ensures)
-    ∙ column_answer (nodes c.column_told.new.walk) c.args.id c.args.query
-    (subst (λ (z : BareTrees). (sight_at z c.args.id).label.kind ≡ kind.Flex)
-    (sym (c.last_along.ensures.below c.args.query 0 (seen g.R.Ruler.log c.column_told.new.walk) (c.in_ok-parts.ensures.below c.args.query (sym c.size_of-width.ensures) (ap needs_inline c.requires.ask))).walk.bare_same) c.requires.flex)
-    (subst (λ (z : BareTrees). (sight_at z c.args.id).label.content.column ≡ true)
-    (sym (c.last_along.ensures.below c.args.query 0 (seen g.R.Ruler.log c.column_told.new.walk) (c.in_ok-parts.ensures.below c.args.query (sym c.size_of-width.ensures) (ap needs_inline c.requires.ask))).walk.bare_same) c.requires.direction)
-    c.requires.ask
-    ∙ ap (λ (z : BareTrees). answer_of (sight_at z c.args.id) c.args.query) (sym c.keep_column.ensures.bare)
-
-pub walk::column_anew-put-requires-clause-quiet : goal.walk::column_anew-put-requires-clause-quiet
-walk::column_anew-put-requires-clause-quiet g t c =
-    flex_quiet (nodes c.keep_column.new.walk) c.args.id c.args.query
-    (subst (λ (z : BareTrees). (sight_at z c.args.id).label.kind ≡ kind.Flex)
-    (sym (c.keep_column.ensures.below c.args.query 0 _ (c.last_along.ensures.below c.args.query 0 (seen g.R.Ruler.log c.column_told.new.walk) (c.in_ok-parts.ensures.below c.args.query (sym c.size_of-width.ensures) (ap needs_inline c.requires.ask)))).walk.bare_same) c.requires.flex)
-
-pub walk::column_anew-put-requires-clause-live : goal.walk::column_anew-put-requires-clause-live
-walk::column_anew-put-requires-clause-live g t c = subst (λ (z : BareTrees). IsLive z c.args.id)
-    (sym (c.keep_column.ensures.below c.args.query 0 _ (c.last_along.ensures.below c.args.query 0 (seen g.R.Ruler.log c.column_told.new.walk) (c.in_ok-parts.ensures.below c.args.query (sym c.size_of-width.ensures) (ap needs_inline c.requires.ask)))).walk.bare_same) c.requires.live
-
-pub walk::column_anew-put-requires-clause-absent : goal.walk::column_anew-put-requires-clause-absent
-walk::column_anew-put-requires-clause-absent g t c = subst (IsAbsent c.args.query)
-    (sym (c.keep_column.ensures.below c.args.query 0 _ (c.last_along.ensures.below c.args.query 0 (seen g.R.Ruler.log c.column_told.new.walk) (c.in_ok-parts.ensures.below c.args.query (sym c.size_of-width.ensures) (ap needs_inline c.requires.ask)))).own) c.requires.absent
-
-pub walk::column_anew-put-requires-clause-fits : goal.walk::column_anew-put-requires-clause-fits
-walk::column_anew-put-requires-clause-fits g t c = subst (λ (z : BareTrees). Fits (sight_at z c.args.id) c.args.query)
-    (sym (c.keep_column.ensures.below c.args.query 0 _ (c.last_along.ensures.below c.args.query 0 (seen g.R.Ruler.log c.column_told.new.walk) (c.in_ok-parts.ensures.below c.args.query (sym c.size_of-width.ensures) (ap needs_inline c.requires.ask)))).walk.bare_same) c.requires.fits
-
-pub walk::column_anew-returns-clause-value : goal.walk::column_anew-returns-clause-value
-walk::column_anew-returns-clause-value g t c =
-    ap block_size (c.in_ok-size.ensures.value ∙ ap (λ (w : ℤ). rules.column_block (flex_seen (nodes c.column_told.new.walk) c.args.id) (rules.column_settled (flex_seen (nodes c.column_told.new.walk) c.args.id) w)) c.size_of-width.ensures)
-    ∙ column_answer (nodes c.column_told.new.walk) c.args.id c.args.query
-    (subst (λ (z : BareTrees). (sight_at z c.args.id).label.kind ≡ kind.Flex)
-    (sym (c.last_along.ensures.below c.args.query 0 (seen g.R.Ruler.log c.column_told.new.walk) (c.in_ok-parts.ensures.below c.args.query (sym c.size_of-width.ensures) (ap needs_inline c.requires.ask))).walk.bare_same) c.requires.flex)
-    (subst (λ (z : BareTrees). (sight_at z c.args.id).label.content.column ≡ true)
-    (sym (c.last_along.ensures.below c.args.query 0 (seen g.R.Ruler.log c.column_told.new.walk) (c.in_ok-parts.ensures.below c.args.query (sym c.size_of-width.ensures) (ap needs_inline c.requires.ask))).walk.bare_same) c.requires.direction)
-    c.requires.ask
-    ∙ ap (λ (z : BareTrees). answer_of (sight_at z c.args.id) c.args.query) (c.last_along.ensures.below c.args.query 0 (seen g.R.Ruler.log c.column_told.new.walk) (c.in_ok-parts.ensures.below c.args.query (sym c.size_of-width.ensures) (ap needs_inline c.requires.ask))).walk.bare_same
-
 pub walk::column_anew-returns-in_err-parts-clause-stopped : goal.walk::column_anew-returns-in_err-parts-clause-stopped
 walk::column_anew-returns-in_err-parts-clause-stopped g t c =
     on_err _ _ (c.last_along.ensures.stopped c.args.query (seen g.R.Ruler.log c.column_told.new.walk) (c.in_err-parts.ensures.stopped c.args.query (sym c.size_of-width.ensures) (ap needs_inline c.requires.ask)))
 
-pub walk::column_anew-returns-in_err-size-clause-stopped : goal.walk::column_anew-returns-in_err-size-clause-stopped
-walk::column_anew-returns-in_err-size-clause-stopped g t c = on_err _ _
-    (stopped c.args.id c.args.query 0 _ _ (c.last_along.ensures.below c.args.query 0 (seen g.R.Ruler.log c.column_told.new.walk) (c.in_ok-parts.ensures.below c.args.query (sym c.size_of-width.ensures) (ap needs_inline c.requires.ask))))
+pub walk::column_anew-column_answered-requires : goal.walk::column_anew-column_answered-requires
+walk::column_anew-column_answered-requires g t c =
+    let mid = c.in_ok-parts.ensures.below c.args.query (sym c.size_of-width.ensures) (ap needs_inline c.requires.ask) in
+    let below = c.last_along.ensures.below c.args.query 0 (seen g.R.Ruler.log c.column_told.new.walk) mid in
+    let back = sym below.walk.bare_same in
+    record {
+      stands = c.column_told.ensures.stands;
+      live = subst (λ (z : BareTrees). IsLive z c.args.id) back c.requires.live;
+      kind = subst (λ (z : BareTrees). (sight_at z c.args.id).label.kind ≡ kind.Flex) back c.requires.flex;
+      direction = subst (λ (z : BareTrees). (sight_at z c.args.id).label.content.column ≡ true) back c.requires.direction;
+      ask = c.requires.ask;
+      fits = subst (λ (z : BareTrees). Fits (sight_at z c.args.id) c.args.query) back c.requires.fits;
+      absent = subst (IsAbsent c.args.query) (sym below.own) c.requires.absent;
+      column =
+          subst (λ (w : ℤ). IsColumn (nodes c.column_told.new.walk) c.args.id w c.in_ok-parts.parts) c.size_of-width.ensures
+          (subst (λ (z : BareTrees). IsColumn z c.args.id c.size_of-width.result c.in_ok-parts.parts) (sym mid.walk.bare_same) c.in_ok-parts.ensures.value);
+      past =
+          subst (λ (w : ℤ). AreKnown (nodes c.column_told.new.walk) c.args.id w c.as_slice-2.result.now) c.size_of-width.ensures
+          (subst (λ (z : BareTrees). AreKnown z c.args.id c.size_of-width.result c.as_slice-2.result.now) back (subst (AreKnown (nodes c.args.walk.now) c.args.id c.size_of-width.result) (sym c.as_slice-2.ensures) c.in_ok-past.ensures.past));
+    }
 
 pub walk::column_anew-returns-clause-walked : goal.walk::column_anew-returns-clause-walked
-walk::column_anew-returns-clause-walked g t c = c.in_ok-put.ensures.joins _ 0 (omega arith)
-    (c.keep_column.ensures.below c.args.query 0 _ (c.last_along.ensures.below c.args.query 0 (seen g.R.Ruler.log c.column_told.new.walk) (c.in_ok-parts.ensures.below c.args.query (sym c.size_of-width.ensures) (ap needs_inline c.requires.ask))))
+walk::column_anew-returns-clause-walked g t c = ok_walked _ c.args.id c.args.query 0 _ _ _ (c.last_along.ensures.below c.args.query 0 (seen g.R.Ruler.log c.column_told.new.walk)
+    (c.in_ok-parts.ensures.below c.args.query (sym c.size_of-width.ensures) (ap needs_inline c.requires.ask))) c.column_answered.ensures.walked
 
-pub walk::column_anew-returns-in_err-put-clause-stopped : goal.walk::column_anew-returns-in_err-put-clause-stopped
-walk::column_anew-returns-in_err-put-clause-stopped g t c = on_err _ _
-    (c.in_err-put.ensures.stopped _ 0 (c.keep_column.ensures.below c.args.query 0 _ (c.last_along.ensures.below c.args.query 0 (seen g.R.Ruler.log c.column_told.new.walk) (c.in_ok-parts.ensures.below c.args.query (sym c.size_of-width.ensures) (ap needs_inline c.requires.ask)))))
+pub walk::column_anew-returns-clause-stopped : goal.walk::column_anew-returns-clause-stopped
+walk::column_anew-returns-clause-stopped g t c = err_stopped _ c.args.id c.args.query 0 _ _ _ (c.last_along.ensures.below c.args.query 0 (seen g.R.Ruler.log c.column_told.new.walk)
+    (c.in_ok-parts.ensures.below c.args.query (sym c.size_of-width.ensures) (ap needs_inline c.requires.ask))) c.column_answered.ensures.stopped
+
+pub walk::column_anew-returns-clause-value : goal.walk::column_anew-returns-clause-value
+walk::column_anew-returns-clause-value g t c = subst (λ (z : BareTrees). IfOk c.column_answered.result (λ size. block_size size ≡ answer_of (sight_at z c.args.id) c.args.query)) (c.last_along.ensures.below c.args.query 0
+    (seen g.R.Ruler.log c.column_told.new.walk) (c.in_ok-parts.ensures.below c.args.query (sym c.size_of-width.ensures) (ap needs_inline c.requires.ask))).walk.bare_same c.column_answered.ensures.value
 
 pub walk::column_anew-returns-clause-own : goal.walk::column_anew-returns-clause-own
-walk::column_anew-returns-clause-own g t c = (
-  answer.Column c.in_ok-size.size c.in_ok-held.held,
-  (
-    refl,
-    c.in_ok-put.ensures.own ∙
-        ap (λ l. kept_with l ((c.args.query, answer.Column c.in_ok-size.size c.in_ok-held.held) ∷ []))
-        (c.keep_column.ensures.below c.args.query 0 _ (c.last_along.ensures.below c.args.query 0 (seen g.R.Ruler.log c.column_told.new.walk) (c.in_ok-parts.ensures.below c.args.query (sym c.size_of-width.ensures) (ap needs_inline c.requires.ask)))).own,
-  ),
-)
+walk::column_anew-returns-clause-own g t c = subst (λ (l : List (Query × Answer)). IfOk c.column_answered.result (λ size. GrowsBy l c.args.query size (kept c.column_answered.new.walk c.args.id)))
+    (c.last_along.ensures.below c.args.query 0 (seen g.R.Ruler.log c.column_told.new.walk) (c.in_ok-parts.ensures.below c.args.query (sym c.size_of-width.ensures) (ap needs_inline c.requires.ask))).own c.column_answered.ensures.own
 
-pub walk::column_anew-put-requires-clause-children : goal.walk::column_anew-put-requires-clause-children
-walk::column_anew-put-requires-clause-children g t c =
-    let b = nodes c.keep_column.new.walk in
-    let is : IsColumn b c.args.id c.size_of-width.result c.in_ok-parts.parts =
-    subst (λ (z : BareTrees). IsColumn z c.args.id c.size_of-width.result c.in_ok-parts.parts) (sym c.keep_column.ensures.bare)
-    (subst (λ (z : BareTrees). IsColumn z c.args.id c.size_of-width.result c.in_ok-parts.parts) (sym (c.in_ok-parts.ensures.below c.args.query (sym c.size_of-width.ensures) (ap needs_inline c.requires.ask)).walk.bare_same) c.in_ok-parts.ensures.value) in
-    subst (HoldsColumn (sight_at b c.args.id) (children_at b c.args.id) (given_size c.args.query.inline)) (sym c.in_ok-held.ensures)
-    (subst (λ (w : ℤ). HoldsColumn (sight_at b c.args.id) (children_at b c.args.id) w c.in_ok-parts.parts) c.size_of-width.ensures
-    (column_held b c.args.id
-    (subst IsTree (sym (c.keep_column.ensures.below c.args.query 0 _ (c.last_along.ensures.below c.args.query 0 (seen g.R.Ruler.log c.column_told.new.walk) (c.in_ok-parts.ensures.below c.args.query (sym c.size_of-width.ensures) (ap needs_inline c.requires.ask)))).walk.bare_same) c.root.ensures.tree)
-    c.size_of-width.result c.in_ok-parts.parts is))
+pub walk::column_anew-returns-clause-parts : goal.walk::column_anew-returns-clause-parts
+walk::column_anew-returns-clause-parts g t c = parts_then _ _ _ (parts_then _ _ _ c.last_along.ensures.parts c.column_told.ensures.parts) c.column_answered.ensures.parts
 
-pub walk::column_anew-returns-in_err-held-clause-stopped : goal.walk::column_anew-returns-in_err-held-clause-stopped
-walk::column_anew-returns-in_err-held-clause-stopped g t c = on_err _ _
-    (stopped c.args.id c.args.query 0 _ _ (c.keep_column.ensures.below c.args.query 0 _ (c.last_along.ensures.below c.args.query 0 (seen g.R.Ruler.log c.column_told.new.walk) (c.in_ok-parts.ensures.below c.args.query (sym c.size_of-width.ensures) (ap needs_inline c.requires.ask)))))
+pub walk::column_anew-returns-clause-stands : goal.walk::column_anew-returns-clause-stands
+walk::column_anew-returns-clause-stands g t c = c.column_answered.ensures.stands
 
 pub walk::column_anew-returns-in_err-past-clause-stopped : goal.walk::column_anew-returns-in_err-past-clause-stopped
 walk::column_anew-returns-in_err-past-clause-stopped g t c =
@@ -1192,199 +762,132 @@ walk::column_anew-column_told-requires g t c =
     let small : 16 * size_at (nodes c.last_along.new.walk) c.args.id + 1 < 16 * size_at (nodes c.args.walk.now) c.args.id + 4 = omega (arith, ap (λ (z : BareTrees). size_at z c.args.id) c.last_along.ensures.bare) in
     search rules
 
-pub walk::column_anew-keep_column-requires-clause-live : goal.walk::column_anew-keep_column-requires-clause-live
-walk::column_anew-keep_column-requires-clause-live g t c = subst (λ (z : BareTrees). IsLive z c.args.id)
-    (sym (c.last_along.ensures.below c.args.query 0 (seen g.R.Ruler.log c.column_told.new.walk) (c.in_ok-parts.ensures.below c.args.query (sym c.size_of-width.ensures) (ap needs_inline c.requires.ask))).walk.bare_same) c.requires.live
-
-pub walk::column_anew-keep_column-requires-clause-direction : goal.walk::column_anew-keep_column-requires-clause-direction
-walk::column_anew-keep_column-requires-clause-direction g t c = subst (λ (z : BareTrees). (sight_at z c.args.id).label.content.column ≡ true)
-    (sym (c.last_along.ensures.below c.args.query 0 (seen g.R.Ruler.log c.column_told.new.walk) (c.in_ok-parts.ensures.below c.args.query (sym c.size_of-width.ensures) (ap needs_inline c.requires.ask))).walk.bare_same) c.requires.direction
-
-pub walk::column_anew-keep_column-requires-clause-column : goal.walk::column_anew-keep_column-requires-clause-column
-walk::column_anew-keep_column-requires-clause-column g t c = subst (λ (z : BareTrees). IsColumn z c.args.id c.size_of-width.result c.in_ok-parts.parts)
-    (sym (c.in_ok-parts.ensures.below c.args.query (sym c.size_of-width.ensures) (ap needs_inline c.requires.ask)).walk.bare_same) c.in_ok-parts.ensures.value
-
-pub walk::column_anew-returns-in_err-keep_column-clause-stopped : goal.walk::column_anew-returns-in_err-keep_column-clause-stopped
-walk::column_anew-returns-in_err-keep_column-clause-stopped g t c = on_err _ _
-    (stopped c.args.id c.args.query 0 _ _ (c.keep_column.ensures.below c.args.query 0 _ (c.last_along.ensures.below c.args.query 0 (seen g.R.Ruler.log c.column_told.new.walk) (c.in_ok-parts.ensures.below c.args.query (sym c.size_of-width.ensures) (ap needs_inline c.requires.ask)))))
-
-pub walk::column_anew-keep_column-requires-clause-items : goal.walk::column_anew-keep_column-requires-clause-items
-walk::column_anew-keep_column-requires-clause-items g t c = c.deref.ensures.value ∙ c.in_ok-size.ensures.items
-
-pub walk::column_anew-column_size-requires-clause-direction : goal.walk::column_anew-column_size-requires-clause-direction
-walk::column_anew-column_size-requires-clause-direction g t c = subst (λ (z : BareTrees). (sight_at z c.args.id).label.content.column ≡ true)
-    (sym (c.last_along.ensures.below c.args.query 0 (seen g.R.Ruler.log c.column_told.new.walk) (c.in_ok-parts.ensures.below c.args.query (sym c.size_of-width.ensures) (ap needs_inline c.requires.ask))).walk.bare_same) c.requires.direction
-
-pub walk::column_anew-column_size-requires-clause-past : goal.walk::column_anew-column_size-requires-clause-past
-walk::column_anew-column_size-requires-clause-past g t c =
-    subst (λ (z : BareTrees). AreKnown z c.args.id c.size_of-width.result c.as_slice-2.result.now)
-    (sym (c.last_along.ensures.below c.args.query 0 (seen g.R.Ruler.log c.column_told.new.walk) (c.in_ok-parts.ensures.below c.args.query (sym c.size_of-width.ensures) (ap needs_inline c.requires.ask))).walk.bare_same)
-    (subst (AreKnown (nodes c.args.walk.now) c.args.id c.size_of-width.result) (sym c.as_slice-2.ensures) c.in_ok-past.ensures.past)
-
-pub walk::row_told-items_in_row-requires-clause-live : goal.walk::row_told-items_in_row-requires-clause-live
-walk::row_told-items_in_row-requires-clause-live g t c = subst (λ (z : BareTrees). IsLive z c.args.id) (sym (c.in_ok-parts.ensures.below (inline_query false [])).walk.bare_same) c.requires.live
-
-pub walk::row_told-items_in_row-requires-clause-members : goal.walk::row_told-items_in_row-requires-clause-members
-walk::row_told-items_in_row-requires-clause-members g t c =
-    subst (AreMembers (nodes c.flex_in.new.walk) c.args.id) (sym c.as_slice.ensures) (subst (λ (z : BareTrees). AreMembers z c.args.id c.in_ok-parts.parts.members) (sym (c.in_ok-parts.ensures.below (inline_query false [])).walk.bare_same) c.in_ok-parts.ensures.value)
-
-pub walk::row_told-items_in_row-requires-clause-direction : goal.walk::row_told-items_in_row-requires-clause-direction
-walk::row_told-items_in_row-requires-clause-direction g t c = subst (λ (z : BareTrees). (sight_at z c.args.id).label.content.column ≡ false) (sym (c.in_ok-parts.ensures.below (inline_query false [])).walk.bare_same) c.requires.direction
-
-pub walk::row_told-items_in_row-requires-clause-past : goal.walk::row_told-items_in_row-requires-clause-past
-walk::row_told-items_in_row-requires-clause-past g t c = subst (λ (z : BareTrees). AreKnown z c.args.id c.args.width c.args.past.now) (sym (c.in_ok-parts.ensures.below (inline_query false [])).walk.bare_same) c.requires.past
-
-pub walk::row_told-returns-in_err-parts-clause-stopped : goal.walk::row_told-returns-in_err-parts-clause-stopped
-walk::row_told-returns-in_err-parts-clause-stopped g t c =
-    let all : (q : Query) → given_size q.inline ≡ c.args.width → needs_inline q.ask ≡ true →
-    Stopped c.args.id q (seen g.R.Ruler.log c.args.walk.now) (seen g.R.Ruler.log c.flex_in.new.walk) = λ q w n. c.in_err-parts.ensures.stopped q in
-    on_err _ _ all
-
-pub walk::row_told-row_lines-requires : goal.walk::row_told-row_lines-requires
-walk::row_told-row_lines-requires g t c = record
-    { few = items_few (nodes c.flex_in.new.walk) c.args.id c.args.width c.deref.result.now c.flex_in.ensures.stands.readable (c.deref.ensures.value ∙ c.in_ok-items.ensures.value) }
-
 pub walk::row_told-ask_members-requires : goal.walk::row_told-ask_members-requires
 walk::row_told-ask_members-requires g t c =
-    let back = sym (c.in_ok-parts.ensures.below (inline_query false [])).walk.bare_same in
-    let live : IsLive (nodes c.flex_in.new.walk) c.args.id = subst (λ (z : BareTrees). IsLive z c.args.id) back c.requires.live in
-    let readable : AreReadable (nodes c.flex_in.new.walk) = c.flex_in.ensures.stands.readable in
-    let flex : (sight_at (nodes c.flex_in.new.walk) c.args.id).label.kind ≡ kind.Flex = subst (λ (z : BareTrees). (sight_at z c.args.id).label.kind ≡ kind.Flex) back c.requires.flex in
-    let members : AreMembers (nodes c.flex_in.new.walk) c.args.id c.as_slice-2.result.now = subst (AreMembers (nodes c.flex_in.new.walk) c.args.id) (sym c.as_slice-2.ensures) (subst (λ (z : BareTrees). AreMembers z c.args.id c.in_ok-parts.parts.members) back c.in_ok-parts.ensures.value) in
-    let roomy : AreRoomy (flex_seen (nodes c.flex_in.new.walk) c.args.id).members c.as_slice-3.result.now = subst (AreRoomy (flex_seen (nodes c.flex_in.new.walk) c.args.id).members) (sym c.as_slice-3.ensures)
-    (covering_roomy c.args.width (flex_seen (nodes c.flex_in.new.walk) c.args.id).members c.in_ok-lines.lines.mains
-    (subst (λ (l : List FlexItem). AreCovering l c.in_ok-lines.lines.mains) (c.deref.ensures.value ∙ c.in_ok-items.ensures.value) (c.in_ok-lines.ensures.cover (subst HaveInner (sym c.deref.ensures.value) c.in_ok-items.ensures.inner)))) in
-    let past : AreKnown (nodes c.flex_in.new.walk) c.args.id c.args.width c.args.past.now = subst (λ (z : BareTrees). AreKnown z c.args.id c.args.width c.args.past.now) back c.requires.past in
-    let small : 16 * size_at (nodes c.flex_in.new.walk) c.args.id + 0 < 16 * size_at (nodes c.args.walk.now) c.args.id + 1 = omega (arith, ap (λ (z : BareTrees). size_at z c.args.id) (c.in_ok-parts.ensures.below (inline_query false [])).walk.bare_same) in
+    let back = sym c.in_ok-members.ensures.same in
+    let live : IsLive (nodes c.begin_row.new.walk) c.args.id = subst (λ (z : BareTrees). IsLive z c.args.id) back c.requires.live in
+    let flex : (sight_at (nodes c.begin_row.new.walk) c.args.id).label.kind ≡ kind.Flex = subst (λ (z : BareTrees). (sight_at z c.args.id).label.kind ≡ kind.Flex) back c.requires.flex in
+    let members : AreMembers (nodes c.begin_row.new.walk) c.args.id c.as_slice.result.now = subst (AreMembers (nodes c.begin_row.new.walk) c.args.id) (sym c.as_slice.ensures) (subst (λ (z : BareTrees). AreMembers z c.args.id c.in_ok-members.members) back c.in_ok-members.ensures.members) in
+    let roomy : AreRoomy (flex_seen (nodes c.begin_row.new.walk) c.args.id).members c.as_slice-mains.result.now = subst (AreRoomy (flex_seen (nodes c.begin_row.new.walk) c.args.id).members) (sym c.as_slice-mains.ensures)
+    (subst (λ (z : BareTrees). AreRoomy (flex_seen z c.args.id).members c.in_ok-members.lines.mains) back c.in_ok-members.ensures.roomy) in
+    let past : AreKnown (nodes c.begin_row.new.walk) c.args.id c.args.width c.args.past.now = subst (λ (z : BareTrees). AreKnown z c.args.id c.args.width c.args.past.now) back c.requires.past in
+    let small : 16 * size_at (nodes c.begin_row.new.walk) c.args.id + 0 < 16 * size_at (nodes c.args.walk.now) c.args.id + 1 = omega (arith, ap (λ (z : BareTrees). size_at z c.args.id) c.in_ok-members.ensures.same) in
     search rules
 
-pub walk::row_told-returns-in_err-items-clause-stopped : goal.walk::row_told-returns-in_err-items-clause-stopped
-walk::row_told-returns-in_err-items-clause-stopped g t c =
-    let all : (q : Query) → given_size q.inline ≡ c.args.width → needs_inline q.ask ≡ true →
-    Stopped c.args.id q (seen g.R.Ruler.log c.args.walk.now) (seen g.R.Ruler.log c.flex_in.new.walk) = λ q w n. stopped c.args.id q 0
-    (seen g.R.Ruler.log c.args.walk.now) (seen g.R.Ruler.log c.flex_in.new.walk) (c.in_ok-parts.ensures.below q) in
+pub walk::row_told-returns-in_err-members-clause-stopped : goal.walk::row_told-returns-in_err-members-clause-stopped
+walk::row_told-returns-in_err-members-clause-stopped g t c =
+    let all : (q : Query) → given_size q.inline ≡ c.args.width → needs_inline q.ask ≡ true → Stopped c.args.id q (seen g.R.Ruler.log c.args.walk.now) (seen g.R.Ruler.log c.begin_row.new.walk) = λ q w n. c.in_err-members.ensures.stopped q in
     on_err _ _ all
 
-pub walk::row_told-returns-in_err-lines-clause-stopped : goal.walk::row_told-returns-in_err-lines-clause-stopped
-walk::row_told-returns-in_err-lines-clause-stopped g t c =
-    let all : (q : Query) → given_size q.inline ≡ c.args.width → needs_inline q.ask ≡ true →
-    Stopped c.args.id q (seen g.R.Ruler.log c.args.walk.now) (state c.flex_in.new.walk.tree.now c.flex_in.new.walk.tally.now c.row_lines.new.passes (g.R.Ruler.log c.flex_in.new.walk.ruler.now)) = λ q w n. stopped c.args.id q 1
-    (seen g.R.Ruler.log c.args.walk.now) (state c.flex_in.new.walk.tree.now c.flex_in.new.walk.tally.now c.row_lines.new.passes (g.R.Ruler.log c.flex_in.new.walk.ruler.now))
-    (ticked c.args.id q 0 1 (seen g.R.Ruler.log c.args.walk.now) (seen g.R.Ruler.log c.flex_in.new.walk) c.row_lines.new.passes c.row_lines.ensures.ticks
-    (c.in_ok-parts.ensures.below q)) in
-    on_err _ _ all
+pub walk::row_told-returns-in_err-members-clause-parts : goal.walk::row_told-returns-in_err-members-clause-parts
+walk::row_told-returns-in_err-members-clause-parts g t c = c.begin_row.ensures.parts
+
+pub walk::row_told-returns-in_err-members-clause-stands : goal.walk::row_told-returns-in_err-members-clause-stands
+walk::row_told-returns-in_err-members-clause-stands g t c = c.begin_row.ensures.stands
 
 pub walk::row_told-returns-in_err-blocks-clause-stopped : goal.walk::row_told-returns-in_err-blocks-clause-stopped
 walk::row_told-returns-in_err-blocks-clause-stopped g t c =
     let all : (q : Query) → given_size q.inline ≡ c.args.width → needs_inline q.ask ≡ true →
     Stopped c.args.id q (seen g.R.Ruler.log c.args.walk.now) (seen g.R.Ruler.log c.ask_members.new.walk) = λ q w n. joined_stopped c.args.id q 1
-    (seen g.R.Ruler.log c.args.walk.now) (state c.flex_in.new.walk.tree.now c.flex_in.new.walk.tally.now c.row_lines.new.passes (g.R.Ruler.log c.flex_in.new.walk.ruler.now))
-    (seen g.R.Ruler.log c.ask_members.new.walk)
-    (ticked c.args.id q 0 1 (seen g.R.Ruler.log c.args.walk.now) (seen g.R.Ruler.log c.flex_in.new.walk) c.row_lines.new.passes c.row_lines.ensures.ticks
-    (c.in_ok-parts.ensures.below q))
-    (c.in_err-blocks.ensures.stopped q
-    (row_leads (nodes c.flex_in.new.walk) c.args.id c.args.width q c.as_slice-3.result.now (subst (λ (z : BareTrees). (sight_at z c.args.id).label.kind ≡ kind.Flex) (sym (c.in_ok-parts.ensures.below (inline_query false [])).walk.bare_same) c.requires.flex)
-    (subst (λ (z : BareTrees). (sight_at z c.args.id).label.content.column ≡ false) (sym (c.in_ok-parts.ensures.below (inline_query false [])).walk.bare_same) c.requires.direction) w n
-    (c.as_slice-3.ensures ∙
-    ap (λ (l : rules.Lines). l.mains)
-    (lines_made (nodes c.flex_in.new.walk) c.args.id c.args.width c.node_at.result.now.style c.deref.result.now c.in_ok-lines.lines c.node_at.ensures.grid c.node_at.ensures.content (c.deref.ensures.value ∙ c.in_ok-items.ensures.value)
-    c.in_ok-lines.ensures.value)))) in
+    (seen g.R.Ruler.log c.args.walk.now) (seen g.R.Ruler.log c.begin_row.new.walk)
+    (seen g.R.Ruler.log c.ask_members.new.walk) (c.in_ok-members.ensures.below q)
+    (c.in_err-blocks.ensures.stopped q (row_leads (nodes c.begin_row.new.walk) c.args.id c.args.width q c.as_slice-mains.result.now (subst (λ (z : BareTrees). (sight_at z c.args.id).label.kind ≡ kind.Flex) (sym c.in_ok-members.ensures.same) c.requires.flex)
+    (subst (λ (z : BareTrees). (sight_at z c.args.id).label.content.column ≡ false) (sym c.in_ok-members.ensures.same) c.requires.direction) w n (c.as_slice-mains.ensures ∙ ap (λ (l : rules.Lines). l.mains)
+    (c.in_ok-members.ensures.lines ∙ ap (λ (z : BareTrees). rules.row_lines (flex_seen z c.args.id) c.args.width) (sym c.in_ok-members.ensures.same))))) in
     on_err _ _ all
+
+pub walk::row_told-returns-in_err-blocks-clause-parts : goal.walk::row_told-returns-in_err-blocks-clause-parts
+walk::row_told-returns-in_err-blocks-clause-parts g t c = parts_then _ _ _ c.begin_row.ensures.parts c.ask_members.ensures.parts
+
+pub walk::row_told-returns-in_err-blocks-clause-stands : goal.walk::row_told-returns-in_err-blocks-clause-stands
+walk::row_told-returns-in_err-blocks-clause-stands g t c = c.ask_members.ensures.stands
+
+pub walk::row_told-returns-clause-parts : goal.walk::row_told-returns-clause-parts
+walk::row_told-returns-clause-parts g t c = parts_then _ _ _ c.begin_row.ensures.parts c.ask_members.ensures.parts
+
+pub walk::row_told-returns-clause-stands : goal.walk::row_told-returns-clause-stands
+walk::row_told-returns-clause-stands g t c = c.ask_members.ensures.stands
 
 pub walk::row_told-returns-clause-below : goal.walk::row_told-returns-clause-below
 walk::row_told-returns-clause-below g t c =
-    λ q w n. joined_below c.args.id q 1 (seen g.R.Ruler.log c.args.walk.now) (state c.flex_in.new.walk.tree.now c.flex_in.new.walk.tally.now c.row_lines.new.passes (g.R.Ruler.log c.flex_in.new.walk.ruler.now))
-    (seen g.R.Ruler.log c.ask_members.new.walk)
-    (ticked c.args.id q 0 1 (seen g.R.Ruler.log c.args.walk.now) (seen g.R.Ruler.log c.flex_in.new.walk) c.row_lines.new.passes c.row_lines.ensures.ticks
-    (c.in_ok-parts.ensures.below q))
-    (c.in_ok-blocks.ensures.below q
-    (row_leads (nodes c.flex_in.new.walk) c.args.id c.args.width q c.as_slice-3.result.now (subst (λ (z : BareTrees). (sight_at z c.args.id).label.kind ≡ kind.Flex) (sym (c.in_ok-parts.ensures.below (inline_query false [])).walk.bare_same) c.requires.flex)
-    (subst (λ (z : BareTrees). (sight_at z c.args.id).label.content.column ≡ false) (sym (c.in_ok-parts.ensures.below (inline_query false [])).walk.bare_same) c.requires.direction) w n
-    (c.as_slice-3.ensures ∙
-    ap (λ (l : rules.Lines). l.mains)
-    (lines_made (nodes c.flex_in.new.walk) c.args.id c.args.width c.node_at.result.now.style c.deref.result.now c.in_ok-lines.lines c.node_at.ensures.grid c.node_at.ensures.content (c.deref.ensures.value ∙ c.in_ok-items.ensures.value) c.in_ok-lines.ensures.value))))
+    λ q w n. joined_below c.args.id q 1 (seen g.R.Ruler.log c.args.walk.now) (seen g.R.Ruler.log c.begin_row.new.walk)
+    (seen g.R.Ruler.log c.ask_members.new.walk) (c.in_ok-members.ensures.below q)
+    (c.in_ok-blocks.ensures.below q (row_leads (nodes c.begin_row.new.walk) c.args.id c.args.width q c.as_slice-mains.result.now (subst (λ (z : BareTrees). (sight_at z c.args.id).label.kind ≡ kind.Flex) (sym c.in_ok-members.ensures.same) c.requires.flex)
+    (subst (λ (z : BareTrees). (sight_at z c.args.id).label.content.column ≡ false) (sym c.in_ok-members.ensures.same) c.requires.direction) w n (c.as_slice-mains.ensures ∙ ap (λ (l : rules.Lines). l.mains)
+    (c.in_ok-members.ensures.lines ∙ ap (λ (z : BareTrees). rules.row_lines (flex_seen z c.args.id) c.args.width) (sym c.in_ok-members.ensures.same)))))
 
 pub walk::row_told-returns-clause-value : goal.walk::row_told-returns-clause-value
 walk::row_told-returns-clause-value g t c =
     record {
-      children = c.in_ok-parts.ensures.value;
-      along =
-          (lines_made (nodes c.flex_in.new.walk) c.args.id c.args.width c.node_at.result.now.style c.deref.result.now c.in_ok-lines.lines c.node_at.ensures.grid c.node_at.ensures.content (c.deref.ensures.value ∙ c.in_ok-items.ensures.value) c.in_ok-lines.ensures.value) ∙
-          ap (λ (z : BareTrees). rules.row_lines (flex_seen z c.args.id) c.args.width) (c.in_ok-parts.ensures.below (inline_query false [])).walk.bare_same;
-      ranges = subst (λ (k : ℕ). AreRanges k c.in_ok-lines.lines.ranges) (ap length (c.deref.ensures.value ∙ c.in_ok-items.ensures.value) ∙ map_length (λ (m : rules.Member). rules.flex_item false (Some c.args.width) m.kid.label m.inline) (flex_seen (nodes c.flex_in.new.walk) c.args.id).members
-          ∙ ap (λ (z : BareTrees). length (flex_seen z c.args.id).members) (c.in_ok-parts.ensures.below (inline_query false [])).walk.bare_same ∙ seen_length (nodes c.args.walk.now) c.args.id c.in_ok-parts.parts.members c.in_ok-parts.ensures.value.same) c.in_ok-lines.ensures.ranges;
-      across = c.in_ok-blocks.ensures.value ∙ (λ i. map block_of (settled_seen ((c.in_ok-parts.ensures.below (inline_query false [])).walk.bare_same i) c.args.id (c.as_slice-3.ensures i)));
+      children = c.in_ok-members.ensures.members;
+      along = c.in_ok-members.ensures.lines;
+      ranges = c.in_ok-members.ensures.ranges;
+      across = c.in_ok-blocks.ensures.value ∙ (λ i. map block_of (settled_seen (c.in_ok-members.ensures.same i) c.args.id (c.as_slice-mains.ensures i)));
     }
 
-pub walk::row_told-node_at-requires : goal.walk::row_told-node_at-requires
-walk::row_told-node_at-requires g t c = subst (λ (z : BareTrees). IsLive z c.args.id) (sym (c.in_ok-parts.ensures.below (inline_query false [])).walk.bare_same) c.requires.live
-
 pub walk::row_told-returns-clause-items : goal.walk::row_told-returns-clause-items
-walk::row_told-returns-clause-items g t c = c.in_ok-items.ensures.value ∙ ap (λ (z : BareTrees). row_items_seen z c.args.id c.args.width) (c.in_ok-parts.ensures.below (inline_query false [])).walk.bare_same
-
-pub walk::column_told-boxes_in_column-requires-clause-live : goal.walk::column_told-boxes_in_column-requires-clause-live
-walk::column_told-boxes_in_column-requires-clause-live g t c = subst (λ (z : BareTrees). IsLive z c.args.id) (sym (c.in_ok-parts.ensures.below (inline_query false [])).walk.bare_same) c.requires.live
-
-pub walk::column_told-boxes_in_column-requires-clause-members : goal.walk::column_told-boxes_in_column-requires-clause-members
-walk::column_told-boxes_in_column-requires-clause-members g t c =
-    subst (AreMembers (nodes c.flex_in.new.walk) c.args.id) (sym c.as_slice.ensures) (subst (λ (z : BareTrees). AreMembers z c.args.id c.in_ok-parts.parts.members) (sym (c.in_ok-parts.ensures.below (inline_query false [])).walk.bare_same) c.in_ok-parts.ensures.value)
-
-pub walk::column_told-boxes_in_column-requires-clause-direction : goal.walk::column_told-boxes_in_column-requires-clause-direction
-walk::column_told-boxes_in_column-requires-clause-direction g t c = subst (λ (z : BareTrees). (sight_at z c.args.id).label.content.column ≡ true) (sym (c.in_ok-parts.ensures.below (inline_query false [])).walk.bare_same) c.requires.direction
-
-pub walk::column_told-boxes_in_column-requires-clause-past : goal.walk::column_told-boxes_in_column-requires-clause-past
-walk::column_told-boxes_in_column-requires-clause-past g t c = subst (λ (z : BareTrees). AreKnown z c.args.id c.args.width c.args.past.now) (sym (c.in_ok-parts.ensures.below (inline_query false [])).walk.bare_same) c.requires.past
-
-pub walk::column_told-returns-in_err-parts-clause-stopped : goal.walk::column_told-returns-in_err-parts-clause-stopped
-walk::column_told-returns-in_err-parts-clause-stopped g t c =
-    let all : (q : Query) → given_size q.inline ≡ c.args.width → needs_inline q.ask ≡ true →
-    Stopped c.args.id q (seen g.R.Ruler.log c.args.walk.now) (seen g.R.Ruler.log c.flex_in.new.walk) = λ q w n. c.in_err-parts.ensures.stopped q in
-    on_err _ _ all
+walk::row_told-returns-clause-items g t c = c.in_ok-members.ensures.items
 
 pub walk::column_told-ask_members-requires : goal.walk::column_told-ask_members-requires
 walk::column_told-ask_members-requires g t c =
-    let back = sym (c.in_ok-parts.ensures.below (inline_query false [])).walk.bare_same in
-    let live : IsLive (nodes c.flex_in.new.walk) c.args.id = subst (λ (z : BareTrees). IsLive z c.args.id) back c.requires.live in
-    let readable : AreReadable (nodes c.flex_in.new.walk) = c.flex_in.ensures.stands.readable in
-    let flex : (sight_at (nodes c.flex_in.new.walk) c.args.id).label.kind ≡ kind.Flex = subst (λ (z : BareTrees). (sight_at z c.args.id).label.kind ≡ kind.Flex) back c.requires.flex in
-    let members : AreMembers (nodes c.flex_in.new.walk) c.args.id c.as_slice-2.result.now = subst (AreMembers (nodes c.flex_in.new.walk) c.args.id) (sym c.as_slice-2.ensures) (subst (λ (z : BareTrees). AreMembers z c.args.id c.in_ok-parts.parts.members) back c.in_ok-parts.ensures.value) in
-    let roomy : AreRoomy (flex_seen (nodes c.flex_in.new.walk) c.args.id).members c.as_slice-3.result.now = subst (AreRoomy (flex_seen (nodes c.flex_in.new.walk) c.args.id).members) (sym c.as_slice-3.ensures) c.in_ok-boxes.ensures.roomy in
-    let past : AreKnown (nodes c.flex_in.new.walk) c.args.id c.args.width c.args.past.now = subst (λ (z : BareTrees). AreKnown z c.args.id c.args.width c.args.past.now) back c.requires.past in
-    let small : 16 * size_at (nodes c.flex_in.new.walk) c.args.id + 0 < 16 * size_at (nodes c.args.walk.now) c.args.id + 1 = omega (arith, ap (λ (z : BareTrees). size_at z c.args.id) (c.in_ok-parts.ensures.below (inline_query false [])).walk.bare_same) in
+    let back = sym c.in_ok-members.ensures.same in
+    let live : IsLive (nodes c.begin_column.new.walk) c.args.id = subst (λ (z : BareTrees). IsLive z c.args.id) back c.requires.live in
+    let flex : (sight_at (nodes c.begin_column.new.walk) c.args.id).label.kind ≡ kind.Flex = subst (λ (z : BareTrees). (sight_at z c.args.id).label.kind ≡ kind.Flex) back c.requires.flex in
+    let members : AreMembers (nodes c.begin_column.new.walk) c.args.id c.as_slice.result.now = subst (AreMembers (nodes c.begin_column.new.walk) c.args.id) (sym c.as_slice.ensures) (subst (λ (z : BareTrees). AreMembers z c.args.id c.in_ok-members.members) back c.in_ok-members.ensures.members) in
+    let roomy : AreRoomy (flex_seen (nodes c.begin_column.new.walk) c.args.id).members c.as_slice-2.result.now = subst (AreRoomy (flex_seen (nodes c.begin_column.new.walk) c.args.id).members) (sym c.as_slice-2.ensures)
+    (subst (λ (z : BareTrees). AreRoomy (flex_seen z c.args.id).members c.in_ok-members.boxes) back c.in_ok-members.ensures.roomy) in
+    let past : AreKnown (nodes c.begin_column.new.walk) c.args.id c.args.width c.args.past.now = subst (λ (z : BareTrees). AreKnown z c.args.id c.args.width c.args.past.now) back c.requires.past in
+    let small : 16 * size_at (nodes c.begin_column.new.walk) c.args.id + 0 < 16 * size_at (nodes c.args.walk.now) c.args.id + 1 = omega (arith, ap (λ (z : BareTrees). size_at z c.args.id) c.in_ok-members.ensures.same) in
     search rules
 
-pub walk::column_told-returns-in_err-boxes-clause-stopped : goal.walk::column_told-returns-in_err-boxes-clause-stopped
-walk::column_told-returns-in_err-boxes-clause-stopped g t c =
-    let all : (q : Query) → given_size q.inline ≡ c.args.width → needs_inline q.ask ≡ true →
-    Stopped c.args.id q (seen g.R.Ruler.log c.args.walk.now) (seen g.R.Ruler.log c.flex_in.new.walk) = λ q w n. stopped c.args.id q 0
-    (seen g.R.Ruler.log c.args.walk.now) (seen g.R.Ruler.log c.flex_in.new.walk) (c.in_ok-parts.ensures.below q) in
+pub walk::column_told-returns-in_err-members-clause-stopped : goal.walk::column_told-returns-in_err-members-clause-stopped
+walk::column_told-returns-in_err-members-clause-stopped g t c =
+    let all : (q : Query) → given_size q.inline ≡ c.args.width → needs_inline q.ask ≡ true → Stopped c.args.id q (seen g.R.Ruler.log c.args.walk.now) (seen g.R.Ruler.log c.begin_column.new.walk) = λ q w n. c.in_err-members.ensures.stopped q in
     on_err _ _ all
+
+pub walk::column_told-returns-in_err-members-clause-parts : goal.walk::column_told-returns-in_err-members-clause-parts
+walk::column_told-returns-in_err-members-clause-parts g t c = c.begin_column.ensures.parts
+
+pub walk::column_told-returns-in_err-members-clause-stands : goal.walk::column_told-returns-in_err-members-clause-stands
+walk::column_told-returns-in_err-members-clause-stands g t c = c.begin_column.ensures.stands
 
 pub walk::column_told-returns-in_err-blocks-clause-stopped : goal.walk::column_told-returns-in_err-blocks-clause-stopped
 walk::column_told-returns-in_err-blocks-clause-stopped g t c =
     let all : (q : Query) → given_size q.inline ≡ c.args.width → needs_inline q.ask ≡ true →
     Stopped c.args.id q (seen g.R.Ruler.log c.args.walk.now) (seen g.R.Ruler.log c.ask_members.new.walk) = λ q w n. joined_stopped c.args.id q 0
-    (seen g.R.Ruler.log c.args.walk.now) (seen g.R.Ruler.log c.flex_in.new.walk)
-    (seen g.R.Ruler.log c.ask_members.new.walk) (c.in_ok-parts.ensures.below q)
-    (c.in_err-blocks.ensures.stopped q
-    (column_leads (nodes c.flex_in.new.walk) c.args.id c.args.width q c.as_slice-3.result.now (subst (λ (z : BareTrees). (sight_at z c.args.id).label.kind ≡ kind.Flex) (sym (c.in_ok-parts.ensures.below (inline_query false [])).walk.bare_same) c.requires.flex)
-    (subst (λ (z : BareTrees). (sight_at z c.args.id).label.content.column ≡ true) (sym (c.in_ok-parts.ensures.below (inline_query false [])).walk.bare_same) c.requires.direction) w n (c.as_slice-3.ensures ∙ c.in_ok-boxes.ensures.value))) in
+    (seen g.R.Ruler.log c.args.walk.now) (seen g.R.Ruler.log c.begin_column.new.walk)
+    (seen g.R.Ruler.log c.ask_members.new.walk) (c.in_ok-members.ensures.below q)
+    (c.in_err-blocks.ensures.stopped q (column_leads (nodes c.begin_column.new.walk) c.args.id c.args.width q c.as_slice-2.result.now (subst (λ (z : BareTrees). (sight_at z c.args.id).label.kind ≡ kind.Flex) (sym c.in_ok-members.ensures.same) c.requires.flex)
+    (subst (λ (z : BareTrees). (sight_at z c.args.id).label.content.column ≡ true) (sym c.in_ok-members.ensures.same) c.requires.direction) w n (c.as_slice-2.ensures ∙ c.in_ok-members.ensures.boxes ∙
+    ap (λ (z : BareTrees). column_boxes_seen z c.args.id c.args.width) (sym c.in_ok-members.ensures.same)))) in
     on_err _ _ all
+
+pub walk::column_told-returns-in_err-blocks-clause-parts : goal.walk::column_told-returns-in_err-blocks-clause-parts
+walk::column_told-returns-in_err-blocks-clause-parts g t c = parts_then _ _ _ c.begin_column.ensures.parts c.ask_members.ensures.parts
+
+pub walk::column_told-returns-in_err-blocks-clause-stands : goal.walk::column_told-returns-in_err-blocks-clause-stands
+walk::column_told-returns-in_err-blocks-clause-stands g t c = c.ask_members.ensures.stands
+
+pub walk::column_told-returns-clause-parts : goal.walk::column_told-returns-clause-parts
+walk::column_told-returns-clause-parts g t c = parts_then _ _ _ c.begin_column.ensures.parts c.ask_members.ensures.parts
+
+pub walk::column_told-returns-clause-stands : goal.walk::column_told-returns-clause-stands
+walk::column_told-returns-clause-stands g t c = c.ask_members.ensures.stands
 
 pub walk::column_told-returns-clause-below : goal.walk::column_told-returns-clause-below
 walk::column_told-returns-clause-below g t c =
-    λ q w n. joined_below c.args.id q 0 (seen g.R.Ruler.log c.args.walk.now) (seen g.R.Ruler.log c.flex_in.new.walk)
-    (seen g.R.Ruler.log c.ask_members.new.walk) (c.in_ok-parts.ensures.below q)
-    (c.in_ok-blocks.ensures.below q
-    (column_leads (nodes c.flex_in.new.walk) c.args.id c.args.width q c.as_slice-3.result.now (subst (λ (z : BareTrees). (sight_at z c.args.id).label.kind ≡ kind.Flex) (sym (c.in_ok-parts.ensures.below (inline_query false [])).walk.bare_same) c.requires.flex)
-    (subst (λ (z : BareTrees). (sight_at z c.args.id).label.content.column ≡ true) (sym (c.in_ok-parts.ensures.below (inline_query false [])).walk.bare_same) c.requires.direction) w n (c.as_slice-3.ensures ∙ c.in_ok-boxes.ensures.value)))
+    λ q w n. joined_below c.args.id q 0 (seen g.R.Ruler.log c.args.walk.now) (seen g.R.Ruler.log c.begin_column.new.walk)
+    (seen g.R.Ruler.log c.ask_members.new.walk) (c.in_ok-members.ensures.below q)
+    (c.in_ok-blocks.ensures.below q (column_leads (nodes c.begin_column.new.walk) c.args.id c.args.width q c.as_slice-2.result.now (subst (λ (z : BareTrees). (sight_at z c.args.id).label.kind ≡ kind.Flex) (sym c.in_ok-members.ensures.same) c.requires.flex)
+    (subst (λ (z : BareTrees). (sight_at z c.args.id).label.content.column ≡ true) (sym c.in_ok-members.ensures.same) c.requires.direction) w n (c.as_slice-2.ensures ∙ c.in_ok-members.ensures.boxes ∙
+    ap (λ (z : BareTrees). column_boxes_seen z c.args.id c.args.width) (sym c.in_ok-members.ensures.same))))
 
 pub walk::column_told-returns-clause-value : goal.walk::column_told-returns-clause-value
 walk::column_told-returns-clause-value g t c =
     record {
-      children = c.in_ok-parts.ensures.value;
-      across = c.in_ok-boxes.ensures.value ∙ ap (λ (z : BareTrees). column_boxes_seen z c.args.id c.args.width) (c.in_ok-parts.ensures.below (inline_query false [])).walk.bare_same;
-      along = c.in_ok-blocks.ensures.value ∙ (λ i. map block_of (settled_seen ((c.in_ok-parts.ensures.below (inline_query false [])).walk.bare_same i) c.args.id (c.as_slice-3.ensures i)));
+      children = c.in_ok-members.ensures.members;
+      across = c.in_ok-members.ensures.boxes;
+      along = c.in_ok-blocks.ensures.value ∙ (λ i. map block_of (settled_seen (c.in_ok-members.ensures.same i) c.args.id (c.as_slice-2.ensures i)));
     }
 
 pub walk::member_block-given_box-width-requires : goal.walk::member_block-given_box-width-requires
@@ -1534,78 +1037,6 @@ walk::ask_members-returns-clause-parts g t c = c.loop-index.invariant.parts
 pub walk::ask_members-returns-clause-stands : goal.walk::ask_members-returns-clause-stands
 walk::ask_members-returns-clause-stands g t c = c.loop-index.invariant.stands
 
-pub walk::row_told-returns-in_err-parts-clause-parts : goal.walk::row_told-returns-in_err-parts-clause-parts
-walk::row_told-returns-in_err-parts-clause-parts g t c = c.flex_in.ensures.parts
-
-pub walk::row_told-returns-in_err-parts-clause-stands : goal.walk::row_told-returns-in_err-parts-clause-stands
-walk::row_told-returns-in_err-parts-clause-stands g t c = c.flex_in.ensures.stands
-
-pub walk::row_told-returns-in_err-items-clause-parts : goal.walk::row_told-returns-in_err-items-clause-parts
-walk::row_told-returns-in_err-items-clause-parts g t c = c.flex_in.ensures.parts
-
-pub walk::row_told-returns-in_err-items-clause-stands : goal.walk::row_told-returns-in_err-items-clause-stands
-walk::row_told-returns-in_err-items-clause-stands g t c = c.flex_in.ensures.stands
-
-pub walk::row_told-returns-in_err-lines-clause-parts : goal.walk::row_told-returns-in_err-lines-clause-parts
-walk::row_told-returns-in_err-lines-clause-parts g t c =
-    record {
-      tree = c.flex_in.ensures.parts.tree;
-      ruler = c.flex_in.ensures.parts.ruler;
-      tally = c.flex_in.ensures.parts.tally;
-      passes = c.flex_in.ensures.parts.passes;
-    }
-
-pub walk::row_told-returns-in_err-lines-clause-stands : goal.walk::row_told-returns-in_err-lines-clause-stands
-walk::row_told-returns-in_err-lines-clause-stands g t c = c.flex_in.ensures.stands
-
-pub walk::row_told-returns-in_err-blocks-clause-parts : goal.walk::row_told-returns-in_err-blocks-clause-parts
-walk::row_told-returns-in_err-blocks-clause-parts g t c =
-    record {
-      tree = c.ask_members.ensures.parts.tree ∙ c.flex_in.ensures.parts.tree;
-      ruler = c.ask_members.ensures.parts.ruler ∙ c.flex_in.ensures.parts.ruler;
-      tally = c.ask_members.ensures.parts.tally ∙ c.flex_in.ensures.parts.tally;
-      passes = c.ask_members.ensures.parts.passes ∙ c.flex_in.ensures.parts.passes;
-    }
-
-pub walk::row_told-returns-in_err-blocks-clause-stands : goal.walk::row_told-returns-in_err-blocks-clause-stands
-walk::row_told-returns-in_err-blocks-clause-stands g t c = c.ask_members.ensures.stands
-
-pub walk::row_told-returns-clause-parts : goal.walk::row_told-returns-clause-parts
-walk::row_told-returns-clause-parts g t c =
-    record {
-      tree = c.ask_members.ensures.parts.tree ∙ c.flex_in.ensures.parts.tree;
-      ruler = c.ask_members.ensures.parts.ruler ∙ c.flex_in.ensures.parts.ruler;
-      tally = c.ask_members.ensures.parts.tally ∙ c.flex_in.ensures.parts.tally;
-      passes = c.ask_members.ensures.parts.passes ∙ c.flex_in.ensures.parts.passes;
-    }
-
-pub walk::row_told-returns-clause-stands : goal.walk::row_told-returns-clause-stands
-walk::row_told-returns-clause-stands g t c = c.ask_members.ensures.stands
-
-pub walk::column_told-returns-in_err-parts-clause-parts : goal.walk::column_told-returns-in_err-parts-clause-parts
-walk::column_told-returns-in_err-parts-clause-parts g t c = c.flex_in.ensures.parts
-
-pub walk::column_told-returns-in_err-parts-clause-stands : goal.walk::column_told-returns-in_err-parts-clause-stands
-walk::column_told-returns-in_err-parts-clause-stands g t c = c.flex_in.ensures.stands
-
-pub walk::column_told-returns-in_err-boxes-clause-parts : goal.walk::column_told-returns-in_err-boxes-clause-parts
-walk::column_told-returns-in_err-boxes-clause-parts g t c = c.flex_in.ensures.parts
-
-pub walk::column_told-returns-in_err-boxes-clause-stands : goal.walk::column_told-returns-in_err-boxes-clause-stands
-walk::column_told-returns-in_err-boxes-clause-stands g t c = c.flex_in.ensures.stands
-
-pub walk::column_told-returns-in_err-blocks-clause-parts : goal.walk::column_told-returns-in_err-blocks-clause-parts
-walk::column_told-returns-in_err-blocks-clause-parts g t c = parts_then _ _ _ c.flex_in.ensures.parts c.ask_members.ensures.parts
-
-pub walk::column_told-returns-in_err-blocks-clause-stands : goal.walk::column_told-returns-in_err-blocks-clause-stands
-walk::column_told-returns-in_err-blocks-clause-stands g t c = c.ask_members.ensures.stands
-
-pub walk::column_told-returns-clause-parts : goal.walk::column_told-returns-clause-parts
-walk::column_told-returns-clause-parts g t c = parts_then _ _ _ c.flex_in.ensures.parts c.ask_members.ensures.parts
-
-pub walk::column_told-returns-clause-stands : goal.walk::column_told-returns-clause-stands
-walk::column_told-returns-clause-stands g t c = c.ask_members.ensures.stands
-
 pub walk::row_anew-returns-in_err-past-clause-parts : goal.walk::row_anew-returns-in_err-past-clause-parts
 walk::row_anew-returns-in_err-past-clause-parts g t c = c.last_along.ensures.parts
 
@@ -1618,36 +1049,6 @@ walk::row_anew-returns-in_err-parts-clause-parts g t c = parts_then _ _ _ c.last
 pub walk::row_anew-returns-in_err-parts-clause-stands : goal.walk::row_anew-returns-in_err-parts-clause-stands
 walk::row_anew-returns-in_err-parts-clause-stands g t c = c.row_told.ensures.stands
 
-pub walk::row_anew-returns-in_err-size-clause-parts : goal.walk::row_anew-returns-in_err-size-clause-parts
-walk::row_anew-returns-in_err-size-clause-parts g t c = parts_then _ _ _ c.last_along.ensures.parts c.row_told.ensures.parts
-
-pub walk::row_anew-returns-in_err-size-clause-stands : goal.walk::row_anew-returns-in_err-size-clause-stands
-walk::row_anew-returns-in_err-size-clause-stands g t c = c.row_told.ensures.stands
-
-pub walk::row_anew-returns-in_err-keep_row-clause-parts : goal.walk::row_anew-returns-in_err-keep_row-clause-parts
-walk::row_anew-returns-in_err-keep_row-clause-parts g t c = parts_then _ _ _ (parts_then _ _ _ c.last_along.ensures.parts c.row_told.ensures.parts) c.keep_row.ensures.parts
-
-pub walk::row_anew-returns-in_err-keep_row-clause-stands : goal.walk::row_anew-returns-in_err-keep_row-clause-stands
-walk::row_anew-returns-in_err-keep_row-clause-stands g t c = c.keep_row.ensures.stands
-
-pub walk::row_anew-returns-in_err-held-clause-parts : goal.walk::row_anew-returns-in_err-held-clause-parts
-walk::row_anew-returns-in_err-held-clause-parts g t c = parts_then _ _ _ (parts_then _ _ _ c.last_along.ensures.parts c.row_told.ensures.parts) c.keep_row.ensures.parts
-
-pub walk::row_anew-returns-in_err-held-clause-stands : goal.walk::row_anew-returns-in_err-held-clause-stands
-walk::row_anew-returns-in_err-held-clause-stands g t c = c.keep_row.ensures.stands
-
-pub walk::row_anew-returns-in_err-put-clause-parts : goal.walk::row_anew-returns-in_err-put-clause-parts
-walk::row_anew-returns-in_err-put-clause-parts g t c = parts_then _ _ _ (parts_then _ _ _ (parts_then _ _ _ c.last_along.ensures.parts c.row_told.ensures.parts) c.keep_row.ensures.parts) c.put.ensures.parts
-
-pub walk::row_anew-returns-in_err-put-clause-stands : goal.walk::row_anew-returns-in_err-put-clause-stands
-walk::row_anew-returns-in_err-put-clause-stands g t c = c.put.ensures.stands
-
-pub walk::row_anew-returns-clause-parts : goal.walk::row_anew-returns-clause-parts
-walk::row_anew-returns-clause-parts g t c = parts_then _ _ _ (parts_then _ _ _ (parts_then _ _ _ c.last_along.ensures.parts c.row_told.ensures.parts) c.keep_row.ensures.parts) c.put.ensures.parts
-
-pub walk::row_anew-returns-clause-stands : goal.walk::row_anew-returns-clause-stands
-walk::row_anew-returns-clause-stands g t c = c.put.ensures.stands
-
 pub walk::column_anew-returns-in_err-past-clause-parts : goal.walk::column_anew-returns-in_err-past-clause-parts
 walk::column_anew-returns-in_err-past-clause-parts g t c = c.last_along.ensures.parts
 
@@ -1659,36 +1060,6 @@ walk::column_anew-returns-in_err-parts-clause-parts g t c = parts_then _ _ _ c.l
 
 pub walk::column_anew-returns-in_err-parts-clause-stands : goal.walk::column_anew-returns-in_err-parts-clause-stands
 walk::column_anew-returns-in_err-parts-clause-stands g t c = c.column_told.ensures.stands
-
-pub walk::column_anew-returns-in_err-size-clause-parts : goal.walk::column_anew-returns-in_err-size-clause-parts
-walk::column_anew-returns-in_err-size-clause-parts g t c = parts_then _ _ _ c.last_along.ensures.parts c.column_told.ensures.parts
-
-pub walk::column_anew-returns-in_err-size-clause-stands : goal.walk::column_anew-returns-in_err-size-clause-stands
-walk::column_anew-returns-in_err-size-clause-stands g t c = c.column_told.ensures.stands
-
-pub walk::column_anew-returns-in_err-keep_column-clause-parts : goal.walk::column_anew-returns-in_err-keep_column-clause-parts
-walk::column_anew-returns-in_err-keep_column-clause-parts g t c = parts_then _ _ _ (parts_then _ _ _ c.last_along.ensures.parts c.column_told.ensures.parts) c.keep_column.ensures.parts
-
-pub walk::column_anew-returns-in_err-keep_column-clause-stands : goal.walk::column_anew-returns-in_err-keep_column-clause-stands
-walk::column_anew-returns-in_err-keep_column-clause-stands g t c = c.keep_column.ensures.stands
-
-pub walk::column_anew-returns-in_err-held-clause-parts : goal.walk::column_anew-returns-in_err-held-clause-parts
-walk::column_anew-returns-in_err-held-clause-parts g t c = parts_then _ _ _ (parts_then _ _ _ c.last_along.ensures.parts c.column_told.ensures.parts) c.keep_column.ensures.parts
-
-pub walk::column_anew-returns-in_err-held-clause-stands : goal.walk::column_anew-returns-in_err-held-clause-stands
-walk::column_anew-returns-in_err-held-clause-stands g t c = c.keep_column.ensures.stands
-
-pub walk::column_anew-returns-in_err-put-clause-parts : goal.walk::column_anew-returns-in_err-put-clause-parts
-walk::column_anew-returns-in_err-put-clause-parts g t c = parts_then _ _ _ (parts_then _ _ _ (parts_then _ _ _ c.last_along.ensures.parts c.column_told.ensures.parts) c.keep_column.ensures.parts) c.put.ensures.parts
-
-pub walk::column_anew-returns-in_err-put-clause-stands : goal.walk::column_anew-returns-in_err-put-clause-stands
-walk::column_anew-returns-in_err-put-clause-stands g t c = c.put.ensures.stands
-
-pub walk::column_anew-returns-clause-parts : goal.walk::column_anew-returns-clause-parts
-walk::column_anew-returns-clause-parts g t c = parts_then _ _ _ (parts_then _ _ _ (parts_then _ _ _ c.last_along.ensures.parts c.column_told.ensures.parts) c.keep_column.ensures.parts) c.put.ensures.parts
-
-pub walk::column_anew-returns-clause-stands : goal.walk::column_anew-returns-clause-stands
-walk::column_anew-returns-clause-stands g t c = c.put.ensures.stands
 
 pub walk::member_block-returns-in-Some-clause-parts : goal.walk::member_block-returns-in-Some-clause-parts
 walk::member_block-returns-in-Some-clause-parts g t c = same_parts c.args.walk.now

@@ -32,14 +32,8 @@ decreases-asking::ask_stale g l = 16 * size_at (nodes l.walk.now) l.id + 0
 abbrev pub decreases-asking::told_rows : goal.decreases-asking::told_rows
 decreases-asking::told_rows g l = 16 * size_at (nodes l.walk.now) l.id + 1
 
-abbrev pub decreases-asking::told_wide_by : goal.decreases-asking::told_wide_by
-decreases-asking::told_wide_by g l = 16 * size_at (nodes l.walk.now) l.id + 2
-
 abbrev pub decreases-asking::told_wide_at : goal.decreases-asking::told_wide_at
 decreases-asking::told_wide_at g l = 16 * size_at (nodes l.walk.now) l.id + 3
-
-abbrev pub decreases-asking::wide_at : goal.decreases-asking::wide_at
-decreases-asking::wide_at g l = 16 * size_at (nodes l.walk.now) l.id + 4
 
 abbrev pub decreases-walk::member_block : goal.decreases-walk::member_block
 decreases-walk::member_block g l = 16 * size_at (nodes l.walk.now) l.child + 7
