@@ -12,13 +12,15 @@ use Rattle.lunit.specs.Units.{IsLong}
 use Rattle.node_arena.specs.Numbers.{same}
 use Rattle.node_arena.specs.declared.number.NodeId.{NodeId}
 use Rattle.node_arena.proofs.Same.{same_is, same_not}
+use Rattle.placing.specs.Nodes.{BareTrees}
+use Rattle.placing.specs.declared.node.Answer.{Answer}
 use Rattle.placing.proofs.Tellings.{get_last, get_old}
 use Rattle.tree_rules.specs.Answers.{Box}
 use Rattle.tree_rules.specs.Frames.{moved_boxes, moved_by}
 use Rattle.tree_rules.specs.Queries.{same_query}
 use Rattle.tree_rules.specs.declared.query.Query.{Query}
 use Rattle.box_layout.specs.BoxesSeen.{AreNear, IsNearRect}
-use Rattle.box_layout.specs.LastBoxes.{AddsFew, AreClose, AreListed, Found, IsClose, IsFoundOf, IsListed, IsPut, KeepsSlots, all_found, boxes_between, boxes_now, found_at}
+use Rattle.box_layout.specs.LastBoxes.{AddsFew, AreClose, AreFound, AreListed, Found, IsClose, IsFoundOf, IsListed, IsPut, KeepsSlots, all_found, boxes_between, boxes_now, found_at}
 use Rattle.box_layout.specs.Ranges.{IsWithin}
 use Rattle.box_layout.specs.declared.last_boxes.Below.{Below}
 
@@ -430,3 +432,12 @@ not_put n q own few slots cs old new front =
       listed = λ are. listed_longer slots cs old new front are;
       all = λ are f there. inl (subst (λ (z : List Found). Contains z f) (all_same old new cs front are.ordered are.within) there);
     }
+
+-- ---- what is left
+
+-- What was found last is right where it is let go once it may not be.
+pub found_left : (b now : BareTrees) → now ≡ b → (kept : NodeId → List (Query × Answer)) (lost : Bool) (old new : List Found) → new ≡ (if lost then [] else old) → (lost ≡ false → AreFound b kept old) → AreFound now kept new
+found_left b now same kept true old new left found f there live =
+    let none : Contains [] f = subst (λ (l : List Found). Contains l f) left there in
+    absurd (omega (arith, none.1))
+found_left b now same kept false old new left found f there live = subst (λ (z : BareTrees). AreFound z kept new) (sym same) (subst (AreFound b kept) (sym left) (found refl)) f there live

@@ -1,5 +1,5 @@
 -- A child of a grid whose tracks lie where they lie, by its style and its parent's (CSS Grid 2, sections 6, 9 and 11).
-use Rattle.std.specs.Prelude.{◌≡◌, ℕ, ◌<◌, ◌^◌, ℤ, pos, ◌-ℤ◌, ◌≤ℤ◌, ◌⊎◌, length, Bool, List, [], ◌∷◌, Some, get_or, slice_get}
+use Rattle.std.specs.Prelude.{◌≡◌, ℕ, ◌<◌, ◌^◌, ℤ, pos, ◌-ℤ◌, ◌≤ℤ◌, ◌⊎◌, length, Bool, List, [], ◌∷◌, Some, get_or, map, slice_get}
 use Rattle.lunit.specs.declared.geometry.Span.{Span}
 use Rattle.part_rules.specs.declared.view.View.{View}
 use Rattle.part_rules.specs.Views.{area_size, first_start, tracks_over}
@@ -13,12 +13,15 @@ use Rattle.placing.specs.Told.{AreFrames, Marked}
 use Rattle.placing.specs.declared.node.Frame.{Frame as NodeFrame}
 use Rattle.placing.specs.declared.told.PastFrames.{PastFrames}
 use Rattle.placing.specs.declared.wide.GridBase.{GridBase}
-use Rattle.tree_rules.specs.Answers.{Frame}
-use Rattle.tree_rules.specs.Frames.{Framed, down_of}
+use Rattle.tree_rules.specs.Answers.{Frame, Pair}
+use Rattle.tree_rules.specs.Frames.{Framed, down_of, grid_child}
+use Rattle.tree_rules.specs.Orders.{in_document_order}
 use Rattle.tree_rules.specs.declared.query.Given.TheVariants as given
 use Rattle.tree_rules.specs.declared.query.Given.{Given}
+use Rattle.inline_sizes.specs.GridsSeen.{grid_seen}
 use Rattle.inline_sizes.specs.Styled.{content_at, styled}
 use Rattle.block_sizes.specs.Children.{block_of_child}
+use Rattle.block_sizes.specs.Wides.{columns_seen, wides_seen}
 use Rattle.placing.specs.Spread.{AreSpread}
 use Rattle.box_layout.specs.Places.{frame_in, place_in_area}
 
@@ -96,3 +99,9 @@ pub record AreAgain (b : BareTrees) (n : NodeId) (framed : List (ℕ × Framed))
 pub record IsLastOf (b : BareTrees) (n : NodeId) (base : GridBase) (columns : View 0) (rows : View 1) (p : PastFrames) : Type 0 where
   pub counted : length p.fresh ≡ length base.placed.areas
   pub frames : AreFrames (sight_at b n) (kid_at b) base columns rows (Marked p.fresh) p.frames
+
+-- the frames of the children of a grid in these rows, in document order, where it is given this in the inline axis
+abbrev pub framed_in : BareTrees → NodeId → List Pair → Given → View 1 → List Frame
+framed_in b n outer width rows =
+    let child = grid_child (grid_seen b n outer width) (columns_seen b n outer width) rows in
+    map (λ (f : Framed). f.frame) (in_document_order (map child (wides_seen b n outer width)))

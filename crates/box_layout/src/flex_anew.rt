@@ -12,13 +12,14 @@ ghost use Rattle.tree_rules.specs.declared.query.Ask.TheVariants as ask;
 ghost use Rattle.walker.specs.Walkers.{kept, nodes, seen, SameParts, Stands};
 ghost use Rattle.box_layout.specs.Boxed.{AnswerFrames, AreOfChildren};
 
+use crate::answered::frames_kept;
 use crate::flexed::{column_frames, row_frames};
 use layout_cache::{Given, Query};
 use lunit::{Lu, NoMemory, Sequence};
 use node_arena::NodeId;
 use outside::Ruler;
 use placing::style::is_column;
-use placing::{Answer, Frame, SharedFrames, node_at};
+use placing::{Frame, SharedFrames, node_at};
 use std::sync::ledger::Ledger;
 use walker::Walker;
 
@@ -139,7 +140,6 @@ pub(crate) fn flex_frames_anew<R: Ruler, L: Ledger>(
 {
     let frames = flex_found(walk, id, &query)?;
     let shared = SharedFrames::new(walk.alloc, frames)?;
-    let told = shared.again()?;
-    walk.put(id, query, Answer::Frames(shared))?;
+    let told = frames_kept(walk, id, query, shared)?;
     Ok(told)
 }

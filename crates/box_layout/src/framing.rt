@@ -1,13 +1,11 @@
 //! The frames of the children of a container, as its list of answers keeps them.
 
-ghost use Rattle.std.specs.Prelude.{◌≡◌, ◌∷◌, [], ℕ, IfOk, OnErr, OnOk};
+ghost use Rattle.std.specs.Prelude.{◌≡◌, ◌∷◌, [], IfOk, OnErr, OnOk};
 ghost use Rattle.node_arena.specs.declared.number.NodeId.{NodeId};
-ghost use Rattle.placing.specs.Bases.{HoldsPlaces};
-ghost use Rattle.placing.specs.Nodes.{children_at, kid_at, level_at, sight_at, IsLive};
+ghost use Rattle.placing.specs.Nodes.{level_at, sight_at, IsLive};
 ghost use Rattle.placing.specs.Seats.{IsSeat};
 ghost use Rattle.placing.specs.Spread.{IsSpread};
-ghost use Rattle.placing.specs.Told.{AreFrames, Each};
-ghost use Rattle.placing.specs.Walks.{kept_with, State, Stopped, Walked, WalkedBelow};
+ghost use Rattle.placing.specs.Walks.{kept_with, Stopped, Walked};
 ghost use Rattle.placing.specs.declared.node.Answer.TheVariants as answer;
 ghost use Rattle.tree_rules.specs.Chains.{is_grid_kind};
 ghost use Rattle.tree_rules.specs.KeptAnswers.{IsAbsent};
@@ -21,19 +19,17 @@ ghost use Rattle.box_layout.specs.Asking.{frames_asked};
 ghost use Rattle.box_layout.specs.Boxed.{AnswerFrames, AreOfChildren};
 ghost use Rattle.box_layout.specs.LeafHeights.{AreLeavesKept, MeasuresLeaves};
 
+use crate::answered::{frames_kept, grid_framed};
 use crate::flex_anew::flex_frames_anew;
-use crate::gridded::grid_frames;
 use crate::leaves::{ask_leaves, stands};
 use crate::queries::{frames_query, kept_frames};
 use crate::row_views::rows_of;
 use block_sizes::wide_for;
 use layout_cache::{Given, Query};
-use lunit::{Area, NoMemory, Sequence};
+use lunit::{Area, NoMemory};
 use node_arena::NodeId;
 use outside::Ruler;
-use part_rules::View;
-use placing::{Above, Answer, GridWide, MANY, NodeKind, SharedFrames, node_at, root, seat};
-use std::alloc::Global;
+use placing::{Above, NodeKind, SharedFrames, node_at, root, seat};
 use std::sync::ledger::Ledger;
 use walker::{Seat, Walker};
 
@@ -46,47 +42,6 @@ pub(crate) fn is_grid(kind: &NodeKind) -> bool
         NodeKind::Flex => false,
         NodeKind::Leaf(_) => false,
     }
-}
-
-/// A view once more; `NoMemory` where memory is wanting.
-fn copied_view(alloc: Global, view: &View<0>) -> Result<View<0>, NoMemory>
-    ensures { IfOk result (λ other. other ≡ view.now) }
-{
-    let edges = Sequence::from_slice(alloc, view.edges.as_slice())?;
-    let gap = view.gap;
-    Ok(View { edges, gap })
-}
-
-/// Keeps the frames that a grid gives its children, where they are many. A walk goes on after it as before it. `NoMemory` where memory is
-/// wanting; nothing has changed then.
-fn keep_last<R: Ruler, L: Ledger>(
-    walk: &mut Walker<R, L>,
-    id: NodeId,
-    wide: &GridWide,
-    rows: View<1>,
-    frames: &SharedFrames,
-) -> Result<(), NoMemory>
-    requires stands { Stands walk.old }
-    requires live { IsLive (nodes walk.old) id }
-    requires places { HoldsPlaces (sight_at (nodes walk.old) id) (children_at (nodes walk.old) id)
-        wide.now.parts.base }
-    requires frames { AreFrames (sight_at (nodes walk.old) id) (kid_at (nodes walk.old))
-        wide.now.parts.base wide.now.columns rows Each frames.now }
-    ensures stands { Stands walk.new }
-    ensures parts { SameParts walk.old walk.new }
-    ensures bare { nodes walk.new ≡ nodes walk.old }
-    ensures kept { (n : NodeId) → kept walk.new n ≡ kept walk.old n }
-    ensures below { (q : Query) (more : ℕ) (old : State) →
-        WalkedBelow id q more old (seen R.log walk.old) →
-        WalkedBelow id q more old (seen R.log walk.new) }
-{
-    if frames.as_slice().len() < MANY {
-        return Ok(());
-    }
-    let base = wide.parts.base.again()?;
-    let columns = copied_view(walk.alloc, &wide.columns)?;
-    let shared = frames.again()?;
-    walk.keep_frames(id, base, columns, rows, shared)
 }
 
 /// The frames of a grid in its seat that keeps none for this question: it makes two steps at most. They are kept last.
@@ -132,14 +87,8 @@ fn grid_frames_anew<R: Ruler, L: Ledger>(
         height,
         walk.passes,
     )?;
-    let past = walk.take_frames(id)?;
-    let frames = grid_frames(
-        walk.alloc, walk.tree, id, seat.reps, width, held, &rows, past,
-    )?;
-    let shared = SharedFrames::new(walk.alloc, frames)?;
-    let told = shared.again()?;
-    keep_last(walk, id, held, rows, &shared)?;
-    walk.put(id, query, Answer::Frames(shared))?;
+    let frames = grid_framed(walk, id, seat.reps, width, held, rows)?;
+    let told = frames_kept(walk, id, query, frames)?;
     Ok(told)
 }
 

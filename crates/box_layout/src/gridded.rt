@@ -9,17 +9,14 @@ ghost use Rattle.placing.specs.Ranges.{AreReadable};
 ghost use Rattle.placing.specs.Told.{AreFrames, ArePastFrames, Each, Marked};
 ghost use Rattle.placing.specs.Turns.{turns};
 ghost use Rattle.placing.specs.declared.node.Frame.{Frame as NodeFrame};
-ghost use Rattle.tree_rules.specs.Orders.{in_document_order};
 ghost use Rattle.tree_rules.specs.Chains.{is_subgrid};
-ghost use Rattle.tree_rules.specs.Frames.{Framed, grid_child};
 ghost use Rattle.tree_rules.specs.NodeSizes.{inner_start};
 ghost use Rattle.tree_rules.specs.declared.kind.NodeKind.TheVariants as kind;
 ghost use Rattle.inline_sizes.specs.Grids.{IsEntry, has_subgrid_kind};
-ghost use Rattle.inline_sizes.specs.GridsSeen.{grid_seen};
 ghost use Rattle.block_sizes.specs.Sharing.{IsLastIn};
 ghost use Rattle.block_sizes.specs.Spans.{LiesIn};
-ghost use Rattle.block_sizes.specs.Wides.{IsWide, columns_seen, wides_seen};
-ghost use Rattle.box_layout.specs.GridFrames.{AreAgain, AreFramesAt, AreIndices, AreTracks, IsFrameOf, IsLastOf, no_frame};
+ghost use Rattle.block_sizes.specs.Wides.{IsWide};
+ghost use Rattle.box_layout.specs.GridFrames.{AreAgain, AreFramesAt, AreIndices, AreTracks, IsFrameOf, IsLastOf, framed_in, no_frame};
 ghost use Rattle.box_layout.specs.Tracked.{IsTracked, frames_by, nodes_in};
 
 use crate::frames::origin_of;
@@ -311,12 +308,7 @@ pub(crate) fn grid_frames(
     requires past { IfSome past (ArePastFrames (bare tree.now.tree) id) }
     ensures value { IfOk result
         (λ frames. map frame_of frames ≡
-        map (λ (f : Framed). f.frame)
-        (in_document_order
-        (map
-        (grid_child (grid_seen (bare tree.now.tree) id reps.now width.now)
-        (columns_seen (bare tree.now.tree) id reps.now width.now) rows.now)
-        (wides_seen (bare tree.now.tree) id reps.now width.now)))) }
+        framed_in (bare tree.now.tree) id reps.now width.now rows.now) }
     ensures children { IfOk result
         (λ frames. map (λ (f : NodeFrame). f.child) frames ≡ children_at (bare tree.now.tree) id) }
     ensures frames { IfOk result

@@ -1,6 +1,6 @@
 //! The boxes of a whole tree in a viewport.
 
-ghost use Rattle.std.specs.Prelude.{◌≡◌, [], false, IfOk, OnOk, OnErr};
+ghost use Rattle.std.specs.Prelude.{◌≡◌, [], false, if◌then◌else◌, IfOk, OnOk, OnErr};
 ghost use Rattle.placing.specs.Kept.{kept_at, IsRight};
 ghost use Rattle.placing.specs.Nodes.{bare};
 ghost use Rattle.placing.specs.Ranges.{AreReadable};
@@ -137,10 +137,17 @@ fn lay_boxes<T: BoxSink, R: Ruler, L: Ledger>(
 {
     out.last.trim(walk.tree.len());
     let done = boxes_of_tree(walk, width, height, out);
-    if walk.tally.lost {
-        out.last.clear();
-    }
+    let_go(walk.tally, out.last);
     done
+}
+
+/// Lets go of the boxes that were found last, where an answer went since the list of those that went was full. Takes no memory.
+fn let_go(tally: &Tally, last: &mut LastBoxes)
+    ensures { last.new ≡ (if tally.now.lost then [] else last.old) }
+{
+    if tally.lost {
+        last.clear();
+    }
 }
 
 /// Hands over the boxes as [`walk_boxes`] does, where what was found last may not hold once an answer went since its list was full.

@@ -5,6 +5,7 @@
 #![tactic(auto)]
 
 mod aligned;
+mod answered;
 mod child_seats;
 mod columns;
 mod flex_anew;

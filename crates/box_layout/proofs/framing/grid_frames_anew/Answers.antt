@@ -1,10 +1,8 @@
 use Rattle.std.proofs.Common.{rules, arith, refl, sym, ap, subst, ◌≡◌, ◌∙◌, ◌∷◌, [], List, Bool, true, length, map}
-use Rattle.std.specs.Prelude.{IfSome}
 use Rattle.placing.specs.Kept.{frame_of}
-use Rattle.placing.specs.Nodes.{BareTrees, IsLive, children_at, kid_at, level_at, sight_at}
+use Rattle.placing.specs.Nodes.{BareTrees, IsLive, children_at, level_at, sight_at}
 use Rattle.placing.specs.Ranges.{AreReadable}
 use Rattle.placing.specs.Seats.{IsSeat}
-use Rattle.placing.specs.Told.{AreFrames, ArePastFrames, Each}
 use Rattle.placing.specs.Walks.{kept_with}
 use Rattle.placing.specs.declared.wide.GridWide.{GridWide}
 use Rattle.placing.specs.declared.node.Answer.TheVariants as answer
@@ -17,7 +15,6 @@ use Rattle.tree_rules.specs.Queries.{Fits, IsGivenFor, answer_of, child_frames, 
 use Rattle.tree_rules.specs.declared.kind.NodeKind.TheVariants as kind
 use Rattle.tree_rules.specs.declared.query.Query.{Query}
 use Rattle.placing.specs.Spread.{IsSpread}
-use Rattle.inline_sizes.proofs.Held.{places_held}
 use Rattle.block_sizes.specs.Wides.{IsWide, farthest}
 use Rattle.box_layout.specs.GridFrames.{AreTracks}
 use Rattle.box_layout.proofs.FramesAnswered.{frames_told, grid_quiet}
@@ -64,112 +61,81 @@ pub rows_of-requires-clause-spread : goal.rows_of-requires-clause-spread
 rows_of-requires-clause-spread g c = subst (λ (z : BareTrees). IsSpread (farthest (level_at z c.args.id)) c.args.query.block)
     (sym (c.in_ok-wide.ensures.below c.args.query (ap (λ (q : Query). q.reps) c.requires.query) refl (ap (λ (q : Query). needs_inline q.ask) c.requires.query)).walk.bare_same) c.requires.rows
 
-pub grid_frames-requires-clause-live : goal.grid_frames-requires-clause-live
-grid_frames-requires-clause-live g c = subst (λ (z : BareTrees). IsLive z c.args.id)
-    (sym (c.take_frames.ensures.bare ∙ (c.in_ok-wide.ensures.below c.args.query (ap (λ (q : Query). q.reps) c.requires.query) refl (ap (λ (q : Query). needs_inline q.ask) c.requires.query)).walk.bare_same)) c.requires.live
+pub grid_framed-requires-clause-live : goal.grid_framed-requires-clause-live
+grid_framed-requires-clause-live g c =
+    subst (λ (z : BareTrees). IsLive z c.args.id) (sym (c.in_ok-wide.ensures.below c.args.query (ap (λ (q : Query). q.reps) c.requires.query) refl (ap (λ (q : Query). needs_inline q.ask) c.requires.query)).walk.bare_same) c.requires.live
 
-pub grid_frames-requires-clause-readable : goal.grid_frames-requires-clause-readable
-grid_frames-requires-clause-readable g c = c.take_frames.ensures.stands.readable
+pub grid_framed-requires-clause-kind : goal.grid_framed-requires-clause-kind
+grid_framed-requires-clause-kind g c =
+    subst (λ (z : BareTrees). (sight_at z c.args.id).label.kind ≡ kind.Grid) (sym (c.in_ok-wide.ensures.below c.args.query (ap (λ (q : Query). q.reps) c.requires.query) refl (ap (λ (q : Query). needs_inline q.ask) c.requires.query)).walk.bare_same) c.requires.grid
 
-pub grid_frames-requires-clause-kind : goal.grid_frames-requires-clause-kind
-grid_frames-requires-clause-kind g c =
-    subst (λ (z : BareTrees). (sight_at z c.args.id).label.kind ≡ kind.Grid) (sym (c.take_frames.ensures.bare ∙ (c.in_ok-wide.ensures.below c.args.query (ap (λ (q : Query). q.reps) c.requires.query) refl (ap (λ (q : Query). needs_inline q.ask) c.requires.query)).walk.bare_same)) c.requires.grid
+pub grid_framed-requires-clause-wide : goal.grid_framed-requires-clause-wide
+grid_framed-requires-clause-wide g c =
+    subst (λ (w : GridWide). IsWide (nodes c.wide_for.new.walk) c.args.id c.args.seat.now.reps.now c.args.query.inline w) (sym c.grid-held.ensures)
+    (subst (λ (z : BareTrees). IsWide z c.args.id c.args.seat.now.reps.now c.args.query.inline c.in_ok-wide.wide) (sym
+    (c.in_ok-wide.ensures.below c.args.query (ap (λ (q : Query). q.reps) c.requires.query) refl (ap (λ (q : Query). needs_inline q.ask) c.requires.query)).walk.bare_same) c.in_ok-wide.ensures.value)
 
-pub grid_frames-requires-clause-wide : goal.grid_frames-requires-clause-wide
-grid_frames-requires-clause-wide g c =
-    subst (λ (w : GridWide). IsWide (nodes c.take_frames.new.self) c.args.id c.args.seat.now.reps.now c.args.query.inline w) (sym c.grid-held.ensures)
-    (subst (λ (z : BareTrees). IsWide z c.args.id c.args.seat.now.reps.now c.args.query.inline c.in_ok-wide.wide)
-    (sym (c.take_frames.ensures.bare ∙ (c.in_ok-wide.ensures.below c.args.query (ap (λ (q : Query). q.reps) c.requires.query) refl (ap (λ (q : Query). needs_inline q.ask) c.requires.query)).walk.bare_same)) c.in_ok-wide.ensures.value)
-
-pub grid_frames-requires-clause-columns : goal.grid_frames-requires-clause-columns
-grid_frames-requires-clause-columns g c =
+pub grid_framed-requires-clause-columns : goal.grid_framed-requires-clause-columns
+grid_framed-requires-clause-columns g c =
     subst (λ (w : GridWide). AreTracks w.parts.base.placed.columns w.columns.edges) (sym c.grid-held.ensures)
     (are_tracks c.in_ok-wide.wide.parts.base.placed.columns c.in_ok-wide.wide.columns.edges (level_at (nodes c.args.walk.now) c.args.id) (c.root.ensures.tree.level c.args.id) c.in_ok-wide.ensures.value.counted c.in_ok-wide.ensures.value.spread)
 
-pub grid_frames-requires-clause-past : goal.grid_frames-requires-clause-past
-grid_frames-requires-clause-past g c = subst (λ (z : BareTrees). IfSome c.in_ok-past.past (ArePastFrames z c.args.id)) (sym c.take_frames.ensures.bare) c.in_ok-past.ensures.frames
+pub frames_kept-requires-clause-live : goal.frames_kept-requires-clause-live
+frames_kept-requires-clause-live g c =
+    subst (λ (z : BareTrees). IsLive z c.args.id) (sym (c.grid_framed.ensures.bare ∙ (c.in_ok-wide.ensures.below c.args.query (ap (λ (q : Query). q.reps) c.requires.query) refl (ap (λ (q : Query). needs_inline q.ask) c.requires.query)).walk.bare_same)) c.requires.live
 
-pub keep_last-requires-clause-live : goal.keep_last-requires-clause-live
-keep_last-requires-clause-live g c = subst (λ (z : BareTrees). IsLive z c.args.id)
-    (sym (c.take_frames.ensures.bare ∙ (c.in_ok-wide.ensures.below c.args.query (ap (λ (q : Query). q.reps) c.requires.query) refl (ap (λ (q : Query). needs_inline q.ask) c.requires.query)).walk.bare_same)) c.requires.live
+pub frames_kept-requires-clause-fits : goal.frames_kept-requires-clause-fits
+frames_kept-requires-clause-fits g c =
+    subst (λ (z : BareTrees). Fits (sight_at z c.args.id) c.args.query) (sym (c.grid_framed.ensures.bare ∙ (c.in_ok-wide.ensures.below c.args.query (ap (λ (q : Query). q.reps) c.requires.query) refl (ap (λ (q : Query). needs_inline q.ask) c.requires.query)).walk.bare_same)) c.requires.fits
 
-pub keep_last-requires-clause-places : goal.keep_last-requires-clause-places
-keep_last-requires-clause-places g c =
-    places_held (nodes c.take_frames.new.self) c.args.id c.args.seat.now.reps.now c.args.query.inline c.grid-held.result.now.parts.base
-    (subst (λ (w : GridWide). IsWide (nodes c.take_frames.new.self) c.args.id c.args.seat.now.reps.now c.args.query.inline w) (sym c.grid-held.ensures)
-    (subst (λ (z : BareTrees). IsWide z c.args.id c.args.seat.now.reps.now c.args.query.inline c.in_ok-wide.wide)
-    (sym (c.take_frames.ensures.bare ∙ (c.in_ok-wide.ensures.below c.args.query (ap (λ (q : Query). q.reps) c.requires.query) refl (ap (λ (q : Query). needs_inline q.ask) c.requires.query)).walk.bare_same)) c.in_ok-wide.ensures.value)).grid.base
+pub frames_kept-requires-clause-absent : goal.frames_kept-requires-clause-absent
+frames_kept-requires-clause-absent g c =
+    subst (IsAbsent c.args.query) (sym (c.grid_framed.ensures.kept c.args.id ∙ (c.in_ok-wide.ensures.below c.args.query (ap (λ (q : Query). q.reps) c.requires.query) refl (ap (λ (q : Query). needs_inline q.ask) c.requires.query)).own)) c.requires.absent
 
-pub keep_last-requires-clause-frames : goal.keep_last-requires-clause-frames
-keep_last-requires-clause-frames g c =
-    subst (AreFrames (sight_at (nodes c.take_frames.new.self) c.args.id) (kid_at (nodes c.take_frames.new.self)) c.grid-held.result.now.parts.base c.grid-held.result.now.columns c.in_ok-rows.rows Each) (sym c.in_ok-shared.ensures) c.in_ok-frames.ensures.frames
+pub frames_kept-requires-clause-quiet : goal.frames_kept-requires-clause-quiet
+frames_kept-requires-clause-quiet g c =
+    grid_quiet (nodes c.grid_framed.new.walk) c.args.id c.args.query
+    (subst (λ (z : BareTrees). (sight_at z c.args.id).label.kind ≡ kind.Grid) (sym (c.grid_framed.ensures.bare ∙ (c.in_ok-wide.ensures.below c.args.query (ap (λ (q : Query). q.reps) c.requires.query) refl (ap (λ (q : Query). needs_inline q.ask) c.requires.query)).walk.bare_same)) c.requires.grid)
 
-pub put-requires-clause-live : goal.put-requires-clause-live
-put-requires-clause-live g c =
-    subst (λ (z : BareTrees). IsLive z c.args.id) (sym (c.keep_last.ensures.bare ∙ c.take_frames.ensures.bare ∙ (c.in_ok-wide.ensures.below c.args.query (ap (λ (q : Query). q.reps) c.requires.query) refl (ap (λ (q : Query). needs_inline q.ask) c.requires.query)).walk.bare_same))
-    c.requires.live
-
-pub put-requires-clause-absent : goal.put-requires-clause-absent
-put-requires-clause-absent g c =
-    subst (IsAbsent c.args.query) (sym (c.keep_last.ensures.kept c.args.id ∙ c.take_frames.ensures.kept c.args.id ∙ (c.in_ok-wide.ensures.below c.args.query (ap (λ (q : Query). q.reps) c.requires.query) refl (ap (λ (q : Query). needs_inline q.ask) c.requires.query)).own)) c.requires.absent
-
-pub put-requires-clause-fits : goal.put-requires-clause-fits
-put-requires-clause-fits g c =
-    subst (λ (z : BareTrees). Fits (sight_at z c.args.id) c.args.query)
-    (sym (c.keep_last.ensures.bare ∙ c.take_frames.ensures.bare ∙ (c.in_ok-wide.ensures.below c.args.query (ap (λ (q : Query). q.reps) c.requires.query) refl (ap (λ (q : Query). needs_inline q.ask) c.requires.query)).walk.bare_same)) c.requires.fits
-
-pub put-requires-clause-quiet : goal.put-requires-clause-quiet
-put-requires-clause-quiet g c =
-    grid_quiet (nodes c.keep_last.new.walk) c.args.id c.args.query
-    (subst (λ (z : BareTrees). (sight_at z c.args.id).label.kind ≡ kind.Grid)
-    (sym (c.keep_last.ensures.bare ∙ c.take_frames.ensures.bare ∙ (c.in_ok-wide.ensures.below c.args.query (ap (λ (q : Query). q.reps) c.requires.query) refl (ap (λ (q : Query). needs_inline q.ask) c.requires.query)).walk.bare_same)) c.requires.grid)
-
-pub put-requires-clause-value : goal.put-requires-clause-value
-put-requires-clause-value g c =
-    ap (λ (l : List NodeFrame). child_frames (map frame_of l)) c.in_ok-shared.ensures ∙
-    frames_told (nodes c.args.walk.now) (nodes c.take_frames.new.self) (c.take_frames.ensures.bare ∙ (c.in_ok-wide.ensures.below c.args.query (ap (λ (q : Query). q.reps) c.requires.query) refl (ap (λ (q : Query). needs_inline q.ask) c.requires.query)).walk.bare_same)
-    (nodes c.wide_for.new.walk) (c.in_ok-wide.ensures.below c.args.query (ap (λ (q : Query). q.reps) c.requires.query) refl (ap (λ (q : Query). needs_inline q.ask) c.requires.query)).walk.bare_same c.args.id c.args.query c.args.seat.now.reps.now
+pub frames_kept-requires-clause-value : goal.frames_kept-requires-clause-value
+frames_kept-requires-clause-value g c =
+    frames_told (nodes c.args.walk.now) (nodes c.wide_for.new.walk) (c.in_ok-wide.ensures.below c.args.query (ap (λ (q : Query). q.reps) c.requires.query) refl (ap (λ (q : Query). needs_inline q.ask) c.requires.query)).walk.bare_same c.args.id c.args.query c.args.seat.now.reps.now
     (sym (ap (λ (q : Query). q.reps) c.requires.query)) c.in_ok-rows.rows
     (map frame_of c.in_ok-frames.frames) c.requires.grid (ap (λ (q : Query). q.ask) c.requires.query) c.in_ok-rows.ensures.value c.in_ok-frames.ensures.value
-    ∙ ap (λ (z : BareTrees). answer_of (sight_at z c.args.id) c.args.query)
-    (sym (c.keep_last.ensures.bare ∙ c.take_frames.ensures.bare ∙ (c.in_ok-wide.ensures.below c.args.query (ap (λ (q : Query). q.reps) c.requires.query) refl (ap (λ (q : Query). needs_inline q.ask) c.requires.query)).walk.bare_same))
+    ∙ ap (λ (z : BareTrees). answer_of (sight_at z c.args.id) c.args.query) (sym (c.grid_framed.ensures.bare ∙ (c.in_ok-wide.ensures.below c.args.query (ap (λ (q : Query). q.reps) c.requires.query) refl (ap (λ (q : Query). needs_inline q.ask) c.requires.query)).walk.bare_same))
 
-pub put-requires-clause-children : goal.put-requires-clause-children
-put-requires-clause-children g c = ap (map (λ (f : NodeFrame). f.child)) c.in_ok-shared.ensures ∙ c.in_ok-frames.ensures.children ∙ ap (λ (z : BareTrees). children_at z c.args.id) (sym c.keep_last.ensures.bare)
+pub frames_kept-requires-clause-children : goal.frames_kept-requires-clause-children
+frames_kept-requires-clause-children g c =
+    c.in_ok-frames.ensures.children ∙ ap (λ (z : BareTrees). children_at z c.args.id) (sym c.grid_framed.ensures.bare)
 
 pub returns-clause-value : goal.returns-clause-value
 returns-clause-value g c =
-    ap (λ (l : List NodeFrame). child_frames (map frame_of l)) (c.in_ok-told.ensures ∙ c.in_ok-shared.ensures) ∙
-    frames_told (nodes c.args.walk.now) (nodes c.take_frames.new.self) (c.take_frames.ensures.bare ∙ (c.in_ok-wide.ensures.below c.args.query (ap (λ (q : Query). q.reps) c.requires.query) refl (ap (λ (q : Query). needs_inline q.ask) c.requires.query)).walk.bare_same)
-    (nodes c.wide_for.new.walk) (c.in_ok-wide.ensures.below c.args.query (ap (λ (q : Query). q.reps) c.requires.query) refl (ap (λ (q : Query). needs_inline q.ask) c.requires.query)).walk.bare_same c.args.id c.args.query c.args.seat.now.reps.now
+    ap (λ (l : List NodeFrame). child_frames (map frame_of l)) c.in_ok-told.ensures.same ∙
+    frames_told (nodes c.args.walk.now) (nodes c.wide_for.new.walk) (c.in_ok-wide.ensures.below c.args.query (ap (λ (q : Query). q.reps) c.requires.query) refl (ap (λ (q : Query). needs_inline q.ask) c.requires.query)).walk.bare_same c.args.id c.args.query c.args.seat.now.reps.now
     (sym (ap (λ (q : Query). q.reps) c.requires.query)) c.in_ok-rows.rows
     (map frame_of c.in_ok-frames.frames) c.requires.grid (ap (λ (q : Query). q.ask) c.requires.query) c.in_ok-rows.ensures.value c.in_ok-frames.ensures.value
 
 pub returns-clause-children : goal.returns-clause-children
 returns-clause-children g c =
-    ap (map (λ (f : NodeFrame). f.child)) (c.in_ok-told.ensures ∙ c.in_ok-shared.ensures) ∙ c.in_ok-frames.ensures.children ∙
-    ap (λ (z : BareTrees). children_at z c.args.id) (c.take_frames.ensures.bare ∙ (c.in_ok-wide.ensures.below c.args.query (ap (λ (q : Query). q.reps) c.requires.query) refl (ap (λ (q : Query). needs_inline q.ask) c.requires.query)).walk.bare_same)
+    ap (map (λ (f : NodeFrame). f.child)) c.in_ok-told.ensures.same ∙ c.in_ok-frames.ensures.children ∙
+    ap (λ (z : BareTrees). children_at z c.args.id) (c.in_ok-wide.ensures.below c.args.query (ap (λ (q : Query). q.reps) c.requires.query) refl (ap (λ (q : Query). needs_inline q.ask) c.requires.query)).walk.bare_same
 
 pub returns-clause-walked : goal.returns-clause-walked
 returns-clause-walked g c =
-    c.in_ok-put.ensures.joins _ 2 (omega arith)
-    (c.keep_last.ensures.below c.args.query 2 (seen g.R.Ruler.log c.args.walk.now)
-    (c.take_frames.ensures.below c.args.query 2 (seen g.R.Ruler.log c.args.walk.now)
-    (ticked c.args.id c.args.query 1 1 _ _ c.rows_of.new.passes c.rows_of.ensures.ticks (c.in_ok-wide.ensures.below c.args.query (ap (λ (q : Query). q.reps) c.requires.query) refl (ap (λ (q : Query). needs_inline q.ask) c.requires.query)))))
+    c.in_ok-told.ensures.walked _ 2 (omega arith)
+    (c.grid_framed.ensures.below c.args.query 2 (seen g.R.Ruler.log c.args.walk.now)
+    (ticked c.args.id c.args.query 1 1 _ _ c.rows_of.new.passes c.rows_of.ensures.ticks (c.in_ok-wide.ensures.below c.args.query (ap (λ (q : Query). q.reps) c.requires.query) refl (ap (λ (q : Query). needs_inline q.ask) c.requires.query))))
 
-pub returns-in_err-put-clause-stopped : goal.returns-in_err-put-clause-stopped
-returns-in_err-put-clause-stopped g c =
-    on_err _ _
-    (c.in_err-put.ensures.stopped _ 2
-    (c.keep_last.ensures.below c.args.query 2 (seen g.R.Ruler.log c.args.walk.now)
-    (c.take_frames.ensures.below c.args.query 2 (seen g.R.Ruler.log c.args.walk.now)
-    (ticked c.args.id c.args.query 1 1 _ _ c.rows_of.new.passes c.rows_of.ensures.ticks (c.in_ok-wide.ensures.below c.args.query (ap (λ (q : Query). q.reps) c.requires.query) refl (ap (λ (q : Query). needs_inline q.ask) c.requires.query))))))
+pub returns-in_err-told-clause-stopped : goal.returns-in_err-told-clause-stopped
+returns-in_err-told-clause-stopped g c =
+    on_err _ _ (c.in_err-told.ensures.stopped _ 2
+    (c.grid_framed.ensures.below c.args.query 2 (seen g.R.Ruler.log c.args.walk.now)
+    (ticked c.args.id c.args.query 1 1 _ _ c.rows_of.new.passes c.rows_of.ensures.ticks (c.in_ok-wide.ensures.below c.args.query (ap (λ (q : Query). q.reps) c.requires.query) refl (ap (λ (q : Query). needs_inline q.ask) c.requires.query)))))
 
 pub returns-clause-own : goal.returns-clause-own
 returns-clause-own g c =
-    c.in_ok-put.ensures.own ∙
-    (λ i. kept_with ((c.keep_last.ensures.kept c.args.id ∙ c.take_frames.ensures.kept c.args.id ∙ (c.in_ok-wide.ensures.below c.args.query (ap (λ (q : Query). q.reps) c.requires.query) refl (ap (λ (q : Query). needs_inline q.ask) c.requires.query)).own) i)
-    ((c.args.query, answer.Frames (sym c.in_ok-told.ensures i)) ∷ []))
+    c.in_ok-told.ensures.own ∙
+    (λ i. kept_with ((c.grid_framed.ensures.kept c.args.id ∙ (c.in_ok-wide.ensures.below c.args.query (ap (λ (q : Query). q.reps) c.requires.query) refl (ap (λ (q : Query). needs_inline q.ask) c.requires.query)).own) i) ((c.args.query, answer.Frames c.in_ok-told.told) ∷ []))
 
 pub returns-in_err-wide-clause-stopped : goal.returns-in_err-wide-clause-stopped
 returns-in_err-wide-clause-stopped g c = on_err _ _ (c.in_err-wide.ensures.stopped c.args.query (ap (λ (q : Query). q.reps) c.requires.query) refl (ap (λ (q : Query). needs_inline q.ask) c.requires.query))
@@ -178,41 +144,11 @@ pub returns-in_err-rows-clause-stopped : goal.returns-in_err-rows-clause-stopped
 returns-in_err-rows-clause-stopped g c =
     on_err _ _ (stopped c.args.id c.args.query 2 _ _ (ticked c.args.id c.args.query 1 1 _ _ c.rows_of.new.passes c.rows_of.ensures.ticks (c.in_ok-wide.ensures.below c.args.query (ap (λ (q : Query). q.reps) c.requires.query) refl (ap (λ (q : Query). needs_inline q.ask) c.requires.query))))
 
-pub returns-in_err-past-clause-stopped : goal.returns-in_err-past-clause-stopped
-returns-in_err-past-clause-stopped g c =
-    on_err _ _
-    (stopped c.args.id c.args.query 2 _ _
-    (c.take_frames.ensures.below c.args.query 2 (seen g.R.Ruler.log c.args.walk.now)
-    (ticked c.args.id c.args.query 1 1 _ _ c.rows_of.new.passes c.rows_of.ensures.ticks (c.in_ok-wide.ensures.below c.args.query (ap (λ (q : Query). q.reps) c.requires.query) refl (ap (λ (q : Query). needs_inline q.ask) c.requires.query)))))
-
 pub returns-in_err-frames-clause-stopped : goal.returns-in_err-frames-clause-stopped
 returns-in_err-frames-clause-stopped g c =
-    on_err _ _
-    (stopped c.args.id c.args.query 2 _ _
-    (c.take_frames.ensures.below c.args.query 2 (seen g.R.Ruler.log c.args.walk.now)
+    on_err _ _ (stopped c.args.id c.args.query 2 _ _
+    (c.grid_framed.ensures.below c.args.query 2 (seen g.R.Ruler.log c.args.walk.now)
     (ticked c.args.id c.args.query 1 1 _ _ c.rows_of.new.passes c.rows_of.ensures.ticks (c.in_ok-wide.ensures.below c.args.query (ap (λ (q : Query). q.reps) c.requires.query) refl (ap (λ (q : Query). needs_inline q.ask) c.requires.query)))))
-
-pub returns-in_err-shared-clause-stopped : goal.returns-in_err-shared-clause-stopped
-returns-in_err-shared-clause-stopped g c =
-    on_err _ _
-    (stopped c.args.id c.args.query 2 _ _
-    (c.take_frames.ensures.below c.args.query 2 (seen g.R.Ruler.log c.args.walk.now)
-    (ticked c.args.id c.args.query 1 1 _ _ c.rows_of.new.passes c.rows_of.ensures.ticks (c.in_ok-wide.ensures.below c.args.query (ap (λ (q : Query). q.reps) c.requires.query) refl (ap (λ (q : Query). needs_inline q.ask) c.requires.query)))))
-
-pub returns-in_err-told-clause-stopped : goal.returns-in_err-told-clause-stopped
-returns-in_err-told-clause-stopped g c =
-    on_err _ _
-    (stopped c.args.id c.args.query 2 _ _
-    (c.take_frames.ensures.below c.args.query 2 (seen g.R.Ruler.log c.args.walk.now)
-    (ticked c.args.id c.args.query 1 1 _ _ c.rows_of.new.passes c.rows_of.ensures.ticks (c.in_ok-wide.ensures.below c.args.query (ap (λ (q : Query). q.reps) c.requires.query) refl (ap (λ (q : Query). needs_inline q.ask) c.requires.query)))))
-
-pub returns-in_err-keep_last-clause-stopped : goal.returns-in_err-keep_last-clause-stopped
-returns-in_err-keep_last-clause-stopped g c =
-    on_err _ _
-    (stopped c.args.id c.args.query 2 _ _
-    (c.keep_last.ensures.below c.args.query 2 (seen g.R.Ruler.log c.args.walk.now)
-    (c.take_frames.ensures.below c.args.query 2 (seen g.R.Ruler.log c.args.walk.now)
-    (ticked c.args.id c.args.query 1 1 _ _ c.rows_of.new.passes c.rows_of.ensures.ticks (c.in_ok-wide.ensures.below c.args.query (ap (λ (q : Query). q.reps) c.requires.query) refl (ap (λ (q : Query). needs_inline q.ask) c.requires.query))))))
 
 pub returns-in_err-wide-clause-parts : goal.returns-in_err-wide-clause-parts
 returns-in_err-wide-clause-parts g c = c.wide_for.ensures.parts
@@ -232,86 +168,41 @@ returns-in_err-rows-clause-parts g c =
 pub returns-in_err-rows-clause-stands : goal.returns-in_err-rows-clause-stands
 returns-in_err-rows-clause-stands g c = c.wide_for.ensures.stands
 
-pub returns-in_err-past-clause-parts : goal.returns-in_err-past-clause-parts
-returns-in_err-past-clause-parts g c =
-    record {
-      tree = c.take_frames.ensures.parts.tree ∙ c.wide_for.ensures.parts.tree;
-      ruler = c.take_frames.ensures.parts.ruler ∙ c.wide_for.ensures.parts.ruler;
-      tally = c.take_frames.ensures.parts.tally ∙ c.wide_for.ensures.parts.tally;
-      passes = c.take_frames.ensures.parts.passes ∙ c.wide_for.ensures.parts.passes;
-    }
-
-pub returns-in_err-past-clause-stands : goal.returns-in_err-past-clause-stands
-returns-in_err-past-clause-stands g c = c.take_frames.ensures.stands
-
 pub returns-in_err-frames-clause-parts : goal.returns-in_err-frames-clause-parts
 returns-in_err-frames-clause-parts g c =
     record {
-      tree = c.take_frames.ensures.parts.tree ∙ c.wide_for.ensures.parts.tree;
-      ruler = c.take_frames.ensures.parts.ruler ∙ c.wide_for.ensures.parts.ruler;
-      tally = c.take_frames.ensures.parts.tally ∙ c.wide_for.ensures.parts.tally;
-      passes = c.take_frames.ensures.parts.passes ∙ c.wide_for.ensures.parts.passes;
+      tree = c.grid_framed.ensures.parts.tree ∙ c.wide_for.ensures.parts.tree;
+      ruler = c.grid_framed.ensures.parts.ruler ∙ c.wide_for.ensures.parts.ruler;
+      tally = c.grid_framed.ensures.parts.tally ∙ c.wide_for.ensures.parts.tally;
+      passes = c.grid_framed.ensures.parts.passes ∙ c.wide_for.ensures.parts.passes;
     }
 
 pub returns-in_err-frames-clause-stands : goal.returns-in_err-frames-clause-stands
-returns-in_err-frames-clause-stands g c = c.take_frames.ensures.stands
-
-pub returns-in_err-shared-clause-parts : goal.returns-in_err-shared-clause-parts
-returns-in_err-shared-clause-parts g c =
-    record {
-      tree = c.take_frames.ensures.parts.tree ∙ c.wide_for.ensures.parts.tree;
-      ruler = c.take_frames.ensures.parts.ruler ∙ c.wide_for.ensures.parts.ruler;
-      tally = c.take_frames.ensures.parts.tally ∙ c.wide_for.ensures.parts.tally;
-      passes = c.take_frames.ensures.parts.passes ∙ c.wide_for.ensures.parts.passes;
-    }
-
-pub returns-in_err-shared-clause-stands : goal.returns-in_err-shared-clause-stands
-returns-in_err-shared-clause-stands g c = c.take_frames.ensures.stands
+returns-in_err-frames-clause-stands g c =
+    c.grid_framed.ensures.stands
 
 pub returns-in_err-told-clause-parts : goal.returns-in_err-told-clause-parts
 returns-in_err-told-clause-parts g c =
     record {
-      tree = c.take_frames.ensures.parts.tree ∙ c.wide_for.ensures.parts.tree;
-      ruler = c.take_frames.ensures.parts.ruler ∙ c.wide_for.ensures.parts.ruler;
-      tally = c.take_frames.ensures.parts.tally ∙ c.wide_for.ensures.parts.tally;
-      passes = c.take_frames.ensures.parts.passes ∙ c.wide_for.ensures.parts.passes;
+      tree = c.frames_kept.ensures.parts.tree ∙ c.grid_framed.ensures.parts.tree ∙ c.wide_for.ensures.parts.tree;
+      ruler = c.frames_kept.ensures.parts.ruler ∙ c.grid_framed.ensures.parts.ruler ∙ c.wide_for.ensures.parts.ruler;
+      tally = c.frames_kept.ensures.parts.tally ∙ c.grid_framed.ensures.parts.tally ∙ c.wide_for.ensures.parts.tally;
+      passes = c.frames_kept.ensures.parts.passes ∙ c.grid_framed.ensures.parts.passes ∙ c.wide_for.ensures.parts.passes;
     }
 
 pub returns-in_err-told-clause-stands : goal.returns-in_err-told-clause-stands
-returns-in_err-told-clause-stands g c = c.take_frames.ensures.stands
-
-pub returns-in_err-keep_last-clause-parts : goal.returns-in_err-keep_last-clause-parts
-returns-in_err-keep_last-clause-parts g c =
-    record {
-      tree = c.keep_last.ensures.parts.tree ∙ c.take_frames.ensures.parts.tree ∙ c.wide_for.ensures.parts.tree;
-      ruler = c.keep_last.ensures.parts.ruler ∙ c.take_frames.ensures.parts.ruler ∙ c.wide_for.ensures.parts.ruler;
-      tally = c.keep_last.ensures.parts.tally ∙ c.take_frames.ensures.parts.tally ∙ c.wide_for.ensures.parts.tally;
-      passes = c.keep_last.ensures.parts.passes ∙ c.take_frames.ensures.parts.passes ∙ c.wide_for.ensures.parts.passes;
-    }
-
-pub returns-in_err-keep_last-clause-stands : goal.returns-in_err-keep_last-clause-stands
-returns-in_err-keep_last-clause-stands g c = c.keep_last.ensures.stands
-
-pub returns-in_err-put-clause-parts : goal.returns-in_err-put-clause-parts
-returns-in_err-put-clause-parts g c =
-    record {
-      tree = c.put.ensures.parts.tree ∙ c.keep_last.ensures.parts.tree ∙ c.take_frames.ensures.parts.tree ∙ c.wide_for.ensures.parts.tree;
-      ruler = c.put.ensures.parts.ruler ∙ c.keep_last.ensures.parts.ruler ∙ c.take_frames.ensures.parts.ruler ∙ c.wide_for.ensures.parts.ruler;
-      tally = c.put.ensures.parts.tally ∙ c.keep_last.ensures.parts.tally ∙ c.take_frames.ensures.parts.tally ∙ c.wide_for.ensures.parts.tally;
-      passes = c.put.ensures.parts.passes ∙ c.keep_last.ensures.parts.passes ∙ c.take_frames.ensures.parts.passes ∙ c.wide_for.ensures.parts.passes;
-    }
-
-pub returns-in_err-put-clause-stands : goal.returns-in_err-put-clause-stands
-returns-in_err-put-clause-stands g c = c.put.ensures.stands
+returns-in_err-told-clause-stands g c =
+    c.frames_kept.ensures.stands
 
 pub returns-clause-parts : goal.returns-clause-parts
 returns-clause-parts g c =
     record {
-      tree = c.put.ensures.parts.tree ∙ c.keep_last.ensures.parts.tree ∙ c.take_frames.ensures.parts.tree ∙ c.wide_for.ensures.parts.tree;
-      ruler = c.put.ensures.parts.ruler ∙ c.keep_last.ensures.parts.ruler ∙ c.take_frames.ensures.parts.ruler ∙ c.wide_for.ensures.parts.ruler;
-      tally = c.put.ensures.parts.tally ∙ c.keep_last.ensures.parts.tally ∙ c.take_frames.ensures.parts.tally ∙ c.wide_for.ensures.parts.tally;
-      passes = c.put.ensures.parts.passes ∙ c.keep_last.ensures.parts.passes ∙ c.take_frames.ensures.parts.passes ∙ c.wide_for.ensures.parts.passes;
+      tree = c.frames_kept.ensures.parts.tree ∙ c.grid_framed.ensures.parts.tree ∙ c.wide_for.ensures.parts.tree;
+      ruler = c.frames_kept.ensures.parts.ruler ∙ c.grid_framed.ensures.parts.ruler ∙ c.wide_for.ensures.parts.ruler;
+      tally = c.frames_kept.ensures.parts.tally ∙ c.grid_framed.ensures.parts.tally ∙ c.wide_for.ensures.parts.tally;
+      passes = c.frames_kept.ensures.parts.passes ∙ c.grid_framed.ensures.parts.passes ∙ c.wide_for.ensures.parts.passes;
     }
 
 pub returns-clause-stands : goal.returns-clause-stands
-returns-clause-stands g c = c.put.ensures.stands
+returns-clause-stands g c =
+    c.frames_kept.ensures.stands
